@@ -1,0 +1,46 @@
+//! The small values that every layer shares: link addresses, port numbers, connection triads, times, statuses,
+//! electronic keys, lists of bytes, and the limits of a chassis.
+#![tactic(auto)]
+
+ghost use Rattle.std.specs.Borrow.{ffalse};
+
+use std::alloc::{AllocError, Allocator};
+
+mod address;
+mod bytes;
+mod key;
+mod limits;
+mod memory;
+mod numbers;
+mod timing;
+mod triad;
+
+pub use address::{Address, AddressFault};
+pub use bytes::Bytes;
+pub use key::KeyFields;
+pub use limits::{
+    MAX_ADDRESS, MAX_ASSEMBLIES, MAX_DATUM, MAX_HOPS, MAX_LINKS, MAX_MESSAGE, MAX_MODULES, MAX_PATH,
+    MAX_PENDINGS, MAX_PORTS, MAX_SCRIPT,
+};
+pub use memory::NoMemory;
+pub use numbers::{ModuleId, Ms, PortNumber};
+pub use timing::{Status, Timing};
+pub use triad::Triad;
+
+#[cfg(test)]
+mod tests;
+
+/// No memory at all: what stands on it has to lie in the value itself.
+#[derive(Clone, Copy)]
+pub struct NoHeap;
+
+// Safe since no pointer is ever given out: `allocate` always refuses.
+unsafe impl Allocator for NoHeap {
+    ghost dealloc_token = { λ _ _ _. ffalse };
+
+    fn allocate(&self, _size: usize, _align: usize) -> Result<*mut u8, AllocError> {
+        Err(AllocError)
+    }
+
+    unsafe fn deallocate(&self, _ptr: *mut u8, _size: usize, _align: usize) {}
+}

@@ -1,0 +1,25 @@
+use Rattle.std.proofs.Common.{◌≡◌, length, ℕ, ◌<◌, arith, sym}
+use Rattle.std.proofs.lemmas.Bool.{eqb-false}
+use Rattle.cip_segment.specs.Spelling.{IsReadable, IsFault}
+use Rattle.cip_segment.specs.Seen.{segment_of}
+use Rattle.cip_base.specs.Fields.{IsBytes}
+use Rattle.cip_segment.proofs.Paths.{at_start, one_more, at_fault, falls, unreadable}
+use Rattle.cip_segment.proofs.view.view_path.Goals as goal
+
+pub loop-rest-init : goal.loop-rest-init
+loop-rest-init c = at_start c.args.bytes.now
+
+pub returns-in-Err-clause-readable : goal.returns-in-Err-clause-readable
+returns-in-Err-clause-readable c =
+    let some : length c.loop-rest.rest.now ≡ 0 → ⊥ = eqb-false _ 0 (sym c.loop-rest-test.ensures) in
+    let wrong = at_fault c.args.bytes.now c.loop-rest.rest.now c.in-Err.fault (λ i. omega (arith, c.type_inv.bytes i)) (omega arith) some c.loop-rest.invariant c.in-Err.ensures.gives in
+    (λ e. absurd cc, λ r. absurd (unreadable c.args.bytes.now c.in-Err.fault wrong r))
+
+pub returns-in-Err-clause-fault : goal.returns-in-Err-clause-fault
+returns-in-Err-clause-fault c = at_fault c.args.bytes.now c.loop-rest.rest.now c.in-Err.fault (λ i. omega (arith, c.type_inv.bytes i)) (omega arith) (eqb-false _ 0 (sym c.loop-rest-test.ensures)) c.loop-rest.invariant c.in-Err.ensures.gives
+
+pub loop-rest-smaller : goal.loop-rest-smaller
+loop-rest-smaller c = falls c.args.bytes.now c.loop-rest.rest.now c.in-Ok.after.now _ (λ i. omega (arith, c.type_inv.bytes i)) c.loop-rest.invariant c.in-Ok.ensures.gives
+
+pub loop-rest-preserved : goal.loop-rest-preserved
+loop-rest-preserved c = one_more c.args.bytes.now c.loop-rest.rest.now c.in-Ok.after.now _ (λ i. omega (arith, c.type_inv.bytes i)) c.loop-rest.invariant c.in-Ok.ensures.gives

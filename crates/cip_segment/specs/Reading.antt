@@ -1,0 +1,51 @@
+-- What reading a text as a path gives: its segments, or its fault. The relation of `Spelling` says what that has to be;
+-- the laws of this crate tie the two together. Definitions above, which go by cases on what was read, use these functions.
+use Rattle.std.specs.Prelude.{◌≡◌, ℕ, zero, suc, nat_lt, if◌then◌else◌, List, [], ◌∷◌, ◌++◌, length, Option, Some, None, Result, Ok, Err}
+use Rattle.cip_base.specs.declared.key.KeyFields.{KeyFields}
+use Rattle.cip_segment.specs.declared.segment.Segment.{Segment}
+use Rattle.cip_segment.specs.declared.segment.Segment.TheVariants.{Port, Class, Instance, Member, Point, Attribute, Key, Words, Symbol, Inhibit}
+use Rattle.cip_segment.specs.declared.fault.PathFault.{PathFault}
+use Rattle.cip_segment.specs.declared.fault.PathFault.TheVariants.{Truncated, TooLong}
+use Rattle.cip_segment.specs.Scan.{◌>>=◌, segment_at}
+
+-- the segments of a text, of which there are at most so many
+unfoldable pub segments_within : ℕ → List ℕ → Result (List Segment) PathFault
+segments_within most [] = Ok []
+segments_within zero (v ∷ b) = Err Truncated
+segments_within (suc n) (v ∷ b) = segment_at (v ∷ b) >>= λ first. (segments_within n first.1 >>= λ others. Ok (first.0 ∷ others))
+
+-- the segments of a path, or the fault of what is none; each segment has a byte at least
+unfoldable pub path_at : List ℕ → Result (List Segment) PathFault
+path_at b = if nat_lt 510 (length b) then Err TooLong else segments_within (length b) b
+
+abbrev pub or_none : Result (List Segment) PathFault → List Segment
+or_none (Ok s) = s
+or_none (Err f) = []
+
+-- the segments of a path
+unfoldable pub segments_of : List ℕ → List Segment
+segments_of b = or_none (path_at b)
+
+abbrev pub rest_or_none : Result (Segment × List ℕ) PathFault → List ℕ
+rest_or_none (Ok found) = found.1
+rest_or_none (Err f) = []
+
+-- what follows the first segment
+unfoldable pub behind : List ℕ → List ℕ
+behind b = rest_or_none (segment_at b)
+
+-- a path's first hop: perhaps a key, the port and the link address that it goes to next, and the path that is left
+pub record HopAt : Type 0 where
+  pub key : Option KeyFields
+  pub port : ℕ
+  pub address : List ℕ
+  pub rest : List ℕ
+
+abbrev pub hop_in : List Segment → List ℕ → Option HopAt
+hop_in (Port q a ∷ others) b = Some (record { key = None; port = q; address = a; rest = behind b })
+hop_in (Key k ∷ Port q a ∷ others) b = Some (record { key = Some k; port = q; address = a; rest = behind (behind b) })
+hop_in s b = None
+
+-- the first hop, where the path begins with a port segment or with one key and a port segment
+unfoldable pub hop_of : List ℕ → Option HopAt
+hop_of b = hop_in (segments_of b) b

@@ -1,0 +1,180 @@
+//! Writing segments in their shortest forms.
+ghost use Rattle.std.specs.Prelude.{◌≡◌, ◌<◌, ◌≤◌, ◌++◌, ◌∷◌, [], ◌⊎◌, length, OnOk, IfOk, IfErr, IsTrue, ◌↔◌, All, IsOk};
+ghost use Rattle.cip_segment.specs.Spelling.{IsForm, Spells};
+ghost use Rattle.cip_base.specs.Fields.{pad, word};
+ghost use Rattle.cip_segment.specs.Short.{short_number, short_port, short_form, short, IsWritable, IsRanged};
+
+use crate::fault::PathFault;
+use crate::path::Path;
+use crate::segment::Segment;
+use crate::view::MAX_PATH;
+use byteorder::{ByteOrder, LittleEndian};
+use cip_base::KeyFields;
+use std::alloc::{AllocError, Global};
+
+fn put_word(out: &mut Vec<u8>, number: u16) -> Result<(), AllocError>
+    ensures { OnOk result (out.new.items ≡ out.old.items ++ word number) }
+{
+    let mut bytes = [0; 2];
+    LittleEndian::write_u16(&mut bytes, number);
+    out.extend_from_slice(&bytes)
+}
+
+fn put_number(out: &mut Vec<u8>, head: u8, number: u32) -> Result<(), AllocError>
+    requires { head < 128 }
+    ensures { OnOk result (out.new.items ≡ out.old.items ++ short_number head number) }
+{
+    if number < 256 {
+        out.push(head)?;
+        out.push(number as u8)?;
+        return Ok(());
+    }
+    if number < 65536 {
+        out.push(head + 1)?;
+        out.push(0)?;
+        return put_word(out, number as u16);
+    }
+    out.push(head + 2)?;
+    out.push(0)?;
+    put_word(out, (number % 65536) as u16)?;
+    put_word(out, (number / 65536) as u16)
+}
+
+fn put_padded(out: &mut Vec<u8>, bytes: &[u8]) -> Result<(), AllocError>
+    ensures { OnOk result (out.new.items ≡ out.old.items ++ (bytes.now ++ pad (length bytes.now))) }
+{
+    out.extend_from_slice(bytes)?;
+    if bytes.len() % 2 == 1 {
+        out.push(0)?;
+    }
+    Ok(())
+}
+
+fn put_port(out: &mut Vec<u8>, number: u16, address: &[u8]) -> Result<(), AllocError>
+    requires least { 1 ≤ length address.now }
+    requires most { length address.now ≤ 16 }
+    ensures { OnOk result (out.new.items ≡ out.old.items ++ short_form (Segment.Port number address.now)) }
+{
+    let low = if number < 15 { number as u8 } else { 15 };
+    if address.len() == 1 {
+        out.push(low)?;
+        if number >= 15 {
+            put_word(out, number)?;
+        }
+        out.extend_from_slice(address)
+    } else {
+        out.push(16 + low)?;
+        out.push(address.len() as u8)?;
+        if number >= 15 {
+            put_word(out, number)?;
+        }
+        put_padded(out, address)
+    }
+}
+
+fn put_key(out: &mut Vec<u8>, key: &KeyFields) -> Result<(), AllocError>
+    ensures bytes { OnOk result (out.new.items ≡ out.old.items ++ short_form (Segment.Key key.now)) }
+    ensures ranged { OnOk result (IsRanged (Segment.Key key.now)) }
+{
+    out.push(0x34)?;
+    out.push(4)?;
+    put_word(out, key.vendor)?;
+    put_word(out, key.device_type)?;
+    put_word(out, key.product)?;
+    out.push(key.major)?;
+    out.push(key.minor)?;
+    Ok(())
+}
+
+fn put_words(out: &mut Vec<u8>, data: &[u8]) -> Result<(), AllocError>
+    requires { length data.now ≤ 510 }
+    ensures { OnOk result (out.new.items ≡ out.old.items ++ short_form (Segment.Words data.now)) }
+{
+    out.push(0x80)?;
+    out.push((data.len() / 2) as u8)?;
+    out.extend_from_slice(data)
+}
+
+fn put_symbol(out: &mut Vec<u8>, name: &[u8]) -> Result<(), AllocError>
+    requires { length name.now ≤ 255 }
+    ensures { OnOk result (out.new.items ≡ out.old.items ++ short_form (Segment.Symbol name.now)) }
+{
+    out.push(0x91)?;
+    out.push(name.len() as u8)?;
+    put_padded(out, name)
+}
+
+fn put(out: &mut Vec<u8>, segment: &Segment) -> Result<(), AllocError>
+    requires { IsWritable segment.now }
+    ensures bytes { OnOk result (out.new.items ≡ out.old.items ++ short_form segment.now) }
+    ensures ranged { OnOk result (IsRanged segment.now) }
+{
+    match segment {
+        Segment::Port(port, address) => put_port(out, port.get(), address.as_slice()),
+        Segment::Class(number) => put_number(out, 0x20, u32::from(*number)),
+        Segment::Instance(number) => put_number(out, 0x24, *number),
+        Segment::Member(number) => put_number(out, 0x28, u32::from(*number)),
+        Segment::Point(number) => put_number(out, 0x2C, *number),
+        Segment::Attribute(number) => put_number(out, 0x30, u32::from(*number)),
+        Segment::Key(key) => put_key(out, key),
+        Segment::Words(data) => put_words(out, data.as_slice()),
+        Segment::Symbol(name) => put_symbol(out, name.as_slice()),
+        Segment::Inhibit(time) => {
+            out.push(0x43)?;
+            out.push(*time)?;
+            Ok(())
+        }
+    }
+}
+
+/// Whether the segment has a form.
+pub fn segment_ok(segment: &Segment) -> bool
+    ensures { IsTrue result ↔ IsWritable segment.now }
+{
+    match segment {
+        Segment::Words(data) => data.as_slice().len() <= 510 && data.as_slice().len() % 2 == 0,
+        Segment::Symbol(name) => name.as_slice().len() <= 255,
+        _ => true,
+    }
+}
+
+fn put_all(out: &mut Vec<u8>, segments: &[Segment]) -> Result<(), AllocError>
+    requires { All IsWritable segments.now }
+    ensures bytes { OnOk result (out.new.items ≡ out.old.items ++ short segments.now) }
+    ensures ranged { OnOk result (All IsRanged segments.now) }
+{
+    for segment in segments {
+        put(out, segment)?;
+    }
+    Ok(())
+}
+
+fn short_bytes(alloc: Global, segments: &[Segment]) -> Result<Vec<u8>, AllocError>
+    requires { All IsWritable segments.now }
+    ensures bytes { IfOk result (λ bytes. bytes.items ≡ short segments.now) }
+    ensures ranged { OnOk result (All IsRanged segments.now) }
+{
+    let mut bytes = Vec::new(alloc);
+    put_all(&mut bytes, segments)?;
+    Ok(bytes)
+}
+
+/// The path that spells the segments, each in its shortest form.
+pub fn write_path(alloc: Global, segments: &[Segment]) -> Result<Path, PathFault>
+    requires { All IsWritable segments.now }
+    ensures ok { IfOk result (λ path. path ≡ short segments.now) }
+    ensures spells { IfOk result (λ path. Spells path segments.now) }
+    ensures fits { IsOk result → length (short segments.now) ≤ MAX_PATH }
+    ensures fault { IfErr result (λ f. (f ≡ PathFault.NoMemory) ⊎ ((f ≡ PathFault.TooLong) × (MAX_PATH < length (short segments.now)))) }
+{
+    match short_bytes(alloc, segments) {
+        Err(_) => Err(PathFault::NoMemory),
+        Ok(bytes) => {
+            if bytes.len() > MAX_PATH {
+                Err(PathFault::TooLong)
+            } else {
+                Ok(Path::of(bytes))
+            }
+        }
+    }
+}
