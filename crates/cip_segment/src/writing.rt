@@ -2,6 +2,7 @@
 ghost use Rattle.std.specs.Prelude.{◌≡◌, ◌<◌, ◌≤◌, ◌++◌, ◌∷◌, [], ◌⊎◌, length, OnOk, IfOk, IfErr, IsTrue, ◌↔◌, All, IsOk};
 ghost use Rattle.cip_segment.specs.Spelling.{IsForm, Spells};
 ghost use Rattle.cip_base.specs.Fields.{pad, word};
+ghost use Rattle.cip_segment.specs.Reading.{path_at};
 ghost use Rattle.cip_segment.specs.Short.{short_number, short_port, short_form, short, IsWritable, IsRanged};
 
 use crate::fault::PathFault;
@@ -86,13 +87,13 @@ fn put_key(out: &mut Vec<u8>, key: &KeyFields) -> Result<(), AllocError>
     Ok(())
 }
 
-fn put_words(out: &mut Vec<u8>, data: &[u8]) -> Result<(), AllocError>
-    requires { length data.now ≤ 510 }
-    ensures { OnOk result (out.new.items ≡ out.old.items ++ short_form (Segment.Words data.now)) }
+fn put_words(out: &mut Vec<u8>, content: &[u8]) -> Result<(), AllocError>
+    requires { length content.now ≤ 510 }
+    ensures { OnOk result (out.new.items ≡ out.old.items ++ short_form (Segment.Words content.now)) }
 {
     out.push(0x80)?;
-    out.push((data.len() / 2) as u8)?;
-    out.extend_from_slice(data)
+    out.push((content.len() / 2) as u8)?;
+    out.extend_from_slice(content)
 }
 
 fn put_symbol(out: &mut Vec<u8>, name: &[u8]) -> Result<(), AllocError>
@@ -164,6 +165,7 @@ pub fn write_path(alloc: Global, segments: &[Segment]) -> Result<Path, PathFault
     requires { All IsWritable segments.now }
     ensures ok { IfOk result (λ path. path ≡ short segments.now) }
     ensures spells { IfOk result (λ path. Spells path segments.now) }
+    ensures reads { IfOk result (λ path. path_at path ≡ Ok segments.now) }
     ensures fits { IsOk result → length (short segments.now) ≤ MAX_PATH }
     ensures fault { IfErr result (λ f. (f ≡ PathFault.NoMemory) ⊎ ((f ≡ PathFault.TooLong) × (MAX_PATH < length (short segments.now)))) }
 {
