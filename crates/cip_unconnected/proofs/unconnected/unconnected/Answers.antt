@@ -1,3 +1,4 @@
+use Rattle.std.proofs.Common.{refl}
 use Rattle.cip_unconnected.proofs.Unconnecteds.{unconnected_at-Short}
 use Rattle.cip_unconnected.proofs.unconnected.unconnected.Goals as goal
 
