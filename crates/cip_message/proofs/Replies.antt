@@ -10,6 +10,7 @@ use Rattle.cip_message.specs.Numbers.{words_in, words_bytes}
 use Rattle.cip_message.specs.Reply.{Reply, ReadsReply, IsReplyFault, reply_layout}
 use Rattle.cip_message.specs.ReplyAt.{reply_from, reply_at}
 use Rattle.cip_message.proofs.Words.{words_again, words_len, words_back}
+use Rattle.cip_message.proofs.Readers.{IsBytes-take}
 
 -- ---- what has the layout is read
 
@@ -23,13 +24,6 @@ reply_read b r (high, (x, e)) =
     rw (e, is_reply, enough, take_at w r.data_ (2 * length r.extra) len, drop_at w r.data_ (2 * length r.extra) len, words_again r.extra) refl
 
 -- ---- what is read has the layout, and each fault is the one that fits
-
-IsBytes-take : (n : ℕ) (b : List ℕ) → IsBytes b → IsBytes (take n b)
-IsBytes-take n b h i =
-    elim (cases_lt i n) [
-      | inl lt ↦ rw (get_or-take n b i 0 lt) (h i)
-      | inr le ↦ rw (get_or_past (take n b) i 0 (omega (arith, length-take n b))) (omega arith)
-    ]
 
 parts_fit : (s x g n : ℕ) (rest : List ℕ) → IsBytes (s ∷ x ∷ g ∷ n ∷ rest) → 128 ≤ s → 2 * n ≤ length rest
     → ReadsReply (s ∷ x ∷ g ∷ n ∷ rest) (record { service = s; general = g; extra = words_in (take (2 * n) rest); data_ = drop (2 * n) rest })
