@@ -4,3 +4,14 @@ pub mod Keys
 pub mod Object
 pub mod State
 pub mod Rising
+pub mod Answers
+pub mod Effects
+pub mod UnconnectedRows
+pub mod RequestRows
+pub mod ReplyRows
+pub mod CommandRows
+pub mod Decisions
+pub mod Due
+pub mod Table
+pub mod Steps
+pub mod Views

@@ -2,6 +2,8 @@
 #![tactic(auto)]
 
 mod config;
+mod contract;
+mod decisions;
 mod event;
 mod legal;
 mod keys;
@@ -13,6 +15,7 @@ mod ports;
 mod rows;
 
 pub use config::{AssemblyConfig, LegalAddresses, ModuleConfig, ModuleKind, ModuleSettings, PortConfig};
+pub use contract::{Module, StepFault};
 pub use event::{Body, Command, Dropped, Event, Output, Refused};
 pub use rows::{KeyPart, RequestRefusal, UnconnectedRefusal};
 pub use object::ObjectPath;
