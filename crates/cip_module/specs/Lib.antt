@@ -13,5 +13,7 @@ pub mod CommandRows
 pub mod Decisions
 pub mod Due
 pub mod Table
+pub mod Does
 pub mod Steps
+pub mod Plain
 pub mod Views

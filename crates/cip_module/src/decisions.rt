@@ -7,7 +7,7 @@ ghost use Rattle.cip_unconnected.specs.Reading.{unconnected_of};
 ghost use Rattle.cip_module.specs.Config.{port_of};
 ghost use Rattle.cip_module.specs.Keys.{leading_mismatch};
 ghost use Rattle.cip_module.specs.UnconnectedRows.{port_row, hop_row, key_row, route_row, unconnected_row};
-ghost use Rattle.cip_module.specs.Decisions.{row_of};
+ghost use Rattle.cip_module.specs.Decisions.{row_of, Leads};
 
 use crate::config::{ModuleKind, ModuleSettings};
 use crate::keys::leading_mismatch;
@@ -42,7 +42,8 @@ fn by_port<'a>(
     address: Address,
     rest: PathView<'a>,
 ) -> Decision<'a>
-    ensures { row_of result ≡ port_row settings.now pendings.now timing port address rest.entry.bytes.now (port_of settings.now port) }
+    ensures leads { Leads pendings.now timing rest.entry.bytes.now result }
+    ensures row { row_of result ≡ port_row settings.now pendings.now timing port address rest.entry.bytes.now (port_of settings.now port) }
 {
     let Some(own) = port_of(settings, port) else {
         return Decision::Refuses(UnconnectedRefusal::NoSuchPort);
@@ -72,7 +73,8 @@ fn by_hop<'a>(
     timing: Timing,
     route: PathView<'a>,
 ) -> Decision<'a>
-    ensures { row_of result ≡ hop_row settings.now pendings.now timing (hop_of route.entry.bytes.now) }
+    ensures leads { Leads pendings.now timing route.entry.bytes.now result }
+    ensures row { row_of result ≡ hop_row settings.now pendings.now timing (hop_of route.entry.bytes.now) }
 {
     match first_hop(route) {
         FirstHop::End => Decision::Refuses(UnconnectedRefusal::NoPortSegment),
@@ -94,7 +96,8 @@ fn by_key<'a>(
     timing: Timing,
     route: PathView<'a>,
 ) -> Decision<'a>
-    ensures { row_of result ≡ key_row settings.now pendings.now timing route.entry.bytes.now (leading_mismatch settings.now (segments_of route.entry.bytes.now)) }
+    ensures leads { Leads pendings.now timing route.entry.bytes.now result }
+    ensures row { row_of result ≡ key_row settings.now pendings.now timing route.entry.bytes.now (leading_mismatch settings.now (segments_of route.entry.bytes.now)) }
 {
     match leading_mismatch(settings, route) {
         Some(part) => Decision::Refuses(UnconnectedRefusal::KeyMismatch(part)),
@@ -109,7 +112,8 @@ pub(crate) fn unconnected_row<'a>(
     pendings: &PendingTable,
     view: UnconnectedView<'a>,
 ) -> Decision<'a>
-    ensures { row_of result ≡ unconnected_row settings.now pendings.now (unconnected_of view.entry) }
+    ensures leads { Leads pendings.now view.entry.timing view.entry.route.bytes.now result }
+    ensures row { row_of result ≡ unconnected_row settings.now pendings.now (unconnected_of view.entry) }
 {
     let embedded = match read_request(view.request) {
         Ok(embedded) => embedded,
