@@ -16,6 +16,7 @@ mod tables;
 mod plain;
 mod ports;
 mod replies;
+mod requests;
 mod rows;
 
 pub use config::{AssemblyConfig, LegalAddresses, ModuleConfig, ModuleKind, ModuleSettings, PortConfig};
