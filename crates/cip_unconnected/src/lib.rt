@@ -1,0 +1,10 @@
+//! Unconnected_Send: a request that carries another one along a route (Volume 1, chapter 3, Unconnected_Send).
+#![tactic(auto)]
+
+mod fault;
+mod unconnected;
+
+pub use fault::UnconnectedFault;
+pub use unconnected::{
+    UnconnectedView, inner, read_unconnected, route_words, write_unconnected,
+};
