@@ -11,8 +11,8 @@ pub mod RequestRows
 pub mod ReplyRows
 pub mod CommandRows
 pub mod Decisions
-pub mod Due
 pub mod Table
+pub mod Tick
 pub mod Does
 pub mod Steps
 pub mod Plain

@@ -9,7 +9,7 @@ use Rattle.cip_pending.specs.declared.entry.Entry.{Entry}
 use Rattle.cip_pending.specs.declared.entry.UpSide.{UpSide}
 use Rattle.cip_pending.specs.declared.entry.UpSide.TheVariants.{Link, Local}
 use Rattle.cip_pending.specs.declared.entry.Kind.TheVariants.{Unconnected as UnconnectedKind}
-use Rattle.cip_module.specs.Due.{due}
+use Rattle.cip_pending.specs.Pendings.{due}
 use Rattle.cip_module.specs.declared.config.ModuleSettings.{ModuleSettings}
 use Rattle.cip_module.specs.declared.event.Event.{Event}
 use Rattle.cip_module.specs.declared.event.Event.TheVariants as events
