@@ -24,8 +24,9 @@ use Rattle.cip_module.specs.RequestRows.{RequestRow, request_row}
 use Rattle.cip_module.specs.RequestRows as request
 use Rattle.cip_module.specs.ReplyRows.{ReplyRow, reply_row}
 use Rattle.cip_module.specs.ReplyRows as reply
-use Rattle.cip_module.specs.CommandRows.{CommandRow, send_row}
-use Rattle.cip_module.specs.CommandRows as command
+use Rattle.cip_module.specs.declared.rows.CommandRow.{CommandRow}
+use Rattle.cip_module.specs.declared.rows.CommandRow.TheVariants as command
+use Rattle.cip_module.specs.CommandRows.{send_row}
 use Rattle.cip_module.specs.UnconnectedRows.{UnconnectedRow, unconnected_row, unread_row}
 use Rattle.cip_module.specs.UnconnectedRows as unconnected
 use Rattle.cip_module.specs.Effects.{Effect, Spends, Replies, Answers, Forwards, Takes, Expires, Refuses, Drops, Advances, applied, outputs_of}
@@ -80,10 +81,14 @@ send_effects config s op u command.Taken = Spends op ∷ unconnected_effects (Lo
 abbrev pub expiries : ℕ → State → List Effect
 expiries now s = map (λ (waiting : ℕ × Entry). Expires waiting.0) (due now s.pendings)
 
+-- the Unconnected_Send that a Send spells
+abbrev pub sent : Timing → List ℕ → List ℕ → Unconnected
+sent timing path asked = record { timing = timing; request = asked; route = path }
+
 -- the effects of an event, in order; undefined for a tick alone, where the time would pass its last value
 abbrev pub decide : ModuleSettings → State → Event → Option (List Effect)
 decide config s (events.Command (commands.Send op timing path asked)) =
-    let u : Unconnected = record { timing = timing; request = asked; route = path } in Some (send_effects config s op u (send_row s op u))
+    Some (send_effects config s op (sent timing path asked) (send_row s op (sent timing path asked)))
 decide config s (events.Frame port from (bodies.Request number bytes)) =
     Some (request_effects config s (Link port from number) (request_row config port bytes))
 decide config s (events.Frame port from (bodies.Reply number bytes)) = Some (reply_effects number bytes (reply_row config s port from number bytes))

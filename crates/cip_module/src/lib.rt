@@ -2,6 +2,7 @@
 #![tactic(auto)]
 
 mod config;
+mod commands;
 mod contract;
 mod decisions;
 mod event;
@@ -13,6 +14,7 @@ mod messages;
 mod object;
 mod spent;
 mod tables;
+mod ticks;
 mod plain;
 mod ports;
 mod replies;

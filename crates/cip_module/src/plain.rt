@@ -80,6 +80,7 @@ impl PlainModule {
         ensures done { IfOk result (λ o. Does self.old.config (state_of_plain self.old) (Forwards up port address (message_on (unconnected_of view.entry) rest.entry.bytes.now) (wait_of view.entry.timing) (words_of view.entry.route.bytes.now) Kinds.Unconnected ∷ []) (state_of_plain self.new) (o ∷ [])) }
         ensures same { OnErr result (state_of_plain self.new ≡ state_of_plain self.old) }
         ensures config { self.new.config ≡ self.old.config }
+        ensures ops { self.new.ops ≡ self.old.ops }
     {
         let bytes = message_on(self.alloc, view, rest)?;
         let deadline = self
@@ -122,6 +123,7 @@ impl PlainModule {
         ensures done { IfOk result (λ o. Does self.old.config (state_of_plain self.old) (unconnected_effects up (unconnected_of view.entry) (unconnected_row self.old.config self.old.pendings (unconnected_of view.entry))) (state_of_plain self.new) (o ∷ [])) }
         ensures same { OnErr result (state_of_plain self.new ≡ state_of_plain self.old) }
         ensures config { self.new.config ≡ self.old.config }
+        ensures ops { self.new.ops ≡ self.old.ops }
     {
         match unconnected_row(self.config.settings(), &self.pendings, view) {
             Decision::Refuses(refusal) => {

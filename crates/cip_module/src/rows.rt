@@ -30,6 +30,15 @@ pub enum UnconnectedRefusal {
     NoPendingLeft,
 }
 
+/// The rows of a Send. The others than `Taken` refuse it.
+#[derive(Clone, Copy, Debug, PartialEq, Eq)]
+pub enum CommandRow {
+    OpUsed,
+    ReservedService,
+    WrongSize,
+    Taken,
+}
+
 /// What of an electronic key differs from the module, in the order in which it is looked at.
 #[derive(Clone, Copy, Debug, PartialEq, Eq)]
 pub enum KeyPart {
