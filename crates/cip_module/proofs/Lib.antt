@@ -1,2 +1,3 @@
 pub mod OpsLemmas
 pub mod Walks
+pub mod Expiries

@@ -6,7 +6,9 @@ use Rattle.std.proofs.lemmas.Bool.Decides.{nat_tests}
 use Rattle.std.specs.FinMap.Entries.{below_all, is_sorted}
 use Rattle.std.proofs.lemmas.Bool.{lt-ltb, le-ltb, ltb-true, ltb-false}
 use Rattle.cip_base.proofs.Sorted.{first, second}
-use Rattle.cip_pending.specs.Pendings.{is_after}
+use Rattle.std.specs.FinMap as map
+use Rattle.cip_pending.specs.declared.entry.Entry.{Entry}
+use Rattle.cip_pending.specs.Pendings.{Pendings, is_after, first_after}
 
 -- the entries above a number, or all
 abbrev pub above : {X : Type 0} → Option ℕ → List (ℕ × X) → List (ℕ × X)
@@ -71,3 +73,13 @@ none_left p (y ∷ es) e =
 pub all_left : {X : Type 0} (es : List (ℕ × X)) → above None es ≡ es
 all_left [] = refl
 all_left {X} (e ∷ es) = ap (λ (z : List (ℕ × X)). e ∷ z) (all_left es)
+
+-- the same of a table of pendings
+pub walks : (p : Pendings) (after : Option ℕ) (x : ℕ × Entry) → Some x ≡ first_after after p → above after (map.entries p.entries) ≡ x ∷ above (Some x.0) (map.entries p.entries)
+walks p after x e = goes after (map.entries p.entries) x (map.entries_sorted p.entries) (sym e)
+
+pub walked : (p : Pendings) (after : Option ℕ) → None ≡ first_after after p → above after (map.entries p.entries) ≡ []
+walked p after e = none_left (λ (e : ℕ × Entry). is_after after e.0) (map.entries p.entries) (sym e)
+
+pub fewer : (p : Pendings) (after : Option ℕ) (x : ℕ × Entry) → Some x ≡ first_after after p → length (above (Some x.0) (map.entries p.entries)) < length (above after (map.entries p.entries))
+fewer p after x e = let more = ap length (walks p after x e) in omega (arith, more)

@@ -12,8 +12,8 @@ pub mod ReplyRows
 pub mod CommandRows
 pub mod Decisions
 pub mod Table
-pub mod Tick
 pub mod Does
+pub mod Tick
 pub mod Steps
 pub mod Plain
 pub mod Views

@@ -9,7 +9,7 @@ use Rattle.cip_pending.specs.declared.entry.Entry.{Entry}
 use Rattle.cip_pending.specs.declared.entry.UpSide.{UpSide}
 use Rattle.cip_pending.specs.declared.entry.UpSide.TheVariants.{Link, Local}
 use Rattle.cip_pending.specs.declared.entry.Kind.TheVariants.{Unconnected as UnconnectedKind}
-use Rattle.cip_pending.specs.Pendings.{due}
+use Rattle.cip_pending.specs.Pendings.{Pendings, due}
 use Rattle.cip_module.specs.declared.config.ModuleSettings.{ModuleSettings}
 use Rattle.cip_module.specs.declared.event.Event.{Event}
 use Rattle.cip_module.specs.declared.event.Event.TheVariants as events
@@ -77,9 +77,12 @@ send_effects config s op u command.ReservedService = Refuses refused.ReservedSer
 send_effects config s op u command.WrongSize = Refuses refused.WrongSize ∷ []
 send_effects config s op u command.Taken = Spends op ∷ unconnected_effects (Local op) u (unconnected_row config s.pendings u)
 
+abbrev pub expires : ℕ × Entry → Effect
+expires waiting = Expires waiting.0
+
 -- the due pendings, in rising number
-abbrev pub expiries : ℕ → State → List Effect
-expiries now s = map (λ (waiting : ℕ × Entry). Expires waiting.0) (due now s.pendings)
+abbrev pub expiries : ℕ → Pendings → List Effect
+expiries now p = map expires (due now p)
 
 -- the Unconnected_Send that a Send spells
 abbrev pub sent : Timing → List ℕ → List ℕ → Unconnected
@@ -93,7 +96,7 @@ decide config s (events.Frame port from (bodies.Request number bytes)) =
     Some (request_effects config s (Link port from number) (request_row config port bytes))
 decide config s (events.Frame port from (bodies.Reply number bytes)) = Some (reply_effects number bytes (reply_row config s port from number bytes))
 decide config s (events.Tick ms) =
-    if nat_lt (s.now + 1000 * ms) (2 ^ 63) then Some (Advances (1000 * ms) ∷ expiries (s.now + 1000 * ms) s) else None
+    if nat_lt (s.now + 1000 * ms) (2 ^ 63) then Some (Advances (1000 * ms) ∷ expiries (s.now + 1000 * ms) s.pendings) else None
 
 pub record Stepped : Type 0 where
   pub state : State

@@ -13,6 +13,7 @@ mod lists;
 mod messages;
 mod object;
 mod spent;
+mod step;
 mod tables;
 mod ticks;
 mod plain;
