@@ -4,6 +4,7 @@
 mod config;
 mod commands;
 mod contract;
+mod copies;
 mod decisions;
 mod event;
 mod legal;
