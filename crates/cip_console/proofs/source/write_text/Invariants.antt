@@ -1,0 +1,10 @@
+-- What was written so far is the front of the text.
+use Rattle.std.proofs.Common.{◌≤◌, ◌-◌, take, length}
+use Rattle.std.specs.Io.KnownBytes.{Appends}
+use Rattle.cip_console.proofs.source.write_text.Given as goal
+
+abbrev pub invariant-loop-at : goal.invariant-loop-at
+invariant-loop-at g l = (l.at ≤ length l.text) × Appends (g.S.Sink.contents l.initial.sink) (g.S.Sink.contents l.sink) (take l.at l.text)
+
+abbrev pub decreases-loop-at : goal.decreases-loop-at
+decreases-loop-at g l = length l.text - l.at

@@ -1,0 +1,135 @@
+//! Lines, words, numbers and bytes as they stand in a script.
+
+ghost use Rattle.std.specs.Prelude.{◌≡◌, ◌==◌, ◌^◌, ◌↔◌, ◌≤◌, map, IfOk, IfSome, IsTrue, slice_index, IsSome, option_map};
+ghost use Rattle.std.specs.Str.{IsAscii};
+ghost use Rattle.std.specs.Str.Lines.{lines, lines_of_parts, strip_carriage_return};
+ghost use Rattle.cip_console.specs.Text.{words_of, numeral, number_of, below, bytes_of, is_space, is_newline};
+
+use std::alloc::{AllocError, Global};
+
+/// The line as a text, if it is ASCII.
+pub(crate) fn ascii(line: &[u8]) -> Option<&str>
+    ensures text { IfSome result (λ text. text.now ≡ line.now) }
+    ensures exact { IsSome result ↔ IsAscii line.now }
+{
+    match std::str::from_utf8(line) {
+        Ok(text) if text.is_ascii() => Some(text),
+        _ => None,
+    }
+}
+
+/// The line without the one carriage return at its end.
+fn without_return(line: &[u8]) -> &[u8]
+    ensures { result.now ≡ strip_carriage_return line.now }
+{
+    match line.strip_suffix(b"\r") {
+        Some(rest) => rest,
+        None => line,
+    }
+}
+
+/// The lines of a script.
+pub(crate) fn lines_of(alloc: Global, script: &[u8]) -> Result<Vec<&[u8]>, AllocError>
+    ensures { IfOk result (λ v. map (λ line. line.now) v.items ≡ lines script.now) }
+{
+    let parts = parts_of(alloc, script)?;
+    let mut found = Vec::new(alloc);
+    for (i, part) in parts.iter().enumerate() {
+        if i + 1 < parts.len() {
+            found.push(without_return(part))?;
+        } else if !part.is_empty() {
+            found.push(*part)?;
+        }
+    }
+    Ok(found)
+}
+
+ghost use Rattle.std.specs.List.{slice_split};
+
+/// The parts between newlines.
+fn parts_of(alloc: Global, script: &[u8]) -> Result<Vec<&[u8]>, AllocError>
+    ensures { IfOk result (λ v. map (λ part. part.now) v.items ≡ slice_split is_newline script.now) }
+{
+    script.split(|byte| *byte == b'\n').collect(alloc)
+}
+
+/// The parts of a line between its spaces.
+fn spaced(alloc: Global, line: &str) -> Result<Vec<&str>, AllocError>
+    ensures { IfOk result (λ v. map (λ part. part.now) v.items ≡ slice_split is_space line.now) }
+{
+    line.split(' ').collect(alloc)
+}
+
+/// The words of a line.
+pub(crate) fn words(alloc: Global, line: &str) -> Result<Vec<&str>, AllocError>
+    ensures { IfOk result (λ v. map (λ word. word.now) v.items ≡ words_of line.now) }
+{
+    let parts = spaced(alloc, line)?;
+    let mut found = Vec::new(alloc);
+    for part in &parts {
+        if !part.is_empty() {
+            found.push(*part)?;
+        }
+    }
+    Ok(found)
+}
+
+/// Whether a plus stands first.
+fn has_plus(digits: &str) -> bool
+    ensures { IsTrue result ↔ (slice_index digits.now 0 ≡ 43) }
+{
+    match digits.as_bytes() {
+        [first, ..] => *first == b'+',
+        [] => false,
+    }
+}
+
+/// The number that digits of this radix write.
+fn numeral(digits: &str, radix: u32) -> Option<u64>
+    requires low { 2 ≤ radix }
+    requires high { radix ≤ 36 }
+    ensures { result ≡ below (2 ^ 64) (numeral radix digits.now) }
+{
+    if has_plus(digits) {
+        return None;
+    }
+    u64::from_str_radix(digits, radix).ok()
+}
+
+/// A number, in decimal digits or after `0x` in hexadecimal ones.
+pub(crate) fn number(word: &str) -> Option<u64>
+    ensures { result ≡ below (2 ^ 64) (number_of word.now) }
+{
+    match word.strip_prefix("0x") {
+        Some(digits) => numeral(digits, 16),
+        None => numeral(word, 10),
+    }
+}
+
+/// Bytes as pairs of hexadecimal digits, or a dash for none. Only memory is an error.
+#[tactic(auto, unfolding(crate::specs::Text::bytes_of))]
+pub(crate) fn bytes(alloc: Global, word: &str) -> Result<Option<Vec<u8>>, AllocError>
+    ensures { IfOk result (λ found. option_map (λ v. v.items) found ≡ bytes_of word.now) }
+{
+    if word == "-" {
+        return Ok(Some(Vec::new(alloc)));
+    }
+    if word.is_empty() {
+        return Ok(None);
+    }
+    match hex::decode(alloc, word) {
+        Ok(bytes) => Ok(Some(bytes)),
+        Err(hex::FromHexError::OutOfMemory) => Err(AllocError),
+        Err(_) => Ok(None),
+    }
+}
+
+/// Whether the line begins with `#`.
+pub(crate) fn is_comment(line: &str) -> bool
+    ensures { result ≡ (slice_index line.now 0 == 35) }
+{
+    match line.as_bytes() {
+        [first, ..] => *first == b'#',
+        [] => false,
+    }
+}
