@@ -1,3 +1,4 @@
 pub mod Known
 pub mod Text
 pub mod Steps
+pub mod Outcome

@@ -1,9 +1,15 @@
 //! The console: a script in, its transcript out.
 #![tactic(auto)]
 
+mod chassis;
+mod links;
+mod run;
+mod show;
 mod source;
 mod steps;
 mod text;
+mod world;
 
+pub use run::{ConsoleFault, run_fixed};
 pub use steps::{Numbered, ScriptFault, Step};
 pub use source::{Out, Plain, SCRIPT_LIMIT, Script, Sink, Source};
