@@ -7,7 +7,7 @@ use Rattle.cip_base.specs.Fields.{IsBytes}
 use Rattle.cip_message.specs.declared.fault.ReplyFault.{ReplyFault}
 use Rattle.cip_message.specs.declared.fault.ReplyFault.TheVariants.{TooShort, NotReply, ExtraSize}
 use Rattle.cip_message.specs.Numbers.{words_in, words_bytes}
-use Rattle.cip_message.specs.Reply.{Reply, ReadsReply, IsReplyFault, reply_layout}
+use Rattle.cip_message.specs.Reply.{Reply, ReadsReply, IsReplyFault, reply_layout, reply_bytes}
 use Rattle.cip_message.specs.ReplyAt.{reply_from, reply_at}
 use Rattle.cip_message.proofs.Words.{words_again, words_len, words_back}
 use Rattle.cip_message.proofs.Readers.{IsBytes-take}
@@ -46,3 +46,8 @@ reply_verdict (s ∷ x ∷ g ∷ n ∷ rest) fits =
     (λ high. cond_both (ltb (length rest) (2 * n)) (Err ExtraSize) (Ok _) P
       (λ short. (s, x, g, n, rest, refl, ltb-false _ _ high, ltb-true _ _ short))
       (λ enough. parts_fit s x g n rest fits (ltb-false _ _ high) (ltb-false _ _ enough)))
+
+-- ---- what is written is read back
+
+pub reply_back : (r : Reply) → 128 ≤ r.service → reply_at (reply_bytes r) ≡ Ok r
+reply_back r high = reply_read (reply_bytes r) r (high, (0, refl))

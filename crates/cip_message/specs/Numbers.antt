@@ -1,5 +1,5 @@
 -- Number fields at their places. Past the end of the bytes 0 stands.
-use Rattle.std.specs.Prelude.{ℕ, ◌+◌, ◌*◌, List, [], ◌∷◌, ◌++◌, slice_index}
+use Rattle.std.specs.Prelude.{ℕ, ◌+◌, ◌*◌, nat_lt, if◌then◌else◌, List, [], ◌∷◌, ◌++◌, length, slice_index, Option, Some, None}
 use Rattle.cip_base.specs.Fields.{word, double}
 use Rattle.cip_base.specs.declared.triad.Triad.{Triad}
 
@@ -29,3 +29,7 @@ words_in (lo ∷ hi ∷ rest) = (lo + 256 * hi) ∷ words_in rest
 abbrev pub words_bytes : List ℕ → List ℕ
 words_bytes [] = []
 words_bytes (n ∷ rest) = word n ++ words_bytes rest
+
+-- that triad, where its bytes are there
+abbrev pub triad_within : List ℕ → ℕ → Option Triad
+triad_within b i = if nat_lt (length b) (i + 8) then None else Some (triad_in b i)

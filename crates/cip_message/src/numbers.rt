@@ -1,7 +1,7 @@
 //! Number fields of messages at their places.
-ghost use Rattle.std.specs.Prelude.{◌≡◌, ◌+◌, ◌≤◌, ◌++◌, length, OnOk};
+ghost use Rattle.std.specs.Prelude.{◌≡◌, ◌+◌, ◌<◌, ◌≤◌, ◌++◌, length, OnOk};
 ghost use Rattle.cip_base.specs.Fields.{word, double};
-ghost use Rattle.cip_message.specs.Numbers.{word_in, double_in, triad_in, triad_bytes};
+ghost use Rattle.cip_message.specs.Numbers.{word_in, double_in, triad_in, triad_within, triad_bytes};
 
 use byteorder::{ByteOrder, LittleEndian};
 use cip_base::Triad;
@@ -32,6 +32,19 @@ pub fn triad_at(bytes: &[u8], at: usize) -> Triad
         serial: word_at(bytes, at),
         vendor: word_at(bytes, at + 2),
         originator: double_at(bytes, at + 4),
+    }
+}
+
+/// The connection triad in the eight bytes from place `at`; None exactly where one of them is missing
+/// (Volume 1, chapter 3, connection triad).
+pub fn triad_within(bytes: &[u8], at: usize) -> Option<Triad>
+    requires { at < 1000 }
+    ensures { result ≡ triad_within bytes.now at }
+{
+    if bytes.len() < at + 8 {
+        None
+    } else {
+        Some(triad_at(bytes, at))
     }
 }
 

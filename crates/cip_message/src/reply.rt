@@ -1,5 +1,5 @@
 //! Replies of the Message Router.
-ghost use Rattle.std.specs.Prelude.{◌≡◌, ◌<◌, ◌≤◌, ◌↔◌, length, IfOk, IfErr, IsErrOf, IsOkAnd, slice_get};
+ghost use Rattle.std.specs.Prelude.{◌≡◌, ◌<◌, ◌≤◌, ◌↔◌, length, IfOk, IfErr, IsErrOf, IsOkAnd, OnOk, [], ◌++◌, slice_get};
 ghost use Rattle.cip_message.specs.Gives.{Gives};
 ghost use Rattle.cip_message.specs.Numbers.{words_in};
 ghost use Rattle.cip_message.specs.Reply.{Reply, ReadsReply, IsReplyFault, reply_bytes, extra_words};
@@ -99,7 +99,26 @@ pub fn read_reply(bytes: &[u8]) -> Result<ReplyView<'_>, ReplyFault>
     reply(bytes)
 }
 
-fn put_reply(
+/// Appends the header of a reply with at most one word of additional status: the service, a reserved 00, the general status,
+/// the size of the additional status in words, the additional status (Volume 1, chapter 2, Message Router reply format). The
+/// data follows.
+pub fn put_reply_header(out: &mut Vec<u8>, service: u8, status: Status) -> Result<(), AllocError>
+    ensures { OnOk result (out.new.items ≡ out.old.items ++ reply_bytes (record { service = service; general = status.general; extra = extra_words status.extra; data_ = [] })) }
+{
+    out.extend_from_slice(&[service, 0, status.general])?;
+    match status.extra {
+        None => {
+            out.push(0)?;
+            Ok(())
+        }
+        Some(word) => {
+            out.push(1)?;
+            put_word(out, word)
+        }
+    }
+}
+
+fn joined(
     alloc: Global,
     service: u8,
     status: Status,
@@ -108,16 +127,7 @@ fn put_reply(
     ensures { IfOk result (λ v. v.items ≡ reply_bytes (record { service = service; general = status.general; extra = extra_words status.extra; data_ = data_.now })) }
 {
     let mut bytes = Vec::new(alloc);
-    bytes.push(service)?;
-    bytes.push(0)?;
-    bytes.push(status.general)?;
-    match status.extra {
-        None => bytes.push(0)?,
-        Some(word) => {
-            bytes.push(1)?;
-            put_word(&mut bytes, word)?;
-        }
-    }
+    put_reply_header(&mut bytes, service, status)?;
     bytes.extend_from_slice(data_)?;
     Ok(bytes)
 }
@@ -144,7 +154,7 @@ pub fn write_reply(
     if data_.len() > MAX_MESSAGE - head {
         return Err(WriteFault::TooLong);
     }
-    match put_reply(alloc, service, status, data_) {
+    match joined(alloc, service, status, data_) {
         Ok(bytes) => Ok(Bytes::of(bytes)),
         Err(_) => Err(WriteFault::NoMemory),
     }

@@ -1,1 +1,3 @@
 pub mod OpsLemmas
+pub mod Walks
+pub mod Expiries

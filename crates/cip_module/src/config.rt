@@ -105,6 +105,14 @@ impl ModuleConfig {
         }
     }
 
+    // Of settings that were looked at before.
+    pub(crate) fn of(settings: ModuleSettings) -> ModuleConfig
+        requires { IsTrue (is_settings settings) }
+        ensures { result ≡ settings }
+    {
+        ModuleConfig { settings }
+    }
+
     /// The settings.
     pub fn settings(&self) -> &ModuleSettings
         ensures value { result.now ≡ self.now }

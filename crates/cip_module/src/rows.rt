@@ -30,6 +30,15 @@ pub enum UnconnectedRefusal {
     NoPendingLeft,
 }
 
+/// The rows of a Send. The others than `Taken` refuse it.
+#[derive(Clone, Copy, Debug, PartialEq, Eq)]
+pub enum CommandRow {
+    OpUsed,
+    ReservedService,
+    WrongSize,
+    Taken,
+}
+
 /// What of an electronic key differs from the module, in the order in which it is looked at.
 #[derive(Clone, Copy, Debug, PartialEq, Eq)]
 pub enum KeyPart {
@@ -38,7 +47,7 @@ pub enum KeyPart {
     Revision,
 }
 
-fn plain_status(general: u8) -> Status
+pub(crate) fn plain_status(general: u8) -> Status
     ensures { result ≡ record { general = general; extra = None } }
 {
     Status {

@@ -1,10 +1,12 @@
 -- Reading the data of Unconnected_Send gives exactly the record that has its layout.
-use Rattle.std.proofs.Common.{◌≡◌, ℕ, zero, suc, ◌+◌, ◌-◌, ◌*◌, ◌/◌, ◌%◌, ◌<◌, ◌≤◌, List, [], ◌∷◌, ◌++◌, length, take, drop, get_or, Result, Ok, Err, refl, sym, ap, subst, ◌∙◌, append_assoc, arith}
+use Rattle.std.proofs.Common.{◌≡◌, ℕ, zero, suc, ◌+◌, ◌-◌, ◌*◌, ◌/◌, ◌%◌, ◌<◌, ◌≤◌, List, [], ◌∷◌, ◌++◌, length, take, drop, get_or, eqb, Result, Ok, Err, refl, sym, ap, subst, ◌∙◌, append_assoc, arith}
 use Rattle.std.specs.Prelude.{MatchResult, replicate}
 use Rattle.std.proofs.lemmas.List.{take_at, drop_at, take-append-drop, length-append, length-take-le, length-drop, get_or-drop, get_or-take, get_or-append-add, drop-drop}
 use Rattle.cip_segment.specs.declared.fault.PathFault.{PathFault}
 use Rattle.cip_segment.specs.Spelling.{IsReadable, IsFault}
-use Rattle.cip_base.specs.Fields.{IsBytes, word}
+use Rattle.std.proofs.lemmas.Bool.{cond_both, eqb-true, eqb-false}
+use Rattle.cip_segment.proofs.Whole.{whole_words}
+use Rattle.cip_base.specs.Fields.{IsBytes, word, pad}
 use Rattle.cip_base.specs.declared.timing.Timing.{Timing}
 use Rattle.cip_message.specs.declared.fault.DataFault.{DataFault}
 use Rattle.cip_message.specs.declared.fault.DataFault.TheVariants as data_faults
@@ -16,7 +18,7 @@ use Rattle.cip_message.proofs.Counteds.{counted, refused, counted_path_at-Short,
 use Rattle.cip_message.proofs.Ends.{zeros_index, cut_off, overlong, word_in-zeros, word_in-take}
 use Rattle.cip_unconnected.specs.declared.fault.UnconnectedFault.{UnconnectedFault}
 use Rattle.cip_unconnected.specs.declared.fault.UnconnectedFault.TheVariants.{Short, Long, Route}
-use Rattle.cip_unconnected.specs.Unconnected.{Unconnected, unconnected_layout, LaysUnconnected, ReadsUnconnected, HasLayout, IsUnconnectedFault}
+use Rattle.cip_unconnected.specs.Unconnected.{Unconnected, unconnected_layout, LaysUnconnected, ReadsUnconnected, HasLayout, IsUnconnectedFault, unconnected_data}
 use Rattle.cip_unconnected.specs.UnconnectedAt.{route_place, with_route, unconnected_at}
 
 -- how long the data has to be
@@ -132,3 +134,14 @@ unconnected_verdict b fits =
     (λ lt. overlong HasLayout whole has_layout whole-take b fits lt)
     (λ e readable. (readable, lays b fits e))
     (λ e f fault. (record_at b, lays b fits e, fault))
+
+-- ---- what is written is read back
+
+pad-len : (n : ℕ) → length (pad n) ≡ n % 2
+pad-len n =
+    cond_both (eqb (n % 2) 1) (0 ∷ []) [] (λ (z : List ℕ). length z ≡ n % 2)
+    (λ odd. sym (eqb-true _ _ odd))
+    (λ even. let h : n % 2 ≡ 1 → ⊥ = eqb-false _ _ even in omega arith)
+
+pub unconnected_back : (u : Unconnected) → IsReadable u.route → unconnected_at (unconnected_data u) ≡ Ok u
+unconnected_back u readable = layout_read (pad (length u.request)) (length u.route / 2) 0 u readable (pad-len (length u.request)) (whole_words u.route readable)

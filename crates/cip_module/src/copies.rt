@@ -1,0 +1,169 @@
+//! Copies of configs, events and outputs.
+ghost use Rattle.std.specs.Prelude.{◌≡◌, IfOk};
+
+use crate::config::{ModuleConfig, ModuleSettings, PortConfig};
+use crate::event::{Body, Command, Event, Output};
+use crate::lists::{Assemblies, Ports};
+use cip_base::{Bytes, NoMemory};
+use std::alloc::Global;
+
+fn copy_bytes(alloc: Global, bytes: &Bytes) -> Result<Bytes, NoMemory>
+    ensures { IfOk result (λ b. b ≡ bytes.now) }
+{
+    Ok(Bytes::of(Vec::from_slice(alloc, bytes.as_slice())?))
+}
+
+impl PortConfig {
+    /// The same port once more. It takes no memory.
+    pub fn copy(&self) -> PortConfig
+        ensures { result ≡ self.now }
+    {
+        PortConfig {
+            number: self.number,
+            link: self.link,
+            legal: self.legal,
+            address: self.address.copy(),
+        }
+    }
+}
+
+fn copy_ports(alloc: Global, ports: &[PortConfig]) -> Result<Vec<PortConfig>, NoMemory>
+    ensures { IfOk result (λ v. v.items ≡ ports.now) }
+{
+    let mut copies = Vec::new(alloc);
+    for port in ports {
+        copies.push(port.copy())?;
+    }
+    Ok(copies)
+}
+
+impl ModuleSettings {
+    /// The same settings once more; NoMemory where a growth is refused.
+    pub fn copy(&self, alloc: Global) -> Result<ModuleSettings, NoMemory>
+        ensures { IfOk result (λ s. s ≡ self.now) }
+    {
+        let name = copy_bytes(alloc, &self.name)?;
+        let product_name = copy_bytes(alloc, &self.product_name)?;
+        let ports = Ports::of(copy_ports(alloc, self.ports.as_slice())?);
+        let assemblies = Assemblies::of(Vec::from_slice(alloc, self.assemblies.as_slice())?);
+        Ok(ModuleSettings {
+            name,
+            kind: self.kind,
+            vendor: self.vendor,
+            device_type: self.device_type,
+            product: self.product,
+            major: self.major,
+            minor: self.minor,
+            status: self.status,
+            serial: self.serial,
+            product_name,
+            clock: self.clock,
+            first_id: self.first_id,
+            first_number: self.first_number,
+            pending_room: self.pending_room,
+            hop_room: self.hop_room,
+            ports,
+            assemblies,
+        })
+    }
+}
+
+impl ModuleConfig {
+    /// The same config once more; NoMemory where a growth is refused.
+    pub fn copy(&self, alloc: Global) -> Result<ModuleConfig, NoMemory>
+        ensures { IfOk result (λ c. c ≡ self.now) }
+    {
+        let settings = self.settings().copy(alloc)?;
+        Ok(ModuleConfig::of(settings))
+    }
+}
+
+impl Body {
+    /// The same body once more; NoMemory where a growth is refused.
+    pub fn copy(&self, alloc: Global) -> Result<Body, NoMemory>
+        ensures { IfOk result (λ b. b ≡ self.now) }
+    {
+        match self {
+            Body::Request { number, bytes } => Ok(Body::Request {
+                number: *number,
+                bytes: copy_bytes(alloc, bytes)?,
+            }),
+            Body::Reply { number, bytes } => Ok(Body::Reply {
+                number: *number,
+                bytes: copy_bytes(alloc, bytes)?,
+            }),
+        }
+    }
+}
+
+impl Command {
+    /// The same command once more; NoMemory where a growth is refused.
+    pub fn copy(&self, alloc: Global) -> Result<Command, NoMemory>
+        ensures { IfOk result (λ c. c ≡ self.now) }
+    {
+        match self {
+            Command::Send {
+                op,
+                timing,
+                path,
+                request,
+            } => {
+                let path = path.copy(alloc)?;
+                let request = copy_bytes(alloc, request)?;
+                Ok(Command::Send {
+                    op: *op,
+                    timing: *timing,
+                    path,
+                    request,
+                })
+            }
+        }
+    }
+}
+
+impl Event {
+    /// The same event once more; NoMemory where a growth is refused.
+    pub fn copy(&self, alloc: Global) -> Result<Event, NoMemory>
+        ensures { IfOk result (λ e. e ≡ self.now) }
+    {
+        match self {
+            Event::Command(command) => {
+                let command = command.copy(alloc)?;
+                Ok(Event::Command(command))
+            }
+            Event::Frame { port, from, body } => {
+                let body = body.copy(alloc)?;
+                Ok(Event::Frame {
+                    port: *port,
+                    from: from.copy(),
+                    body,
+                })
+            }
+            Event::Tick(by) => Ok(Event::Tick(*by)),
+        }
+    }
+}
+
+impl Output {
+    /// The same output once more; NoMemory where a growth is refused.
+    pub fn copy(&self, alloc: Global) -> Result<Output, NoMemory>
+        ensures { IfOk result (λ o. o ≡ self.now) }
+    {
+        match self {
+            Output::Send { port, to, body } => {
+                let body = body.copy(alloc)?;
+                Ok(Output::Send {
+                    port: *port,
+                    to: to.copy(),
+                    body,
+                })
+            }
+            Output::Done { op, reply } => {
+                let reply = copy_bytes(alloc, reply)?;
+                Ok(Output::Done { op: *op, reply })
+            }
+            Output::Refused(fault) => Ok(Output::Refused(*fault)),
+            Output::Dropped(reason) => Ok(Output::Dropped(*reason)),
+        }
+    }
+}
