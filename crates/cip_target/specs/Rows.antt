@@ -106,7 +106,7 @@ data_of (Written i d) = []
 
 -- a service with bit 7 set
 abbrev pub reply_service : ℕ → ℕ
-reply_service s = if nat_lt s 128 then s + 128 else s
+reply_service s = if nat_lt s 128 then 128 + s else s
 
 -- the reply of a row
 abbrev pub answer_of : ℕ → TargetRow → Reply

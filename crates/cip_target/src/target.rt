@@ -275,7 +275,7 @@ fn reply(alloc: Global, service: u8, general: u8, data_: &[u8]) -> Result<Bytes,
     ensures { IfOk result (λ bytes. bytes ≡ reply_bytes (record { service = reply_service service; general = general; extra = []; data_ = data_.now })) }
 {
     let service = if service < 0x80 {
-        service + 0x80
+        0x80 + service
     } else {
         service
     };
