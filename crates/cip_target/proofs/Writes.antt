@@ -1,5 +1,5 @@
 -- A row that writes writes to an assembly that is there, as many bytes as it has.
-use Rattle.std.proofs.Common.{◌≡◌, ℕ, Bool, true, false, cond, eqb, ltb, List, [], ◌∷◌, length, refl, sym, ap, subst, ◌∙◌, arith, Option, Some, None, ◌==◌, nat_lt}
+use Rattle.std.proofs.Common.{◌≡◌, ℕ, cond, eqb, ltb, List, length, refl, sym, subst, arith, Option, Some, None}
 use Rattle.std.specs.Prelude.{IsSomeAnd}
 use Rattle.std.specs.FinMap as map
 use Rattle.std.proofs.lemmas.Bool.{cond_both, ltb-false}
@@ -7,7 +7,7 @@ use Rattle.cip_segment.specs.Reading.{segments_of}
 use Rattle.cip_message.specs.Request.{Request}
 use Rattle.cip_target.specs.declared.identity.IdentityFields.{IdentityFields}
 use Rattle.cip_target.specs.declared.object.ObjectPath.{ObjectPath}
-use Rattle.cip_target.specs.declared.rows.TargetRefusal.TheVariants.{PathFormNotSupported, ClassNotSupported, NoSuchInstance, ServiceNotSupported, NoSuchAttribute, NotSettable, DataShort, DataLong}
+use Rattle.cip_target.specs.declared.rows.TargetRefusal.TheVariants.{ClassNotSupported, NoSuchInstance, ServiceNotSupported, DataShort, DataLong}
 use Rattle.cip_target.specs.Identity.{identity_bytes}
 use Rattle.cip_target.specs.Object.{object_of}
 use Rattle.cip_target.specs.Assemblies.{AssemblyMap}
@@ -43,8 +43,8 @@ set_there m i held d found =
     cond_both (ltb (length d) (length held)) (Refused DataShort) (cond (ltb (length held) (length d)) (Refused DataLong) (Written i d)) (IsThere m) (λ e. tt)
     (λ short. cond_both (ltb (length held) (length d)) (Refused DataLong) (Written i d) (IsThere m) (λ e. tt)
     (λ long.
-        let same : length d ≡ length held = omega (arith, ltb-false _ _ short, ltb-false _ _ long) in
-        subst (λ (o : Option (List ℕ)). IsSomeAnd o (λ h. length d ≡ length h)) (sym found) same))
+    let same : length d ≡ length held = omega (arith, ltb-false _ _ short, ltb-false _ _ long) in
+    subst (λ (o : Option (List ℕ)). IsSomeAnd o (λ h. length d ≡ length h)) (sym found) same))
 
 data_there : (m : AssemblyMap) (i : ℕ) (held : List ℕ) (a : Option ℕ) (d : List ℕ) → map.get m i ≡ Some held → IsThere m (set_assembly_row i (assembly_attribute held a) d)
 data_there m i held None d found = tt

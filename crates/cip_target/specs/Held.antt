@@ -2,7 +2,6 @@
 use Rattle.std.specs.Prelude.{ℕ, ◌≤◌, T, List, [], length, slice_index_or}
 use Rattle.std.specs.Ordering.{nat_cmp}
 use Rattle.std.specs.FinMap as map
-use Rattle.cip_target.specs.Assemblies.{AssemblyMap}
 
 pub record IsHeld (held : List (ℕ × List ℕ)) : Type 0 where
   pub sorted : T (map.is_sorted nat_cmp held)

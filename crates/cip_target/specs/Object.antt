@@ -1,7 +1,7 @@
 -- The object that a request names: a class, an instance and perhaps an attribute (Volume 1, Appendix C, logical segments).
 use Rattle.std.specs.Prelude.{ℕ, Option, Some, None, List, [], ◌∷◌}
 use Rattle.cip_segment.specs.declared.segment.Segment.{Segment}
-use Rattle.cip_segment.specs.declared.segment.Segment.TheVariants.{Port, Class, Instance, Member, Point, Attribute, Key, Words, Symbol, Inhibit}
+use Rattle.cip_segment.specs.declared.segment.Segment.TheVariants.{Class, Instance, Attribute}
 use Rattle.cip_target.specs.declared.object.ObjectPath.{ObjectPath}
 
 -- behind class and instance: nothing, or one attribute

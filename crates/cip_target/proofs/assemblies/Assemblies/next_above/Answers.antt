@@ -1,7 +1,7 @@
 use Rattle.std.proofs.Common.{◌≡◌, ℕ, List, Some, None, sym, ap, ◌∙◌, Bor}
 use Rattle.std.specs.List.{position}
 use Rattle.std.specs.Option.{option_map}
-use Rattle.cip_target.specs.Assemblies.{AssemblyMap, first_above, is_above}
+use Rattle.cip_target.specs.Assemblies.{first_above, is_above}
 use Rattle.cip_target.proofs.Keeping.{above_none, above_is}
 use Rattle.cip_target.proofs.assemblies.Assemblies.next_above.Goals as goal
 

@@ -1,4 +1,4 @@
-use Rattle.std.proofs.Common.{◌≡◌, ℕ, List, Some, None, sym, ap, ◌∙◌, ◌==◌, refl, length, ◌≤◌, subst}
+use Rattle.std.proofs.Common.{◌≡◌, ℕ, List, Some, sym, ap, ◌∙◌, ◌==◌, refl, length, ◌≤◌, subst}
 use Rattle.std.specs.List.{position}
 use Rattle.cip_target.proofs.Keeping.{key_is, fits_at, kept_set, view_write, same_length, always_there}
 use Rattle.cip_target.proofs.assemblies.Assemblies.write.Goals as goal
