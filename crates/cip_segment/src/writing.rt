@@ -166,8 +166,8 @@ pub fn write_path(alloc: Global, segments: &[Segment]) -> Result<Path, PathFault
     ensures ok { IfOk result (λ path. path ≡ short segments.now) }
     ensures spells { IfOk result (λ path. Spells path segments.now) }
     ensures reads { IfOk result (λ path. path_at path ≡ Ok segments.now) }
-    ensures fits { IsOk result → length (short segments.now) ≤ MAX_PATH }
-    ensures fault { IfErr result (λ f. (f ≡ PathFault.NoMemory) ⊎ ((f ≡ PathFault.TooLong) × (MAX_PATH < length (short segments.now)))) }
+    ensures fits { IsOk result → length (short segments.now) ≤ 510 }
+    ensures fault { IfErr result (λ f. (f ≡ PathFault.NoMemory) ⊎ ((f ≡ PathFault.TooLong) × (510 < length (short segments.now)))) }
 {
     match short_bytes(alloc, segments) {
         Err(_) => Err(PathFault::NoMemory),

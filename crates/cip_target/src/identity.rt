@@ -1,0 +1,122 @@
+//! What a module says of itself.
+ghost use Rattle.std.specs.Prelude.{◌≡◌, ◌≤◌, ◌++◌, ◌↔◌, ◌∷◌, length, IfOk, IfSome, IsSome, IsTrue, OnOk};
+ghost use Rattle.std.specs.List.{list_all};
+ghost use Rattle.cip_target.specs.Identity.{is_printable, is_identity, number_bytes, identity_bytes};
+
+use cip_base::{Bytes, NoMemory};
+use cip_message::{put_double, put_word};
+use std::alloc::{AllocError, Global};
+use std::marker::Model;
+
+/// The fields of the Identity object (Volume 1, chapter 5, Identity object, class attributes 1 to 7 of instance 1).
+#[derive(Debug, Drop, PartialEq, Eq)]
+pub struct IdentityFields {
+    pub vendor: u16,
+    pub device_type: u16,
+    pub product: u16,
+    /// The major revision, 0 to 127.
+    pub major: u8,
+    pub minor: u8,
+    pub status: u16,
+    pub serial: u32,
+    /// The product name: 0 to 32 characters from 20 to 7E.
+    pub name: Bytes,
+}
+
+/// An identity, whose fields are in their ranges.
+#[derive(Debug, Drop)]
+pub struct Identity {
+    fields: IdentityFields,
+}
+
+impl Model for Identity {
+    ghost use Rattle.std.specs.Prelude.{IsTrue};
+    ghost use Rattle.cip_target.specs.declared.identity.IdentityFields.{IdentityFields};
+    ghost use Rattle.cip_target.specs.Identity.{is_identity};
+
+    ghost Value = { IdentityFields };
+
+    ghost view = { λ i. i.fields };
+
+    ghost invariant = { λ i. IsTrue (is_identity i.fields) };
+}
+
+fn are_printable(bytes: &[u8]) -> bool
+    ensures { result ≡ list_all is_printable bytes.now }
+{
+    for byte in bytes {
+        if *byte < 0x20 || *byte > 0x7E {
+            return false;
+        }
+    }
+    true
+}
+
+impl Identity {
+    /// The identity of these fields; None where the major revision passes 127, or the name is longer than 32 characters or
+    /// has one that is not from 20 to 7E.
+    pub fn new(fields: IdentityFields) -> Option<Identity>
+        ensures legal { IsSome result ↔ IsTrue (is_identity fields) }
+        ensures value { IfSome result (λ identity. identity ≡ fields) }
+    {
+        let name = fields.name.as_slice();
+        if fields.major <= 127 && name.len() <= 32 && are_printable(name) {
+            Some(Identity { fields })
+        } else {
+            None
+        }
+    }
+
+    /// The fields.
+    pub fn fields(&self) -> &IdentityFields
+        ensures value { result.now ≡ self.now }
+        ensures legal { IsTrue (is_identity result.now) }
+    {
+        &self.fields
+    }
+
+    /// The same identity once more, on memory of its own.
+    pub fn copy(&self, alloc: Global) -> Result<Identity, NoMemory>
+        ensures { IfOk result (λ identity. identity ≡ self.now) }
+    {
+        let name = Vec::from_slice(alloc, self.fields.name.as_slice())?;
+        Ok(Identity {
+            fields: IdentityFields {
+                vendor: self.fields.vendor,
+                device_type: self.fields.device_type,
+                product: self.fields.product,
+                major: self.fields.major,
+                minor: self.fields.minor,
+                status: self.fields.status,
+                serial: self.fields.serial,
+                name: Bytes::of(name),
+            },
+        })
+    }
+
+    /// Attributes 1 to 7, one after the other: what Get_Attributes_All answers.
+    pub(crate) fn to_bytes(&self, alloc: Global) -> Result<Bytes, NoMemory>
+        ensures is { IfOk result (λ bytes. bytes ≡ identity_bytes self.now) }
+        ensures fits { IfOk result (λ bytes. length bytes ≤ 511) }
+    {
+        let mut bytes = Vec::new(alloc);
+        put_numbers(&mut bytes, &self.fields)?;
+        let name = self.fields.name.as_slice();
+        bytes.push(name.len() as u8)?;
+        bytes.extend_from_slice(name)?;
+        Ok(Bytes::of(bytes))
+    }
+}
+
+fn put_numbers(out: &mut Vec<u8>, fields: &IdentityFields) -> Result<(), AllocError>
+    ensures { OnOk result (out.new.items ≡ out.old.items ++ number_bytes fields.now) }
+{
+    put_word(out, fields.vendor)?;
+    put_word(out, fields.device_type)?;
+    put_word(out, fields.product)?;
+    out.push(fields.major)?;
+    out.push(fields.minor)?;
+    put_word(out, fields.status)?;
+    put_double(out, fields.serial)?;
+    Ok(())
+}

@@ -1,0 +1,19 @@
+//! The target: the Identity object and the Assembly objects that a module has itself, and what they answer
+//! (Volume 1, chapter 5, object library).
+#![tactic(auto)]
+
+mod assemblies;
+mod config;
+mod identity;
+mod object;
+mod rows;
+mod target;
+
+pub use config::AssemblyConfig;
+pub use identity::{Identity, IdentityFields};
+pub use object::{ObjectPath, object_path};
+pub use rows::TargetRefusal;
+pub use target::Target;
+
+#[cfg(test)]
+mod tests;
