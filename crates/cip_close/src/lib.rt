@@ -1,0 +1,12 @@
+//! Forward_Close: closing a connection along the path by which it was opened (Volume 1, chapter 3, Forward_Close).
+#![tactic(auto)]
+
+mod failed;
+mod request;
+mod success;
+
+pub use failed::{CloseFailure, read_close_failure, write_close_failure};
+pub use request::{
+    CloseFields, CloseView, close_triad_at, close_words_at, read_close, write_close,
+};
+pub use success::{CloseReply, read_close_reply, write_close_reply};
