@@ -2,6 +2,8 @@
 ghost use Rattle.std.specs.Prelude.{◌≡◌, ◌<◌, ◌≤◌, ℕ, List, Ok, MatchResult};
 ghost use Rattle.cip_base.specs.Fields.{IsBytes};
 ghost use Rattle.cip_segment.specs.Spelling.{IsReadable};
+ghost use Rattle.cip_message.specs.declared.failure.ConnectionFailure.{ConnectionFailure as Failure};
+ghost use Rattle.cip_message.specs.Failure.{ReadsFailure, IsFailureFault, failure_at, failure_data, HasTriadForWords};
 ghost use Rattle.cip_message.specs.Request.{Request, ReadsRequest, IsRequestFault, request_bytes};
 ghost use Rattle.cip_message.specs.RequestAt.{request_at};
 ghost use Rattle.cip_message.specs.Manager.{manager_request, manager_bytes};
@@ -33,4 +35,15 @@ pub fn written_manager_request_is_read()
 /// A reply that is written is read back as the same record.
 pub fn written_reply_is_read()
     ensures { (r : Reply) → 128 ≤ r.service → reply_at (reply_bytes r) ≡ Ok r }
+{}
+
+/// Reading the data of a failure gives the one record that has its layout, or the fault.
+pub fn failure_is_exact()
+    ensures only { (b : List ℕ) (f : Failure) → ReadsFailure b f → failure_at b ≡ Ok f }
+    ensures verdict { (b : List ℕ) → IsBytes b → MatchResult (failure_at b) (ReadsFailure b) (IsFailureFault b) }
+{}
+
+/// The data of a failure that is written is read back as the same record.
+pub fn written_failure_is_read()
+    ensures { (f : Failure) → HasTriadForWords f → failure_at (failure_data f) ≡ Ok f }
 {}

@@ -1,0 +1,8 @@
+use Rattle.cip_open.proofs.Opens.{open_read, open_verdict}
+use Rattle.cip_open.proofs.laws.open_is_exact.Goals as goal
+
+pub returns-clause-only : goal.returns-clause-only
+returns-clause-only c = open_read
+
+pub returns-clause-verdict : goal.returns-clause-verdict
+returns-clause-verdict c = open_verdict
