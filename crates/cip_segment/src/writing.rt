@@ -8,9 +8,8 @@ ghost use Rattle.cip_segment.specs.Short.{short_number, short_port, short_form, 
 use crate::fault::PathFault;
 use crate::path::Path;
 use crate::segment::Segment;
-use crate::view::MAX_PATH;
 use byteorder::{ByteOrder, LittleEndian};
-use cip_base::KeyFields;
+use cip_base::{KeyFields, MAX_PATH};
 use std::alloc::{AllocError, Global};
 
 fn put_word(out: &mut Vec<u8>, number: u16) -> Result<(), AllocError>
@@ -128,7 +127,7 @@ fn put(out: &mut Vec<u8>, segment: &Segment) -> Result<(), AllocError>
     }
 }
 
-/// Whether the segment has a form.
+/// Whether the segment can be written: simple data of whole words and at most 510 bytes, a symbol of at most 255 bytes.
 pub fn segment_ok(segment: &Segment) -> bool
     ensures { IsTrue result ↔ IsWritable segment.now }
 {
@@ -160,7 +159,8 @@ fn short_bytes(alloc: Global, segments: &[Segment]) -> Result<Vec<u8>, AllocErro
     Ok(bytes)
 }
 
-/// The path that spells the segments, each in its shortest form.
+/// The path that spells the segments, each in its shortest form (Volume 1, Appendix C): numbers in the fewest bits, an
+/// address of one byte without its size. TooLong where that passes 510 bytes. The condition is `segment_ok` of each.
 pub fn write_path(alloc: Global, segments: &[Segment]) -> Result<Path, PathFault>
     requires { All IsWritable segments.now }
     ensures ok { IfOk result (λ path. path ≡ short segments.now) }

@@ -1,0 +1,103 @@
+//! What the table keeps, and why it refuses.
+ghost use Rattle.std.specs.Prelude.{◌≡◌};
+ghost use Rattle.cip_pending.specs.Pendings.{is_asked};
+
+use cip_base::{Address, PortNumber, Triad};
+use thiserror::Error;
+
+/// Whom a reply goes to: the node on a link that asked, under the number that it gave, or a command of this module.
+#[derive(Debug, Drop, PartialEq, Eq)]
+pub enum UpSide {
+    Link {
+        port: PortNumber,
+        address: Address,
+        number: u32,
+    },
+    Local {
+        op: u32,
+    },
+}
+
+/// The service that was sent on (Volume 1, chapter 3): what Unconnected_Send carries, Forward_Open or Forward_Close.
+#[derive(Clone, Copy, Debug, PartialEq, Eq)]
+pub enum Kind {
+    Unconnected,
+    Opening(Triad),
+    Closing(Triad),
+}
+
+/// A request that was sent on and waits for its reply.
+#[derive(Debug, Drop, PartialEq, Eq)]
+pub struct Entry {
+    /// Where the reply goes.
+    pub up: UpSide,
+    /// The port by which the request went.
+    pub port: PortNumber,
+    /// The address to which it went.
+    pub address: Address,
+    /// The time at which it is given up, in microseconds.
+    pub deadline: u64,
+    /// The length of its path as it was received, in 16-bit words.
+    pub words: u8,
+    /// What was asked.
+    pub kind: Kind,
+}
+
+impl UpSide {
+    /// The same side once more. Takes no memory.
+    pub fn copy(&self) -> UpSide
+        ensures { result ≡ self.now }
+    {
+        match self {
+            UpSide::Link {
+                port,
+                address,
+                number,
+            } => UpSide::Link {
+                port: *port,
+                address: address.copy(),
+                number: *number,
+            },
+            UpSide::Local { op } => UpSide::Local { op: *op },
+        }
+    }
+}
+
+impl Entry {
+    /// The same entry once more. Takes no memory.
+    pub fn copy(&self) -> Entry
+        ensures { result ≡ self.now }
+    {
+        Entry {
+            up: self.up.copy(),
+            port: self.port,
+            address: self.address.copy(),
+            deadline: self.deadline,
+            words: self.words,
+            kind: self.kind,
+        }
+    }
+
+    /// Whether the request went by this port to this address.
+    pub fn is_asked(&self, port: PortNumber, address: &Address) -> bool
+        ensures { result ≡ is_asked port address.now self.now }
+    {
+        self.port == port && self.address == *address
+    }
+}
+
+/// Why an entry is not taken.
+#[derive(Clone, Copy, Debug, PartialEq, Eq)]
+pub enum AddReason {
+    Full,
+    NumbersSpent,
+}
+
+/// The table refused, and hands the entry back.
+#[derive(Debug, Drop, PartialEq, Eq, Error)]
+pub enum AddFault {
+    #[error("the table is full")]
+    Full(Entry),
+    #[error("the numbers are spent")]
+    NumbersSpent(Entry),
+}
