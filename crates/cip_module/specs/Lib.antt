@@ -4,3 +4,16 @@ pub mod Keys
 pub mod Object
 pub mod State
 pub mod Rising
+pub mod Answers
+pub mod Effects
+pub mod UnconnectedRows
+pub mod RequestRows
+pub mod ReplyRows
+pub mod CommandRows
+pub mod Decisions
+pub mod Table
+pub mod Tick
+pub mod Does
+pub mod Steps
+pub mod Plain
+pub mod Views

@@ -4,7 +4,7 @@ use cip_base::{Address, Bytes, Ms, PortNumber, Timing};
 use cip_segment::Path;
 
 /// What a frame on a link holds. The receiver of a request repeats its number in the reply.
-#[derive(Drop)]
+#[derive(Debug, Drop, PartialEq, Eq)]
 pub enum Body {
     /// A Message Router request.
     Request { number: u32, bytes: Bytes },
@@ -13,7 +13,7 @@ pub enum Body {
 }
 
 /// What a module's own application asks for. `op` names what is asked, once for ever.
-#[derive(Drop)]
+#[derive(Debug, Drop)]
 pub enum Command {
     /// Send a request unconnected along a path (Volume 1, chapter 3, Unconnected_Send).
     Send {
@@ -25,7 +25,7 @@ pub enum Command {
 }
 
 /// What a module is given.
-#[derive(Drop)]
+#[derive(Debug, Drop)]
 pub enum Event {
     Command(Command),
     /// A frame that came in by this port of the module from this address.
@@ -59,7 +59,7 @@ pub enum Dropped {
 }
 
 /// What a module does.
-#[derive(Drop)]
+#[derive(Debug, Drop, PartialEq, Eq)]
 pub enum Output {
     /// Send a frame by this port to this address.
     Send {

@@ -1,5 +1,5 @@
 //! The object that a request names.
-ghost use Rattle.std.specs.Prelude.{◌≡◌};
+ghost use Rattle.std.specs.Prelude.{◌≡◌, ◌≤◌, length, IfSome};
 ghost use Rattle.cip_segment.specs.Reading.{segments_of};
 ghost use Rattle.cip_module.specs.Object.{attribute_in, with_attribute, instance_in, object_of, begins_with_manager};
 
@@ -31,7 +31,8 @@ fn attribute_in(path: PathView<'_>) -> Option<Option<u16>>
 
 // What stands behind the class: an instance, and perhaps an attribute.
 fn instance_in(class_: u16, path: PathView<'_>) -> Option<ObjectPath>
-    ensures { result ≡ instance_in class_ (segments_of path.entry.bytes.now) }
+    ensures least { IfSome result (λ _. 2 ≤ length path.entry.bytes.now) }
+    ensures value { result ≡ instance_in class_ (segments_of path.entry.bytes.now) }
 {
     match split_first(path) {
         None => None,
@@ -51,7 +52,8 @@ fn instance_in(class_: u16, path: PathView<'_>) -> Option<ObjectPath>
 
 /// The object that a path names: exactly a class, an instance and perhaps an attribute, in any spelling.
 pub(crate) fn object_path(path: PathView<'_>) -> Option<ObjectPath>
-    ensures { result ≡ object_of (segments_of path.entry.bytes.now) }
+    ensures least { IfSome result (λ _. 4 ≤ length path.entry.bytes.now) }
+    ensures value { result ≡ object_of (segments_of path.entry.bytes.now) }
 {
     match split_first(path) {
         None => None,

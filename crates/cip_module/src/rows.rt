@@ -38,7 +38,7 @@ pub enum KeyPart {
     Revision,
 }
 
-fn plain_status(general: u8) -> Status
+pub(crate) fn plain_status(general: u8) -> Status
     ensures { result ≡ record { general = general; extra = None } }
 {
     Status {

@@ -1,2 +1,4 @@
-pub mod Steps
+pub mod Joined
+pub mod Search
 pub mod Ticks
+pub mod Steps

@@ -1,21 +1,30 @@
-//! The table, a list in rising number whose room is reserved.
-ghost use Rattle.std.specs.Prelude.{◌≡◌, ◌+◌, ◌++◌, ◌<◌, IfOk, ◌==◌, is_ok, is_some, if◌then◌else◌, MatchOption, option_map};
+//! The table: records in a slab, and an index of their keys in rising number. All room is reserved.
+ghost use Rattle.std.specs.Prelude.{◌≡◌, ◌+◌, ◌++◌, ◌<◌, ◌≤◌, true, false, length, IfOk, ◌==◌, is_ok, is_some, if◌then◌else◌, MatchOption, option_map};
 ghost use Rattle.std.specs.List.{position};
+ghost use Rattle.std.specs.List.Sorted.{IsPartitionPoint};
 ghost use Rattle.std.specs.Option.{option_copied, option_to_list};
 ghost use Rattle.std.specs.FinMap as map;
+ghost use Rattle.slab.specs.Slab.{get as get_record};
 ghost use Rattle.cip_pending.specs.Pendings.{refusal, add_gives, added, waiting_at, without, is_due, first_due, due, rest, first_after, is_after, IsWithin};
+ghost use Rattle.cip_pending.specs.Joined.{passes};
+ghost use Rattle.cip_pending.specs.Kept.{IsRising};
 
 use crate::entry::{AddFault, AddReason, Entry};
 use cip_base::{Address, NoMemory, PortNumber};
+use slab::Slab;
 use std::alloc::Global;
 use std::marker::Model;
 
-/// The requests that wait, each under its number. Numbers rise and never come back.
+/// The requests that wait for their replies, each under its number. Numbers rise and never come back.
+/// All memory is taken by `with_room`.
 #[derive(Drop)]
 pub struct PendingTable {
     room: usize,
+    // Up to one past the last number of 32 bits.
     next: u64,
-    held: Vec<(u32, Entry)>,
+    // Each number with the key of its record, in rising number.
+    order: Vec<(u32, usize)>,
+    records: Slab<Entry>,
 }
 
 impl Model for PendingTable {
@@ -37,23 +46,27 @@ impl Model for PendingTable {
 }
 
 impl PendingTable {
-    /// An empty table with room for `room` entries, whose first number is `first`.
+    /// An empty table with room for `room` requests, whose first number is `first`, above 0. NoMemory where the room is
+    /// refused.
     pub fn with_room(alloc: Global, room: usize, first: u32) -> Result<PendingTable, NoMemory>
         requires { 0 < first }
         ensures { IfOk result (λ t. t ≡ record { room = room; next = first; entries = map.empty }) }
     {
+        let order = Vec::with_capacity(alloc, room)?;
+        let records = Slab::with_capacity(alloc, room)?;
         Ok(PendingTable {
             room,
             next: u64::from(first),
-            held: Vec::with_capacity(alloc, room)?,
+            order,
+            records,
         })
     }
 
-    /// Why `add` would refuse, if it would.
+    /// Why `add` would refuse now; None where it would not.
     pub fn can_add(&self) -> Option<AddReason>
         ensures { result ≡ refusal self.now }
     {
-        if self.held.len() >= self.room {
+        if self.order.len() >= self.room {
             Some(AddReason::Full)
         } else if self.next > u64::from(u32::MAX) {
             Some(AddReason::NumbersSpent)
@@ -62,7 +75,8 @@ impl PendingTable {
         }
     }
 
-    /// Keeps an entry under the next number, or hands it back.
+    /// Keeps a request under the next number, and gives that number. Full where the room is used up, and else
+    /// NumbersSpent where 0xFFFF_FFFF was given: the entry then comes back, and nothing changes.
     pub fn add(&mut self, entry: Entry) -> Result<u32, AddFault>
         ensures value { result ≡ add_gives self.old entry }
         ensures after { self.new ≡ (if is_ok result then added self.old entry else self.old) }
@@ -72,7 +86,8 @@ impl PendingTable {
             Some(AddReason::NumbersSpent) => Err(AddFault::NumbersSpent(entry)),
             None => {
                 let number = self.next as u32;
-                let Ok(()) = self.held.push((number, entry)) else {
+                let key = self.records.insert_reserved(entry);
+                let Ok(()) = self.order.push((number, key)) else {
                     unreachable!()
                 };
                 self.next += 1;
@@ -81,12 +96,12 @@ impl PendingTable {
         }
     }
 
-    /// The entry that waits under this number for a reply from there.
+    /// The request of this number, where it went by this port to this address.
     pub fn look(&self, number: u32, port: PortNumber, address: &Address) -> Option<&Entry>
         ensures { option_copied result ≡ waiting_at self.now number port address.now }
     {
-        let at = place_of(&self.held, number)?;
-        let entry = &self.held[at].1;
+        let at = place_of(&self.order, number)?;
+        let entry = self.records.get(self.order[at].1)?;
         if entry.is_asked(port, address) {
             Some(entry)
         } else {
@@ -94,20 +109,21 @@ impl PendingTable {
         }
     }
 
-    /// Takes out the entry that waits under this number for a reply from there.
+    /// Takes out the request of this number, where it went by this port to this address.
     pub fn take(&mut self, number: u32, port: PortNumber, address: &Address) -> Option<Entry>
         ensures value { result ≡ waiting_at self.old number port address.now }
         ensures after { self.new ≡ (if is_some result then without self.old number else self.old) }
     {
-        let at = place_of(&self.held, number)?;
-        if self.held[at].1.is_asked(port, address) {
-            Some(self.held.remove(at).1)
-        } else {
-            None
+        let at = place_of(&self.order, number)?;
+        let key = self.order[at].1;
+        if !self.records.get(key)?.is_asked(port, address) {
+            return None;
         }
+        self.order.remove(at);
+        Some(self.records.remove(key))
     }
 
-    /// Takes out the due entry of the least number.
+    /// Takes out the request of the least number whose deadline is at most `now`, in microseconds.
     pub fn expire(&mut self, now: u64) -> Option<(u32, Entry)>
         ensures value { result ≡ first_due now self.old }
         ensures after { MatchOption result (self.new ≡ self.old) (λ gone. self.new ≡ without self.old gone.0) }
@@ -116,20 +132,24 @@ impl PendingTable {
         ensures due { due now self.old ≡ option_to_list result ++ due now self.new }
         ensures rest { rest now self.new ≡ rest now self.old }
     {
-        let at = first_due_place(&self.held, now)?;
-        Some(self.held.remove(at))
+        let at = first_due_place(&self.order, &self.records, now)?;
+        let (number, key) = self.order.remove(at);
+        Some((number, self.records.remove(key)))
     }
 
-    /// The entry of the least number above, or of all.
+    /// The request of the least number above `after`, or of the least of all for None.
     pub fn next_after(&self, after: Option<u32>) -> Option<(u32, &Entry)>
         ensures { option_map (λ e. (e.0, e.1.now)) result ≡ first_after after self.now }
     {
-        let at = first_after_place(&self.held, after)?;
-        let held = &self.held[at];
-        Some((held.0, &held.1))
+        let at = place_after(&self.order, after);
+        if at == self.order.len() {
+            return None;
+        }
+        let (number, key) = self.order[at];
+        Some((number, self.records.get(key)?))
     }
 
-    /// The last number given, or one less than the first.
+    /// One less than the next number: the last that was given, or one less than the first.
     pub fn last(&self) -> u32
         ensures value { result + 1 ≡ self.now.next }
         ensures within { IsWithin self.now }
@@ -138,29 +158,40 @@ impl PendingTable {
     }
 }
 
-fn place_of(held: &[(u32, Entry)], number: u32) -> Option<usize>
-    ensures { result ≡ position (λ e. e.0 == number) held.now }
+// Where the number stands, by binary search.
+fn place_of(order: &[(u32, usize)], number: u32) -> Option<usize>
+    requires { IsRising order.now }
+    ensures { result ≡ position (λ p. p.0 == number) order.now }
 {
-    held.iter().position(|e| e.0 == number)
+    order
+        .binary_search_by_key(&number, |&(number, _)| number)
+        .ok()
 }
 
-fn first_due_place(held: &[(u32, Entry)], now: u64) -> Option<usize>
-    ensures { result ≡ position (is_due now) held.now }
+// Where the first number stands whose record is due.
+fn first_due_place(order: &[(u32, usize)], records: &Slab<Entry>, now: u64) -> Option<usize>
+    ensures { result ≡ position (passes (is_due now) (get_record records.now)) order.now }
 {
-    held.iter().position(|e| e.1.deadline <= now)
+    order.iter().position(|p| is_due_at(records, p.1, now))
 }
 
-fn comes_after(after: Option<u32>, number: u32) -> bool
-    ensures { result ≡ is_after after number }
+fn is_due_at(records: &Slab<Entry>, key: usize, now: u64) -> bool
+    ensures { result ≡ passes (is_due now) (get_record records.now) (0, key) }
 {
-    match after {
-        None => true,
-        Some(n) => n < number,
+    match records.get(key) {
+        Some(entry) => entry.deadline <= now,
+        None => false,
     }
 }
 
-fn first_after_place(held: &[(u32, Entry)], after: Option<u32>) -> Option<usize>
-    ensures { result ≡ position (λ e. is_after after e.0) held.now }
+// Where the numbers above begin, by binary search.
+fn place_after(order: &[(u32, usize)], after: Option<u32>) -> usize
+    requires { IsRising order.now }
+    ensures bound { result ≤ length order.now }
+    ensures parts { IsPartitionPoint (λ p. is_after after p.0 ≡ false) (λ p. is_after after p.0 ≡ true) order.now result }
 {
-    held.iter().position(|e| comes_after(after, e.0))
+    match after {
+        None => 0,
+        Some(last) => order.partition_point(|&(number, _)| number <= last),
+    }
 }
