@@ -35,11 +35,14 @@ close_read b o (readable, (n, x, len, e)) = subst (λ (c : List ℕ). close_at c
 
 lays : (b : List ℕ) → IsBytes b → length b ≡ whole_length 10 12 b → LaysClose b (record { fields = close_fields_in b; path = drop 12 b })
 lays b fits len =
-    let at : ℕ → ℕ = λ i. get_or b i 0 in
-    (at 10, at 11, omega (arith, len, length-drop 12 b),
+    let at : ℕ → ℕ = λ i. get_or b i 0 in (
+      at 10,
+      at 11,
+      omega (arith, len, length-drop 12 b),
       fronts 12 b (omega (arith, len))
-      ∙ ap (λ (z : List ℕ). at 0 ∷ at 1 ∷ z ++ (at 10 ∷ at 11 ∷ drop 12 b))
-        (sym (triad_back (at 2) (at 3) (at 4) (at 5) (at 6) (at 7) (at 8) (at 9) (fits 2) (fits 3) (fits 4) (fits 5) (fits 6) (fits 7) (fits 8) (fits 9))))
+          ∙ ap (λ (z : List ℕ). at 0 ∷ at 1 ∷ z ++ (at 10 ∷ at 11 ∷ drop 12 b))
+          (sym (triad_back (at 2) (at 3) (at 4) (at 5) (at 6) (at 7) (at 8) (at 9) (fits 2) (fits 3) (fits 4) (fits 5) (fits 6) (fits 7) (fits 8) (fits 9))),
+    )
 
 has_layout : (b : List ℕ) → IsBytes b → length b ≡ whole_length 10 12 b → HasCloseLayout b
 has_layout b fits len = (record { fields = close_fields_in b; path = drop 12 b }, lays b fits len)

@@ -32,11 +32,14 @@ close_reply_read b s (n, x, len, e) = subst (λ (c : List ℕ). close_reply_at c
 
 reads : (b : List ℕ) → IsBytes b → length b ≡ whole_length 8 10 b → ReadsCloseReply b (record { triad = triad_in b 0; reply = drop 10 b })
 reads b fits len =
-    let at : ℕ → ℕ = λ i. get_or b i 0 in
-    (at 8, at 9, omega (arith, len, length-drop 10 b),
+    let at : ℕ → ℕ = λ i. get_or b i 0 in (
+      at 8,
+      at 9,
+      omega (arith, len, length-drop 10 b),
       fronts 10 b (omega (arith, len))
-      ∙ ap (λ (z : List ℕ). z ++ (at 8 ∷ at 9 ∷ drop 10 b))
-        (sym (triad_back (at 0) (at 1) (at 2) (at 3) (at 4) (at 5) (at 6) (at 7) (fits 0) (fits 1) (fits 2) (fits 3) (fits 4) (fits 5) (fits 6) (fits 7))))
+          ∙ ap (λ (z : List ℕ). z ++ (at 8 ∷ at 9 ∷ drop 10 b))
+          (sym (triad_back (at 0) (at 1) (at 2) (at 3) (at 4) (at 5) (at 6) (at 7) (fits 0) (fits 1) (fits 2) (fits 3) (fits 4) (fits 5) (fits 6) (fits 7))),
+    )
 
 has_layout : (b : List ℕ) → IsBytes b → length b ≡ whole_length 8 10 b → HasCloseReplyLayout b
 has_layout b fits len = (record { triad = triad_in b 0; reply = drop 10 b }, reads b fits len)

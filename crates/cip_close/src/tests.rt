@@ -83,9 +83,14 @@ fn a_success_is_written_and_read(rt: HostRuntime) -> Result<(), Fail> {
     assert_eq!(rt; read.triad, TRIAD);
     assert_eq!(rt; read.reply.len(), 0);
     for len in 4..14 {
-        assert_eq!(rt; read_close_reply(&SUCCESS[4..len]).err(), Some(DataFault::Short));
+        assert_eq!(rt;
+            read_close_reply(&SUCCESS[4..len]).err(),
+            Some(DataFault::Short)
+        );
     }
-    let longer = [0x42, 0x00, 0x01, 0x01, 0x0D, 0x0C, 0x0B, 0x0A, 0x00, 0x00, 0x00];
+    let longer = [
+        0x42, 0x00, 0x01, 0x01, 0x0D, 0x0C, 0x0B, 0x0A, 0x00, 0x00, 0x00,
+    ];
     assert_eq!(rt; read_close_reply(&longer).err(), Some(DataFault::Long));
     Ok(())
 }

@@ -44,8 +44,8 @@ counted_verdict P size start b short long whole =
     cond_both (ltb (length b) (whole_length size start b)) (Err Short) (cond (ltb (whole_length size start b) (length b)) (Err Long) (Ok (drop start b))) P
     (λ e. short (ltb-true _ _ e))
     (λ d. cond_both (ltb (whole_length size start b) (length b)) (Err Long) (Ok (drop start b)) P
-      (λ e. long (ltb-true _ _ e))
-      (λ e. let le : length b ≤ whole_length size start b = ltb-false _ _ e in let ge : whole_length size start b ≤ length b = ltb-false _ _ d in whole (omega arith)))
+    (λ e. long (ltb-true _ _ e))
+    (λ e. let le : length b ≤ whole_length size start b = ltb-false _ _ e in let ge : whole_length size start b ≤ length b = ltb-false _ _ d in whole (omega arith)))
 
 path_verdict : (P : Result (List ℕ) DataFault → Type 0) (p : List ℕ) (read : Result (List Segment) PathFault) → IsBytes p → path_at p ≡ read
     → (IsReadable p → P (counted p)) → ((f : PathFault) → IsFault p f → P (refused (Path f))) → P (if_path read p)

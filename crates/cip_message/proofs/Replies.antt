@@ -44,8 +44,8 @@ reply_verdict (s ∷ x ∷ g ∷ n ∷ rest) fits =
     cond_both (ltb s 128) (Err NotReply) (cond (ltb (length rest) (2 * n)) (Err ExtraSize) (Ok _)) P
     (λ low. (s, x, g, n, rest, refl, ltb-true _ _ low))
     (λ high. cond_both (ltb (length rest) (2 * n)) (Err ExtraSize) (Ok _) P
-      (λ short. (s, x, g, n, rest, refl, ltb-false _ _ high, ltb-true _ _ short))
-      (λ enough. parts_fit s x g n rest fits (ltb-false _ _ high) (ltb-false _ _ enough)))
+    (λ short. (s, x, g, n, rest, refl, ltb-false _ _ high, ltb-true _ _ short))
+    (λ enough. parts_fit s x g n rest fits (ltb-false _ _ high) (ltb-false _ _ enough)))
 
 -- ---- what is written is read back
 

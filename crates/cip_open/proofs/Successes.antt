@@ -47,16 +47,19 @@ same_parts a a' b b' c c' d d' e e' n x reply ea eb ec ed ee = rw (ea, eb, ec, e
 
 reads : (b : List ℕ) → IsBytes b → length b ≡ whole_length 24 26 b → ReadsOpenReply b (open_success_in b (drop 26 b))
 reads b fits len =
-    let at : ℕ → ℕ = λ i. get_or b i 0 in
-    (at 24, at 25, omega (arith, len, length-drop 26 b),
+    let at : ℕ → ℕ = λ i. get_or b i 0 in (
+      at 24,
+      at 25,
+      omega (arith, len, length-drop 26 b),
       fronts 26 b (omega (arith, len))
-      ∙ sym (same_parts _ (at 0 ∷ at 1 ∷ at 2 ∷ at 3 ∷ []) _ (at 4 ∷ at 5 ∷ at 6 ∷ at 7 ∷ [])
-        _ (at 8 ∷ at 9 ∷ at 10 ∷ at 11 ∷ at 12 ∷ at 13 ∷ at 14 ∷ at 15 ∷ []) _ (at 16 ∷ at 17 ∷ at 18 ∷ at 19 ∷ []) _ (at 20 ∷ at 21 ∷ at 22 ∷ at 23 ∷ []) (at 24) (at 25) (drop 26 b)
-        (double_back (at 0) (at 1) (at 2) (at 3) (fits 0) (fits 1) (fits 2) (fits 3))
-        (double_back (at 4) (at 5) (at 6) (at 7) (fits 4) (fits 5) (fits 6) (fits 7))
-        (triad_back (at 8) (at 9) (at 10) (at 11) (at 12) (at 13) (at 14) (at 15) (fits 8) (fits 9) (fits 10) (fits 11) (fits 12) (fits 13) (fits 14) (fits 15))
-        (double_back (at 16) (at 17) (at 18) (at 19) (fits 16) (fits 17) (fits 18) (fits 19))
-        (double_back (at 20) (at 21) (at 22) (at 23) (fits 20) (fits 21) (fits 22) (fits 23))))
+          ∙ sym (same_parts _ (at 0 ∷ at 1 ∷ at 2 ∷ at 3 ∷ []) _ (at 4 ∷ at 5 ∷ at 6 ∷ at 7 ∷ [])
+          _ (at 8 ∷ at 9 ∷ at 10 ∷ at 11 ∷ at 12 ∷ at 13 ∷ at 14 ∷ at 15 ∷ []) _ (at 16 ∷ at 17 ∷ at 18 ∷ at 19 ∷ []) _ (at 20 ∷ at 21 ∷ at 22 ∷ at 23 ∷ []) (at 24) (at 25) (drop 26 b)
+          (double_back (at 0) (at 1) (at 2) (at 3) (fits 0) (fits 1) (fits 2) (fits 3))
+          (double_back (at 4) (at 5) (at 6) (at 7) (fits 4) (fits 5) (fits 6) (fits 7))
+          (triad_back (at 8) (at 9) (at 10) (at 11) (at 12) (at 13) (at 14) (at 15) (fits 8) (fits 9) (fits 10) (fits 11) (fits 12) (fits 13) (fits 14) (fits 15))
+          (double_back (at 16) (at 17) (at 18) (at 19) (fits 16) (fits 17) (fits 18) (fits 19))
+          (double_back (at 20) (at 21) (at 22) (at 23) (fits 20) (fits 21) (fits 22) (fits 23))),
+    )
 
 has_layout : (b : List ℕ) → IsBytes b → length b ≡ whole_length 24 26 b → HasOpenReplyLayout b
 has_layout b fits len = (open_success_in b (drop 26 b), reads b fits len)

@@ -21,5 +21,5 @@ params_of w = record {
   variable = (w / 512) % 2 == 1;
   priority = priority_of ((w / 1024) % 4);
   kind = kind_of ((w / 8192) % 4);
-  redundant = (w / 32768) % 2 == 1
+  redundant = (w / 32768) % 2 == 1;
 }

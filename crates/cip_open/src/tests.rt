@@ -103,7 +103,10 @@ const REPLIES: [[u8; 30]; 3] = [
 
 #[test]
 fn successes_are_written_and_read(rt: HostRuntime) -> Result<(), Fail> {
-    for (bytes, (ot_id, to_id)) in REPLIES.iter().zip([(0x41, 0x31), (0x32, 0x21), (0x22, 0x11)]) {
+    for (bytes, (ot_id, to_id)) in REPLIES
+        .iter()
+        .zip([(0x41, 0x31), (0x32, 0x21), (0x22, 0x11)])
+    {
         let reply = OpenReply {
             ot_id,
             to_id,
@@ -121,7 +124,10 @@ fn successes_are_written_and_read(rt: HostRuntime) -> Result<(), Fail> {
         assert_eq!(rt; read.reply.len(), 0);
     }
     for len in 4..30 {
-        assert_eq!(rt; read_open_reply(&REPLIES[0][4..len]).err(), Some(DataFault::Short));
+        assert_eq!(rt;
+            read_open_reply(&REPLIES[0][4..len]).err(),
+            Some(DataFault::Short)
+        );
     }
     Ok(())
 }
@@ -139,10 +145,16 @@ fn a_success_with_an_application_reply(rt: HostRuntime) -> Result<(), Fail> {
     let written = write_open_reply(rt.alloc(), &reply)?;
     let bytes = written.as_slice();
     assert_eq!(rt; &bytes[28..], [1u8, 0, 0xAA, 0xBB].as_slice());
-    assert_eq!(rt; read_open_reply(&bytes[4..])?.reply, [0xAAu8, 0xBB].as_slice());
+    assert_eq!(rt;
+        read_open_reply(&bytes[4..])?.reply,
+        [0xAAu8, 0xBB].as_slice()
+    );
     let mut longer = bytes.to_vec(rt.alloc())?;
     longer.push(0)?;
-    assert_eq!(rt; read_open_reply(&longer.as_slice()[4..]).err(), Some(DataFault::Long));
+    assert_eq!(rt;
+        read_open_reply(&longer.as_slice()[4..]).err(),
+        Some(DataFault::Long)
+    );
     Ok(())
 }
 
@@ -202,7 +214,10 @@ fn failures_with_parts_missing(rt: HostRuntime) -> Result<(), Fail> {
     let data_ = &FAILURES[0].0[6..];
     assert_eq!(rt; read_open_failure(&[])?.triad, None);
     for len in 1..8 {
-        assert_eq!(rt; read_open_failure(&data_[..len]).err(), Some(DataFault::Short));
+        assert_eq!(rt;
+            read_open_failure(&data_[..len]).err(),
+            Some(DataFault::Short)
+        );
     }
     let alone = read_open_failure(&data_[..8])?;
     assert_eq!(rt; (alone.triad, alone.words), (Some(TRIAD), None));

@@ -58,7 +58,7 @@ layout_read padding n x u readable plen rlen =
     let parts : b ≡ front padding u ++ tail = layout-front padding n x u in
     let zero_more : route_place b ≡ length (front padding u) + 0 = omega (arith, same) in
     let words : get_or b (route_place b) 0 ≡ n =
-        ap (λ (z : List ℕ). get_or z (route_place b) 0) parts ∙ (ap (λ (i : ℕ). get_or (front padding u ++ tail) i 0) zero_more ∙ get_or-append-add (front padding u) tail 0 0) in
+    ap (λ (z : List ℕ). get_or z (route_place b) 0) parts ∙ (ap (λ (i : ℕ). get_or (front padding u ++ tail) i 0) zero_more ∙ get_or-append-add (front padding u) tail 0 0) in
     let blen : length b ≡ length (front padding u) + length tail = ap (λ (z : List ℕ). length z) parts ∙ length-append (front padding u) tail in
     let long : length b ≡ whole b = omega (arith, blen, same, words, rlen) in
     let rest : drop (route_place b) b ≡ tail = ap (λ (z : List ℕ). drop (route_place b) z) parts ∙ drop_at (front padding u) tail (route_place b) (sym same) in
@@ -102,16 +102,21 @@ lays (t ∷ s ∷ lo ∷ hi ∷ rest) fits len =
     let plen : length padding ≡ j = length-take-le j (drop k rest) (omega (arith, long, length-drop k rest)) in
     let llen : 2 ≤ length l = omega (arith, long, length-drop (k + j) rest, ap (λ (z : List ℕ). length z) l_is) in
     let words : get_or b (route_place b) 0 ≡ get_or l 0 0 =
-        sym (get_or-drop 4 b (k + j) 0) ∙ (ap (λ (i : ℕ). get_or rest i 0) (omega arith) ∙ (sym (get_or-drop (k + j) rest 0 0) ∙ ap (λ (z : List ℕ). get_or z 0 0) (sym l_is))) in
+    sym (get_or-drop 4 b (k + j) 0) ∙ (ap (λ (i : ℕ). get_or rest i 0) (omega arith) ∙ (sym (get_or-drop (k + j) rest 0 0) ∙ ap (λ (z : List ℕ). get_or z 0 0) (sym l_is))) in
     let behind : drop (route_place b + 2) b ≡ drop 2 l =
-        ap (λ (i : ℕ). drop i b) (omega arith) ∙ (sym (drop-drop ((k + j) + 2) 4 b) ∙ (sym (drop-drop 2 (k + j) rest) ∙ ap (λ (z : List ℕ). drop 2 z) (sym l_is))) in
+    ap (λ (i : ℕ). drop i b) (omega arith) ∙ (sym (drop-drop ((k + j) + 2) 4 b) ∙ (sym (drop-drop 2 (k + j) rest) ∙ ap (λ (z : List ℕ). drop 2 z) (sym l_is))) in
     let route_len : length (drop (route_place b + 2) b) ≡ 2 * get_or l 0 0 = omega (arith, length-drop (route_place b + 2) b, len, words) in
     let rest_is : rest ≡ take k rest ++ (padding ++ (get_or l 0 0 ∷ get_or l 1 0 ∷ drop 2 l)) =
-        sym (take-append-drop k rest) ∙ ap (λ (z : List ℕ). take k rest ++ z) (sym (take-append-drop j (drop k rest)) ∙ ap (λ (z : List ℕ). padding ++ z) (two_front l llen)) in
+    sym (take-append-drop k rest) ∙ ap (λ (z : List ℕ). take k rest ++ z) (sym (take-append-drop j (drop k rest)) ∙ ap (λ (z : List ℕ). padding ++ z) (two_front l llen)) in
     let parts : b ≡ unconnected_layout padding (get_or l 0 0) (get_or l 1 0) (record { timing = record { tick = t; ticks = s }; request = take k rest; route = drop 2 l }) =
-        ap (λ (z : List ℕ). t ∷ s ∷ lo ∷ hi ∷ z) rest_is ∙ ap (λ (w : List ℕ). t ∷ s ∷ w ++ (take k rest ++ (padding ++ (get_or l 0 0 ∷ get_or l 1 0 ∷ drop 2 l)))) (sym (word_is lo hi (length (take k rest)) (fits 2) size)) in
-    (padding, get_or l 0 0, get_or l 1 0, plen ∙ ap (λ (z : ℕ). z % 2) (sym size), route_len,
-      parts ∙ ap (λ (r : List ℕ). unconnected_layout padding (get_or l 0 0) (get_or l 1 0) (record { timing = record { tick = t; ticks = s }; request = take k rest; route = r })) (sym behind))
+    ap (λ (z : List ℕ). t ∷ s ∷ lo ∷ hi ∷ z) rest_is ∙ ap (λ (w : List ℕ). t ∷ s ∷ w ++ (take k rest ++ (padding ++ (get_or l 0 0 ∷ get_or l 1 0 ∷ drop 2 l)))) (sym (word_is lo hi (length (take k rest)) (fits 2) size)) in (
+      padding,
+      get_or l 0 0,
+      get_or l 1 0,
+      plen ∙ ap (λ (z : ℕ). z % 2) (sym size),
+      route_len,
+      parts ∙ ap (λ (r : List ℕ). unconnected_layout padding (get_or l 0 0) (get_or l 1 0) (record { timing = record { tick = t; ticks = s }; request = take k rest; route = r })) (sym behind),
+    )
 
 has_layout : (b : List ℕ) → IsBytes b → length b ≡ whole b → HasLayout b
 has_layout b fits len = (record_at b, lays b fits len)
