@@ -10,8 +10,12 @@ use Rattle.cip_message.specs.declared.fault.DataFault.{DataFault}
 use Rattle.cip_message.specs.Numbers.{triad_in, triad_bytes}
 use Rattle.cip_message.specs.Counted.{whole_length, counted_path_at}
 use Rattle.cip_message.proofs.Words.{triad_again, triad_back}
-use Rattle.cip_message.proofs.Counteds.{counted_path_at-whole, counted_path_verdict}
-use Rattle.cip_message.proofs.Ends.{cut_off, overlong, whole-zeros, whole-take}
+use Rattle.cip_message.proofs.Counteds.{counted_path_at-whole, counted_path_at-Short, counted_path_at-Long, counted_path_at-Path, counted_path_verdict}
+use Rattle.cip_message.proofs.Ends.{cut_off, overlong, whole-zeros, whole-take, cut_short, over_long}
+use Rattle.cip_message.proofs.Readers.{IsBytes-drop}
+use Rattle.cip_message.specs.declared.fault.DataFault.TheVariants.{Short, Long, Path}
+use Rattle.cip_segment.specs.Reading.{path_at}
+use Rattle.cip_segment.proofs.PathsRead.{path_at-IsFault}
 use Rattle.cip_message.proofs.Fronts.{fronts}
 use Rattle.cip_close.specs.declared.request.CloseFields.{CloseFields}
 use Rattle.cip_close.specs.Close.{Close, close_layout, LaysClose, ReadsClose, HasCloseLayout, IsCloseFault, close_data}
@@ -60,3 +64,20 @@ close_verdict b fits =
 
 pub close_back : (o : Close) → IsReadable o.path → close_at (close_data o) ≡ Ok o
 close_back o readable = layout_read (length o.path / 2) 0 o readable (whole_words o.path readable)
+
+-- ---- a fault that fits is the one that is answered
+
+layout_len : (b : List ℕ) → HasCloseLayout b → length b ≡ whole_length 10 12 b
+layout_len b (o, (n, x, len, e)) = subst (λ (c : List ℕ). length c ≡ whole_length 10 12 c) (sym e) (omega (arith, len))
+
+path_is : (b : List ℕ) (o : Close) → LaysClose b o → drop 12 b ≡ o.path
+path_is b o (n, x, len, e) = ap (λ (c : List ℕ). drop 12 c) e
+
+pub close_faults : (b : List ℕ) (f : DataFault) → IsBytes b → IsCloseFault b f → close_at b ≡ Err f
+unfolding close_at
+close_faults b Short fits h = ap (with_close_path b) (counted_path_at-Short 10 12 b (cut_short HasCloseLayout 10 12 (omega arith) layout_len b h))
+close_faults b Long fits h = ap (with_close_path b) (counted_path_at-Long 10 12 b (over_long HasCloseLayout 10 12 (omega arith) layout_len b h))
+close_faults b (Path f) fits (o, lays_o, fault) =
+    let behind : drop 12 b ≡ o.path = path_is b o lays_o in
+    let path_fits : IsBytes o.path = subst IsBytes behind (IsBytes-drop 12 b fits) in
+    ap (with_close_path b) (counted_path_at-Path 10 12 b f (layout_len b (o, lays_o)) (ap path_at behind ∙ path_at-IsFault o.path f path_fits fault))

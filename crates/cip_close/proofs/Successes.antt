@@ -8,8 +8,9 @@ use Rattle.cip_message.specs.declared.fault.DataFault.{DataFault}
 use Rattle.cip_message.specs.Numbers.{triad_in, triad_bytes}
 use Rattle.cip_message.specs.Counted.{whole_length, counted_at}
 use Rattle.cip_message.proofs.Words.{triad_again, triad_back}
-use Rattle.cip_message.proofs.Counteds.{counted_at-whole, counted_verdict}
-use Rattle.cip_message.proofs.Ends.{cut_off, overlong, whole-zeros, whole-take}
+use Rattle.cip_message.proofs.Counteds.{counted_at-whole, counted_at-Short, counted_at-Long, counted_verdict}
+use Rattle.cip_message.proofs.Ends.{cut_off, overlong, whole-zeros, whole-take, cut_short, over_long}
+use Rattle.cip_message.specs.declared.fault.DataFault.TheVariants.{Short, Long, Path}
 use Rattle.cip_message.proofs.Fronts.{fronts}
 use Rattle.cip_close.specs.Success.{CloseSuccess, close_reply_layout, ReadsCloseReply, HasCloseReplyLayout, IsCloseReplyFault, close_reply_data}
 use Rattle.cip_close.specs.SuccessAt.{with_close_reply, close_reply_at}
@@ -56,3 +57,14 @@ close_reply_verdict b fits =
 
 pub close_reply_back : (s : CloseSuccess) → length s.reply % 2 ≡ 0 → close_reply_at (close_reply_data s) ≡ Ok s
 close_reply_back s even = layout_read (length s.reply / 2) 0 s (omega arith)
+
+-- ---- a fault that fits is the one that is answered
+
+layout_len : (b : List ℕ) → HasCloseReplyLayout b → length b ≡ whole_length 8 10 b
+layout_len b (s, (n, x, len, e)) = subst (λ (c : List ℕ). length c ≡ whole_length 8 10 c) (sym e) (omega (arith, len))
+
+pub close_reply_faults : (b : List ℕ) (f : DataFault) → IsCloseReplyFault b f → close_reply_at b ≡ Err f
+unfolding close_reply_at
+close_reply_faults b Short h = ap (with_close_reply b) (counted_at-Short 8 10 b (cut_short HasCloseReplyLayout 8 10 (omega arith) layout_len b h))
+close_reply_faults b Long h = ap (with_close_reply b) (counted_at-Long 8 10 b (over_long HasCloseReplyLayout 8 10 (omega arith) layout_len b h))
+close_reply_faults b (Path f) h = absurd h

@@ -1,8 +1,9 @@
 //! What holds of every Forward_Close: reading gives exactly what has the layout, and what is written is read back.
-ghost use Rattle.std.specs.Prelude.{◌≡◌, ◌%◌, ℕ, List, [], length, Ok, MatchResult};
+ghost use Rattle.std.specs.Prelude.{◌≡◌, ◌%◌, ℕ, List, [], length, Ok, Err, MatchResult};
 ghost use Rattle.cip_base.specs.Fields.{IsBytes};
 ghost use Rattle.cip_base.specs.declared.timing.Status.{Status};
 ghost use Rattle.cip_segment.specs.Spelling.{IsReadable};
+ghost use Rattle.cip_message.specs.declared.fault.DataFault.{DataFault as Fault};
 ghost use Rattle.cip_message.specs.declared.failure.ConnectionFailure.{ConnectionFailure as Failure};
 ghost use Rattle.cip_message.specs.Failure.{failure_data};
 ghost use Rattle.cip_message.specs.Manager.{manager_request};
@@ -15,10 +16,11 @@ ghost use Rattle.cip_close.specs.CloseAt.{close_at};
 ghost use Rattle.cip_close.specs.Success.{CloseSuccess, ReadsCloseReply, IsCloseReplyFault, close_reply_data, close_reply_bytes};
 ghost use Rattle.cip_close.specs.SuccessAt.{close_reply_at};
 
-/// Reading data as that of Forward_Close gives the one record that has its layout, or the first fault that fits.
+/// Reading data as that of Forward_Close gives the one record that has its layout, or the one fault that fits.
 pub fn close_is_exact()
     ensures only { (b : List ℕ) (o : Close) → ReadsClose b o → close_at b ≡ Ok o }
     ensures verdict { (b : List ℕ) → IsBytes b → MatchResult (close_at b) (ReadsClose b) (IsCloseFault b) }
+    ensures faults { (b : List ℕ) (f : Fault) → IsBytes b → IsCloseFault b f → close_at b ≡ Err f }
 {}
 
 /// Reading data as that of a successful Forward_Close's reply gives the one record that has its layout, or the first fault that
@@ -26,6 +28,7 @@ pub fn close_is_exact()
 pub fn close_reply_is_exact()
     ensures only { (b : List ℕ) (s : CloseSuccess) → ReadsCloseReply b s → close_reply_at b ≡ Ok s }
     ensures verdict { (b : List ℕ) → IsBytes b → MatchResult (close_reply_at b) (ReadsCloseReply b) (IsCloseReplyFault b) }
+    ensures faults { (b : List ℕ) (f : Fault) → IsCloseReplyFault b f → close_reply_at b ≡ Err f }
 {}
 
 /// The message that is written is read as a request to the Connection Manager, and its data as the same record.

@@ -35,6 +35,18 @@ pub counted_path_at-whole : (size start : ℕ) (b : List ℕ) → length b ≡ w
 unfolding counted_path_at
 counted_path_at-whole size start b e readable = ap then_path (counted_at-whole size start b e) ∙ ap (λ r. if_path r (drop start b)) (path_at-readable (drop start b) readable)
 
+pub counted_at-Long : (size start : ℕ) (b : List ℕ) → whole_length size start b < length b → counted_at size start b ≡ refused Long
+unfolding counted_at
+counted_at-Long size start b lt = rw (le-ltb (length b) (whole_length size start b) (omega arith), lt-ltb (whole_length size start b) (length b) lt) refl
+
+pub counted_path_at-Long : (size start : ℕ) (b : List ℕ) → whole_length size start b < length b → counted_path_at size start b ≡ refused Long
+unfolding counted_path_at
+counted_path_at-Long size start b lt = ap then_path (counted_at-Long size start b lt)
+
+pub counted_path_at-Path : (size start : ℕ) (b : List ℕ) (f : PathFault) → length b ≡ whole_length size start b → path_at (drop start b) ≡ Err f → counted_path_at size start b ≡ refused (Path f)
+unfolding counted_path_at
+counted_path_at-Path size start b f e fault = ap then_path (counted_at-whole size start b e) ∙ ap (λ r. if_path r (drop start b)) fault
+
 -- what the length of the data says of the answer
 pub counted_verdict : (P : Result (List ℕ) DataFault → Type 0) (size start : ℕ) (b : List ℕ)
     → (length b < whole_length size start b → P (refused Short)) → (whole_length size start b < length b → P (refused Long)) → (length b ≡ whole_length size start b → P (counted (drop start b)))

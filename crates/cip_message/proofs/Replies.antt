@@ -1,6 +1,6 @@
 -- Reading a reply gives exactly the record that has its layout.
 use Rattle.std.proofs.Common.{◌≡◌, ℕ, zero, suc, ◌+◌, ◌*◌, ◌<◌, ◌≤◌, Bool, true, false, cond, ltb, List, [], ◌∷◌, ◌++◌, length, get_or, take, drop, Result, Ok, Err, refl, sym, ap, subst, ◌∙◌, arith, inl, inr}
-use Rattle.std.proofs.lemmas.Bool.{cond_both, cases_lt, ltb-true, ltb-false, le-ltb}
+use Rattle.std.proofs.lemmas.Bool.{cond_both, cases_lt, ltb-true, ltb-false, le-ltb, lt-ltb}
 use Rattle.std.specs.Prelude.{MatchResult}
 use Rattle.std.proofs.lemmas.List.{take_at, drop_at, take-append-drop, length-append, length-take, get_or-drop, get_or-take, get_or_past}
 use Rattle.cip_base.specs.Fields.{IsBytes}
@@ -51,3 +51,15 @@ reply_verdict (s ∷ x ∷ g ∷ n ∷ rest) fits =
 
 pub reply_back : (r : Reply) → 128 ≤ r.service → reply_at (reply_bytes r) ≡ Ok r
 reply_back r high = reply_read (reply_bytes r) r (high, (0, refl))
+
+-- ---- a fault that fits is the one that is answered
+
+pub reply_faults : (b : List ℕ) (f : ReplyFault) → IsReplyFault b f → reply_at b ≡ Err f
+unfolding reply_at
+reply_faults [] TooShort h = refl
+reply_faults (s ∷ []) TooShort h = refl
+reply_faults (s ∷ x ∷ []) TooShort h = refl
+reply_faults (s ∷ x ∷ g ∷ []) TooShort h = refl
+reply_faults (s ∷ x ∷ g ∷ n ∷ rest) TooShort h = absurd (omega arith)
+reply_faults b NotReply (s, x, g, n, rest, e, low) = rw (e, lt-ltb s 128 low) refl
+reply_faults b ExtraSize (s, x, g, n, rest, e, high, short) = rw (e, le-ltb s 128 high, lt-ltb (length rest) (2 * n) short) refl

@@ -11,8 +11,12 @@ use Rattle.cip_message.specs.declared.fault.DataFault.{DataFault}
 use Rattle.cip_message.specs.Numbers.{word_in, double_in, triad_in, triad_bytes}
 use Rattle.cip_message.specs.Counted.{whole_length, counted_path_at}
 use Rattle.cip_message.proofs.Words.{word_again, double_again, triad_again, word_back, double_back, triad_back}
-use Rattle.cip_message.proofs.Counteds.{counted_path_at-whole, counted_path_verdict}
-use Rattle.cip_message.proofs.Ends.{cut_off, overlong, whole-zeros, whole-take}
+use Rattle.cip_message.proofs.Counteds.{counted_path_at-whole, counted_path_at-Short, counted_path_at-Long, counted_path_at-Path, counted_path_verdict}
+use Rattle.cip_message.proofs.Ends.{cut_off, overlong, whole-zeros, whole-take, cut_short, over_long}
+use Rattle.cip_message.proofs.Readers.{IsBytes-drop}
+use Rattle.cip_message.specs.declared.fault.DataFault.TheVariants.{Short, Long, Path}
+use Rattle.cip_segment.specs.Reading.{path_at}
+use Rattle.cip_segment.proofs.PathsRead.{path_at-IsFault}
 use Rattle.cip_message.proofs.Fronts.{fronts}
 use Rattle.cip_open.specs.declared.request.OpenFields.{OpenFields}
 use Rattle.cip_open.specs.Open.{Open, open_layout, LaysOpen, ReadsOpen, HasOpenLayout, IsOpenFault, open_data}
@@ -102,3 +106,20 @@ open_verdict b fits =
 
 pub open_back : (o : Open) → IsReadable o.path → open_at (open_data o) ≡ Ok o
 open_back o readable = layout_read 0 0 0 (length o.path / 2) o readable (whole_words o.path readable)
+
+-- ---- a fault that fits is the one that is answered
+
+layout_len : (b : List ℕ) → HasOpenLayout b → length b ≡ whole_length 35 36 b
+layout_len b (o, (x, y, z, n, len, e)) = subst (λ (c : List ℕ). length c ≡ whole_length 35 36 c) (sym e) (omega (arith, len))
+
+path_is : (b : List ℕ) (o : Open) → LaysOpen b o → drop 36 b ≡ o.path
+path_is b o (x, y, z, n, len, e) = ap (λ (c : List ℕ). drop 36 c) e
+
+pub open_faults : (b : List ℕ) (f : DataFault) → IsBytes b → IsOpenFault b f → open_at b ≡ Err f
+unfolding open_at
+open_faults b Short fits h = ap (with_open_path b) (counted_path_at-Short 35 36 b (cut_short HasOpenLayout 35 36 (omega arith) layout_len b h))
+open_faults b Long fits h = ap (with_open_path b) (counted_path_at-Long 35 36 b (over_long HasOpenLayout 35 36 (omega arith) layout_len b h))
+open_faults b (Path f) fits (o, lays_o, fault) =
+    let behind : drop 36 b ≡ o.path = path_is b o lays_o in
+    let path_fits : IsBytes o.path = subst IsBytes behind (IsBytes-drop 36 b fits) in
+    ap (with_open_path b) (counted_path_at-Path 35 36 b f (layout_len b (o, lays_o)) (ap path_at behind ∙ path_at-IsFault o.path f path_fits fault))

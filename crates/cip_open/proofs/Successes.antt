@@ -8,8 +8,9 @@ use Rattle.cip_message.specs.declared.fault.DataFault.{DataFault}
 use Rattle.cip_message.specs.Numbers.{double_in, triad_in, triad_bytes}
 use Rattle.cip_message.specs.Counted.{whole_length, counted_at}
 use Rattle.cip_message.proofs.Words.{double_again, triad_again, double_back, triad_back}
-use Rattle.cip_message.proofs.Counteds.{counted_at-whole, counted_verdict}
-use Rattle.cip_message.proofs.Ends.{cut_off, overlong, whole-zeros, whole-take}
+use Rattle.cip_message.proofs.Counteds.{counted_at-whole, counted_at-Short, counted_at-Long, counted_verdict}
+use Rattle.cip_message.proofs.Ends.{cut_off, overlong, whole-zeros, whole-take, cut_short, over_long}
+use Rattle.cip_message.specs.declared.fault.DataFault.TheVariants.{Short, Long, Path}
 use Rattle.cip_message.proofs.Fronts.{fronts}
 use Rattle.cip_open.specs.Success.{OpenSuccess, open_reply_layout, ReadsOpenReply, HasOpenReplyLayout, IsOpenReplyFault, open_reply_data}
 use Rattle.cip_open.specs.SuccessAt.{open_success_in, with_open_reply, open_reply_at}
@@ -76,3 +77,14 @@ open_reply_verdict b fits =
 
 pub open_reply_back : (s : OpenSuccess) → length s.reply % 2 ≡ 0 → open_reply_at (open_reply_data s) ≡ Ok s
 open_reply_back s even = layout_read (length s.reply / 2) 0 s (omega arith)
+
+-- ---- a fault that fits is the one that is answered
+
+layout_len : (b : List ℕ) → HasOpenReplyLayout b → length b ≡ whole_length 24 26 b
+layout_len b (s, (n, x, len, e)) = subst (λ (c : List ℕ). length c ≡ whole_length 24 26 c) (sym e) (omega (arith, len))
+
+pub open_reply_faults : (b : List ℕ) (f : DataFault) → IsOpenReplyFault b f → open_reply_at b ≡ Err f
+unfolding open_reply_at
+open_reply_faults b Short h = ap (with_open_reply b) (counted_at-Short 24 26 b (cut_short HasOpenReplyLayout 24 26 (omega arith) layout_len b h))
+open_reply_faults b Long h = ap (with_open_reply b) (counted_at-Long 24 26 b (over_long HasOpenReplyLayout 24 26 (omega arith) layout_len b h))
+open_reply_faults b (Path f) h = absurd h
