@@ -1,14 +1,13 @@
 -- Reading the data of Forward_Close gives exactly the record that has its layout.
-use Rattle.std.proofs.Common.{◌≡◌, ℕ, ◌+◌, ◌*◌, ◌/◌, ◌<◌, ◌≤◌, List, [], ◌∷◌, ◌++◌, length, drop, get_or, Result, Ok, Err, refl, sym, ap, subst, ◌∙◌, arith}
+use Rattle.std.proofs.Common.{◌≡◌, ℕ, ◌*◌, ◌/◌, List, [], ◌∷◌, ◌++◌, length, drop, get_or, Result, Ok, Err, sym, ap, subst, ◌∙◌, arith}
 use Rattle.std.specs.Prelude.{MatchResult}
 use Rattle.std.proofs.lemmas.List.{length-drop}
 use Rattle.cip_base.specs.Fields.{IsBytes}
 use Rattle.cip_base.specs.declared.triad.Triad.{Triad}
-use Rattle.cip_segment.specs.Spelling.{IsReadable, IsFault}
+use Rattle.cip_segment.specs.Spelling.{IsReadable}
 use Rattle.cip_segment.proofs.Whole.{whole_words}
 use Rattle.cip_message.specs.declared.fault.DataFault.{DataFault}
-use Rattle.cip_message.specs.Numbers.{triad_in, triad_bytes}
-use Rattle.cip_message.specs.Counted.{whole_length, counted_path_at}
+use Rattle.cip_message.specs.Counted.{whole_length}
 use Rattle.cip_message.proofs.Words.{triad_again, triad_back}
 use Rattle.cip_message.proofs.Counteds.{counted_path_at-whole, counted_path_at-Short, counted_path_at-Long, counted_path_at-Path, counted_path_verdict}
 use Rattle.cip_message.proofs.Ends.{cut_off, overlong, whole-zeros, whole-take, cut_short, over_long}
@@ -17,7 +16,6 @@ use Rattle.cip_message.specs.declared.fault.DataFault.TheVariants.{Short, Long, 
 use Rattle.cip_segment.specs.Reading.{path_at}
 use Rattle.cip_segment.proofs.PathsRead.{path_at-IsFault}
 use Rattle.cip_message.proofs.Fronts.{fronts}
-use Rattle.cip_close.specs.declared.request.CloseFields.{CloseFields}
 use Rattle.cip_close.specs.Close.{Close, close_layout, LaysClose, ReadsClose, HasCloseLayout, IsCloseFault, close_data}
 use Rattle.cip_close.specs.CloseAt.{close_fields_in, with_close_path, close_at}
 

@@ -1,12 +1,12 @@
 -- Reading the data of a successful Forward_Close's reply gives exactly the record that has its layout.
-use Rattle.std.proofs.Common.{◌≡◌, ℕ, ◌+◌, ◌*◌, ◌/◌, ◌%◌, ◌<◌, ◌≤◌, List, [], ◌∷◌, ◌++◌, length, drop, get_or, Result, Ok, Err, refl, sym, ap, subst, ◌∙◌, arith}
+use Rattle.std.proofs.Common.{◌≡◌, ℕ, ◌*◌, ◌/◌, ◌%◌, List, [], ◌∷◌, ◌++◌, length, drop, get_or, Result, Ok, Err, sym, ap, subst, ◌∙◌, arith}
 use Rattle.std.specs.Prelude.{MatchResult}
 use Rattle.std.proofs.lemmas.List.{length-drop}
 use Rattle.cip_base.specs.Fields.{IsBytes}
 use Rattle.cip_base.specs.declared.triad.Triad.{Triad}
 use Rattle.cip_message.specs.declared.fault.DataFault.{DataFault}
-use Rattle.cip_message.specs.Numbers.{triad_in, triad_bytes}
-use Rattle.cip_message.specs.Counted.{whole_length, counted_at}
+use Rattle.cip_message.specs.Numbers.{triad_in}
+use Rattle.cip_message.specs.Counted.{whole_length}
 use Rattle.cip_message.proofs.Words.{triad_again, triad_back}
 use Rattle.cip_message.proofs.Counteds.{counted_at-whole, counted_at-Short, counted_at-Long, counted_verdict}
 use Rattle.cip_message.proofs.Ends.{cut_off, overlong, whole-zeros, whole-take, cut_short, over_long}

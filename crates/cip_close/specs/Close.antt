@@ -1,6 +1,5 @@
 -- Forward_Close, service 4E of the Connection Manager (Volume 1, chapter 3, Forward_Close).
-use Rattle.std.specs.Prelude.{◌≡◌, ℕ, ◌*◌, ◌/◌, List, [], ◌∷◌, ◌++◌, length}
-use Rattle.cip_segment.specs.declared.fault.PathFault.{PathFault}
+use Rattle.std.specs.Prelude.{◌≡◌, ℕ, ◌*◌, ◌/◌, List, ◌∷◌, ◌++◌, length}
 use Rattle.cip_segment.specs.Spelling.{IsReadable, IsFault}
 use Rattle.cip_message.specs.declared.fault.DataFault.{DataFault}
 use Rattle.cip_message.specs.declared.fault.DataFault.TheVariants.{Short, Long, Path}

@@ -1,7 +1,6 @@
 -- The data of a successful Forward_Close's reply (Volume 1, chapter 3, Forward_Close, successful response).
 use Rattle.std.specs.Prelude.{◌≡◌, ℕ, ◌*◌, ◌/◌, List, [], ◌∷◌, ◌++◌, length}
 use Rattle.cip_base.specs.declared.triad.Triad.{Triad}
-use Rattle.cip_segment.specs.declared.fault.PathFault.{PathFault}
 use Rattle.cip_message.specs.declared.fault.DataFault.{DataFault}
 use Rattle.cip_message.specs.declared.fault.DataFault.TheVariants.{Short, Long, Path}
 use Rattle.cip_message.specs.Numbers.{triad_bytes}

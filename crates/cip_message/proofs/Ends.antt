@@ -1,8 +1,8 @@
 -- Bytes that are shorter or longer than their layout wants are cut off or overlong.
-use Rattle.std.proofs.Common.{◌≡◌, ℕ, zero, suc, ◌+◌, ◌-◌, ◌*◌, ◌<◌, ◌≤◌, List, [], ◌∷◌, ◌++◌, length, take, drop, get_or, refl, sym, ap, subst, ◌∙◌, arith, inl, inr}
+use Rattle.std.proofs.Common.{◌≡◌, ℕ, zero, suc, ◌+◌, ◌-◌, ◌*◌, ◌<◌, List, [], ◌∷◌, ◌++◌, length, take, drop, get_or, refl, sym, ap, ◌∙◌, arith, inl, inr}
 use Rattle.std.specs.Prelude.{replicate}
 use Rattle.std.proofs.lemmas.Bool.{cases_lt}
-use Rattle.std.proofs.lemmas.List.{get_or-take, get_or_past, length-append, length-take, length-take-le, length-drop, length-replicate, take-append-drop}
+use Rattle.std.proofs.lemmas.List.{get_or-take, length-append, length-take-le, length-drop, length-replicate, take-append-drop}
 use Rattle.cip_base.specs.Fields.{IsBytes}
 use Rattle.cip_message.specs.Numbers.{word_in}
 use Rattle.cip_message.specs.Cut.{IsCutOff, IsOverlong}

@@ -1,14 +1,14 @@
 -- Reading a reply gives exactly the record that has its layout.
-use Rattle.std.proofs.Common.{◌≡◌, ℕ, zero, suc, ◌+◌, ◌*◌, ◌<◌, ◌≤◌, Bool, true, false, cond, ltb, List, [], ◌∷◌, ◌++◌, length, get_or, take, drop, Result, Ok, Err, refl, sym, ap, subst, ◌∙◌, arith, inl, inr}
-use Rattle.std.proofs.lemmas.Bool.{cond_both, cases_lt, ltb-true, ltb-false, le-ltb, lt-ltb}
+use Rattle.std.proofs.Common.{◌≡◌, ℕ, suc, ◌*◌, ◌≤◌, false, cond, ltb, List, [], ◌∷◌, ◌++◌, length, take, drop, Result, Ok, Err, refl, sym, ap, arith}
+use Rattle.std.proofs.lemmas.Bool.{cond_both, ltb-true, ltb-false, le-ltb, lt-ltb}
 use Rattle.std.specs.Prelude.{MatchResult}
-use Rattle.std.proofs.lemmas.List.{take_at, drop_at, take-append-drop, length-append, length-take, get_or-drop, get_or-take, get_or_past}
+use Rattle.std.proofs.lemmas.List.{take_at, drop_at, take-append-drop, length-append, length-take}
 use Rattle.cip_base.specs.Fields.{IsBytes}
 use Rattle.cip_message.specs.declared.fault.ReplyFault.{ReplyFault}
 use Rattle.cip_message.specs.declared.fault.ReplyFault.TheVariants.{TooShort, NotReply, ExtraSize}
 use Rattle.cip_message.specs.Numbers.{words_in, words_bytes}
-use Rattle.cip_message.specs.Reply.{Reply, ReadsReply, IsReplyFault, reply_layout, reply_bytes}
-use Rattle.cip_message.specs.ReplyAt.{reply_from, reply_at}
+use Rattle.cip_message.specs.Reply.{Reply, ReadsReply, IsReplyFault, reply_bytes}
+use Rattle.cip_message.specs.ReplyAt.{reply_at}
 use Rattle.cip_message.proofs.Words.{words_again, words_len, words_back}
 use Rattle.cip_message.proofs.Readers.{IsBytes-take}
 

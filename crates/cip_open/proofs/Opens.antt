@@ -1,15 +1,13 @@
 -- Reading the data of Forward_Open gives exactly the record that has its layout.
-use Rattle.std.proofs.Common.{◌≡◌, ℕ, ◌+◌, ◌*◌, ◌/◌, ◌%◌, ◌<◌, ◌≤◌, List, [], ◌∷◌, ◌++◌, length, drop, get_or, Result, Ok, Err, refl, sym, ap, subst, ◌∙◌, arith}
+use Rattle.std.proofs.Common.{◌≡◌, ℕ, ◌*◌, ◌/◌, List, [], ◌∷◌, ◌++◌, length, drop, get_or, Result, Ok, Err, refl, sym, ap, subst, ◌∙◌, arith}
 use Rattle.std.specs.Prelude.{MatchResult}
 use Rattle.std.proofs.lemmas.List.{length-drop}
-use Rattle.cip_base.specs.Fields.{IsBytes, word, double}
-use Rattle.cip_base.specs.declared.timing.Timing.{Timing}
+use Rattle.cip_base.specs.Fields.{IsBytes}
 use Rattle.cip_base.specs.declared.triad.Triad.{Triad}
-use Rattle.cip_segment.specs.Spelling.{IsReadable, IsFault}
+use Rattle.cip_segment.specs.Spelling.{IsReadable}
 use Rattle.cip_segment.proofs.Whole.{whole_words}
 use Rattle.cip_message.specs.declared.fault.DataFault.{DataFault}
-use Rattle.cip_message.specs.Numbers.{word_in, double_in, triad_in, triad_bytes}
-use Rattle.cip_message.specs.Counted.{whole_length, counted_path_at}
+use Rattle.cip_message.specs.Counted.{whole_length}
 use Rattle.cip_message.proofs.Words.{word_again, double_again, triad_again, word_back, double_back, triad_back}
 use Rattle.cip_message.proofs.Counteds.{counted_path_at-whole, counted_path_at-Short, counted_path_at-Long, counted_path_at-Path, counted_path_verdict}
 use Rattle.cip_message.proofs.Ends.{cut_off, overlong, whole-zeros, whole-take, cut_short, over_long}

@@ -1,5 +1,5 @@
 -- The network connection parameters of one direction of a connection, in a word (Volume 1, chapter 3).
-use Rattle.std.specs.Prelude.{ℕ, ◌/◌, ◌%◌, ◌==◌, nat_lt, if◌then◌else◌}
+use Rattle.std.specs.Prelude.{ℕ, ◌/◌, ◌%◌, ◌==◌, if◌then◌else◌}
 use Rattle.cip_open.specs.declared.parameters.Priority.{Priority}
 use Rattle.cip_open.specs.declared.parameters.Priority.TheVariants.{Low, High, Scheduled, Urgent}
 use Rattle.cip_open.specs.declared.parameters.ConnectionKind.{ConnectionKind}

@@ -211,7 +211,8 @@ fn failures_are_written_and_read(rt: HostRuntime) -> Result<(), Fail> {
 
 #[test]
 fn failures_with_parts_missing(rt: HostRuntime) -> Result<(), Fail> {
-    let data_ = &FAILURES[0].0[6..];
+    let (bytes, ..) = FAILURES[0];
+    let data_ = &bytes[6..];
     assert_eq!(rt; read_open_failure(&[])?.triad, None);
     for len in 1..8 {
         assert_eq!(rt;

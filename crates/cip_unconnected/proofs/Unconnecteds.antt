@@ -1,18 +1,14 @@
 -- Reading the data of Unconnected_Send gives exactly the record that has its layout.
-use Rattle.std.proofs.Common.{◌≡◌, ℕ, zero, suc, ◌+◌, ◌-◌, ◌*◌, ◌/◌, ◌%◌, ◌<◌, ◌≤◌, List, [], ◌∷◌, ◌++◌, length, take, drop, get_or, eqb, Result, Ok, Err, refl, sym, ap, subst, ◌∙◌, append_assoc, arith, inl, inr}
+use Rattle.std.proofs.Common.{◌≡◌, ℕ, ◌+◌, ◌*◌, ◌/◌, ◌%◌, ◌<◌, ◌≤◌, List, [], ◌∷◌, ◌++◌, length, take, drop, get_or, eqb, Ok, Err, refl, sym, ap, subst, ◌∙◌, append_assoc, arith, inl, inr}
 use Rattle.std.specs.Prelude.{MatchResult, replicate}
 use Rattle.std.proofs.lemmas.List.{take_at, drop_at, take-append-drop, length-append, length-take-le, length-drop, get_or-drop, get_or-take, get_or-append-add, drop-drop}
-use Rattle.cip_segment.specs.declared.fault.PathFault.{PathFault}
-use Rattle.cip_segment.specs.Spelling.{IsReadable, IsFault}
+use Rattle.cip_segment.specs.Spelling.{IsReadable}
 use Rattle.std.proofs.lemmas.Bool.{cond_both, cases_lt, eqb-true, eqb-false}
 use Rattle.cip_segment.proofs.Whole.{whole_words}
 use Rattle.cip_base.specs.Fields.{IsBytes, word, pad}
-use Rattle.cip_base.specs.declared.timing.Timing.{Timing}
-use Rattle.cip_message.specs.declared.fault.DataFault.{DataFault}
-use Rattle.cip_message.specs.declared.fault.DataFault.TheVariants as data_faults
 use Rattle.cip_message.specs.Numbers.{word_in}
 use Rattle.cip_message.specs.Cut.{IsCutOff, IsOverlong}
-use Rattle.cip_message.specs.Counted.{whole_length, counted_path_at}
+use Rattle.cip_message.specs.Counted.{whole_length}
 use Rattle.cip_message.proofs.Words.{word_again, low_byte, high_byte}
 use Rattle.cip_message.proofs.Counteds.{counted_path_at-Short, counted_path_at-Long, counted_path_at-Path, counted_path_at-whole, counted_path_verdict}
 use Rattle.cip_message.proofs.Ends.{zeros_index, index_front, cut_off, overlong, word_in-zeros, word_in-take}
@@ -85,7 +81,7 @@ layout_read padding n x u readable plen rlen =
     let b : List ℕ = unconnected_layout padding n x u in
     let behind : drop (route_place b + 2) b ≡ u.route = layout_behind padding n x u plen in
     let inside : take (word_in b 2) (drop 4 b) ≡ u.request =
-        ap (λ (j : ℕ). take j (drop 4 b)) (layout_size padding n x u) ∙ take_at u.request (padding ++ (n ∷ x ∷ u.route)) (length u.request) refl in
+    ap (λ (j : ℕ). take j (drop 4 b)) (layout_size padding n x u) ∙ take_at u.request (padding ++ (n ∷ x ∷ u.route)) (length u.request) refl in
     let readable_behind : IsReadable (drop (route_place b + 2) b) = subst IsReadable (sym behind) readable in
     ap (with_route b) (counted_path_at-whole (route_place b) (route_place b + 2) b (layout_long padding n x u plen rlen) readable_behind) ∙ same_record b u inside behind refl refl
 
