@@ -1,8 +1,8 @@
 -- Bytes that are shorter or longer than their layout wants are cut off or overlong.
-use Rattle.std.proofs.Common.{◌≡◌, ℕ, zero, suc, ◌+◌, ◌-◌, ◌*◌, ◌<◌, ◌≤◌, List, [], ◌∷◌, ◌++◌, length, take, drop, get_or, refl, sym, ap, subst, ◌∙◌, arith, inl, inr}
+use Rattle.std.proofs.Common.{◌≡◌, ℕ, zero, suc, ◌+◌, ◌-◌, ◌*◌, ◌<◌, List, [], ◌∷◌, ◌++◌, length, take, drop, get_or, refl, sym, ap, ◌∙◌, arith, inl, inr}
 use Rattle.std.specs.Prelude.{replicate}
 use Rattle.std.proofs.lemmas.Bool.{cases_lt}
-use Rattle.std.proofs.lemmas.List.{get_or-take, get_or_past, length-append, length-take, length-take-le, length-drop, length-replicate, take-append-drop}
+use Rattle.std.proofs.lemmas.List.{get_or-take, length-append, length-take-le, length-drop, length-replicate, take-append-drop}
 use Rattle.cip_base.specs.Fields.{IsBytes}
 use Rattle.cip_message.specs.Numbers.{word_in}
 use Rattle.cip_message.specs.Cut.{IsCutOff, IsOverlong}
@@ -53,3 +53,26 @@ word_in-zeros b k i = rw (zeros_index b k i, zeros_index b k (i + 1)) refl
 
 pub word_in-take : (n : ℕ) (b : List ℕ) (i : ℕ) → i + 1 < n → word_in (take n b) i ≡ word_in b i
 word_in-take n b i lt = rw (get_or-take n b i 0 (omega arith), get_or-take n b (i + 1) 0 lt) refl
+
+pub index_front : (xs ys : List ℕ) (i : ℕ) → i < length xs → get_or (xs ++ ys) i 0 ≡ get_or xs i 0
+index_front [] ys i lt = absurd (omega arith)
+index_front (x ∷ xs) ys zero lt = refl
+index_front (x ∷ xs) ys (suc i) lt = index_front xs ys i (omega arith)
+
+-- and the other way round: what is cut off is shorter than its size byte says, and what is overlong is longer
+pub cut_short : (H : List ℕ → Type 0) (size start : ℕ) → size < start → ((c : List ℕ) → H c → length c ≡ whole_length size start c)
+    → (b : List ℕ) → IsCutOff H b → length b < whole_length size start b
+cut_short H size start lt len b (more, some, h) =
+    let both : length (b ++ more) ≡ whole_length size start (b ++ more) = len (b ++ more) h in
+    elim (cases_lt size (length b)) [
+      | inl within ↦ (let same = index_front b more size within in omega (arith, both, length-append b more, same))
+      | inr beyond ↦ omega (arith, beyond)
+    ]
+
+pub over_long : (H : List ℕ → Type 0) (size start : ℕ) → size < start → ((c : List ℕ) → H c → length c ≡ whole_length size start c)
+    → (b : List ℕ) → IsOverlong H b → whole_length size start b < length b
+over_long H size start lt len b (front, more, some, e, h) =
+    let front_len : length front ≡ whole_length size start front = len front h in
+    let same : get_or b size 0 ≡ get_or front size 0 = ap (λ (z : List ℕ). get_or z size 0) e ∙ index_front front more size (omega (arith, front_len)) in
+    let long : length b ≡ length front + length more = ap (λ (z : List ℕ). length z) e ∙ length-append front more in
+    omega (arith, front_len, same, long)

@@ -1,7 +1,7 @@
 -- Reading the data of a failure gives exactly the record that has its layout.
-use Rattle.std.proofs.Common.{◌≡◌, ℕ, zero, suc, ◌+◌, ◌*◌, ◌/◌, ◌%◌, ◌<◌, ◌≤◌, Bool, true, false, cond, ltb, eqb, List, [], ◌∷◌, ◌++◌, length, take, drop, get_or, Option, Some, None, Result, Ok, Err, refl, sym, ap, subst, ◌∙◌, arith}
+use Rattle.std.proofs.Common.{◌≡◌, ℕ, ◌≤◌, List, [], ◌∷◌, ◌++◌, length, Option, Some, None, Result, Ok, Err, refl, sym, ap, subst, ◌∙◌, arith}
 use Rattle.std.specs.Prelude.{MatchResult, slice_get}
-use Rattle.std.proofs.lemmas.Bool.{ne_eqb, le-ltb}
+use Rattle.std.proofs.lemmas.Bool.{ne_eqb, le-ltb, lt-ltb}
 use Rattle.cip_base.specs.Fields.{IsBytes}
 use Rattle.cip_base.specs.declared.triad.Triad.{Triad}
 use Rattle.cip_message.specs.declared.fault.DataFault.{DataFault}
@@ -61,3 +61,11 @@ failure_back f h = failure_read (failure_data f) f (reads f.triad f.words h)
     reads None (Some n) h = let bad = h refl in absurd cc
     reads (Some t) None h = refl
     reads (Some t) (Some n) h = (0 ∷ [], refl)
+
+-- ---- a fault that fits is the one that is answered
+
+pub failure_faults : (b : List ℕ) (f : DataFault) → IsFailureFault b f → failure_at b ≡ Err f
+unfolding failure_at
+failure_faults b Short (some, short) = rw (ne_eqb (length b) 0 (λ e. omega arith), lt-ltb (length b) 8 short) refl
+failure_faults b Long h = absurd h
+failure_faults b (Path f) h = absurd h

@@ -1,8 +1,8 @@
 -- A request to the Connection Manager is read as it was written.
-use Rattle.std.proofs.Common.{◌≡◌, ℕ, ◌<◌, List, [], ◌∷◌, ◌++◌, length, Result, Ok, refl, arith, inl, lit≤}
+use Rattle.std.proofs.Common.{◌≡◌, ℕ, ◌<◌, List, [], ◌∷◌, Ok, refl, arith, inl}
 use Rattle.cip_segment.specs.declared.segment.Segment.TheVariants.{Class, Instance}
 use Rattle.cip_segment.specs.Spelling.{IsReadable, Spells}
-use Rattle.cip_message.specs.Request.{Request, ReadsRequest}
+use Rattle.cip_message.specs.Request.{ReadsRequest}
 use Rattle.cip_message.specs.RequestAt.{request_at}
 use Rattle.cip_message.specs.Manager.{manager_path, manager_request, manager_bytes}
 use Rattle.cip_message.proofs.Requests.{request_read}

@@ -1,14 +1,14 @@
 -- Reading a reply gives exactly the record that has its layout.
-use Rattle.std.proofs.Common.{◌≡◌, ℕ, zero, suc, ◌+◌, ◌*◌, ◌<◌, ◌≤◌, Bool, true, false, cond, ltb, List, [], ◌∷◌, ◌++◌, length, get_or, take, drop, Result, Ok, Err, refl, sym, ap, subst, ◌∙◌, arith, inl, inr}
-use Rattle.std.proofs.lemmas.Bool.{cond_both, cases_lt, ltb-true, ltb-false, le-ltb}
+use Rattle.std.proofs.Common.{◌≡◌, ℕ, suc, ◌*◌, ◌≤◌, false, cond, ltb, List, [], ◌∷◌, ◌++◌, length, take, drop, Result, Ok, Err, refl, sym, ap, arith}
+use Rattle.std.proofs.lemmas.Bool.{cond_both, ltb-true, ltb-false, le-ltb, lt-ltb}
 use Rattle.std.specs.Prelude.{MatchResult}
-use Rattle.std.proofs.lemmas.List.{take_at, drop_at, take-append-drop, length-append, length-take, get_or-drop, get_or-take, get_or_past}
+use Rattle.std.proofs.lemmas.List.{take_at, drop_at, take-append-drop, length-append, length-take}
 use Rattle.cip_base.specs.Fields.{IsBytes}
 use Rattle.cip_message.specs.declared.fault.ReplyFault.{ReplyFault}
 use Rattle.cip_message.specs.declared.fault.ReplyFault.TheVariants.{TooShort, NotReply, ExtraSize}
 use Rattle.cip_message.specs.Numbers.{words_in, words_bytes}
-use Rattle.cip_message.specs.Reply.{Reply, ReadsReply, IsReplyFault, reply_layout, reply_bytes}
-use Rattle.cip_message.specs.ReplyAt.{reply_from, reply_at}
+use Rattle.cip_message.specs.Reply.{Reply, ReadsReply, IsReplyFault, reply_bytes}
+use Rattle.cip_message.specs.ReplyAt.{reply_at}
 use Rattle.cip_message.proofs.Words.{words_again, words_len, words_back}
 use Rattle.cip_message.proofs.Readers.{IsBytes-take}
 
@@ -44,10 +44,22 @@ reply_verdict (s ∷ x ∷ g ∷ n ∷ rest) fits =
     cond_both (ltb s 128) (Err NotReply) (cond (ltb (length rest) (2 * n)) (Err ExtraSize) (Ok _)) P
     (λ low. (s, x, g, n, rest, refl, ltb-true _ _ low))
     (λ high. cond_both (ltb (length rest) (2 * n)) (Err ExtraSize) (Ok _) P
-      (λ short. (s, x, g, n, rest, refl, ltb-false _ _ high, ltb-true _ _ short))
-      (λ enough. parts_fit s x g n rest fits (ltb-false _ _ high) (ltb-false _ _ enough)))
+    (λ short. (s, x, g, n, rest, refl, ltb-false _ _ high, ltb-true _ _ short))
+    (λ enough. parts_fit s x g n rest fits (ltb-false _ _ high) (ltb-false _ _ enough)))
 
 -- ---- what is written is read back
 
 pub reply_back : (r : Reply) → 128 ≤ r.service → reply_at (reply_bytes r) ≡ Ok r
 reply_back r high = reply_read (reply_bytes r) r (high, (0, refl))
+
+-- ---- a fault that fits is the one that is answered
+
+pub reply_faults : (b : List ℕ) (f : ReplyFault) → IsReplyFault b f → reply_at b ≡ Err f
+unfolding reply_at
+reply_faults [] TooShort h = refl
+reply_faults (s ∷ []) TooShort h = refl
+reply_faults (s ∷ x ∷ []) TooShort h = refl
+reply_faults (s ∷ x ∷ g ∷ []) TooShort h = refl
+reply_faults (s ∷ x ∷ g ∷ n ∷ rest) TooShort h = absurd (omega arith)
+reply_faults b NotReply (s, x, g, n, rest, e, low) = rw (e, lt-ltb s 128 low) refl
+reply_faults b ExtraSize (s, x, g, n, rest, e, high, short) = rw (e, le-ltb s 128 high, lt-ltb (length rest) (2 * n) short) refl

@@ -1,23 +1,30 @@
 //! What holds of every message: reading gives exactly what has the layout, and what is written is read back.
-ghost use Rattle.std.specs.Prelude.{◌≡◌, ◌<◌, ◌≤◌, ℕ, List, Ok, MatchResult};
+ghost use Rattle.std.specs.Prelude.{◌≡◌, ◌<◌, ◌≤◌, ℕ, List, Ok, Err, MatchResult};
 ghost use Rattle.cip_base.specs.Fields.{IsBytes};
 ghost use Rattle.cip_segment.specs.Spelling.{IsReadable};
+ghost use Rattle.cip_message.specs.declared.fault.RequestFault.{RequestFault as NoRequest};
+ghost use Rattle.cip_message.specs.declared.fault.ReplyFault.{ReplyFault as NoReply};
+ghost use Rattle.cip_message.specs.declared.fault.DataFault.{DataFault as NoData};
+ghost use Rattle.cip_message.specs.declared.failure.ConnectionFailure.{ConnectionFailure as Failure};
+ghost use Rattle.cip_message.specs.Failure.{ReadsFailure, IsFailureFault, failure_at, failure_data, HasTriadForWords};
 ghost use Rattle.cip_message.specs.Request.{Request, ReadsRequest, IsRequestFault, request_bytes};
 ghost use Rattle.cip_message.specs.RequestAt.{request_at};
 ghost use Rattle.cip_message.specs.Manager.{manager_request, manager_bytes};
 ghost use Rattle.cip_message.specs.Reply.{Reply, ReadsReply, IsReplyFault, reply_bytes};
 ghost use Rattle.cip_message.specs.ReplyAt.{reply_at};
 
-/// Reading bytes as a request gives the one record that has its layout, or the first fault that fits.
+/// Reading bytes as a request gives the one record that has its layout, or the one fault that fits.
 pub fn request_is_exact()
     ensures only { (b : List ℕ) (r : Request) → ReadsRequest b r → request_at b ≡ Ok r }
     ensures verdict { (b : List ℕ) → IsBytes b → MatchResult (request_at b) (ReadsRequest b) (IsRequestFault b) }
+    ensures faults { (b : List ℕ) (f : NoRequest) → IsBytes b → IsRequestFault b f → request_at b ≡ Err f }
 {}
 
-/// Reading bytes as a reply gives the one record that has its layout, or the first fault that fits.
+/// Reading bytes as a reply gives the one record that has its layout, or the one fault that fits.
 pub fn reply_is_exact()
     ensures only { (b : List ℕ) (r : Reply) → ReadsReply b r → reply_at b ≡ Ok r }
     ensures verdict { (b : List ℕ) → IsBytes b → MatchResult (reply_at b) (ReadsReply b) (IsReplyFault b) }
+    ensures faults { (b : List ℕ) (f : NoReply) → IsReplyFault b f → reply_at b ≡ Err f }
 {}
 
 /// A request that is written is read back as the same record.
@@ -33,4 +40,16 @@ pub fn written_manager_request_is_read()
 /// A reply that is written is read back as the same record.
 pub fn written_reply_is_read()
     ensures { (r : Reply) → 128 ≤ r.service → reply_at (reply_bytes r) ≡ Ok r }
+{}
+
+/// Reading the data of a failure gives the one record that has its layout, or the fault.
+pub fn failure_is_exact()
+    ensures only { (b : List ℕ) (f : Failure) → ReadsFailure b f → failure_at b ≡ Ok f }
+    ensures verdict { (b : List ℕ) → IsBytes b → MatchResult (failure_at b) (ReadsFailure b) (IsFailureFault b) }
+    ensures faults { (b : List ℕ) (f : NoData) → IsFailureFault b f → failure_at b ≡ Err f }
+{}
+
+/// The data of a failure that is written is read back as the same record.
+pub fn written_failure_is_read()
+    ensures { (f : Failure) → HasTriadForWords f → failure_at (failure_data f) ≡ Ok f }
 {}

@@ -118,12 +118,7 @@ pub fn put_reply_header(out: &mut Vec<u8>, service: u8, status: Status) -> Resul
     }
 }
 
-fn joined(
-    alloc: Global,
-    service: u8,
-    status: Status,
-    data_: &[u8],
-) -> Result<Vec<u8>, AllocError>
+fn joined(alloc: Global, service: u8, status: Status, data_: &[u8]) -> Result<Vec<u8>, AllocError>
     ensures { IfOk result (λ v. v.items ≡ reply_bytes (record { service = service; general = status.general; extra = extra_words status.extra; data_ = data_.now })) }
 {
     let mut bytes = Vec::new(alloc);

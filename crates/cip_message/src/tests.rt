@@ -41,8 +41,14 @@ fn a_request_by_its_bytes(rt: HostRuntime) -> Result<(), Fail> {
     let again = write_request(rt.alloc(), 0x10, request.path(), request.data_())?;
     assert_eq!(rt; again.as_slice(), bytes.as_slice());
     assert_eq!(rt; read_request(&[0x10]).err(), Some(RequestFault::TooShort));
-    assert_eq!(rt; read_request(&[0x90, 0x09]).err(), Some(RequestFault::NotRequest));
-    assert_eq!(rt; read_request(&bytes[..7]).err(), Some(RequestFault::PathSize));
+    assert_eq!(rt;
+        read_request(&[0x90, 0x09]).err(),
+        Some(RequestFault::NotRequest)
+    );
+    assert_eq!(rt;
+        read_request(&bytes[..7]).err(),
+        Some(RequestFault::PathSize)
+    );
     Ok(())
 }
 
@@ -58,7 +64,10 @@ fn a_reply_with_several_words_of_status(rt: HostRuntime) -> Result<(), Fail> {
         assert_eq!(rt; read_reply(&bytes[..7]).err(), Some(ReplyFault::ExtraSize));
         assert_eq!(rt; read_reply(&bytes[..3]).err(), Some(ReplyFault::TooShort));
     }
-    assert_eq!(rt; read_reply(&[0x54, 0, 0, 0]).err(), Some(ReplyFault::NotReply));
+    assert_eq!(rt;
+        read_reply(&[0x54, 0, 0, 0]).err(),
+        Some(ReplyFault::NotReply)
+    );
     Ok(())
 }
 
@@ -69,7 +78,10 @@ fn a_failure_is_written_by_its_bytes(rt: HostRuntime) -> Result<(), Fail> {
         extra: Some(0x0311),
     };
     let reply = write_reply(rt.alloc(), 0xD4, status, &[0x05, 0x00])?;
-    assert_eq!(rt; reply.as_slice(), [0xD4, 0, 0x01, 0x01, 0x11, 0x03, 0x05, 0x00].as_slice());
+    assert_eq!(rt;
+        reply.as_slice(),
+        [0xD4, 0, 0x01, 0x01, 0x11, 0x03, 0x05, 0x00].as_slice()
+    );
     Ok(())
 }
 
@@ -96,8 +108,14 @@ fn a_counted_path_fills_the_data(rt: HostRuntime) -> Result<(), Fail> {
     let bytes = [2, 0x20, 0x06, 0x24, 0x01];
     let path = counted_path(&bytes, 0, 1)?;
     assert_eq!(rt; path.bytes(), &bytes[1..]);
-    assert_eq!(rt; counted_path(&bytes[..4], 0, 1).err(), Some(DataFault::Short));
-    assert_eq!(rt; counted_path(&[1, 0x20, 0x06, 0x24], 0, 1).err(), Some(DataFault::Long));
+    assert_eq!(rt;
+        counted_path(&bytes[..4], 0, 1).err(),
+        Some(DataFault::Short)
+    );
+    assert_eq!(rt;
+        counted_path(&[1, 0x20, 0x06, 0x24], 0, 1).err(),
+        Some(DataFault::Long)
+    );
     Ok(())
 }
 

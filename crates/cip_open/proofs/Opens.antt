@@ -1,18 +1,20 @@
 -- Reading the data of Forward_Open gives exactly the record that has its layout.
-use Rattle.std.proofs.Common.{◌≡◌, ℕ, ◌+◌, ◌*◌, ◌/◌, ◌%◌, ◌<◌, ◌≤◌, List, [], ◌∷◌, ◌++◌, length, drop, get_or, Result, Ok, Err, refl, sym, ap, subst, ◌∙◌, arith}
+use Rattle.std.proofs.Common.{◌≡◌, ℕ, ◌*◌, ◌/◌, List, [], ◌∷◌, ◌++◌, length, drop, get_or, Result, Ok, Err, refl, sym, ap, subst, ◌∙◌, arith}
 use Rattle.std.specs.Prelude.{MatchResult}
 use Rattle.std.proofs.lemmas.List.{length-drop}
-use Rattle.cip_base.specs.Fields.{IsBytes, word, double}
-use Rattle.cip_base.specs.declared.timing.Timing.{Timing}
+use Rattle.cip_base.specs.Fields.{IsBytes}
 use Rattle.cip_base.specs.declared.triad.Triad.{Triad}
-use Rattle.cip_segment.specs.Spelling.{IsReadable, IsFault}
+use Rattle.cip_segment.specs.Spelling.{IsReadable}
 use Rattle.cip_segment.proofs.Whole.{whole_words}
 use Rattle.cip_message.specs.declared.fault.DataFault.{DataFault}
-use Rattle.cip_message.specs.Numbers.{word_in, double_in, triad_in, triad_bytes}
-use Rattle.cip_message.specs.Counted.{whole_length, counted_path_at}
+use Rattle.cip_message.specs.Counted.{whole_length}
 use Rattle.cip_message.proofs.Words.{word_again, double_again, triad_again, word_back, double_back, triad_back}
-use Rattle.cip_message.proofs.Counteds.{counted_path_at-whole, counted_path_verdict}
-use Rattle.cip_message.proofs.Ends.{cut_off, overlong, whole-zeros, whole-take}
+use Rattle.cip_message.proofs.Counteds.{counted_path_at-whole, counted_path_at-Short, counted_path_at-Long, counted_path_at-Path, counted_path_verdict}
+use Rattle.cip_message.proofs.Ends.{cut_off, overlong, whole-zeros, whole-take, cut_short, over_long}
+use Rattle.cip_message.proofs.Readers.{IsBytes-drop}
+use Rattle.cip_message.specs.declared.fault.DataFault.TheVariants.{Short, Long, Path}
+use Rattle.cip_segment.specs.Reading.{path_at}
+use Rattle.cip_segment.proofs.PathsRead.{path_at-IsFault}
 use Rattle.cip_message.proofs.Fronts.{fronts}
 use Rattle.cip_open.specs.declared.request.OpenFields.{OpenFields}
 use Rattle.cip_open.specs.Open.{Open, open_layout, LaysOpen, ReadsOpen, HasOpenLayout, IsOpenFault, open_data}
@@ -31,7 +33,7 @@ made tick ticks ot_id to_id triad multiplier ot_rpi ot_params to_rpi to_params t
   ot_params = ot_params;
   to_rpi = to_rpi;
   to_params = to_params;
-  transport = transport
+  transport = transport;
 }
 
 same_fields : (t s : ℕ) (a a' b b' : ℕ) (x x' : Triad) (m : ℕ) (c c' d d' e e' f f' : ℕ) (w : ℕ)
@@ -67,19 +69,24 @@ same_parts t s a a' b b' c c' m x y z d d' e e' f f' g g' w n path ea eb ec ed e
 
 lays : (b : List ℕ) → IsBytes b → length b ≡ whole_length 35 36 b → LaysOpen b (record { fields = open_fields_in b; path = drop 36 b })
 lays b fits len =
-    let at : ℕ → ℕ = λ i. get_or b i 0 in
-    (at 19, at 20, at 21, at 35, omega (arith, len, length-drop 36 b),
+    let at : ℕ → ℕ = λ i. get_or b i 0 in (
+      at 19,
+      at 20,
+      at 21,
+      at 35,
+      omega (arith, len, length-drop 36 b),
       fronts 36 b (omega (arith, len))
-      ∙ sym (same_parts (at 0) (at 1) _ (at 2 ∷ at 3 ∷ at 4 ∷ at 5 ∷ []) _ (at 6 ∷ at 7 ∷ at 8 ∷ at 9 ∷ [])
-        _ (at 10 ∷ at 11 ∷ at 12 ∷ at 13 ∷ at 14 ∷ at 15 ∷ at 16 ∷ at 17 ∷ []) (at 18) (at 19) (at 20) (at 21)
-        _ (at 22 ∷ at 23 ∷ at 24 ∷ at 25 ∷ []) _ (at 26 ∷ at 27 ∷ []) _ (at 28 ∷ at 29 ∷ at 30 ∷ at 31 ∷ []) _ (at 32 ∷ at 33 ∷ []) (at 34) (at 35) (drop 36 b)
-        (double_back (at 2) (at 3) (at 4) (at 5) (fits 2) (fits 3) (fits 4) (fits 5))
-        (double_back (at 6) (at 7) (at 8) (at 9) (fits 6) (fits 7) (fits 8) (fits 9))
-        (triad_back (at 10) (at 11) (at 12) (at 13) (at 14) (at 15) (at 16) (at 17) (fits 10) (fits 11) (fits 12) (fits 13) (fits 14) (fits 15) (fits 16) (fits 17))
-        (double_back (at 22) (at 23) (at 24) (at 25) (fits 22) (fits 23) (fits 24) (fits 25))
-        (word_back (at 26) (at 27) (fits 26))
-        (double_back (at 28) (at 29) (at 30) (at 31) (fits 28) (fits 29) (fits 30) (fits 31))
-        (word_back (at 32) (at 33) (fits 32))))
+          ∙ sym (same_parts (at 0) (at 1) _ (at 2 ∷ at 3 ∷ at 4 ∷ at 5 ∷ []) _ (at 6 ∷ at 7 ∷ at 8 ∷ at 9 ∷ [])
+          _ (at 10 ∷ at 11 ∷ at 12 ∷ at 13 ∷ at 14 ∷ at 15 ∷ at 16 ∷ at 17 ∷ []) (at 18) (at 19) (at 20) (at 21)
+          _ (at 22 ∷ at 23 ∷ at 24 ∷ at 25 ∷ []) _ (at 26 ∷ at 27 ∷ []) _ (at 28 ∷ at 29 ∷ at 30 ∷ at 31 ∷ []) _ (at 32 ∷ at 33 ∷ []) (at 34) (at 35) (drop 36 b)
+          (double_back (at 2) (at 3) (at 4) (at 5) (fits 2) (fits 3) (fits 4) (fits 5))
+          (double_back (at 6) (at 7) (at 8) (at 9) (fits 6) (fits 7) (fits 8) (fits 9))
+          (triad_back (at 10) (at 11) (at 12) (at 13) (at 14) (at 15) (at 16) (at 17) (fits 10) (fits 11) (fits 12) (fits 13) (fits 14) (fits 15) (fits 16) (fits 17))
+          (double_back (at 22) (at 23) (at 24) (at 25) (fits 22) (fits 23) (fits 24) (fits 25))
+          (word_back (at 26) (at 27) (fits 26))
+          (double_back (at 28) (at 29) (at 30) (at 31) (fits 28) (fits 29) (fits 30) (fits 31))
+          (word_back (at 32) (at 33) (fits 32))),
+    )
 
 has_layout : (b : List ℕ) → IsBytes b → length b ≡ whole_length 35 36 b → HasOpenLayout b
 has_layout b fits len = (record { fields = open_fields_in b; path = drop 36 b }, lays b fits len)
@@ -97,3 +104,20 @@ open_verdict b fits =
 
 pub open_back : (o : Open) → IsReadable o.path → open_at (open_data o) ≡ Ok o
 open_back o readable = layout_read 0 0 0 (length o.path / 2) o readable (whole_words o.path readable)
+
+-- ---- a fault that fits is the one that is answered
+
+layout_len : (b : List ℕ) → HasOpenLayout b → length b ≡ whole_length 35 36 b
+layout_len b (o, (x, y, z, n, len, e)) = subst (λ (c : List ℕ). length c ≡ whole_length 35 36 c) (sym e) (omega (arith, len))
+
+path_is : (b : List ℕ) (o : Open) → LaysOpen b o → drop 36 b ≡ o.path
+path_is b o (x, y, z, n, len, e) = ap (λ (c : List ℕ). drop 36 c) e
+
+pub open_faults : (b : List ℕ) (f : DataFault) → IsBytes b → IsOpenFault b f → open_at b ≡ Err f
+unfolding open_at
+open_faults b Short fits h = ap (with_open_path b) (counted_path_at-Short 35 36 b (cut_short HasOpenLayout 35 36 (omega arith) layout_len b h))
+open_faults b Long fits h = ap (with_open_path b) (counted_path_at-Long 35 36 b (over_long HasOpenLayout 35 36 (omega arith) layout_len b h))
+open_faults b (Path f) fits (o, lays_o, fault) =
+    let behind : drop 36 b ≡ o.path = path_is b o lays_o in
+    let path_fits : IsBytes o.path = subst IsBytes behind (IsBytes-drop 36 b fits) in
+    ap (with_open_path b) (counted_path_at-Path 35 36 b f (layout_len b (o, lays_o)) (ap path_at behind ∙ path_at-IsFault o.path f path_fits fault))

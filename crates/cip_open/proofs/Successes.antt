@@ -1,15 +1,15 @@
 -- Reading the data of a successful Forward_Open's reply gives exactly the record that has its layout.
-use Rattle.std.proofs.Common.{◌≡◌, ℕ, ◌+◌, ◌*◌, ◌/◌, ◌%◌, ◌<◌, ◌≤◌, List, [], ◌∷◌, ◌++◌, length, drop, get_or, Result, Ok, Err, refl, sym, ap, subst, ◌∙◌, arith}
+use Rattle.std.proofs.Common.{◌≡◌, ℕ, ◌*◌, ◌/◌, ◌%◌, List, [], ◌∷◌, ◌++◌, length, drop, get_or, Result, Ok, Err, refl, sym, ap, subst, ◌∙◌, arith}
 use Rattle.std.specs.Prelude.{MatchResult}
 use Rattle.std.proofs.lemmas.List.{length-drop}
-use Rattle.cip_base.specs.Fields.{IsBytes, double}
+use Rattle.cip_base.specs.Fields.{IsBytes}
 use Rattle.cip_base.specs.declared.triad.Triad.{Triad}
 use Rattle.cip_message.specs.declared.fault.DataFault.{DataFault}
-use Rattle.cip_message.specs.Numbers.{double_in, triad_in, triad_bytes}
-use Rattle.cip_message.specs.Counted.{whole_length, counted_at}
+use Rattle.cip_message.specs.Counted.{whole_length}
 use Rattle.cip_message.proofs.Words.{double_again, triad_again, double_back, triad_back}
-use Rattle.cip_message.proofs.Counteds.{counted_at-whole, counted_verdict}
-use Rattle.cip_message.proofs.Ends.{cut_off, overlong, whole-zeros, whole-take}
+use Rattle.cip_message.proofs.Counteds.{counted_at-whole, counted_at-Short, counted_at-Long, counted_verdict}
+use Rattle.cip_message.proofs.Ends.{cut_off, overlong, whole-zeros, whole-take, cut_short, over_long}
+use Rattle.cip_message.specs.declared.fault.DataFault.TheVariants.{Short, Long, Path}
 use Rattle.cip_message.proofs.Fronts.{fronts}
 use Rattle.cip_open.specs.Success.{OpenSuccess, open_reply_layout, ReadsOpenReply, HasOpenReplyLayout, IsOpenReplyFault, open_reply_data}
 use Rattle.cip_open.specs.SuccessAt.{open_success_in, with_open_reply, open_reply_at}
@@ -47,16 +47,19 @@ same_parts a a' b b' c c' d d' e e' n x reply ea eb ec ed ee = rw (ea, eb, ec, e
 
 reads : (b : List ℕ) → IsBytes b → length b ≡ whole_length 24 26 b → ReadsOpenReply b (open_success_in b (drop 26 b))
 reads b fits len =
-    let at : ℕ → ℕ = λ i. get_or b i 0 in
-    (at 24, at 25, omega (arith, len, length-drop 26 b),
+    let at : ℕ → ℕ = λ i. get_or b i 0 in (
+      at 24,
+      at 25,
+      omega (arith, len, length-drop 26 b),
       fronts 26 b (omega (arith, len))
-      ∙ sym (same_parts _ (at 0 ∷ at 1 ∷ at 2 ∷ at 3 ∷ []) _ (at 4 ∷ at 5 ∷ at 6 ∷ at 7 ∷ [])
-        _ (at 8 ∷ at 9 ∷ at 10 ∷ at 11 ∷ at 12 ∷ at 13 ∷ at 14 ∷ at 15 ∷ []) _ (at 16 ∷ at 17 ∷ at 18 ∷ at 19 ∷ []) _ (at 20 ∷ at 21 ∷ at 22 ∷ at 23 ∷ []) (at 24) (at 25) (drop 26 b)
-        (double_back (at 0) (at 1) (at 2) (at 3) (fits 0) (fits 1) (fits 2) (fits 3))
-        (double_back (at 4) (at 5) (at 6) (at 7) (fits 4) (fits 5) (fits 6) (fits 7))
-        (triad_back (at 8) (at 9) (at 10) (at 11) (at 12) (at 13) (at 14) (at 15) (fits 8) (fits 9) (fits 10) (fits 11) (fits 12) (fits 13) (fits 14) (fits 15))
-        (double_back (at 16) (at 17) (at 18) (at 19) (fits 16) (fits 17) (fits 18) (fits 19))
-        (double_back (at 20) (at 21) (at 22) (at 23) (fits 20) (fits 21) (fits 22) (fits 23))))
+          ∙ sym (same_parts _ (at 0 ∷ at 1 ∷ at 2 ∷ at 3 ∷ []) _ (at 4 ∷ at 5 ∷ at 6 ∷ at 7 ∷ [])
+          _ (at 8 ∷ at 9 ∷ at 10 ∷ at 11 ∷ at 12 ∷ at 13 ∷ at 14 ∷ at 15 ∷ []) _ (at 16 ∷ at 17 ∷ at 18 ∷ at 19 ∷ []) _ (at 20 ∷ at 21 ∷ at 22 ∷ at 23 ∷ []) (at 24) (at 25) (drop 26 b)
+          (double_back (at 0) (at 1) (at 2) (at 3) (fits 0) (fits 1) (fits 2) (fits 3))
+          (double_back (at 4) (at 5) (at 6) (at 7) (fits 4) (fits 5) (fits 6) (fits 7))
+          (triad_back (at 8) (at 9) (at 10) (at 11) (at 12) (at 13) (at 14) (at 15) (fits 8) (fits 9) (fits 10) (fits 11) (fits 12) (fits 13) (fits 14) (fits 15))
+          (double_back (at 16) (at 17) (at 18) (at 19) (fits 16) (fits 17) (fits 18) (fits 19))
+          (double_back (at 20) (at 21) (at 22) (at 23) (fits 20) (fits 21) (fits 22) (fits 23))),
+    )
 
 has_layout : (b : List ℕ) → IsBytes b → length b ≡ whole_length 24 26 b → HasOpenReplyLayout b
 has_layout b fits len = (open_success_in b (drop 26 b), reads b fits len)
@@ -73,3 +76,14 @@ open_reply_verdict b fits =
 
 pub open_reply_back : (s : OpenSuccess) → length s.reply % 2 ≡ 0 → open_reply_at (open_reply_data s) ≡ Ok s
 open_reply_back s even = layout_read (length s.reply / 2) 0 s (omega arith)
+
+-- ---- a fault that fits is the one that is answered
+
+layout_len : (b : List ℕ) → HasOpenReplyLayout b → length b ≡ whole_length 24 26 b
+layout_len b (s, (n, x, len, e)) = subst (λ (c : List ℕ). length c ≡ whole_length 24 26 c) (sym e) (omega (arith, len))
+
+pub open_reply_faults : (b : List ℕ) (f : DataFault) → IsOpenReplyFault b f → open_reply_at b ≡ Err f
+unfolding open_reply_at
+open_reply_faults b Short h = ap (with_open_reply b) (counted_at-Short 24 26 b (cut_short HasOpenReplyLayout 24 26 (omega arith) layout_len b h))
+open_reply_faults b Long h = ap (with_open_reply b) (counted_at-Long 24 26 b (over_long HasOpenReplyLayout 24 26 (omega arith) layout_len b h))
+open_reply_faults b (Path f) h = absurd h

@@ -19,7 +19,7 @@ open_fields_in b = record {
   ot_params = word_in b 26;
   to_rpi = double_in b 28;
   to_params = word_in b 32;
-  transport = slice_index b 34
+  transport = slice_index b 34;
 }
 
 -- the record, once its path was read

@@ -1,5 +1,5 @@
 -- The network connection parameters of one direction of a connection, in a word (Volume 1, chapter 3).
-use Rattle.std.specs.Prelude.{ℕ, ◌/◌, ◌%◌, ◌==◌, nat_lt, if◌then◌else◌}
+use Rattle.std.specs.Prelude.{ℕ, ◌/◌, ◌%◌, ◌==◌, if◌then◌else◌}
 use Rattle.cip_open.specs.declared.parameters.Priority.{Priority}
 use Rattle.cip_open.specs.declared.parameters.Priority.TheVariants.{Low, High, Scheduled, Urgent}
 use Rattle.cip_open.specs.declared.parameters.ConnectionKind.{ConnectionKind}
@@ -21,5 +21,5 @@ params_of w = record {
   variable = (w / 512) % 2 == 1;
   priority = priority_of ((w / 1024) % 4);
   kind = kind_of ((w / 8192) % 4);
-  redundant = (w / 32768) % 2 == 1
+  redundant = (w / 32768) % 2 == 1;
 }

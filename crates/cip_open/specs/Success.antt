@@ -2,7 +2,6 @@
 use Rattle.std.specs.Prelude.{◌≡◌, ℕ, ◌*◌, ◌/◌, List, [], ◌∷◌, ◌++◌, length}
 use Rattle.cip_base.specs.Fields.{double}
 use Rattle.cip_base.specs.declared.triad.Triad.{Triad}
-use Rattle.cip_segment.specs.declared.fault.PathFault.{PathFault}
 use Rattle.cip_message.specs.declared.fault.DataFault.{DataFault}
 use Rattle.cip_message.specs.declared.fault.DataFault.TheVariants.{Short, Long, Path}
 use Rattle.cip_message.specs.Numbers.{triad_bytes}

@@ -12,7 +12,7 @@ open_success_in b reply = record {
   triad = triad_in b 8;
   ot_api = double_in b 16;
   to_api = double_in b 20;
-  reply = reply
+  reply = reply;
 }
 
 abbrev pub with_open_reply : List ℕ → Result (List ℕ) DataFault → Result OpenSuccess DataFault

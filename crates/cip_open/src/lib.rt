@@ -2,13 +2,21 @@
 #![tactic(auto)]
 
 mod failed;
+mod laws;
 mod parameters;
 mod request;
 mod splitting;
 mod success;
 
 pub use failed::{OpenFailure, read_open_failure, write_open_failure};
+pub use laws::{
+    open_is_exact, open_reply_is_exact, written_open_failure_is_read, written_open_is_read,
+    written_open_reply_is_read,
+};
 pub use parameters::{ConnectionKind, Params, Priority};
 pub use request::{OpenFields, OpenView, read_open, triad_at, words_at, write_open};
 pub use splitting::params;
 pub use success::{OpenReply, read_open_reply, write_open_reply};
+
+#[cfg(test)]
+mod tests;

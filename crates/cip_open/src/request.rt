@@ -6,7 +6,10 @@ ghost use Rattle.cip_open.specs.OpenAt.{open_fields_in, open_at, open_triad_of, 
 ghost use Rattle.cip_open.specs.Reading.{open_of};
 
 use cip_base::{Bytes, NoMemory, Timing, Triad};
-use cip_message::{DataFault, counted_path, double_at, put_double, put_manager_header, put_triad, put_word, triad_within, word_at};
+use cip_message::{
+    DataFault, counted_path, double_at, put_double, put_manager_header, put_triad, put_word,
+    triad_within, word_at,
+};
 use cip_segment::PathView;
 use std::alloc::{AllocError, Global};
 
@@ -132,11 +135,7 @@ fn joined(alloc: Global, fields: &OpenFields, path: PathView<'_>) -> Result<Vec<
 
 /// The whole message of a Forward_Open to the Connection Manager: header, the fixed fields with the reserved bytes 00, path
 /// size in words, path (Volume 1, chapter 3, Forward_Open).
-pub fn write_open(
-    alloc: Global,
-    fields: &OpenFields,
-    path: PathView<'_>,
-) -> Result<Bytes, NoMemory>
+pub fn write_open(alloc: Global, fields: &OpenFields, path: PathView<'_>) -> Result<Bytes, NoMemory>
     ensures { IfOk result (λ b. b ≡ open_bytes (record { fields = fields.now; path = path.entry.bytes.now })) }
 {
     Ok(Bytes::of(joined(alloc, fields, path)?))

@@ -1,8 +1,7 @@
 -- Unconnected_Send, service 52 of the Connection Manager (Volume 1, chapter 3, Unconnected_Send).
-use Rattle.std.specs.Prelude.{◌≡◌, ℕ, ◌+◌, ◌*◌, ◌/◌, ◌%◌, ◌<◌, List, [], ◌∷◌, ◌++◌, length}
+use Rattle.std.specs.Prelude.{◌≡◌, ℕ, ◌*◌, ◌/◌, ◌%◌, List, ◌∷◌, ◌++◌, length}
 use Rattle.cip_base.specs.Fields.{word, pad}
 use Rattle.cip_base.specs.declared.timing.Timing.{Timing}
-use Rattle.cip_segment.specs.declared.fault.PathFault.{PathFault}
 use Rattle.cip_segment.specs.Spelling.{IsReadable, IsFault}
 use Rattle.cip_message.specs.Cut.{IsCutOff, IsOverlong}
 use Rattle.cip_message.specs.Manager.{manager_bytes}

@@ -10,6 +10,6 @@ pub enum UnconnectedFault {
     Short,
     #[error("bytes stand after the route")]
     Long,
-    #[error("the route can't be read: {0:?}")]
+    #[error("the route can't be read: {0}")]
     Route(PathFault),
 }

@@ -42,7 +42,10 @@ fn each_shorter_message_is_cut_off(rt: HostRuntime) -> Result<(), Fail> {
         } else {
             assert_eq!(rt; fault, None);
             let data_ = &MESSAGE[6..len];
-            assert_eq!(rt; read_unconnected(data_).err(), Some(UnconnectedFault::Short));
+            assert_eq!(rt;
+                read_unconnected(data_).err(),
+                Some(UnconnectedFault::Short)
+            );
             let words = if len <= 16 { None } else { Some(1) };
             assert_eq!(rt; route_words(data_), words);
         }
@@ -66,6 +69,7 @@ const ODD: [u8; 20] = [
     0x07, 0xF9, 0x09, 0x00, 0x10, 0x03, 0x20, 0x04, 0x24, 0x64, 0x30, 0x03, 0xAA, 0x00, 0x02, 0x00,
     0x01, 0x03, 0x02, 0x07,
 ];
+
 const EVEN: [u8; 20] = [
     0x07, 0xF9, 0x0A, 0x00, 0x10, 0x03, 0x20, 0x04, 0x24, 0x64, 0x30, 0x03, 0xAA, 0xBB, 0x02, 0x00,
     0x01, 0x03, 0x02, 0x07,

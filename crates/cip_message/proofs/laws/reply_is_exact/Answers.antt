@@ -1,4 +1,4 @@
-use Rattle.cip_message.proofs.Replies.{reply_read, reply_verdict}
+use Rattle.cip_message.proofs.Replies.{reply_faults, reply_read, reply_verdict}
 use Rattle.cip_message.proofs.laws.reply_is_exact.Goals as goal
 
 pub returns-clause-only : goal.returns-clause-only
@@ -6,3 +6,6 @@ returns-clause-only c = reply_read
 
 pub returns-clause-verdict : goal.returns-clause-verdict
 returns-clause-verdict c = reply_verdict
+
+pub returns-clause-faults : goal.returns-clause-faults
+returns-clause-faults c = reply_faults

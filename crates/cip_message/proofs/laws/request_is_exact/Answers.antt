@@ -1,4 +1,4 @@
-use Rattle.cip_message.proofs.Requests.{request_read, request_verdict}
+use Rattle.cip_message.proofs.Requests.{request_faults, request_read, request_verdict}
 use Rattle.cip_message.proofs.laws.request_is_exact.Goals as goal
 
 pub returns-clause-only : goal.returns-clause-only
@@ -6,3 +6,6 @@ returns-clause-only c = request_read
 
 pub returns-clause-verdict : goal.returns-clause-verdict
 returns-clause-verdict c = request_verdict
+
+pub returns-clause-faults : goal.returns-clause-faults
+returns-clause-faults c = request_faults

@@ -1,4 +1,4 @@
-use Rattle.cip_unconnected.proofs.Unconnecteds.{unconnected_read, unconnected_verdict}
+use Rattle.cip_unconnected.proofs.Unconnecteds.{unconnected_faults, unconnected_read, unconnected_verdict}
 use Rattle.cip_unconnected.proofs.laws.unconnected_is_exact.Goals as goal
 
 pub returns-clause-only : goal.returns-clause-only
@@ -6,3 +6,6 @@ returns-clause-only c = unconnected_read
 
 pub returns-clause-verdict : goal.returns-clause-verdict
 returns-clause-verdict c = unconnected_verdict
+
+pub returns-clause-faults : goal.returns-clause-faults
+returns-clause-faults c = unconnected_faults

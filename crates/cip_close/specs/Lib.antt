@@ -1,0 +1,6 @@
+pub mod Close
+pub mod CloseAt
+pub mod Success
+pub mod SuccessAt
+pub mod Failed
+pub mod Reading
