@@ -68,7 +68,7 @@ impl Address {
     pub fn copy(&self) -> Address
         ensures { result ≡ self.now }
     {
-        match SmallVec::from_slice(NoHeap, self.bytes.as_slice()) {
+        match SmallVec::from_slice(NoHeap, self.as_slice()) {
             Ok(bytes) => Address { bytes },
             Err(_) => unreachable!(),
         }

@@ -39,7 +39,8 @@ impl Bytes {
     pub fn into_vec(self) -> Vec<u8>
         ensures { result.items ≡ self }
     {
-        self.items
+        let Bytes { items } = self;
+        items
     }
 }
 

@@ -9,6 +9,7 @@ use std::alloc::{AllocError, Allocator};
 mod address;
 mod bytes;
 mod key;
+mod laws;
 mod limits;
 mod memory;
 mod numbers;
@@ -18,6 +19,7 @@ mod triad;
 pub use address::{Address, AddressFault};
 pub use bytes::Bytes;
 pub use key::KeyFields;
+pub use laws::{triad_order, triads_are_ordered};
 pub use limits::{
     MAX_ADDRESS, MAX_ASSEMBLIES, MAX_DATUM, MAX_HOPS, MAX_LINKS, MAX_MESSAGE, MAX_MODULES, MAX_PATH,
     MAX_PENDINGS, MAX_PORTS, MAX_SCRIPT,

@@ -72,3 +72,21 @@ short_spells (g ∷ s) r w =
 
 pub short_readable : (b : List ℕ) (s : List Segment) → b ≡ short s → length b ≤ 510 → All IsRanged s → All IsWritable s → IsReadable b
 short_readable b s e len r w = (len, ∣ (s, subst (λ (z : List ℕ). Spells z s) (sym e) (short_spells s r w)) ∣₁)
+
+-- what is spelled can be written
+form_writable : (g : Segment) (x : List ℕ) → IsForm x g → IsWritable g
+form_writable (Port q a) x f = tt
+form_writable (Class n) x f = tt
+form_writable (Instance n) x f = tt
+form_writable (Member n) x f = tt
+form_writable (Point n) x f = tt
+form_writable (Attribute n) x f = tt
+form_writable (Key k) x f = tt
+form_writable (Words d) x (n, small, len, e) = (omega arith, omega arith)
+form_writable (Symbol d) x (small, e) = omega arith
+form_writable (Inhibit n) x f = tt
+
+pub spelled_writable : (s : List Segment) (b : List ℕ) → Spells b s → All IsWritable s
+spelled_writable [] b h k d lt = absurd (omega arith)
+spelled_writable (g ∷ s) b (x, y, e, f, h) zero d lt = form_writable g x f
+spelled_writable (g ∷ s) b (x, y, e, f, h) (suc k) d lt = spelled_writable s y h k d (omega arith)

@@ -1,11 +1,13 @@
 -- What reading a text as a path gives: its segments, or its fault. The relation of `Spelling` says what that has to be;
 -- the laws of this crate tie the two together. Definitions above, which go by cases on what was read, use these functions.
-use Rattle.std.specs.Prelude.{◌≡◌, ℕ, zero, suc, nat_lt, if◌then◌else◌, List, [], ◌∷◌, ◌++◌, length, Option, Some, None, Result, Ok, Err}
+use Rattle.std.specs.Prelude.{◌≡◌, ℕ, zero, suc, ◌/◌, nat_lt, if◌then◌else◌, List, [], ◌∷◌, ◌++◌, length, Option, Some, None, Result, Ok, Err}
 use Rattle.cip_base.specs.declared.key.KeyFields.{KeyFields}
 use Rattle.cip_segment.specs.declared.segment.Segment.{Segment}
 use Rattle.cip_segment.specs.declared.segment.Segment.TheVariants.{Port, Class, Instance, Member, Point, Attribute, Key, Words, Symbol, Inhibit}
 use Rattle.cip_segment.specs.declared.fault.PathFault.{PathFault}
 use Rattle.cip_segment.specs.declared.fault.PathFault.TheVariants.{Truncated, TooLong}
+use Rattle.cip_segment.specs.declared.hop.FirstHop.{FirstHop}
+use Rattle.cip_segment.specs.declared.hop.FirstHop.TheVariants.{Hop, End}
 use Rattle.cip_segment.specs.Scan.{◌>>=◌, segment_at}
 
 -- the segments of a text, of which there are at most so many
@@ -34,6 +36,11 @@ rest_or_none (Err f) = []
 unfoldable pub behind : List ℕ → List ℕ
 behind b = rest_or_none (segment_at b)
 
+-- the path b begins with the segment g, and what is left of it is the rest
+pub record IsSplit (b : List ℕ) (g : Segment) (rest : List ℕ) : Type 0 where
+  pub segments : segments_of b ≡ g ∷ segments_of rest
+  pub rest_is : rest ≡ behind b
+
 -- a path's first hop: perhaps a key, the port and the link address that it goes to next, and the path that is left
 pub record HopAt : Type 0 where
   pub key : Option KeyFields
@@ -41,11 +48,23 @@ pub record HopAt : Type 0 where
   pub address : List ℕ
   pub rest : List ℕ
 
+-- the hop that goes by the port segment that stands first, if one does
+abbrev pub port_in : Option KeyFields → List Segment → List ℕ → Option HopAt
+port_in key (Port q a ∷ others) b = Some (record { key = key; port = q; address = a; rest = behind b })
+port_in key s b = None
+
 abbrev pub hop_in : List Segment → List ℕ → Option HopAt
-hop_in (Port q a ∷ others) b = Some (record { key = None; port = q; address = a; rest = behind b })
-hop_in (Key k ∷ Port q a ∷ others) b = Some (record { key = Some k; port = q; address = a; rest = behind (behind b) })
-hop_in s b = None
+hop_in (Key k ∷ others) b = port_in (Some k) others (behind b)
+hop_in s b = port_in None s b
 
 -- the first hop, where the path begins with a port segment or with one key and a port segment
 unfoldable pub hop_of : List ℕ → Option HopAt
 hop_of b = hop_in (segments_of b) b
+
+-- how the hop is told: with the words of the path that is left
+abbrev pub told : Option HopAt → FirstHop
+told (Some h) = Hop h.key h.port h.address (length h.rest / 2)
+told None = End
+
+abbrev pub first_hop_of : List ℕ → FirstHop
+first_hop_of b = told (hop_of b)

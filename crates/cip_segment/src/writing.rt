@@ -2,14 +2,14 @@
 ghost use Rattle.std.specs.Prelude.{◌≡◌, ◌<◌, ◌≤◌, ◌++◌, ◌∷◌, [], ◌⊎◌, length, OnOk, IfOk, IfErr, IsTrue, ◌↔◌, All, IsOk};
 ghost use Rattle.cip_segment.specs.Spelling.{IsForm, Spells};
 ghost use Rattle.cip_base.specs.Fields.{pad, word};
+ghost use Rattle.cip_segment.specs.Reading.{path_at};
 ghost use Rattle.cip_segment.specs.Short.{short_number, short_port, short_form, short, IsWritable, IsRanged};
 
 use crate::fault::PathFault;
 use crate::path::Path;
 use crate::segment::Segment;
-use crate::view::MAX_PATH;
 use byteorder::{ByteOrder, LittleEndian};
-use cip_base::KeyFields;
+use cip_base::{KeyFields, MAX_PATH};
 use std::alloc::{AllocError, Global};
 
 fn put_word(out: &mut Vec<u8>, number: u16) -> Result<(), AllocError>
@@ -86,13 +86,13 @@ fn put_key(out: &mut Vec<u8>, key: &KeyFields) -> Result<(), AllocError>
     Ok(())
 }
 
-fn put_words(out: &mut Vec<u8>, data: &[u8]) -> Result<(), AllocError>
-    requires { length data.now ≤ 510 }
-    ensures { OnOk result (out.new.items ≡ out.old.items ++ short_form (Segment.Words data.now)) }
+fn put_words(out: &mut Vec<u8>, content: &[u8]) -> Result<(), AllocError>
+    requires { length content.now ≤ 510 }
+    ensures { OnOk result (out.new.items ≡ out.old.items ++ short_form (Segment.Words content.now)) }
 {
     out.push(0x80)?;
-    out.push((data.len() / 2) as u8)?;
-    out.extend_from_slice(data)
+    out.push((content.len() / 2) as u8)?;
+    out.extend_from_slice(content)
 }
 
 fn put_symbol(out: &mut Vec<u8>, name: &[u8]) -> Result<(), AllocError>
@@ -127,7 +127,7 @@ fn put(out: &mut Vec<u8>, segment: &Segment) -> Result<(), AllocError>
     }
 }
 
-/// Whether the segment has a form.
+/// Whether the segment can be written: simple data of whole words and at most 510 bytes, a symbol of at most 255 bytes.
 pub fn segment_ok(segment: &Segment) -> bool
     ensures { IsTrue result ↔ IsWritable segment.now }
 {
@@ -159,11 +159,13 @@ fn short_bytes(alloc: Global, segments: &[Segment]) -> Result<Vec<u8>, AllocErro
     Ok(bytes)
 }
 
-/// The path that spells the segments, each in its shortest form.
+/// The path that spells the segments, each in its shortest form (Volume 1, Appendix C): numbers in the fewest bits, an
+/// address of one byte without its size. TooLong where that passes 510 bytes. The condition is `segment_ok` of each.
 pub fn write_path(alloc: Global, segments: &[Segment]) -> Result<Path, PathFault>
     requires { All IsWritable segments.now }
     ensures ok { IfOk result (λ path. path ≡ short segments.now) }
     ensures spells { IfOk result (λ path. Spells path segments.now) }
+    ensures reads { IfOk result (λ path. path_at path ≡ Ok segments.now) }
     ensures fits { IsOk result → length (short segments.now) ≤ MAX_PATH }
     ensures fault { IfErr result (λ f. (f ≡ PathFault.NoMemory) ⊎ ((f ≡ PathFault.TooLong) × (MAX_PATH < length (short segments.now)))) }
 {

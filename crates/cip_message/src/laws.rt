@@ -1,0 +1,36 @@
+//! What holds of every message: reading gives exactly what has the layout, and what is written is read back.
+ghost use Rattle.std.specs.Prelude.{◌≡◌, ◌<◌, ◌≤◌, ℕ, List, Ok, MatchResult};
+ghost use Rattle.cip_base.specs.Fields.{IsBytes};
+ghost use Rattle.cip_segment.specs.Spelling.{IsReadable};
+ghost use Rattle.cip_message.specs.Request.{Request, ReadsRequest, IsRequestFault, request_bytes};
+ghost use Rattle.cip_message.specs.RequestAt.{request_at};
+ghost use Rattle.cip_message.specs.Manager.{manager_request, manager_bytes};
+ghost use Rattle.cip_message.specs.Reply.{Reply, ReadsReply, IsReplyFault, reply_bytes};
+ghost use Rattle.cip_message.specs.ReplyAt.{reply_at};
+
+/// Reading bytes as a request gives the one record that has its layout, or the first fault that fits.
+pub fn request_is_exact()
+    ensures only { (b : List ℕ) (r : Request) → ReadsRequest b r → request_at b ≡ Ok r }
+    ensures verdict { (b : List ℕ) → IsBytes b → MatchResult (request_at b) (ReadsRequest b) (IsRequestFault b) }
+{}
+
+/// Reading bytes as a reply gives the one record that has its layout, or the first fault that fits.
+pub fn reply_is_exact()
+    ensures only { (b : List ℕ) (r : Reply) → ReadsReply b r → reply_at b ≡ Ok r }
+    ensures verdict { (b : List ℕ) → IsBytes b → MatchResult (reply_at b) (ReadsReply b) (IsReplyFault b) }
+{}
+
+/// A request that is written is read back as the same record.
+pub fn written_request_is_read()
+    ensures { (r : Request) → r.service < 128 → IsReadable r.path → request_at (request_bytes r) ≡ Ok r }
+{}
+
+/// A request to the Connection Manager that is written is read back as the same record.
+pub fn written_manager_request_is_read()
+    ensures { (service : ℕ) (d : List ℕ) → service < 128 → request_at (manager_bytes service d) ≡ Ok (manager_request service d) }
+{}
+
+/// A reply that is written is read back as the same record.
+pub fn written_reply_is_read()
+    ensures { (r : Reply) → 128 ≤ r.service → reply_at (reply_bytes r) ≡ Ok r }
+{}

@@ -1,0 +1,2 @@
+pub mod OpsLemmas
+pub mod Walks

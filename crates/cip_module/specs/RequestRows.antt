@@ -1,0 +1,50 @@
+-- The request group: which row answers a request (Volume 1, chapter 2 for the Message Router, chapter 3 for the Connection Manager).
+use Rattle.std.specs.Prelude.{ℕ, ◌==◌, ◌||◌, nat_lt, not, if◌then◌else◌, Option, Some, None, Result, Ok, Err, List, [], ◌∷◌, length, slice_index, is_some, Bool}
+use Rattle.cip_segment.specs.Reading.{segments_of}
+use Rattle.cip_message.specs.Request.{Request}
+use Rattle.cip_message.specs.RequestAt.{request_at}
+use Rattle.cip_message.specs.declared.fault.RequestFault.{RequestFault}
+use Rattle.cip_message.specs.declared.fault.RequestFault.TheVariants.{TooShort, PathSize, Path, NotRequest}
+use Rattle.cip_module.specs.declared.config.ModuleSettings.{ModuleSettings}
+use Rattle.cip_module.specs.declared.object.ObjectPath.{ObjectPath}
+use Rattle.cip_module.specs.declared.rows.RequestRefusal.{RequestRefusal}
+use Rattle.cip_module.specs.declared.rows.RequestRefusal.TheVariants.{PathPastTheEnd, PathUnreadable, PathFormNotSupported, NoSuchManagerInstance, ServiceNotSupported}
+use Rattle.cip_module.specs.Config.{port_of}
+use Rattle.cip_module.specs.Object.{object_of}
+
+pub data RequestRow : Type 0 where
+  UnknownPortOrTooLong : RequestRow
+  NotARequest : RequestRow
+  Refuses : (service : ℕ) → (refusal : RequestRefusal) → RequestRow
+  -- the Connection Manager: an Unconnected_Send with this data
+  UnconnectedSend : (sent : List ℕ) → RequestRow
+  Target : (request : Request) → RequestRow
+
+-- the Connection Manager's instance first, then its services
+abbrev pub manager_row : Request → ObjectPath → RequestRow
+manager_row r object =
+    if not (object.instance == 1) then Refuses r.service NoSuchManagerInstance
+    else if r.service == 0x52 then UnconnectedSend r.data_
+    else Refuses r.service ServiceNotSupported
+
+abbrev pub object_row : Request → Option ObjectPath → RequestRow
+object_row r None = Refuses r.service PathFormNotSupported
+object_row r (Some object) = if object.class_ == 6 then manager_row r object else Target r
+
+-- of bytes that cannot be read as a request, by their first byte's service
+abbrev pub unread_row : ℕ → RequestFault → RequestRow
+unread_row service TooShort = NotARequest
+unread_row service NotRequest = NotARequest
+unread_row service PathSize = Refuses service PathPastTheEnd
+unread_row service (Path fault) = Refuses service PathUnreadable
+
+abbrev pub read_row : List ℕ → Result Request RequestFault → RequestRow
+read_row bytes (Err fault) = unread_row (slice_index bytes 0) fault
+read_row bytes (Ok r) = object_row r (object_of (segments_of r.path))
+
+abbrev pub is_malformed : ModuleSettings → ℕ → List ℕ → Bool
+is_malformed config port bytes = not (is_some (port_of config port)) || nat_lt 1400 (length bytes)
+
+-- the row of a request that came in by a port
+unfoldable pub request_row : ModuleSettings → ℕ → List ℕ → RequestRow
+request_row config port bytes = if is_malformed config port bytes then UnknownPortOrTooLong else read_row bytes (request_at bytes)

@@ -1,0 +1,25 @@
+-- The state of a module, and the one that it begins with.
+use Rattle.std.specs.Prelude.{ℕ, List, [], ◌∷◌, Bool, ◌==◌, nat_lt, if◌then◌else◌}
+use Rattle.std.specs.List.{list_any}
+use Rattle.std.specs.FinMap.{empty}
+use Rattle.cip_pending.specs.Pendings.{Pendings}
+use Rattle.cip_module.specs.declared.config.ModuleSettings.{ModuleSettings}
+
+pub record State : Type 0 where
+  -- microseconds
+  pub now : ℕ
+  -- the requests that wait, each under its number, and the next number
+  pub pendings : Pendings
+  -- the ops that were used, rising
+  pub ops : List ℕ
+
+abbrev pub opening : ModuleSettings → State
+opening config = record { now = config.clock; pendings = record { room = config.pending_room; next = config.first_number; entries = empty }; ops = [] }
+
+abbrev pub is_spent : ℕ → List ℕ → Bool
+is_spent op ops = list_any (λ spent. spent == op) ops
+
+-- with op at its place
+abbrev pub spent_with : ℕ → List ℕ → List ℕ
+spent_with op [] = op ∷ []
+spent_with op (spent ∷ ops) = if nat_lt op spent then op ∷ spent ∷ ops else spent ∷ spent_with op ops

@@ -1,0 +1,62 @@
+//! What the layers above know of a module.
+ghost use Rattle.std.specs.Prelude.{◌≡◌, IfOk};
+ghost use Rattle.cip_module.specs.declared.config.ModuleSettings.{ModuleSettings as Settings};
+ghost use Rattle.cip_module.specs.State.{State};
+ghost use Rattle.cip_module.specs.Steps.{IsStep, IsStepFault};
+ghost use Rattle.cip_module.specs.Views.{ShowsState};
+
+use crate::config::ModuleConfig;
+use crate::event::{Event, Output};
+use crate::tables::Tables;
+use cip_base::NoMemory;
+use thiserror::Error;
+
+/// A step that did not happen: the module is as it was, and the event comes back whole.
+#[derive(Debug, Drop, Error)]
+pub enum StepFault {
+    /// A growth was refused.
+    #[error("out of memory")]
+    NoMemory(Event),
+    /// The tick would lead past the last time, 9,223,372,036,854,775,807 microseconds. It is looked at first.
+    #[error("the clock is full")]
+    ClockFull(Event),
+}
+
+/// A module of a chassis: a config that never changes, and a state that each event changes as the routing table says.
+pub trait Module: Drop {
+    ghost config_of: { Self → Settings };
+
+    ghost state_of: { Self → State };
+
+    /// The module's config.
+    fn config(&self) -> &ModuleConfig
+        ensures { result.now ≡ config_of self.now };
+
+    /// Takes one event: a command, a frame or a tick. The outputs and the new state are those of the routing table.
+    fn step(&mut self, event: Event) -> Result<Vec<Output>, StepFault>
+        ensures ok { IfOk result (λ outputs. IsStep (config_of self.old) (state_of self.old) event (state_of self.new) outputs.items) }
+        ensures fault { IsStepFault (config_of self.old) (state_of self.old) event (state_of self.new) result }
+        ensures config { config_of self.new ≡ config_of self.old };
+
+    /// The state, as lists in rising key.
+    fn tables(&self) -> Result<Tables, NoMemory>
+        ensures { IfOk result (ShowsState (state_of self.now)) };
+}
+
+impl Module for Box<dyn Module + Send> {
+    ghost config_of = { λ b. (Module-box b).config_of b.value };
+
+    ghost state_of = { λ b. (Module-box b).state_of b.value };
+
+    fn config(&self) -> &ModuleConfig {
+        (**self).config()
+    }
+
+    fn step(&mut self, event: Event) -> Result<Vec<Output>, StepFault> {
+        (**self).step(event)
+    }
+
+    fn tables(&self) -> Result<Tables, NoMemory> {
+        (**self).tables()
+    }
+}

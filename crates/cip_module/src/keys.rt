@@ -1,0 +1,58 @@
+//! Whether an electronic key fits a module.
+ghost use Rattle.std.specs.Prelude.{◌≡◌};
+ghost use Rattle.cip_segment.specs.Reading.{segments_of};
+ghost use Rattle.cip_module.specs.Keys.{fits, minor_fits, key_mismatch, leading_mismatch};
+
+use crate::config::ModuleSettings;
+use crate::rows::KeyPart;
+use cip_base::KeyFields;
+use cip_segment::{PathView, SegmentView, split_first};
+
+// A field of 0 fits anything.
+fn fits(asked: u16, own: u16) -> bool
+    ensures { result ≡ fits asked own }
+{
+    asked == 0 || asked == own
+}
+
+// With the compatibility flag the module's minor revision may be later.
+fn minor_fits(settings: &ModuleSettings, key: KeyFields) -> bool
+    ensures { result ≡ minor_fits settings.now key }
+{
+    if key.minor == 0 {
+        true
+    } else if key.major >= 128 {
+        key.minor <= settings.minor
+    } else {
+        key.minor == settings.minor
+    }
+}
+
+fn key_mismatch(settings: &ModuleSettings, key: KeyFields) -> Option<KeyPart>
+    ensures { result ≡ key_mismatch settings.now key }
+{
+    if !(fits(key.vendor, settings.vendor) && fits(key.product, settings.product)) {
+        Some(KeyPart::VendorOrProduct)
+    } else if !fits(key.device_type, settings.device_type) {
+        Some(KeyPart::DeviceType)
+    } else if !(fits(u16::from(key.major % 128), u16::from(settings.major))
+        && minor_fits(settings, key))
+    {
+        Some(KeyPart::Revision)
+    } else {
+        None
+    }
+}
+
+/// What differs of the key that a path begins with, if it begins with one.
+pub(crate) fn leading_mismatch(settings: &ModuleSettings, path: PathView<'_>) -> Option<KeyPart>
+    ensures { result ≡ leading_mismatch settings.now (segments_of path.entry.bytes.now) }
+{
+    match split_first(path) {
+        None => None,
+        Some((first, _)) => match first {
+            SegmentView::Key(key) => key_mismatch(settings, key),
+            _ => None,
+        },
+    }
+}

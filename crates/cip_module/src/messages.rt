@@ -1,0 +1,58 @@
+//! What goes on and what goes up.
+ghost use Rattle.std.specs.Prelude.{◌≡◌, ◌≤◌, length, IfOk};
+ghost use Rattle.cip_unconnected.specs.Reading.{unconnected_of};
+ghost use Rattle.cip_unconnected.specs.Unconnected.{unconnected_bytes};
+ghost use Rattle.cip_module.specs.Effects.{reply_up};
+ghost use Rattle.cip_module.specs.Table.{message_on};
+
+use crate::event::{Body, Output};
+use cip_base::{Bytes, NoMemory, Timing};
+use cip_message::WriteFault;
+use cip_pending::UpSide;
+use cip_segment::PathView;
+use cip_unconnected::{UnconnectedView, write_unconnected};
+use std::alloc::Global;
+
+/// A reply to whom a request came from.
+pub(crate) fn reply_to(up: UpSide, bytes: Bytes) -> Output
+    ensures { result ≡ reply_up up bytes }
+{
+    match up {
+        UpSide::Link {
+            port,
+            address,
+            number,
+        } => Output::Send {
+            port,
+            to: address,
+            body: Body::Reply { number, bytes },
+        },
+        UpSide::Local { op } => Output::Done { op, reply: bytes },
+    }
+}
+
+/// What goes on of an Unconnected_Send: the embedded request itself where no path is left, else an Unconnected_Send with
+/// what is left of its route and one tick less.
+pub(crate) fn message_on(
+    alloc: Global,
+    view: UnconnectedView<'_>,
+    rest: PathView<'_>,
+) -> Result<Bytes, NoMemory>
+    requires fits { length (unconnected_bytes (unconnected_of view)) ≤ 1400 }
+    requires shorter { length rest.bytes.now ≤ length view.route.bytes.now }
+    requires ticks { 2 ≤ view.timing.ticks }
+    ensures { IfOk result (λ b. b ≡ message_on (unconnected_of view.entry) rest.entry.bytes.now) }
+{
+    if rest.bytes.is_empty() {
+        return Ok(Bytes::of(Vec::from_slice(alloc, view.request)?));
+    }
+    let timing = Timing {
+        tick: view.timing.tick,
+        ticks: view.timing.ticks - 1,
+    };
+    match write_unconnected(alloc, timing, view.request, rest) {
+        Ok(message) => Ok(message),
+        Err(WriteFault::NoMemory) => Err(NoMemory),
+        Err(WriteFault::TooLong) => unreachable!(),
+    }
+}

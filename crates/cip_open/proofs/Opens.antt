@@ -1,0 +1,99 @@
+-- Reading the data of Forward_Open gives exactly the record that has its layout.
+use Rattle.std.proofs.Common.{◌≡◌, ℕ, ◌+◌, ◌*◌, ◌/◌, ◌%◌, ◌<◌, ◌≤◌, List, [], ◌∷◌, ◌++◌, length, drop, get_or, Result, Ok, Err, refl, sym, ap, subst, ◌∙◌, arith}
+use Rattle.std.specs.Prelude.{MatchResult}
+use Rattle.std.proofs.lemmas.List.{length-drop}
+use Rattle.cip_base.specs.Fields.{IsBytes, word, double}
+use Rattle.cip_base.specs.declared.timing.Timing.{Timing}
+use Rattle.cip_base.specs.declared.triad.Triad.{Triad}
+use Rattle.cip_segment.specs.Spelling.{IsReadable, IsFault}
+use Rattle.cip_segment.proofs.Whole.{whole_words}
+use Rattle.cip_message.specs.declared.fault.DataFault.{DataFault}
+use Rattle.cip_message.specs.Numbers.{word_in, double_in, triad_in, triad_bytes}
+use Rattle.cip_message.specs.Counted.{whole_length, counted_path_at}
+use Rattle.cip_message.proofs.Words.{word_again, double_again, triad_again, word_back, double_back, triad_back}
+use Rattle.cip_message.proofs.Counteds.{counted_path_at-whole, counted_path_verdict}
+use Rattle.cip_message.proofs.Ends.{cut_off, overlong, whole-zeros, whole-take}
+use Rattle.cip_message.proofs.Fronts.{fronts}
+use Rattle.cip_open.specs.declared.request.OpenFields.{OpenFields}
+use Rattle.cip_open.specs.Open.{Open, open_layout, LaysOpen, ReadsOpen, HasOpenLayout, IsOpenFault, open_data}
+use Rattle.cip_open.specs.OpenAt.{open_fields_in, with_open_path, open_at}
+
+-- ---- what has the layout is read
+
+abbrev made : ℕ → ℕ → ℕ → ℕ → Triad → ℕ → ℕ → ℕ → ℕ → ℕ → ℕ → OpenFields
+made tick ticks ot_id to_id triad multiplier ot_rpi ot_params to_rpi to_params transport = record {
+  timing = record { tick = tick; ticks = ticks };
+  ot_id = ot_id;
+  to_id = to_id;
+  triad = triad;
+  multiplier = multiplier;
+  ot_rpi = ot_rpi;
+  ot_params = ot_params;
+  to_rpi = to_rpi;
+  to_params = to_params;
+  transport = transport
+}
+
+same_fields : (t s : ℕ) (a a' b b' : ℕ) (x x' : Triad) (m : ℕ) (c c' d d' e e' f f' : ℕ) (w : ℕ)
+    → a ≡ a' → b ≡ b' → x ≡ x' → c ≡ c' → d ≡ d' → e ≡ e' → f ≡ f' → made t s a b x m c d e f w ≡ made t s a' b' x' m c' d' e' f' w
+same_fields t s a a' b b' x x' m c c' d d' e e' f f' w ea eb ex ec ed ee ef = rw (ea, eb, ex, ec, ed, ee, ef) refl
+
+layout_fields : (x y z n : ℕ) (o : Open) → open_fields_in (open_layout x y z n o) ≡ o.fields
+layout_fields x y z n o =
+    same_fields _ _ _ _ _ _ _ _ _ _ _ _ _ _ _ _ _ _ (double_again o.fields.ot_id) (double_again o.fields.to_id) (triad_again o.fields.triad [])
+    (double_again o.fields.ot_rpi) (word_again o.fields.ot_params) (double_again o.fields.to_rpi) (word_again o.fields.to_params)
+
+abbrev opened : OpenFields → List ℕ → Result Open DataFault
+opened fields path = Ok (record { fields = fields; path = path })
+
+layout_read : (x y z n : ℕ) (o : Open) → IsReadable o.path → length o.path ≡ 2 * n → open_at (open_layout x y z n o) ≡ Ok o
+unfolding open_at
+layout_read x y z n o readable len =
+    ap (with_open_path (open_layout x y z n o)) (counted_path_at-whole 35 36 (open_layout x y z n o) (omega (arith, len)) readable)
+    ∙ ap (λ (f : OpenFields). opened f o.path) (layout_fields x y z n o)
+
+pub open_read : (b : List ℕ) (o : Open) → ReadsOpen b o → open_at b ≡ Ok o
+open_read b o (readable, (x, y, z, n, len, e)) = subst (λ (c : List ℕ). open_at c ≡ Ok o) (sym e) (layout_read x y z n o readable len)
+
+-- ---- what is read has the layout, and each fault is the one that fits
+
+abbrev parts : ℕ → ℕ → List ℕ → List ℕ → List ℕ → ℕ → ℕ → ℕ → ℕ → List ℕ → List ℕ → List ℕ → List ℕ → ℕ → ℕ → List ℕ → List ℕ
+parts t s ot_id to_id triad m x y z ot_rpi ot_params to_rpi to_params w n path =
+    t ∷ s ∷ ot_id ++ (to_id ++ (triad ++ (m ∷ x ∷ y ∷ z ∷ ot_rpi ++ (ot_params ++ (to_rpi ++ (to_params ++ (w ∷ n ∷ path)))))))
+
+same_parts : (t s : ℕ) (a a' b b' c c' : List ℕ) (m x y z : ℕ) (d d' e e' f f' g g' : List ℕ) (w n : ℕ) (path : List ℕ)
+    → a ≡ a' → b ≡ b' → c ≡ c' → d ≡ d' → e ≡ e' → f ≡ f' → g ≡ g' → parts t s a b c m x y z d e f g w n path ≡ parts t s a' b' c' m x y z d' e' f' g' w n path
+same_parts t s a a' b b' c c' m x y z d d' e e' f f' g g' w n path ea eb ec ed ee ef eg = rw (ea, eb, ec, ed, ee, ef, eg) refl
+
+lays : (b : List ℕ) → IsBytes b → length b ≡ whole_length 35 36 b → LaysOpen b (record { fields = open_fields_in b; path = drop 36 b })
+lays b fits len =
+    let at : ℕ → ℕ = λ i. get_or b i 0 in
+    (at 19, at 20, at 21, at 35, omega (arith, len, length-drop 36 b),
+      fronts 36 b (omega (arith, len))
+      ∙ sym (same_parts (at 0) (at 1) _ (at 2 ∷ at 3 ∷ at 4 ∷ at 5 ∷ []) _ (at 6 ∷ at 7 ∷ at 8 ∷ at 9 ∷ [])
+        _ (at 10 ∷ at 11 ∷ at 12 ∷ at 13 ∷ at 14 ∷ at 15 ∷ at 16 ∷ at 17 ∷ []) (at 18) (at 19) (at 20) (at 21)
+        _ (at 22 ∷ at 23 ∷ at 24 ∷ at 25 ∷ []) _ (at 26 ∷ at 27 ∷ []) _ (at 28 ∷ at 29 ∷ at 30 ∷ at 31 ∷ []) _ (at 32 ∷ at 33 ∷ []) (at 34) (at 35) (drop 36 b)
+        (double_back (at 2) (at 3) (at 4) (at 5) (fits 2) (fits 3) (fits 4) (fits 5))
+        (double_back (at 6) (at 7) (at 8) (at 9) (fits 6) (fits 7) (fits 8) (fits 9))
+        (triad_back (at 10) (at 11) (at 12) (at 13) (at 14) (at 15) (at 16) (at 17) (fits 10) (fits 11) (fits 12) (fits 13) (fits 14) (fits 15) (fits 16) (fits 17))
+        (double_back (at 22) (at 23) (at 24) (at 25) (fits 22) (fits 23) (fits 24) (fits 25))
+        (word_back (at 26) (at 27) (fits 26))
+        (double_back (at 28) (at 29) (at 30) (at 31) (fits 28) (fits 29) (fits 30) (fits 31))
+        (word_back (at 32) (at 33) (fits 32))))
+
+has_layout : (b : List ℕ) → IsBytes b → length b ≡ whole_length 35 36 b → HasOpenLayout b
+has_layout b fits len = (record { fields = open_fields_in b; path = drop 36 b }, lays b fits len)
+
+pub open_verdict : (b : List ℕ) → IsBytes b → MatchResult (open_at b) (ReadsOpen b) (IsOpenFault b)
+unfolding open_at
+open_verdict b fits =
+    counted_path_verdict (λ r. MatchResult (with_open_path b r) (ReadsOpen b) (IsOpenFault b)) 35 36 b fits
+    (λ lt. cut_off HasOpenLayout (whole_length 35 36) has_layout (whole-zeros 35 36) b fits lt)
+    (λ lt. overlong HasOpenLayout (whole_length 35 36) has_layout (λ c le. whole-take 35 36 c (omega arith)) b fits lt)
+    (λ e readable. (readable, lays b fits e))
+    (λ e f fault. (record { fields = open_fields_in b; path = drop 36 b }, lays b fits e, fault))
+
+-- ---- what is written is read back
+
+pub open_back : (o : Open) → IsReadable o.path → open_at (open_data o) ≡ Ok o
+open_back o readable = layout_read 0 0 0 (length o.path / 2) o readable (whole_words o.path readable)

@@ -1,0 +1,11 @@
+-- What borrowed messages say.
+use Rattle.cip_open.specs.Open.{Open}
+use Rattle.cip_open.specs.Success.{OpenSuccess}
+use Rattle.cip_open.specs.declared.request.OpenView.{OpenView}
+use Rattle.cip_open.specs.declared.success.OpenReply.{OpenReply}
+
+abbrev pub open_of : OpenView → Open
+open_of v = record { fields = v.fields; path = v.path.bytes.now }
+
+abbrev pub success_of : OpenReply → OpenSuccess
+success_of r = record { ot_id = r.ot_id; to_id = r.to_id; triad = r.triad; ot_api = r.ot_api; to_api = r.to_api; reply = r.reply.now }

@@ -1,0 +1,45 @@
+-- The data of a successful Forward_Open's reply (Volume 1, chapter 3, Forward_Open, successful response).
+use Rattle.std.specs.Prelude.{◌≡◌, ℕ, ◌*◌, ◌/◌, List, [], ◌∷◌, ◌++◌, length}
+use Rattle.cip_base.specs.Fields.{double}
+use Rattle.cip_base.specs.declared.triad.Triad.{Triad}
+use Rattle.cip_segment.specs.declared.fault.PathFault.{PathFault}
+use Rattle.cip_message.specs.declared.fault.DataFault.{DataFault}
+use Rattle.cip_message.specs.declared.fault.DataFault.TheVariants.{Short, Long, Path}
+use Rattle.cip_message.specs.Numbers.{triad_bytes}
+use Rattle.cip_message.specs.Cut.{IsCutOff, IsOverlong}
+use Rattle.cip_message.specs.Reply.{reply_bytes}
+
+pub record OpenSuccess : Type 0 where
+  pub ot_id : ℕ
+  pub to_id : ℕ
+  pub triad : Triad
+  pub ot_api : ℕ
+  pub to_api : ℕ
+  pub reply : List ℕ
+
+-- O→T and T→O connection id, connection triad, O→T and T→O API, size of the application reply in words, a reserved byte,
+-- the application reply
+abbrev pub open_reply_layout : ℕ → ℕ → OpenSuccess → List ℕ
+open_reply_layout words x s =
+    double s.ot_id ++ (double s.to_id ++ (triad_bytes s.triad ++ (double s.ot_api ++ (double s.to_api ++ (words ∷ x ∷ s.reply)))))
+
+-- the reserved byte has any value
+abbrev pub ReadsOpenReply : List ℕ → OpenSuccess → Type 0
+ReadsOpenReply b s = (words : ℕ) × (x : ℕ) × (length s.reply ≡ 2 * words) × (b ≡ open_reply_layout words x s)
+
+abbrev pub HasOpenReplyLayout : List ℕ → Type 0
+HasOpenReplyLayout b = (s : OpenSuccess) × ReadsOpenReply b s
+
+-- the first fault that fits
+abbrev pub IsOpenReplyFault : List ℕ → DataFault → Type 0
+IsOpenReplyFault b Short = IsCutOff HasOpenReplyLayout b
+IsOpenReplyFault b Long = IsOverlong HasOpenReplyLayout b
+IsOpenReplyFault b (Path f) = ⊥
+
+-- the data as it is written: the reserved byte 00
+abbrev pub open_reply_data : OpenSuccess → List ℕ
+open_reply_data s = open_reply_layout (length s.reply / 2) 0 s
+
+-- the whole message: a reply of Forward_Open with status 00
+abbrev pub open_reply_bytes : OpenSuccess → List ℕ
+open_reply_bytes s = reply_bytes (record { service = 0xD4; general = 0; extra = []; data_ = open_reply_data s })

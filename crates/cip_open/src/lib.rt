@@ -1,0 +1,14 @@
+//! Forward_Open: opening a connection along a path (Volume 1, chapter 3, Forward_Open).
+#![tactic(auto)]
+
+mod failed;
+mod parameters;
+mod request;
+mod splitting;
+mod success;
+
+pub use failed::{OpenFailure, read_open_failure, write_open_failure};
+pub use parameters::{ConnectionKind, Params, Priority};
+pub use request::{OpenFields, OpenView, read_open, triad_at, words_at, write_open};
+pub use splitting::params;
+pub use success::{OpenReply, read_open_reply, write_open_reply};

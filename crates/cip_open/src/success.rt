@@ -1,0 +1,88 @@
+//! The reply of a successful Forward_Open.
+ghost use Rattle.std.specs.Prelude.{◌≡◌, ◌≤◌, ◌%◌, ◌++◌, length, IfOk, IfErr, IsOkAnd};
+ghost use Rattle.cip_message.specs.Gives.{Gives};
+ghost use Rattle.cip_open.specs.Success.{OpenSuccess, ReadsOpenReply, IsOpenReplyFault, open_reply_bytes};
+ghost use Rattle.cip_open.specs.SuccessAt.{open_reply_at};
+ghost use Rattle.cip_open.specs.Reading.{success_of};
+
+use crate::request::FORWARD_OPEN_REPLY;
+use cip_base::{Bytes, NoMemory, Status, Triad};
+use cip_message::{DataFault, counted_part, double_at, put_double, put_reply_header, put_triad, triad_at};
+use std::alloc::{AllocError, Global};
+
+/// What the data of a successful Forward_Open's reply says (Volume 1, chapter 3, Forward_Open, successful response).
+#[derive(Clone, Copy)]
+pub struct OpenReply<'a> {
+    /// The O→T network connection id.
+    pub ot_id: u32,
+    /// The T→O network connection id.
+    pub to_id: u32,
+    pub triad: Triad,
+    /// The O→T actual packet interval, in microseconds.
+    pub ot_api: u32,
+    /// The T→O actual packet interval, in microseconds.
+    pub to_api: u32,
+    /// The application reply: an even number of bytes, at most 510.
+    pub reply: &'a [u8],
+}
+
+#[tactic(auto, unfolding(crate::specs::SuccessAt::open_reply_at))]
+fn success(data_: &[u8]) -> Result<OpenReply<'_>, DataFault>
+    ensures { Gives success_of result (open_reply_at data_.now) }
+{
+    let reply = counted_part(data_, 24, 26)?;
+    Ok(OpenReply {
+        ot_id: double_at(data_, 0),
+        to_id: double_at(data_, 4),
+        triad: triad_at(data_, 8),
+        ot_api: double_at(data_, 16),
+        to_api: double_at(data_, 20),
+        reply,
+    })
+}
+
+/// What the data of a successful Forward_Open's reply says, all of it; the data is what follows the reply's status
+/// (Volume 1, chapter 3, Forward_Open, successful response). The reserved byte has any value. It takes no memory.
+///
+/// Otherwise the first that fits: Short where bytes are missing, Long where bytes stand after the application reply.
+pub fn read_open_reply(data_: &[u8]) -> Result<OpenReply<'_>, DataFault>
+    ensures found { IfOk result (λ reply. ReadsOpenReply data_.now (success_of reply)) }
+    ensures only { (s : OpenSuccess) → ReadsOpenReply data_.now s → IsOkAnd result (λ reply. success_of reply ≡ s) }
+    ensures fault { IfErr result (IsOpenReplyFault data_.now) }
+    ensures gives { Gives success_of result (open_reply_at data_.now) }
+{
+    success(data_)
+}
+
+const DONE: Status = Status {
+    general: 0,
+    extra: None,
+};
+
+fn joined(alloc: Global, reply: &OpenReply<'_>) -> Result<Vec<u8>, AllocError>
+    requires { length reply.now.reply.now ≤ 510 }
+    ensures { IfOk result (λ v. v.items ≡ open_reply_bytes (success_of reply.now)) }
+{
+    let mut bytes = Vec::new(alloc);
+    put_reply_header(&mut bytes, FORWARD_OPEN_REPLY, DONE)?;
+    put_double(&mut bytes, reply.ot_id)?;
+    put_double(&mut bytes, reply.to_id)?;
+    put_triad(&mut bytes, reply.triad)?;
+    put_double(&mut bytes, reply.ot_api)?;
+    put_double(&mut bytes, reply.to_api)?;
+    bytes.push((reply.reply.len() / 2) as u8)?;
+    bytes.push(0)?;
+    bytes.extend_from_slice(reply.reply)?;
+    Ok(bytes)
+}
+
+/// The whole message of a successful Forward_Open's reply: the reply's header with status 00, the connection ids, the
+/// triad, the actual packet intervals, the size of the application reply in words, a reserved 00, the application reply
+/// (Volume 1, chapter 3, Forward_Open, successful response). The application reply has an even number of bytes, at most 510.
+pub fn write_open_reply(alloc: Global, reply: &OpenReply<'_>) -> Result<Bytes, NoMemory>
+    requires even { length reply.now.reply.now % 2 ≡ 0 }
+    requires most { length reply.now.reply.now ≤ 510 }
+    ensures { IfOk result (λ b. b ≡ open_reply_bytes (success_of reply.now)) }
+{
+    Ok(Bytes::of(joined(alloc, reply)?))
+}

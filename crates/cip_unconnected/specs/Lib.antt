@@ -1,0 +1,3 @@
+pub mod Unconnected
+pub mod UnconnectedAt
+pub mod Reading

@@ -1,0 +1,153 @@
+//! The data of Unconnected_Send, read and written.
+ghost use Rattle.std.specs.Prelude.{◌≡◌, ◌+◌, ◌<◌, ◌≤◌, ◌↔◌, ◌++◌, length, IfOk, IfErr, IsErrOf, IsOkAnd, OnOk, IfSome, IsNone, take, drop};
+ghost use Rattle.cip_base.specs.Fields.{pad};
+ghost use Rattle.cip_message.specs.Gives.{Gives};
+ghost use Rattle.cip_message.specs.Numbers.{word_in};
+ghost use Rattle.cip_unconnected.specs.Unconnected.{Unconnected as Send, ReadsUnconnected, IsUnconnectedFault, unconnected_bytes};
+ghost use Rattle.cip_unconnected.specs.UnconnectedAt.{route_place, unconnected_at, route_words_of};
+ghost use Rattle.cip_unconnected.specs.Reading.{unconnected_of};
+
+use crate::fault::UnconnectedFault;
+use cip_base::{Bytes, MAX_MESSAGE, Timing};
+use cip_message::{DataFault, WriteFault, counted_path, put_manager_header, put_word, word_at};
+use cip_segment::PathView;
+use std::alloc::{AllocError, Global};
+
+/// The service Unconnected_Send of the Connection Manager.
+const UNCONNECTED_SEND: u8 = 0x52;
+
+/// The data of an Unconnected_Send whose embedded request and route are borrowed
+/// (Volume 1, chapter 3, Unconnected_Send).
+#[derive(Clone, Copy)]
+pub struct UnconnectedView<'a> {
+    /// Priority/time tick and time-out ticks.
+    pub timing: Timing,
+    /// The bytes of the embedded request, without its pad.
+    pub request: &'a [u8],
+    /// The route that the embedded request takes.
+    pub route: PathView<'a>,
+}
+
+// Where the route size stands; None where the size of the embedded request is missing.
+fn size_place(data_: &[u8]) -> Option<usize>
+    ensures none { IsNone result ↔ (length data_.now < 4) }
+    ensures some { IfSome result (λ at. at ≡ route_place data_.now) }
+{
+    if data_.len() < 4 {
+        return None;
+    }
+    let size = usize::from(word_at(data_, 2));
+    Some(4 + (size + size % 2))
+}
+
+// The embedded request, which is whole.
+fn embedded(data_: &[u8]) -> &[u8]
+    requires { 4 + word_in data_.now 2 ≤ length data_.now }
+    ensures { result.now ≡ take (word_in data_.now 2) (drop 4 data_.now) }
+{
+    let size = usize::from(word_at(data_, 2));
+    &data_[4..][..size]
+}
+
+#[tactic(auto, unfolding(crate::specs::UnconnectedAt::unconnected_at))]
+fn unconnected(data_: &[u8]) -> Result<UnconnectedView<'_>, UnconnectedFault>
+    ensures { Gives unconnected_of result (unconnected_at data_.now) }
+{
+    let Some(place) = size_place(data_) else {
+        return Err(UnconnectedFault::Short);
+    };
+    match counted_path(data_, place, place + 2) {
+        Ok(route) => Ok(UnconnectedView {
+            timing: Timing {
+                tick: data_[0],
+                ticks: data_[1],
+            },
+            request: embedded(data_),
+            route,
+        }),
+        Err(DataFault::Short) => Err(UnconnectedFault::Short),
+        Err(DataFault::Long) => Err(UnconnectedFault::Long),
+        Err(DataFault::Path(fault)) => Err(UnconnectedFault::Route(fault)),
+    }
+}
+
+/// The Unconnected_Send that the data is, all of it; the data is what follows the path of the request
+/// (Volume 1, chapter 3, Unconnected_Send). The pad and the reserved byte have any value. It takes no memory.
+///
+/// Otherwise the first that fits: Short where bytes are missing, Long where bytes stand after the route, Route of the
+/// route's fault.
+pub fn read_unconnected(data_: &[u8]) -> Result<UnconnectedView<'_>, UnconnectedFault>
+    ensures found { IfOk result (λ view. ReadsUnconnected data_.now (unconnected_of view)) }
+    ensures only { (u : Send) → ReadsUnconnected data_.now u → IsOkAnd result (λ view. unconnected_of view ≡ u) }
+    ensures fault { IfErr result (IsUnconnectedFault data_.now) }
+    ensures gives { Gives unconnected_of result (unconnected_at data_.now) }
+{
+    unconnected(data_)
+}
+
+/// The embedded request's bytes.
+pub fn inner<'a>(view: &UnconnectedView<'a>) -> &'a [u8]
+    ensures { result.now ≡ view.now.request.now }
+{
+    view.request
+}
+
+/// The route size of the data of an Unconnected_Send, in words; None exactly where that byte is missing. The data may be cut
+/// after it.
+pub fn route_words(data_: &[u8]) -> Option<u8>
+    ensures { result ≡ route_words_of data_.now }
+{
+    match size_place(data_) {
+        Some(place) => data_.get(place).copied(),
+        None => None,
+    }
+}
+
+fn joined(
+    alloc: Global,
+    timing: Timing,
+    request: &[u8],
+    route: PathView<'_>,
+) -> Result<Vec<u8>, AllocError>
+    requires { length request.now ≤ 1400 }
+    ensures { IfOk result (λ v. v.items ≡ unconnected_bytes (record { timing = timing; request = request.now; route = route.entry.bytes.now })) }
+{
+    let mut bytes = Vec::new(alloc);
+    put_manager_header(&mut bytes, UNCONNECTED_SEND)?;
+    bytes.push(timing.tick)?;
+    bytes.push(timing.ticks)?;
+    put_word(&mut bytes, request.len() as u16)?;
+    bytes.extend_from_slice(request)?;
+    if request.len() % 2 == 1 {
+        bytes.push(0)?;
+    }
+    bytes.push(route.words())?;
+    bytes.push(0)?;
+    bytes.extend_from_slice(route.bytes)?;
+    Ok(bytes)
+}
+
+/// The whole message of an Unconnected_Send to the Connection Manager: header, priority/time tick, time-out ticks, size of
+/// the embedded request in bytes, that request, a pad 00 where its size is odd, route size in 16-bit words, a reserved 00,
+/// route (Volume 1, chapter 3, Unconnected_Send).
+///
+/// TooLong past 1,400 bytes in all, NoMemory where a growth is refused.
+pub fn write_unconnected(
+    alloc: Global,
+    timing: Timing,
+    request: &[u8],
+    route: PathView<'_>,
+) -> Result<Bytes, WriteFault>
+    ensures ok { IfOk result (λ b. b ≡ unconnected_bytes (record { timing = timing; request = request.now; route = route.entry.bytes.now })) }
+    ensures too_long { IsErrOf result WriteFault.TooLong ↔ (1400 < length (unconnected_bytes (record { timing = timing; request = request.now; route = route.entry.bytes.now }))) }
+{
+    // All but the embedded request and its pad.
+    let others = 12 + route.bytes.len();
+    if request.len() > MAX_MESSAGE - others - request.len() % 2 {
+        return Err(WriteFault::TooLong);
+    }
+    match joined(alloc, timing, request, route) {
+        Ok(bytes) => Ok(Bytes::of(bytes)),
+        Err(_) => Err(WriteFault::NoMemory),
+    }
+}
