@@ -1,0 +1,12 @@
+pub mod Joined
+pub mod Search
+pub mod Views
+pub mod Counts
+pub mod Indexing
+pub mod Ids
+pub mod Steps
+pub mod Places
+pub mod Named
+pub mod Answering
+pub mod Changes
+pub mod Ticks

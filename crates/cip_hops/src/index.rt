@@ -1,0 +1,90 @@
+//! An index by number: of records by their own ids, or by the ops of their commands.
+ghost use Rattle.std.specs.Prelude.{◌≡◌, ◌<◌, None, IfOk, IfSome, IsSome, MatchResult};
+ghost use Rattle.std.specs.Ordering.{nat_cmp};
+ghost use Rattle.std.specs.FinMap as map;
+ghost use Rattle.cip_hops.specs.Index.{noted, forgot, IsRising, StandsAt, FitsAt};
+
+use std::alloc::{AllocError, Global};
+use std::marker::Model;
+
+/// Under each number the key of a record. The room is reserved.
+#[derive(Drop)]
+pub(crate) struct NumberIndex {
+    room: usize,
+    // In rising number.
+    pairs: Vec<(u32, usize)>,
+}
+
+impl Model for NumberIndex {
+    ghost use Rattle.std.specs.Coded.{codes, coded_ℕ};
+    ghost use Rattle.std.specs.FinMap as map;
+    ghost use Rattle.std.specs.Ordering.{nat_cmp};
+    ghost use Rattle.cip_hops.specs.Index.{Index};
+
+    ghost Value = { Index nat_cmp };
+
+    ghost coded = { Prim.hlevel (codes, map.code {R = nat_cmp} coded_ℕ coded_ℕ) };
+
+    ghost use Rattle.cip_hops.specs.Numbers.{IsNumbers, numbers};
+
+    ghost view = { numbers };
+
+    ghost invariant = { IsNumbers };
+}
+
+impl NumberIndex {
+    pub(crate) fn with_room(alloc: Global, room: usize) -> Result<NumberIndex, AllocError>
+        ensures { IfOk result (λ m. m ≡ record { room = room; keys = map.empty }) }
+    {
+        Ok(NumberIndex {
+            room,
+            pairs: Vec::with_capacity(alloc, room)?,
+        })
+    }
+
+    pub(crate) fn find(&self, number: u32) -> Option<usize>
+        ensures { result ≡ map.get self.now.keys number }
+    {
+        match place_of(&self.pairs, number) {
+            Ok(at) => Some(self.pairs[at].1),
+            Err(_) => None,
+        }
+    }
+
+    /// Notes a key under a number that has none, if there is a number.
+    pub(crate) fn note(&mut self, number: Option<u32>, key: usize)
+        requires free { IfSome number (λ n. map.get self.old.keys n ≡ None) }
+        requires room { map.len self.old.keys < self.old.room }
+        ensures { self.new ≡ noted self.old number key }
+    {
+        if let Some(number) = number {
+            let Err(at) = place_of(&self.pairs, number) else {
+                unreachable!()
+            };
+            let Ok(()) = self.pairs.insert(at, (number, key)) else {
+                unreachable!()
+            };
+        }
+    }
+
+    /// Forgets a number, if there is one.
+    pub(crate) fn forget(&mut self, number: Option<u32>)
+        requires { IfSome number (λ n. IsSome (map.get self.old.keys n)) }
+        ensures { self.new ≡ forgot self.old number }
+    {
+        if let Some(number) = number {
+            let Ok(at) = place_of(&self.pairs, number) else {
+                unreachable!()
+            };
+            self.pairs.remove(at);
+        }
+    }
+}
+
+// Where the number stands, or where it would, by binary search.
+fn place_of(pairs: &[(u32, usize)], number: u32) -> Result<usize, usize>
+    requires { IsRising nat_cmp pairs.now }
+    ensures { MatchResult result (StandsAt pairs.now number) (FitsAt nat_cmp pairs.now number) }
+{
+    pairs.binary_search_by_key(&number, |&(number, _)| number)
+}

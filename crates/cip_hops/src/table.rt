@@ -1,0 +1,331 @@
+//! The table: records in a slab, and indexes of their keys by triad, by own ids and by op. All room is reserved.
+ghost use Rattle.std.specs.Prelude.{◌≡◌, ◌+◌, ◌++◌, ◌<◌, ◌^◌, not, false, IfOk, IsSome, IsSomeAnd, IsTrue, is_ok, is_some, if◌then◌else◌, MatchOption};
+ghost use Rattle.std.specs.List.{position};
+ghost use Rattle.std.specs.Option.{option_copied, option_to_list, option_map_or};
+ghost use Rattle.std.specs.FinMap as map;
+ghost use Rattle.slab.specs.Slab.{get as get_record};
+ghost use Rattle.cip_hops.specs.Joined.{passes};
+ghost use Rattle.cip_hops.specs.Sides.{op_of, down_is_link};
+ghost use Rattle.cip_hops.specs.Hops.{refusal, begin_gives, begun, IsOpFree, opening_at, hop_at, without, finished, changed, is_link, touched, counted, hop_by_up, hop_by_down, hop_by_op, first_due, due, rest, first_after, as_hop, is_hop_due, IsWithin};
+
+use crate::hop::{Held, Hop, Side};
+use crate::index::NumberIndex;
+use crate::opening::{BeginFault, BeginReason, Opening, OwnIds};
+use crate::triads::{TriadIndex, place_after};
+use cip_base::{Address, NoMemory, PortNumber, Triad};
+use cip_clock::Clock;
+use slab::Slab;
+use std::alloc::Global;
+use std::marker::Model;
+
+/// The connections of a module, opening and open, each under its triad. Ids rise and never come back.
+/// All memory is taken by `with_room`.
+#[derive(Drop)]
+pub struct HopTable {
+    room: usize,
+    // Up to one past the last id of 32 bits.
+    next: u64,
+    triads: TriadIndex,
+    ups: NumberIndex,
+    downs: NumberIndex,
+    ops: NumberIndex,
+    records: Slab<Held>,
+}
+
+impl Model for HopTable {
+    ghost use Rattle.std.specs.Coded.{codes, coded_ℕ};
+    ghost use Rattle.std.specs.FinMap as map;
+    ghost use Rattle.cip_base.specs.Triads.{triad_cmp, coded_triad};
+    ghost use Rattle.cip_hops.specs.contracts.hop.Held as kept;
+    ghost use Rattle.cip_hops.specs.Hops.{Hops};
+
+    ghost Value = { Hops };
+
+    ghost coded = { Prim.hlevel (codes, map.code {R = triad_cmp} coded_triad kept.the_row.coded) };
+
+    ghost use Rattle.cip_hops.specs.Kept.{IsKept, hops};
+
+    ghost view = { hops };
+
+    ghost invariant = { IsKept };
+}
+
+impl HopTable {
+    /// An empty table with room for `room` connections, opening and open together, whose first id is `first`, above 0.
+    /// NoMemory where the room is refused.
+    pub fn with_room(alloc: Global, room: usize, first: u32) -> Result<HopTable, NoMemory>
+        requires { 0 < first }
+        ensures { IfOk result (λ t. t ≡ record { room = room; next = first; held = map.empty }) }
+    {
+        let triads = TriadIndex::with_room(alloc, room)?;
+        let ups = NumberIndex::with_room(alloc, room)?;
+        let downs = NumberIndex::with_room(alloc, room)?;
+        let ops = NumberIndex::with_room(alloc, room)?;
+        let records = Slab::with_capacity(alloc, room)?;
+        Ok(HopTable {
+            room,
+            next: u64::from(first),
+            triads,
+            ups,
+            downs,
+            ops,
+            records,
+        })
+    }
+
+    /// Why `begin` would refuse an opening of this triad that draws so many ids; None where it would not.
+    pub fn can_begin(&self, triad: &Triad, ids: u8) -> Option<BeginReason>
+        ensures { result ≡ refusal self.now triad.now ids }
+    {
+        if self.triads.find(triad).is_some() {
+            Some(BeginReason::Duplicate)
+        } else if self.triads.len() >= self.room {
+            Some(BeginReason::Full)
+        } else if self.next + u64::from(ids) > 4_294_967_296 {
+            Some(BeginReason::IdsSpent)
+        } else {
+            None
+        }
+    }
+
+    /// Keeps an opening under the next ids, one for each side that is a link and that of the down side first.
+    /// Duplicate where its triad is opening or open, else Full where the room is used up, else IdsSpent where fewer ids
+    /// up to 0xFFFF_FFFF are left than it draws: the opening then comes back, and nothing changes.
+    pub fn begin(&mut self, opening: Opening) -> Result<OwnIds, BeginFault>
+        requires multiplier { opening.multiplier < 8 }
+        requires op { IsOpFree self.old (op_of opening.up) }
+        ensures value { result ≡ begin_gives self.old opening }
+        ensures after { self.new ≡ (if is_ok result then begun self.old opening else self.old) }
+    {
+        match self.can_begin(&opening.triad, opening.ids_drawn()) {
+            Some(BeginReason::Duplicate) => Err(BeginFault::Duplicate(opening)),
+            Some(BeginReason::Full) => Err(BeginFault::Full(opening)),
+            Some(BeginReason::IdsSpent) => Err(BeginFault::IdsSpent(opening)),
+            None => {
+                let triad = opening.triad;
+                let op = opening.up.op();
+                let ids = opening.own_ids(self.next);
+                self.next += u64::from(opening.ids_drawn());
+                let key = self.records.insert_reserved(Held::Opening(opening, ids));
+                self.triads.note(triad, key);
+                self.ups.note(ids.up, key);
+                self.downs.note(ids.down, key);
+                self.ops.note(op, key);
+                Ok(ids)
+            }
+        }
+    }
+
+    /// Makes a hop of what was being opened: `their_id` is the O to T id of the node below (an end has none), and each
+    /// side that is a link is watched from `now` on, in microseconds.
+    pub fn finish(&mut self, triad: &Triad, their_id: u32, now: u64)
+        requires opening { IsSome (opening_at self.old triad.now) }
+        requires time { now < 2 ^ 63 }
+        ensures { self.new ≡ finished self.old triad.now their_id now }
+    {
+        let Some(key) = self.triads.find(triad) else {
+            unreachable!()
+        };
+        let Held::Opening(opening, ids) = self.records.remove(key) else {
+            unreachable!()
+        };
+        let hop = Hop::opened(opening, ids, their_id, now);
+        self.records.insert_reserved(Held::Open(hop));
+    }
+
+    /// Takes out what was being opened under this triad.
+    pub fn abandon(&mut self, triad: &Triad) -> Option<Opening>
+        ensures value { result ≡ opening_at self.old triad.now }
+        ensures after { self.new ≡ (if is_some result then without self.old triad.now else self.old) }
+    {
+        if self.held_at(triad)?.hop().is_some() {
+            return None;
+        }
+        match self.take_out(triad) {
+            Held::Opening(opening, _) => Some(opening),
+            Held::Open(_) => unreachable!(),
+        }
+    }
+
+    /// Takes out the hop of this triad.
+    pub fn remove(&mut self, triad: &Triad) -> Option<Hop>
+        ensures value { result ≡ hop_at self.old triad.now }
+        ensures after { self.new ≡ (if is_some result then without self.old triad.now else self.old) }
+    {
+        if self.held_at(triad)?.hop().is_none() {
+            return None;
+        }
+        match self.take_out(triad) {
+            Held::Open(hop) => Some(hop),
+            Held::Opening(_, _) => unreachable!(),
+        }
+    }
+
+    /// The hop of this triad.
+    pub fn by_triad(&self, triad: &Triad) -> Option<&Hop>
+        ensures { option_copied result ≡ hop_at self.now triad.now }
+    {
+        self.held_at(triad)?.hop()
+    }
+
+    /// The hop that a command of this op opened. There is at most one.
+    pub fn by_op(&self, op: u32) -> Option<&Hop>
+        ensures { option_copied result ≡ hop_by_op self.now op }
+    {
+        let key = self.ops.find(op)?;
+        self.records.get(key)?.hop()
+    }
+
+    /// The hop of which this is the own id towards the originator, on the link by this port to this address. There is at
+    /// most one.
+    pub fn by_up(&self, id: u32, port: PortNumber, address: &Address) -> Option<&Hop>
+        ensures { option_copied result ≡ hop_by_up self.now id port address.now }
+    {
+        let key = self.ups.find(id)?;
+        let hop = self.records.get(key)?.hop()?;
+        if hop.opening.up.is_at(port, address) {
+            Some(hop)
+        } else {
+            None
+        }
+    }
+
+    /// The hop of which this is the own id towards the target, on the link by this port to this address. There is at
+    /// most one.
+    pub fn by_down(&self, id: u32, port: PortNumber, address: &Address) -> Option<&Hop>
+        ensures { option_copied result ≡ hop_by_down self.now id port address.now }
+    {
+        let key = self.downs.find(id)?;
+        let hop = self.records.get(key)?.hop()?;
+        if hop.opening.down.is_at(port, address) {
+            Some(hop)
+        } else {
+            None
+        }
+    }
+
+    /// Watches a side of a hop anew from `now` on, in microseconds.
+    pub fn touch(&mut self, triad: &Triad, side: Side, now: u64)
+        requires link { IsSomeAnd (hop_at self.old triad.now) (λ hop. IsTrue (is_link side hop)) }
+        requires time { now < 2 ^ 63 }
+        ensures { self.new ≡ changed self.old triad.now (touched side now) }
+    {
+        let Some(key) = self.triads.find(triad) else {
+            unreachable!()
+        };
+        let Held::Open(hop) = self.records.remove(key) else {
+            unreachable!()
+        };
+        self.records
+            .insert_reserved(Held::Open(hop.touched(side, now)));
+    }
+
+    /// Keeps the sequence count of the last datum of a hop that ends here: up that of the last that was consumed, down
+    /// that of the last that was produced.
+    pub fn set_count(&mut self, triad: &Triad, side: Side, count: u16)
+        requires { IsSomeAnd (hop_at self.old triad.now) (λ hop. IsTrue (not (down_is_link hop.opening.down))) }
+        ensures { self.new ≡ changed self.old triad.now (counted side count) }
+    {
+        let Some(key) = self.triads.find(triad) else {
+            unreachable!()
+        };
+        let Held::Open(hop) = self.records.remove(key) else {
+            unreachable!()
+        };
+        self.records
+            .insert_reserved(Held::Open(hop.counted(side, count)));
+    }
+
+    /// Takes out the hop of the least triad of which either side has been silent until `now`, in microseconds.
+    pub fn expire(&mut self, now: u64) -> Option<Hop>
+        ensures value { result ≡ first_due now self.old }
+        ensures after { MatchOption result (self.new ≡ self.old) (λ hop. self.new ≡ without self.old hop.opening.triad) }
+
+        // What a loop over all that are due takes.
+        ensures due { due now self.old ≡ option_to_list result ++ due now self.new }
+        ensures rest { rest now self.new ≡ rest now self.old }
+    {
+        let at = due_place(self.triads.pairs(), &self.records, now)?;
+        let triad = self.triads.pairs()[at].0;
+        match self.take_out(&triad) {
+            Held::Open(hop) => Some(hop),
+            Held::Opening(_, _) => unreachable!(),
+        }
+    }
+
+    /// The hop of the least triad above `after`, or of the least of all for None.
+    pub fn next_after(&self, after: Option<&Triad>) -> Option<&Hop>
+        ensures { option_copied result ≡ first_after (option_copied after.entry) self.now }
+    {
+        let pairs = self.triads.pairs();
+        let from = place_after(pairs, after);
+        let at = hop_place(&pairs[from..], &self.records)?;
+        self.records.get(pairs[from + at].1)?.hop()
+    }
+
+    /// One less than the next id: the last that was drawn, or one less than the first.
+    pub fn last(&self) -> u32
+        ensures value { result + 1 ≡ self.now.next }
+        ensures within { IsWithin self.now }
+    {
+        (self.next - 1) as u32
+    }
+
+    fn held_at(&self, triad: &Triad) -> Option<&Held>
+        ensures { option_copied result ≡ map.get self.now.held triad.now }
+    {
+        let key = self.triads.find(triad)?;
+        self.records.get(key)
+    }
+
+    // Takes out what stands under a triad, and forgets its names.
+    fn take_out(&mut self, triad: &Triad) -> Held
+        requires { IsSome (map.get self.old.held triad.now) }
+        ensures value { map.get self.old.held triad.now ≡ Some result }
+        ensures after { self.new ≡ without self.old triad.now }
+    {
+        let Some(key) = self.triads.find(triad) else {
+            unreachable!()
+        };
+        let held = self.records.remove(key);
+        let ids = held.ids();
+        let op = held.opening().up.op();
+        self.triads.forget(triad);
+        self.ups.forget(ids.up);
+        self.downs.forget(ids.down);
+        self.ops.forget(op);
+        held
+    }
+}
+
+// Where the first triad stands whose hop is due.
+fn due_place(pairs: &[(Triad, usize)], records: &Slab<Held>, now: u64) -> Option<usize>
+    ensures { result ≡ position (passes (λ e. is_hop_due now e.1) (get_record records.now)) pairs.now }
+{
+    pairs.iter().position(|p| is_due_at(records, p.1, now))
+}
+
+fn is_due_at(records: &Slab<Held>, key: usize, now: u64) -> bool
+    ensures { result ≡ option_map_or (is_hop_due now) (get_record records.now key) false }
+{
+    match records.get(key) {
+        Some(held) => held.is_due(now),
+        None => false,
+    }
+}
+
+// Where the first triad stands that has a hop.
+fn hop_place(pairs: &[(Triad, usize)], records: &Slab<Held>) -> Option<usize>
+    ensures { result ≡ position (passes (λ e. is_some (as_hop e.1)) (get_record records.now)) pairs.now }
+{
+    pairs.iter().position(|p| is_hop_at(records, p.1))
+}
+
+fn is_hop_at(records: &Slab<Held>, key: usize) -> bool
+    ensures { result ≡ option_map_or (λ x. is_some (as_hop x)) (get_record records.now key) false }
+{
+    match records.get(key) {
+        Some(held) => held.hop().is_some(),
+        None => false,
+    }
+}

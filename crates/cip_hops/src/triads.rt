@@ -1,0 +1,116 @@
+//! An index by triad.
+ghost use Rattle.std.specs.Prelude.{◌≡◌, ◌<◌, ◌≤◌, None, true, false, length, IfOk, IsSome, MatchResult};
+ghost use Rattle.std.specs.List.Sorted.{IsPartitionPoint};
+ghost use Rattle.std.specs.Option.{option_copied};
+ghost use Rattle.std.specs.FinMap as map;
+ghost use Rattle.cip_base.specs.Triads.{triad_cmp};
+ghost use Rattle.cip_hops.specs.Hops.{is_after};
+ghost use Rattle.cip_hops.specs.Index.{IsRising, StandsAt, FitsAt};
+
+use cip_base::Triad;
+use std::alloc::{AllocError, Global};
+use std::marker::Model;
+
+/// Under each triad the key of its record. The room is reserved.
+#[derive(Drop)]
+pub(crate) struct TriadIndex {
+    room: usize,
+    // In rising triad.
+    pairs: Vec<(Triad, usize)>,
+}
+
+impl Model for TriadIndex {
+    ghost use Rattle.std.specs.Coded.{codes, coded_ℕ};
+    ghost use Rattle.std.specs.FinMap as map;
+    ghost use Rattle.cip_base.specs.Triads.{triad_cmp, coded_triad};
+    ghost use Rattle.cip_hops.specs.Index.{Index};
+
+    ghost Value = { Index triad_cmp };
+
+    ghost coded = { Prim.hlevel (codes, map.code {R = triad_cmp} coded_triad coded_ℕ) };
+
+    ghost use Rattle.cip_hops.specs.Numbers.{IsTriads, triads};
+
+    ghost view = { triads };
+
+    ghost invariant = { IsTriads };
+}
+
+impl TriadIndex {
+    pub(crate) fn with_room(alloc: Global, room: usize) -> Result<TriadIndex, AllocError>
+        ensures { IfOk result (λ m. m ≡ record { room = room; keys = map.empty }) }
+    {
+        Ok(TriadIndex {
+            room,
+            pairs: Vec::with_capacity(alloc, room)?,
+        })
+    }
+
+    pub(crate) fn len(&self) -> usize
+        ensures { result ≡ map.len self.now.keys }
+    {
+        self.pairs.len()
+    }
+
+    /// The triads with their keys, in rising triad.
+    pub(crate) fn pairs(&self) -> &[(Triad, usize)]
+        ensures all { result.now ≡ map.entries self.now.keys }
+        ensures rising { IsRising triad_cmp result.now }
+    {
+        &self.pairs
+    }
+
+    pub(crate) fn find(&self, triad: &Triad) -> Option<usize>
+        ensures { result ≡ map.get self.now.keys triad.now }
+    {
+        match place_of(&self.pairs, triad) {
+            Ok(at) => Some(self.pairs[at].1),
+            Err(_) => None,
+        }
+    }
+
+    /// Notes a key under a triad that has none.
+    pub(crate) fn note(&mut self, triad: Triad, key: usize)
+        requires free { map.get self.old.keys triad ≡ None }
+        requires room { map.len self.old.keys < self.old.room }
+        ensures { self.new ≡ record { room = self.old.room; keys = map.insert self.old.keys triad key } }
+    {
+        let Err(at) = place_of(&self.pairs, &triad) else {
+            unreachable!()
+        };
+        let Ok(()) = self.pairs.insert(at, (triad, key)) else {
+            unreachable!()
+        };
+    }
+
+    /// Forgets a triad.
+    pub(crate) fn forget(&mut self, triad: &Triad)
+        requires { IsSome (map.get self.old.keys triad.now) }
+        ensures { self.new ≡ record { room = self.old.room; keys = map.remove self.old.keys triad.now } }
+    {
+        let Ok(at) = place_of(&self.pairs, triad) else {
+            unreachable!()
+        };
+        self.pairs.remove(at);
+    }
+}
+
+// Where the triad stands, or where it would, by binary search.
+fn place_of(pairs: &[(Triad, usize)], triad: &Triad) -> Result<usize, usize>
+    requires { IsRising triad_cmp pairs.now }
+    ensures { MatchResult result (StandsAt pairs.now triad.now) (FitsAt triad_cmp pairs.now triad.now) }
+{
+    pairs.binary_search_by_key(triad, |&(triad, _)| triad)
+}
+
+/// Where the triads above begin, by binary search.
+pub(crate) fn place_after(pairs: &[(Triad, usize)], after: Option<&Triad>) -> usize
+    requires { IsRising triad_cmp pairs.now }
+    ensures bound { result ≤ length pairs.now }
+    ensures parts { IsPartitionPoint (λ p. is_after (option_copied after.entry) p.0 ≡ false) (λ p. is_after (option_copied after.entry) p.0 ≡ true) pairs.now result }
+{
+    match after {
+        None => 0,
+        Some(last) => pairs.partition_point(|p| last.cmp(&p.0).is_ge()),
+    }
+}
