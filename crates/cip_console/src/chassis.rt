@@ -1,12 +1,13 @@
 //! The fixed chassis: a scanner S, and the bridges A and B.
-ghost use Rattle.std.specs.Prelude.{◌≡◌, ◌<◌, ◌≤◌, length, IfOk, IsTrue};
-ghost use Rattle.cip_module.specs.Config.{is_settings};
-ghost use Rattle.cip_module.specs.declared.config.ModuleKind.TheVariants.{Plain as PlainKind};
+ghost use Rattle.std.specs.Prelude.{◌<◌, ◌&&◌, nat_le, length, IsTrue};
+ghost use Rattle.std.specs.List.{list_all};
+ghost use Rattle.cip_target.specs.Identity.{is_printable};
 
 use cip_base::{Address, Bytes, NoMemory, PortNumber};
 use cip_module::{
     Assemblies, LegalAddresses, ModuleConfig, ModuleKind, ModuleSettings, PlainModule, PortConfig, Ports,
 };
+use cip_target::{Identity, IdentityFields};
 use std::alloc::Global;
 
 /// A link, and the bytes that are addresses on it.
@@ -65,10 +66,10 @@ fn settings(
     alloc: Global,
     device: &Device<'_>,
     ports: Vec<PortConfig>,
-) -> Result<ModuleSettings, NoMemory> {
-    Ok(ModuleSettings {
-        name: Bytes::of(Vec::from_slice(alloc, device.name)?),
-        kind: ModuleKind::Plain,
+) -> Result<ModuleSettings, NoMemory>
+    requires { IsTrue (nat_le (length device.now.product_name.now) 32 && list_all is_printable device.now.product_name.now) }
+{
+    let fields = IdentityFields {
         vendor: 0x0101,
         device_type: device.device_type,
         product: device.product,
@@ -76,7 +77,15 @@ fn settings(
         minor: 3,
         status: 0,
         serial: device.serial,
-        product_name: Bytes::of(Vec::from_slice(alloc, device.product_name)?),
+        name: Bytes::of(Vec::from_slice(alloc, device.product_name)?),
+    };
+    let Some(identity) = Identity::new(fields) else {
+        unreachable!()
+    };
+    Ok(ModuleSettings {
+        name: Bytes::of(Vec::from_slice(alloc, device.name)?),
+        kind: ModuleKind::Plain,
+        identity,
         clock: 0,
         first_id: device.first_id,
         first_number: 1,

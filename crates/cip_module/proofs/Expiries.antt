@@ -40,37 +40,42 @@ stands now p x e =
 tail_is : {X : Type 0} (x y : X) (xs ys : List X) → x ∷ xs ≡ y ∷ ys → xs ≡ ys
 tail_is x y xs ys e = cc
 
+abbrev pub with_pendings : State → Pendings → State
+with_pendings s p = record { now = s.now; pendings = p; assemblies = s.assemblies; ops = s.ops }
+
 -- the outputs of all that expire
-pub all_shown : (config : ModuleSettings) (now t : ℕ) (ops : List ℕ) (ds : List (ℕ × Entry)) (p : Pendings) → due t p ≡ ds
-    → outputs_of config (record { now = now; pendings = p; ops = ops }) (map expires ds) ≡ map shown ds
-all_shown config now t ops [] p e = refl
-all_shown config now t ops (x ∷ ds) p e =
+pub all_shown : (config : ModuleSettings) (t : ℕ) (s : State) (ds : List (ℕ × Entry)) (p : Pendings) → due t p ≡ ds
+    → outputs_of config (with_pendings s p) (map expires ds) ≡ map shown ds
+all_shown config t s [] p e = refl
+all_shown config t s (x ∷ ds) p e =
     let found = first_is (is_due t) (finite.entries p.entries) x ds e in
     let left : due t (without p x.0) ≡ ds = tail_is x x _ _ (sym (due_goes t p x found).chosen ∙ e) in
-    ap (λ (o : Option Entry). expired o ++ outputs_of config (record { now = now; pendings = without p x.0; ops = ops }) (map expires ds)) (stands t p x found)
-    ∙ ap (λ (z : List Output). shown x ∷ z) (all_shown config now t ops ds (without p x.0) left)
+    ap (λ (o : Option Entry). expired o ++ outputs_of config (with_pendings s (without p x.0)) (map expires ds)) (stands t p x found)
+    ∙ ap (λ (z : List Output). shown x ∷ z) (all_shown config t s ds (without p x.0) left)
 
 -- one due entry goes, and what the others do stays the same
-pub one_goes : (now t : ℕ) (ops : List ℕ) (p new : Pendings) (x : ℕ × Entry) → Some x ≡ first_due t p → new ≡ without p x.0
-    → applied (record { now = now; pendings = p; ops = ops }) (expiries t p) ≡ applied (record { now = now; pendings = new; ops = ops }) (expiries t new)
-one_goes now t ops p new x e after =
-    ap (λ (ds : List (ℕ × Entry)). applied (record { now = now; pendings = p; ops = ops }) (map expires ds)) (due_goes t p x (sym e)).chosen
-    ∙ ap (λ (q : Pendings). applied (record { now = now; pendings = q; ops = ops }) (expiries t q)) (sym after)
+pub one_goes : (config : ModuleSettings) (t : ℕ) (s : State) (p new : Pendings) (x : ℕ × Entry) → Some x ≡ first_due t p → new ≡ without p x.0
+    → applied config (with_pendings s p) (expiries t p) ≡ applied config (with_pendings s new) (expiries t new)
+one_goes config t s p new x e after =
+    ap (λ (ds : List (ℕ × Entry)). applied config (with_pendings s p) (map expires ds)) (due_goes t p x (sym e)).chosen
+    ∙ ap (λ (q : Pendings). applied config (with_pendings s q) (expiries t q)) (sym after)
 
 pub fewer_left : (t : ℕ) (p new : Pendings) (x : ℕ × Entry) → Some x ≡ first_due t p → new ≡ without p x.0 → length (finite.entries new.entries) < length (finite.entries p.entries)
 fewer_left t p new x e after = subst (λ (q : Pendings). length (finite.entries q.entries) < length (finite.entries p.entries)) (sym after) (due_goes t p x (sym e)).fewer
 
 -- where none is due, nothing expires
-pub none_goes : (now t : ℕ) (ops : List ℕ) (p new : Pendings) → None ≡ first_due t p → new ≡ p
-    → applied (record { now = now; pendings = p; ops = ops }) (expiries t p) ≡ record { now = now; pendings = new; ops = ops }
-none_goes now t ops p new e after =
-    ap (λ (ds : List (ℕ × Entry)). applied (record { now = now; pendings = p; ops = ops }) (map expires ds)) (none_due t (finite.entries p.entries) (sym e)).0
-    ∙ ap (λ (q : Pendings). record { now = now; pendings = q; ops = ops }) (sym after)
+pub none_goes : (config : ModuleSettings) (t : ℕ) (s : State) (p new : Pendings) → None ≡ first_due t p → new ≡ p
+    → applied config (with_pendings s p) (expiries t p) ≡ with_pendings s new
+none_goes config t s p new e after =
+    ap (λ (ds : List (ℕ × Entry)). applied config (with_pendings s p) (map expires ds)) (none_due t (finite.entries p.entries) (sym e)).0
+    ∙ ap (λ (q : Pendings). with_pendings s q) (sym after)
 
 -- the whole of a tick
 pub ticked : (config : ModuleSettings) (s : State) (us t : ℕ) (new : Pendings) (outs : List Output) → t ≡ s.now + us → AreCleared t s.pendings new → outs ≡ shown_all t s.pendings
-    → Does config s (Advances us ∷ expiries (s.now + us) s.pendings) (record { now = t; pendings = new; ops = s.ops }) outs
+    → Does config s (Advances us ∷ expiries (s.now + us) s.pendings) (record { now = t; pendings = new; assemblies = s.assemblies; ops = s.ops }) outs
 ticked config s us t new outs e cleared out = record {
-  state = ap (λ k. applied (record { now = k; pendings = s.pendings; ops = s.ops }) (expiries k s.pendings)) (sym e) ∙ cleared t s.ops;
-  out = all_shown config (s.now + us) (s.now + us) s.ops (due (s.now + us) s.pendings) s.pendings refl ∙ ap (λ k. shown_all k s.pendings) (sym e) ∙ sym out;
+  state = ap (λ k. applied config (record { now = k; pendings = s.pendings; assemblies = s.assemblies; ops = s.ops }) (expiries k s.pendings)) (sym e)
+      ∙ cleared config (record { now = t; pendings = s.pendings; assemblies = s.assemblies; ops = s.ops });
+  out = all_shown config (s.now + us) (record { now = s.now + us; pendings = s.pendings; assemblies = s.assemblies; ops = s.ops }) (due (s.now + us) s.pendings) s.pendings refl
+      ∙ ap (λ k. shown_all k s.pendings) (sym e) ∙ sym out;
 }

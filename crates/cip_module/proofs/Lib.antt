@@ -1,3 +1,4 @@
 pub mod OpsLemmas
 pub mod Walks
 pub mod Expiries
+pub mod SettingsLemmas

@@ -8,7 +8,8 @@ use Rattle.cip_module.specs.declared.config.ModuleKind.TheVariants.{Plain, Adapt
 use Rattle.cip_module.specs.declared.config.LegalAddresses.{LegalAddresses}
 use Rattle.cip_module.specs.declared.config.LegalAddresses.TheVariants.{Byte, Text}
 use Rattle.cip_module.specs.declared.config.PortConfig.{PortConfig}
-use Rattle.cip_module.specs.declared.config.AssemblyConfig.{AssemblyConfig}
+use Rattle.cip_target.specs.declared.config.AssemblyConfig.{AssemblyConfig}
+use Rattle.cip_target.specs.Assemblies.{is_assembly}
 use Rattle.cip_module.specs.declared.config.ModuleSettings.{ModuleSettings}
 
 -- an ASCII letter or digit, `_` or `-`
@@ -17,13 +18,6 @@ is_name_byte c = (nat_le 48 c && nat_le c 57) || ((nat_le 65 c && nat_le c 90) |
 
 abbrev pub is_name : List ℕ → Bool
 is_name s = nat_le 1 (length s) && (nat_le (length s) 16 && list_all is_name_byte s)
-
--- a character from 20 to 7E
-abbrev pub is_printable : ℕ → Bool
-is_printable c = nat_le 0x20 c && nat_le c 0x7E
-
-abbrev pub is_product_name : List ℕ → Bool
-is_product_name s = nat_le (length s) 32 && list_all is_printable s
 
 -- a character of an address on a text link, from 21 to 7E
 abbrev pub is_text_byte : ℕ → Bool
@@ -57,9 +51,6 @@ most_ports Adapter = 1
 abbrev pub are_ports : ModuleKind → List PortConfig → Bool
 are_ports kind ps = nat_le 1 (length ps) && (nat_le (length ps) (most_ports kind) && (list_all is_port ps && numbers_differ ps))
 
-abbrev pub is_assembly : AssemblyConfig → Bool
-is_assembly a = nat_le 1 a.instance && nat_le a.size 511
-
 abbrev pub has_instance : ℕ → AssemblyConfig → Bool
 has_instance n a = a.instance == n
 
@@ -73,16 +64,13 @@ are_assemblies as' = nat_le (length as') 64 && (list_all is_assembly as' && inst
 abbrev pub is_room : ℕ → Bool
 is_room n = nat_le 1 n && nat_le n 256
 
-abbrev pub is_identity : ModuleSettings → Bool
-is_identity s = is_name s.name && (nat_le s.major 127 && is_product_name s.product_name)
-
 -- the clock below 2^63, the first id and number from 1, the rooms from 1 to 256
 abbrev pub are_counts : ModuleSettings → Bool
 are_counts s = nat_lt s.clock (2 ^ 63) && (nat_le 1 s.first_id && (nat_le 1 s.first_number && (is_room s.pending_room && is_room s.hop_room)))
 
 -- the settings that a module can have
 abbrev pub is_settings : ModuleSettings → Bool
-is_settings s = is_identity s && (are_counts s && (are_ports s.kind s.ports && are_assemblies s.assemblies))
+is_settings s = is_name s.name && (are_counts s && (are_ports s.kind s.ports && are_assemblies s.assemblies))
 
 -- the port of a number, if the module has it
 abbrev pub port_of : ModuleSettings → ℕ → Option PortConfig

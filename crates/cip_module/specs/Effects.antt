@@ -7,13 +7,15 @@ use Rattle.cip_pending.specs.declared.entry.Kind.{Kind}
 use Rattle.cip_pending.specs.declared.entry.Entry.{Entry}
 use Rattle.cip_pending.specs.Pendings.{added, without}
 use Rattle.cip_message.specs.Request.{Request}
+use Rattle.cip_message.specs.Reply.{reply_bytes}
+use Rattle.cip_target.specs.Objects.{Objects, target_answer, target_after}
 use Rattle.cip_module.specs.declared.config.ModuleSettings.{ModuleSettings}
 use Rattle.cip_module.specs.declared.event.Body.TheVariants as bodies
 use Rattle.cip_module.specs.declared.event.Output.{Output}
 use Rattle.cip_module.specs.declared.event.Output.TheVariants as outputs
 use Rattle.cip_module.specs.declared.event.Refused.{Refused}
 use Rattle.cip_module.specs.declared.event.Dropped.{Dropped}
-use Rattle.cip_module.specs.Answers.{failure_bytes, unconnected_failure, answer_of}
+use Rattle.cip_module.specs.Answers.{unconnected_failure}
 use Rattle.cip_module.specs.declared.rows.UnconnectedRefusal.TheVariants.{TicksSpent}
 use Rattle.cip_module.specs.State.{State, spent_with}
 
@@ -46,17 +48,22 @@ abbrev pub entry_for : State → UpSide → ℕ → List ℕ → ℕ → ℕ →
 entry_for s up port address wait words kind =
     record { up = up; port = port; address = address; deadline = s.now + wait; words = words; kind = kind }
 
-abbrev pub apply : State → Effect → State
-apply s (Spends op) = record { now = s.now; pendings = s.pendings; ops = spent_with op s.ops }
-apply s (Replies up bytes) = s
-apply s (Answers up request) = s
-apply s (Forwards up port address bytes wait words kind) =
-    record { now = s.now; pendings = added s.pendings (entry_for s up port address wait words kind); ops = s.ops }
-apply s (Takes number bytes) = record { now = s.now; pendings = without s.pendings number; ops = s.ops }
-apply s (Expires number) = record { now = s.now; pendings = without s.pendings number; ops = s.ops }
-apply s (Refuses fault) = s
-apply s (Drops reason) = s
-apply s (Advances by) = record { now = s.now + by; pendings = s.pendings; ops = s.ops }
+-- the module's objects: its identity, and its assemblies as they stand
+abbrev pub objects_of : ModuleSettings → State → Objects
+objects_of config s = record { identity = config.identity; assemblies = s.assemblies }
+
+abbrev pub apply : ModuleSettings → State → Effect → State
+apply config s (Spends op) = record { now = s.now; pendings = s.pendings; assemblies = s.assemblies; ops = spent_with op s.ops }
+apply config s (Replies up bytes) = s
+apply config s (Answers up request) =
+    record { now = s.now; pendings = s.pendings; assemblies = (target_after (objects_of config s) request).assemblies; ops = s.ops }
+apply config s (Forwards up port address bytes wait words kind) =
+    record { now = s.now; pendings = added s.pendings (entry_for s up port address wait words kind); assemblies = s.assemblies; ops = s.ops }
+apply config s (Takes number bytes) = record { now = s.now; pendings = without s.pendings number; assemblies = s.assemblies; ops = s.ops }
+apply config s (Expires number) = record { now = s.now; pendings = without s.pendings number; assemblies = s.assemblies; ops = s.ops }
+apply config s (Refuses fault) = s
+apply config s (Drops reason) = s
+apply config s (Advances by) = record { now = s.now + by; pendings = s.pendings; assemblies = s.assemblies; ops = s.ops }
 
 abbrev pub taken : Option Entry → List ℕ → List Output
 taken None bytes = []
@@ -70,7 +77,7 @@ expired (Some entry) = reply_up entry.up (unconnected_failure TicksSpent (Some e
 abbrev pub output_of : ModuleSettings → State → Effect → List Output
 output_of config s (Spends op) = []
 output_of config s (Replies up bytes) = reply_up up bytes ∷ []
-output_of config s (Answers up request) = reply_up up (answer_of config request) ∷ []
+output_of config s (Answers up request) = reply_up up (reply_bytes (target_answer (objects_of config s) request)) ∷ []
 output_of config s (Forwards up port address bytes wait words kind) = outputs.Send port address (bodies.Request s.pendings.next bytes) ∷ []
 output_of config s (Takes number bytes) = taken (map.get s.pendings.entries number) bytes
 output_of config s (Expires number) = expired (map.get s.pendings.entries number)
@@ -78,10 +85,10 @@ output_of config s (Refuses fault) = outputs.Refused fault ∷ []
 output_of config s (Drops reason) = outputs.Dropped reason ∷ []
 output_of config s (Advances by) = []
 
-abbrev pub applied : State → List Effect → State
-applied s [] = s
-applied s (e ∷ es) = applied (apply s e) es
+abbrev pub applied : ModuleSettings → State → List Effect → State
+applied config s [] = s
+applied config s (e ∷ es) = applied config (apply config s e) es
 
 abbrev pub outputs_of : ModuleSettings → State → List Effect → List Output
 outputs_of config s [] = []
-outputs_of config s (e ∷ es) = output_of config s e ++ outputs_of config (apply s e) es
+outputs_of config s (e ∷ es) = output_of config s e ++ outputs_of config (apply config s e) es

@@ -104,7 +104,7 @@ pub record Stepped : Type 0 where
 
 abbrev pub after_effects : ModuleSettings → State → Option (List Effect) → Option Stepped
 after_effects config s None = None
-after_effects config s (Some es) = Some (record { state = applied s es; outputs = outputs_of config s es })
+after_effects config s (Some es) = Some (record { state = applied config s es; outputs = outputs_of config s es })
 
 -- the written routing table
 abbrev pub table_step : ModuleSettings → State → Event → Option Stepped

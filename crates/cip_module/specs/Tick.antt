@@ -24,7 +24,7 @@ shown_all now p = map shown (due now p)
 
 -- the pendings after all that are due expired
 abbrev pub AreCleared : ℕ → Pendings → Pendings → Type 0
-AreCleared t old new = (now : ℕ) (ops : List ℕ) → applied (record { now = now; pendings = old; ops = ops }) (expiries t old) ≡ record { now = now; pendings = new; ops = ops }
+AreCleared t old new = (config : ModuleSettings) (s : State) → applied config (record { now = s.now; pendings = old; assemblies = s.assemblies; ops = s.ops }) (expiries t old) ≡ record { now = s.now; pendings = new; assemblies = s.assemblies; ops = s.ops }
 
 -- what a call that ticks answers: the clock is full exactly where the time would pass its last value, looked at first
 abbrev pub TickGives : {V : Type 0} → (V → List Output) → ModuleSettings → State → State → ℕ → Result V TickFault → Type 0

@@ -5,6 +5,7 @@ ghost use Rattle.cip_module.specs.Config.{is_settings};
 use crate::legal::is_settings;
 use crate::lists::{Assemblies, Ports};
 use cip_base::{Address, Bytes, PortNumber};
+use cip_target::Identity;
 use std::marker::Model;
 
 /// What a module can do.
@@ -35,29 +36,14 @@ pub struct PortConfig {
     pub address: Address,
 }
 
-/// An assembly: its instance and its size in bytes.
-#[derive(Clone, Copy, Debug, PartialEq, Eq)]
-pub struct AssemblyConfig {
-    pub instance: u16,
-    pub size: u16,
-}
-
 /// The keys of a module in a topology.
 #[derive(Drop)]
 pub struct ModuleSettings {
     /// 1 to 16 ASCII letters, digits, `_` or `-`.
     pub name: Bytes,
     pub kind: ModuleKind,
-    pub vendor: u16,
-    pub device_type: u16,
-    pub product: u16,
-    /// 0 to 127.
-    pub major: u8,
-    pub minor: u8,
-    pub status: u16,
-    pub serial: u32,
-    /// 0 to 32 characters from 20 to 7E.
-    pub product_name: Bytes,
+    /// What its Identity object says.
+    pub identity: Identity,
     /// The time at which the module begins, in microseconds, below 2^63.
     pub clock: u64,
     /// The first connection id, from 1.

@@ -43,20 +43,13 @@ impl ModuleSettings {
         ensures { IfOk result (λ s. s ≡ self.now) }
     {
         let name = copy_bytes(alloc, &self.name)?;
-        let product_name = copy_bytes(alloc, &self.product_name)?;
+        let identity = self.identity.copy(alloc)?;
         let ports = Ports::of(copy_ports(alloc, self.ports.as_slice())?);
         let assemblies = Assemblies::of(Vec::from_slice(alloc, self.assemblies.as_slice())?);
         Ok(ModuleSettings {
             name,
             kind: self.kind,
-            vendor: self.vendor,
-            device_type: self.device_type,
-            product: self.product,
-            major: self.major,
-            minor: self.minor,
-            status: self.status,
-            serial: self.serial,
-            product_name,
+            identity,
             clock: self.clock,
             first_id: self.first_id,
             first_number: self.first_number,

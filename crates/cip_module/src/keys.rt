@@ -6,6 +6,7 @@ ghost use Rattle.cip_module.specs.Keys.{fits, minor_fits, key_mismatch, leading_
 use crate::config::ModuleSettings;
 use crate::rows::KeyPart;
 use cip_base::KeyFields;
+use cip_target::IdentityFields;
 use cip_segment::{PathView, SegmentView, split_first};
 
 // A field of 0 fits anything.
@@ -16,27 +17,27 @@ fn fits(asked: u16, own: u16) -> bool
 }
 
 // With the compatibility flag the module's minor revision may be later.
-fn minor_fits(settings: &ModuleSettings, key: KeyFields) -> bool
-    ensures { result ≡ minor_fits settings.now key }
+fn minor_fits(identity: &IdentityFields, key: KeyFields) -> bool
+    ensures { result ≡ minor_fits identity.now key }
 {
     if key.minor == 0 {
         true
     } else if key.major >= 128 {
-        key.minor <= settings.minor
+        key.minor <= identity.minor
     } else {
-        key.minor == settings.minor
+        key.minor == identity.minor
     }
 }
 
-fn key_mismatch(settings: &ModuleSettings, key: KeyFields) -> Option<KeyPart>
-    ensures { result ≡ key_mismatch settings.now key }
+fn key_mismatch(identity: &IdentityFields, key: KeyFields) -> Option<KeyPart>
+    ensures { result ≡ key_mismatch identity.now key }
 {
-    if !(fits(key.vendor, settings.vendor) && fits(key.product, settings.product)) {
+    if !(fits(key.vendor, identity.vendor) && fits(key.product, identity.product)) {
         Some(KeyPart::VendorOrProduct)
-    } else if !fits(key.device_type, settings.device_type) {
+    } else if !fits(key.device_type, identity.device_type) {
         Some(KeyPart::DeviceType)
-    } else if !(fits(u16::from(key.major % 128), u16::from(settings.major))
-        && minor_fits(settings, key))
+    } else if !(fits(u16::from(key.major % 128), u16::from(identity.major))
+        && minor_fits(identity, key))
     {
         Some(KeyPart::Revision)
     } else {
@@ -51,7 +52,7 @@ pub(crate) fn leading_mismatch(settings: &ModuleSettings, path: PathView<'_>) ->
     match split_first(path) {
         None => None,
         Some((first, _)) => match first {
-            SegmentView::Key(key) => key_mismatch(settings, key),
+            SegmentView::Key(key) => key_mismatch(settings.identity.fields(), key),
             _ => None,
         },
     }

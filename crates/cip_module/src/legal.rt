@@ -1,10 +1,12 @@
 //! Which settings a module can have.
 ghost use Rattle.std.specs.Prelude.{◌≡◌};
 ghost use Rattle.std.specs.List.{list_all, list_any};
-ghost use Rattle.cip_module.specs.Config.{is_name_byte, is_name, is_printable, is_product_name, is_text_byte, is_range, is_legal, is_port, has_number, numbers_differ, most_ports, are_ports, is_assembly, has_instance, instances_differ, are_assemblies, is_room, is_identity, are_counts, is_settings};
+ghost use Rattle.cip_target.specs.Assemblies.{is_assembly};
+ghost use Rattle.cip_module.specs.Config.{is_name_byte, is_name, is_text_byte, is_range, is_legal, is_port, has_number, numbers_differ, most_ports, are_ports, has_instance, instances_differ, are_assemblies, is_room, are_counts, is_settings};
 
-use crate::config::{AssemblyConfig, LegalAddresses, ModuleKind, ModuleSettings, PortConfig};
+use crate::config::{LegalAddresses, ModuleKind, ModuleSettings, PortConfig};
 use cip_base::{MAX_ASSEMBLIES, MAX_DATUM, MAX_HOPS, MAX_PORTS, PortNumber};
+use cip_target::AssemblyConfig;
 
 fn is_name_byte(byte: u8) -> bool
     ensures { result ≡ is_name_byte byte }
@@ -27,17 +29,6 @@ fn are_name_bytes(bytes: &[u8]) -> bool
     true
 }
 
-fn are_printable(bytes: &[u8]) -> bool
-    ensures { result ≡ list_all is_printable bytes.now }
-{
-    for byte in bytes {
-        if *byte < 0x20 || *byte > 0x7E {
-            return false;
-        }
-    }
-    true
-}
-
 fn are_text_bytes(bytes: &[u8]) -> bool
     ensures { result ≡ list_all is_text_byte bytes.now }
 {
@@ -53,12 +44,6 @@ fn is_name(bytes: &[u8]) -> bool
     ensures { result ≡ is_name bytes.now }
 {
     bytes.len() >= 1 && bytes.len() <= 16 && are_name_bytes(bytes)
-}
-
-fn is_product_name(bytes: &[u8]) -> bool
-    ensures { result ≡ is_product_name bytes.now }
-{
-    bytes.len() <= 32 && are_printable(bytes)
 }
 
 fn is_range(legal: LegalAddresses) -> bool
@@ -190,14 +175,6 @@ fn is_room(room: usize) -> bool
     room >= 1 && room <= MAX_HOPS
 }
 
-fn is_identity(settings: &ModuleSettings) -> bool
-    ensures { result ≡ is_identity settings.now }
-{
-    is_name(settings.name.as_slice())
-        && settings.major <= 127
-        && is_product_name(settings.product_name.as_slice())
-}
-
 fn are_counts(settings: &ModuleSettings) -> bool
     ensures { result ≡ are_counts settings.now }
 {
@@ -212,7 +189,7 @@ fn are_counts(settings: &ModuleSettings) -> bool
 pub(crate) fn is_settings(settings: &ModuleSettings) -> bool
     ensures { result ≡ is_settings settings.now }
 {
-    is_identity(settings)
+    is_name(settings.name.as_slice())
         && are_counts(settings)
         && are_ports(settings.kind, settings.ports.as_slice())
         && are_assemblies(settings.assemblies.as_slice())

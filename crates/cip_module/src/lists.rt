@@ -1,7 +1,8 @@
 //! Lists in public types, which a contract sees as lists.
 ghost use Rattle.std.specs.Prelude.{◌≡◌};
 
-use crate::config::{AssemblyConfig, PortConfig};
+use crate::config::PortConfig;
+use cip_target::AssemblyConfig;
 use std::marker::Model;
 
 /// The ports of a module, in the order of its topology.
@@ -43,7 +44,7 @@ pub struct Assemblies {
 
 impl Model for Assemblies {
     ghost use Rattle.std.specs.Prelude.{List};
-    ghost use Rattle.cip_module.specs.declared.config.AssemblyConfig.{AssemblyConfig};
+    ghost use Rattle.cip_target.specs.declared.config.AssemblyConfig.{AssemblyConfig};
 
     ghost Value = { List AssemblyConfig };
 

@@ -13,7 +13,6 @@ ghost use Rattle.cip_module.specs.declared.config.ModuleKind.{ModuleKind as Kind
 use crate::config::{ModuleConfig, ModuleKind};
 use crate::decisions::{Decision, unconnected_row};
 use crate::event::{Body, Output};
-use crate::identity::answer;
 use crate::messages::{message_on, reply_to};
 use crate::replies::unconnected_failure;
 use crate::spent::SpentOps;
@@ -21,6 +20,7 @@ use cip_base::{Address, NoMemory, PortNumber};
 use cip_clock::Clock;
 use cip_pending::{Entry, Kind, PendingTable, UpSide};
 use cip_segment::PathView;
+use cip_target::Target;
 use cip_unconnected::UnconnectedView;
 use std::alloc::Global;
 
@@ -31,7 +31,9 @@ pub struct PlainModule {
     pub(crate) alloc: Global,
     pub(crate) clock: Clock,
     pub(crate) pendings: PendingTable,
+    pub(crate) target: Target,
     pub(crate) ops: SpentOps,
+    ghost identity: { target.identity ≡ config.identity },
 }
 
 impl PlainModule {
@@ -48,11 +50,14 @@ impl PlainModule {
         let clock = Clock::new(settings.clock);
         let pendings =
             PendingTable::with_room(alloc, settings.pending_room, settings.first_number)?;
+        let identity = settings.identity.copy(alloc)?;
+        let target = Target::new(alloc, identity, settings.assemblies.as_slice())?;
         Ok(PlainModule {
             config,
             alloc,
             clock,
             pendings,
+            target,
             ops: SpentOps::new(alloc),
         })
     }
@@ -132,7 +137,7 @@ impl PlainModule {
                 Ok(reply_to(up, bytes))
             }
             Decision::AnsweredHere(request) => {
-                let bytes = answer(self.alloc, self.config.settings(), request)?;
+                let bytes = self.target.answer(self.alloc, request)?;
                 Ok(reply_to(up, bytes))
             }
             Decision::Forwarded {

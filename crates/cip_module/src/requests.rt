@@ -8,13 +8,11 @@ ghost use Rattle.cip_pending.specs.declared.entry.UpSide.TheVariants.{Link};
 ghost use Rattle.cip_module.specs.RequestRows.{RequestRow, Refuses, is_malformed, manager_row, object_row, request_row};
 ghost use Rattle.cip_module.specs.ReplyRows.{reply_row};
 ghost use Rattle.cip_module.specs.UnconnectedRows.{unread_row};
-ghost use Rattle.cip_module.specs.Object.{object_of};
+ghost use Rattle.cip_target.specs.Object.{object_of};
 
 use crate::config::ModuleSettings;
 use crate::event::{Dropped, Output};
-use crate::identity::answer;
 use crate::messages::reply_to;
-use crate::object::{ObjectPath, object_path};
 use crate::plain::PlainModule;
 use crate::ports::port_of;
 use crate::replies::{failure, unconnected_failure};
@@ -22,6 +20,7 @@ use crate::rows::{RequestRefusal, UnconnectedRefusal};
 use cip_base::{Address, Bytes, MAX_MESSAGE, NoMemory, PortNumber};
 use cip_message::{RequestFault, RequestView, read_reply, read_request};
 use cip_pending::UpSide;
+use cip_target::{ObjectPath, object_path};
 use cip_unconnected::{UnconnectedFault, read_unconnected, route_words};
 
 // The Connection Manager's class, and its service Unconnected_Send (Volume 1, chapter 3).
@@ -132,7 +131,7 @@ impl PlainModule {
         if object.class_ == CONNECTION_MANAGER {
             return self.manager(up, request, object);
         }
-        let bytes = answer(self.alloc, self.config.settings(), request)?;
+        let bytes = self.target.answer(self.alloc, request)?;
         Ok(reply_to(up, bytes))
     }
 }

@@ -1,6 +1,6 @@
 use Rattle.std.proofs.Common.{◌≡◌, drop}
 use Rattle.std.specs.List.{list_all}
-use Rattle.cip_module.specs.Config.{is_assembly}
+use Rattle.cip_target.specs.Assemblies.{is_assembly}
 use Rattle.cip_module.proofs.legal.are_each_assembly.Given as goal
 
 abbrev pub invariant-loop-assembly : goal.invariant-loop-assembly

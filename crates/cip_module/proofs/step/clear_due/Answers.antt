@@ -6,7 +6,7 @@ pub loop-number-smaller : goal.loop-number-smaller
 loop-number-smaller c = fewer_left c.args.now c.loop-number.pendings c.expire.new.self (c.in-Some._number, c.in-Some._entry) c.in-Some.ensures.value c.in-Some.ensures.after
 
 pub loop-number-preserved : goal.loop-number-preserved
-loop-number-preserved c = λ now ops. c.loop-number.invariant now ops ∙ one_goes now c.args.now ops c.loop-number.pendings c.expire.new.self (c.in-Some._number, c.in-Some._entry) c.in-Some.ensures.value c.in-Some.ensures.after
+loop-number-preserved c = λ config s. c.loop-number.invariant config s ∙ one_goes config c.args.now s c.loop-number.pendings c.expire.new.self (c.in-Some._number, c.in-Some._entry) c.in-Some.ensures.value c.in-Some.ensures.after
 
 pub returns : goal.returns
-returns c = λ now ops. c.loop-number.invariant now ops ∙ none_goes now c.args.now ops c.loop-number.pendings c.expire.new.self c.in_default.ensures.value c.in_default.ensures.after
+returns c = λ config s. c.loop-number.invariant config s ∙ none_goes config c.args.now s c.loop-number.pendings c.expire.new.self c.in_default.ensures.value c.in_default.ensures.after
