@@ -48,9 +48,11 @@ fn triads_in_the_order_of_their_fields(rt: HostRuntime) -> Result<(), Fail> {
 
 #[test]
 fn bytes_keep_their_list(rt: HostRuntime) -> Result<(), Fail> {
-    let bytes = Bytes::of([1u8, 2].to_vec(rt.alloc())?);
+    let mut bytes = Bytes::of([1u8, 2].to_vec(rt.alloc())?);
     let same = Bytes::of([1u8, 2].to_vec(rt.alloc())?);
     assert!(rt; bytes == same);
-    assert_eq!(rt; bytes.into_vec().as_slice(), [1u8, 2].as_slice());
+    bytes.overwrite(&[3, 4]);
+    assert!(rt; bytes != same);
+    assert_eq!(rt; bytes.into_vec().as_slice(), [3u8, 4].as_slice());
     Ok(())
 }

@@ -1,15 +1,14 @@
 -- Each form of a segment is read as that segment, whatever follows it.
-use Rattle.std.proofs.Common.{◌≡◌, ◌≢◌, ℕ, zero, suc, ◌+◌, ◌*◌, ◌-◌, ◌%◌, ◌<◌, ◌≤◌, Bool, true, false, cond, ltb, eqb, ◌⊎◌, inl, inr, List, [], ◌∷◌, ◌++◌, length, take, drop, Result, Ok, Err, refl, sym, ap, subst, ◌∙◌, append_assoc, arith}
-use Rattle.std.proofs.lemmas.Bool.{lt-ltb, le-ltb, ne_eqb, eq-eqb, cases_Bool}
+use Rattle.std.proofs.Common.{◌≡◌, ℕ, ◌+◌, ◌*◌, ◌-◌, ◌%◌, ◌<◌, ◌≤◌, true, false, ltb, eqb, inl, inr, List, [], ◌∷◌, ◌++◌, length, Ok, refl, sym, ap, ◌∙◌, append_assoc, arith}
+use Rattle.std.proofs.lemmas.Bool.{lt-ltb, le-ltb, ne_eqb, cases_Bool}
 use Rattle.std.proofs.lemmas.List.{take_at, drop_at, length-append}
 use Rattle.cip_segment.specs.declared.segment.Segment.{Segment}
 use Rattle.cip_segment.specs.declared.segment.Segment.TheVariants.{Port, Class, Instance, Member, Point, Attribute, Key, Words, Symbol, Inhibit}
 use Rattle.cip_segment.specs.declared.segment.Kind.{Kind}
 use Rattle.cip_segment.specs.declared.segment.Kind.TheVariants as kinds
-use Rattle.cip_segment.specs.declared.fault.PathFault.{PathFault}
-use Rattle.cip_segment.specs.Spelling.{IsNarrow, IsWide, IsLong, IsPortNumber, IsPort, IsKey, IsForm}
+use Rattle.cip_segment.specs.Spelling.{IsPortNumber, IsForm}
 use Rattle.cip_base.specs.Fields.{IsDouble, IsWord, pad}
-use Rattle.cip_segment.specs.Scan.{◌>>=◌, At, byte_at, word_at, after_pad, bytes_at, padded_at, numbered, narrow_at, wide_at, double_at, instance_at, point_at, fields_at, key_at, words_at, symbol_at, inhibit_at, number_at, size_at, plain_port_at, sized_port_at, port_at, other_at, logical_at, segment_at}
+use Rattle.cip_segment.specs.Scan.{At, word_at, bytes_at, padded_at, numbered, narrow_at, wide_at, double_at, instance_at, point_at, fields_at, key_at, words_at, symbol_at, inhibit_at, number_at, size_at, plain_port_at, sized_port_at, port_at, other_at, logical_at, segment_at}
 use Rattle.cip_base.specs.declared.key.KeyFields.{KeyFields}
 
 abbrev pub found : {A : Type 0} → A → List ℕ → At A

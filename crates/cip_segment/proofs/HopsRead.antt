@@ -1,5 +1,5 @@
 -- The first hop is that of the segments that a path spells.
-use Rattle.std.proofs.Common.{◌≡◌, ℕ, ◌+◌, ◌/◌, ◌≤◌, ◌↔◌, List, [], ◌∷◌, ◌++◌, length, Result, Ok, Err, Option, Some, None, refl, sym, ap, subst, ◌∙◌, append_assoc, arith}
+use Rattle.std.proofs.Common.{◌≡◌, ℕ, ◌↔◌, List, [], ◌∷◌, ◌++◌, Option, Some, None, refl, sym, ap, subst, ◌∙◌}
 use Rattle.std.specs.Prelude.{IfSome, IsSome}
 use Rattle.cip_base.specs.Fields.{IsBytes}
 use Rattle.cip_base.specs.declared.key.KeyFields.{KeyFields}
@@ -7,14 +7,12 @@ use Rattle.cip_segment.specs.declared.segment.Segment.{Segment}
 use Rattle.cip_segment.specs.declared.segment.Segment.TheVariants.{Port, Class, Instance, Member, Point, Attribute, Key, Words, Symbol, Inhibit}
 use Rattle.cip_segment.specs.declared.segment.SegmentView.{SegmentView}
 use Rattle.cip_segment.specs.declared.segment.SegmentView.TheVariants as views
-use Rattle.cip_segment.specs.declared.hop.FirstHop.{FirstHop}
-use Rattle.cip_segment.specs.declared.hop.FirstHop.TheVariants.{Hop, End}
 use Rattle.cip_segment.specs.Seen.{segment_of}
 use Rattle.cip_segment.specs.Spelling.{IsForm, Spells, IsReadable, Splits}
-use Rattle.cip_segment.specs.Hop.{SpellsKey, IsHop, HasHop}
-use Rattle.cip_segment.specs.Reading.{segments_of, behind, IsSplit, HopAt, port_in, hop_in, hop_of, told, first_hop_of}
+use Rattle.cip_segment.specs.Hop.{IsHop, HasHop}
+use Rattle.cip_segment.specs.Reading.{segments_of, behind, IsSplit, HopAt, port_in, hop_in, hop_of}
 use Rattle.cip_segment.proofs.Paths.{Splits-readable}
-use Rattle.cip_segment.proofs.PathsRead.{split, segments_of-nil, segments_of-Spells, segments_of-spelled}
+use Rattle.cip_segment.proofs.PathsRead.{split, segments_of-Spells, segments_of-spelled}
 
 abbrev no_hop : Option HopAt
 no_hop = None

@@ -1,10 +1,10 @@
 -- No form of a segment is shorter than its shortest one, and none as short is another.
-use Rattle.std.proofs.Common.{◌≡◌, ℕ, zero, suc, ◌+◌, ◌*◌, ◌/◌, ◌%◌, ◌<◌, ◌≤◌, Bool, true, false, cond, ltb, eqb, ◌⊎◌, inl, inr, List, [], ◌∷◌, ◌++◌, length, refl, sym, ap, subst, ◌∙◌, append_assoc, append-nil, arith, length-append}
-use Rattle.std.proofs.lemmas.Bool.{ltb-true, ltb-false, eqb-true, eqb-false, cond_both, lt-ltb, le-ltb, eq-eqb, ne_eqb, cases_lt, cases_eq}
+use Rattle.std.proofs.Common.{◌≡◌, ℕ, ◌+◌, ◌/◌, ◌%◌, ◌<◌, ◌≤◌, true, cond, ltb, eqb, ◌⊎◌, inl, inr, List, [], ◌∷◌, ◌++◌, length, refl, ap, ◌∙◌, arith, length-append}
+use Rattle.std.proofs.lemmas.Bool.{cond_both, lt-ltb, eq-eqb}
 use Rattle.cip_segment.specs.declared.segment.Segment.{Segment}
 use Rattle.cip_segment.specs.declared.segment.Segment.TheVariants.{Port, Class, Instance, Member, Point, Attribute, Key, Words, Symbol, Inhibit}
-use Rattle.cip_segment.specs.Spelling.{IsNarrow, IsWide, IsLong, IsPort, IsPortNumber, IsForm, Spells}
-use Rattle.cip_base.specs.Fields.{IsDouble, IsWord, pad, word}
+use Rattle.cip_segment.specs.Spelling.{IsNarrow, IsWide, IsLong, IsPort, IsForm, Spells}
+use Rattle.cip_base.specs.Fields.{IsWord, pad, word}
 use Rattle.cip_segment.specs.Short.{short_number, short_port, short_form, short, IsWritable, IsRanged, IsShortest}
 use Rattle.cip_segment.proofs.Shorts.{form_of}
 

@@ -1,12 +1,12 @@
 -- Texts of several segments: the list that is spelled is one, and where reading stops no spelling goes on.
-use Rattle.std.proofs.Common.{◌≡◌, ℕ, zero, suc, ◌+◌, ◌<◌, ◌≤◌, ◌⊎◌, inl, inr, List, [], ◌∷◌, ◌++◌, length, get_or, Result, Ok, Err, refl, sym, ap, subst, ◌∙◌, append_assoc, append-nil, arith}
+use Rattle.std.proofs.Common.{◌≡◌, ℕ, ◌+◌, ◌<◌, ◌≤◌, inl, inr, List, [], ◌∷◌, ◌++◌, length, get_or, Result, Ok, Err, refl, sym, ap, subst, ◌∙◌, append_assoc, append-nil, arith}
 use Rattle.std.proofs.Math.Logic.{∥∥₁_map, ∥∥₁_elim}
 use Rattle.std.proofs.lemmas.Bool.{cases_eq}
 use Rattle.std.proofs.lemmas.List.{length-append, get_or-append-add}
 use Rattle.cip_segment.specs.declared.segment.Segment.{Segment}
 use Rattle.cip_segment.specs.declared.fault.PathFault.{PathFault}
 use Rattle.cip_segment.specs.declared.fault.PathFault.TheVariants.{Truncated, Reserved, BadPad, TooLong, NoMemory}
-use Rattle.cip_segment.specs.Spelling.{IsForm, Spells, IsReadable, Begins, IsPadDue, StopsAt, IsFault, Splits}
+use Rattle.cip_segment.specs.Spelling.{IsForm, Spells, IsReadable, Begins, StopsAt, IsFault, Splits}
 use Rattle.std.specs.Prelude.{IfOk}
 use Rattle.cip_segment.specs.Gives.{Gives}
 use Rattle.cip_segment.specs.Scan.{At, segment_at}

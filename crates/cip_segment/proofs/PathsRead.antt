@@ -1,18 +1,18 @@
 -- Reading a text gives the list that it spells, or its fault.
-use Rattle.std.proofs.Common.{◌≡◌, ℕ, zero, suc, ◌+◌, ◌<◌, ◌≤◌, ◌↔◌, Bool, true, false, cond, ltb, ◌⊎◌, inl, inr, List, [], ◌∷◌, ◌++◌, length, Result, Ok, Err, Option, Some, None, refl, sym, ap, subst, ◌∙◌, append_assoc, append-nil, arith}
+use Rattle.std.proofs.Common.{◌≡◌, ℕ, zero, suc, ◌<◌, ◌≤◌, ◌↔◌, true, false, ltb, ◌⊎◌, inl, inr, List, [], ◌∷◌, ◌++◌, length, Result, Ok, Err, refl, sym, ap, subst, ◌∙◌, append_assoc, arith}
 use Rattle.std.proofs.lemmas.Bool.{ltb-true, ltb-false, lt-ltb, le-ltb, cond_both}
 use Rattle.std.proofs.lemmas.List.{length-append}
 use Rattle.std.proofs.Math.Logic.{∥∥₁_elim}
 use Rattle.cip_base.specs.Fields.{IsBytes}
 use Rattle.cip_segment.specs.declared.segment.Segment.{Segment}
 use Rattle.cip_segment.specs.declared.fault.PathFault.{PathFault}
-use Rattle.cip_segment.specs.declared.fault.PathFault.TheVariants.{Truncated, Reserved, BadPad, TooLong, NoMemory}
-use Rattle.cip_segment.specs.Spelling.{IsForm, Spells, IsReadable, IsFault, Splits}
+use Rattle.cip_segment.specs.declared.fault.PathFault.TheVariants.{Truncated, TooLong}
+use Rattle.cip_segment.specs.Spelling.{Spells, IsReadable, IsFault, Splits}
 use Rattle.cip_segment.specs.Scan.{◌>>=◌, At, segment_at}
 use Rattle.cip_segment.specs.Reading.{segments_within, path_at, or_none, segments_of, rest_or_none, behind, IsSplit}
 use Rattle.cip_segment.proofs.Forms.{found, form_scans}
 use Rattle.cip_segment.proofs.Verdict.{Verdict, verdict}
-use Rattle.cip_segment.proofs.Paths.{nothing_read, form_some, form_shorter, IsReadTo, IsBytes-suffix, Splits-readable, at_start, one_more, falls, at_fault, unreadable}
+use Rattle.cip_segment.proofs.Paths.{nothing_read, form_shorter, IsReadTo, IsBytes-suffix, Splits-readable, at_start, one_more, falls, at_fault, unreadable}
 use Rattle.cip_segment.proofs.Whole.{one_fault}
 
 abbrev pub Read : Type 0

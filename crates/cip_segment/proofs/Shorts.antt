@@ -1,16 +1,14 @@
 -- The shortest forms are forms.
-use Rattle.std.proofs.Common.{◌≡◌, ℕ, zero, suc, ◌+◌, ◌*◌, ◌/◌, ◌%◌, ◌<◌, ◌≤◌, Bool, true, false, cond, ltb, eqb, ◌⊎◌, inl, inr, List, [], ◌∷◌, ◌++◌, length, get_or, take, refl, sym, ap, subst, ◌∙◌, append_assoc, append-nil, arith}
+use Rattle.std.proofs.Common.{◌≡◌, ℕ, zero, suc, ◌+◌, ◌/◌, ◌%◌, ◌<◌, ◌≤◌, true, cond, ltb, eqb, ◌⊎◌, inl, inr, List, [], ◌∷◌, ◌++◌, length, get_or, take, refl, sym, ap, subst, ◌∙◌, append-nil, arith}
 use Rattle.std.specs.Prelude.{All}
-use Rattle.std.specs.List.{flat_map}
-use Rattle.std.proofs.lemmas.Bool.{ltb-true, ltb-false, eqb-true, eqb-false, cond_both, lt-ltb, le-ltb}
+use Rattle.std.proofs.lemmas.Bool.{ltb-true, eqb-true, cond_both, lt-ltb}
 use Rattle.std.proofs.lemmas.List.{take_more}
 use Rattle.std.proofs.lemmas.List.Elements.{All-append}
 use Rattle.std.proofs.lemmas.Grind.{flat_map-append}
-use Rattle.cip_base.specs.declared.key.KeyFields.{KeyFields}
 use Rattle.cip_segment.specs.declared.segment.Segment.{Segment}
 use Rattle.cip_segment.specs.declared.segment.Segment.TheVariants.{Port, Class, Instance, Member, Point, Attribute, Key, Words, Symbol, Inhibit}
 use Rattle.cip_segment.specs.Spelling.{IsNarrow, IsWide, IsLong, IsPort, IsPortNumber, IsForm, Spells, IsReadable}
-use Rattle.cip_base.specs.Fields.{IsDouble, IsWord, pad, word}
+use Rattle.cip_base.specs.Fields.{IsWord, pad, word}
 use Rattle.cip_segment.specs.Short.{short_number, short_port, short_form, short, IsWritable, IsRanged}
 
 pub short_more : (s : List Segment) (i : ℕ) (g : Segment) → i < length s → g ≡ get_or s i g → short (take (i + 1) s) ≡ short (take i s) ++ short_form g

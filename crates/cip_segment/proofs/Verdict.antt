@@ -1,19 +1,18 @@
 -- What reading the first segment says of the text: the form that stands there, or the byte where no form goes on.
-use Rattle.std.proofs.Common.{◌≡◌, ◌≢◌, ℕ, zero, suc, ◌+◌, ◌*◌, ◌-◌, ◌%◌, ◌<◌, ◌≤◌, Bool, true, false, cond, ltb, eqb, ◌⊎◌, inl, inr, List, [], ◌∷◌, ◌++◌, length, get_or, take, drop, Result, Ok, Err, refl, sym, ap, subst, ◌∙◌, append_assoc, append-nil, arith}
+use Rattle.std.proofs.Common.{◌≡◌, ℕ, suc, ◌+◌, ◌*◌, ◌-◌, ◌%◌, ◌<◌, ◌≤◌, Bool, true, false, cond, ltb, eqb, inl, inr, List, [], ◌∷◌, ◌++◌, length, take, drop, Ok, Err, refl, sym, ap, subst, ◌∙◌, append_assoc, append-nil, arith}
 use Rattle.std.specs.Prelude.{replicate}
-use Rattle.std.proofs.lemmas.Bool.{lt-ltb, le-ltb, ne_eqb, eq-eqb, eqb-true, eqb-false, ltb-true, ltb-false, cond_both, cases_Bool, cases_lt}
+use Rattle.std.proofs.lemmas.Bool.{lt-ltb, le-ltb, ne_eqb, eqb-true, eqb-false, ltb-true, ltb-false, cond_both, cases_lt}
 use Rattle.std.proofs.lemmas.List.{length-append, length-take-le, length-replicate, take-append-drop}
 use Rattle.cip_segment.specs.declared.segment.Segment.{Segment}
-use Rattle.cip_segment.specs.declared.segment.Segment.TheVariants.{Port, Class, Instance, Member, Point, Attribute, Key, Words, Symbol, Inhibit}
+use Rattle.cip_segment.specs.declared.segment.Segment.TheVariants.{Port, Instance, Point, Key, Words, Symbol, Inhibit}
 use Rattle.cip_segment.specs.declared.segment.Kind.{Kind}
 use Rattle.cip_segment.specs.declared.segment.Kind.TheVariants as kinds
 use Rattle.cip_segment.specs.declared.fault.PathFault.{PathFault}
 use Rattle.cip_segment.specs.declared.fault.PathFault.TheVariants.{Truncated, Reserved, BadPad, TooLong, NoMemory}
-use Rattle.cip_segment.specs.Spelling.{IsNarrow, IsWide, IsLong, IsPortNumber, IsPort, IsKey, IsForm}
+use Rattle.cip_segment.specs.Spelling.{IsPortNumber, IsForm}
 use Rattle.cip_base.specs.Fields.{IsBytes, IsDouble, IsWord, pad}
 use Rattle.cip_segment.specs.Scan.{◌>>=◌, At, byte_at, word_at, after_pad, bytes_at, padded_at, numbered, narrow_at, wide_at, double_at, instance_at, point_at, fields_at, key_at, words_at, symbol_at, inhibit_at, number_at, size_at, plain_port_at, sized_port_at, port_at, other_at, logical_at, segment_at}
-use Rattle.cip_segment.proofs.Forms.{found, bytes_scans, low_range}
-use Rattle.cip_base.specs.declared.key.KeyFields.{KeyFields}
+use Rattle.cip_segment.proofs.Forms.{found, bytes_scans}
 
 -- some form begins with b
 abbrev pub FormBegins : List ℕ → Type 0

@@ -1,9 +1,9 @@
 -- What reading a text as a path gives: its segments, or its fault. The relation of `Spelling` says what that has to be;
 -- the laws of this crate tie the two together. Definitions above, which go by cases on what was read, use these functions.
-use Rattle.std.specs.Prelude.{◌≡◌, ℕ, zero, suc, ◌/◌, nat_lt, if◌then◌else◌, List, [], ◌∷◌, ◌++◌, length, Option, Some, None, Result, Ok, Err}
+use Rattle.std.specs.Prelude.{◌≡◌, ℕ, zero, suc, ◌/◌, nat_lt, if◌then◌else◌, List, [], ◌∷◌, length, Option, Some, None, Result, Ok, Err}
 use Rattle.cip_base.specs.declared.key.KeyFields.{KeyFields}
 use Rattle.cip_segment.specs.declared.segment.Segment.{Segment}
-use Rattle.cip_segment.specs.declared.segment.Segment.TheVariants.{Port, Class, Instance, Member, Point, Attribute, Key, Words, Symbol, Inhibit}
+use Rattle.cip_segment.specs.declared.segment.Segment.TheVariants.{Port, Key}
 use Rattle.cip_segment.specs.declared.fault.PathFault.{PathFault}
 use Rattle.cip_segment.specs.declared.fault.PathFault.TheVariants.{Truncated, TooLong}
 use Rattle.cip_segment.specs.declared.hop.FirstHop.{FirstHop}

@@ -1,5 +1,5 @@
 -- What the segments of a path are in bytes, and which fault a text has that spells none.
-use Rattle.std.specs.Prelude.{◌≡◌, ◌≢◌, ℕ, ◌+◌, ◌*◌, ◌%◌, ◌^◌, ◌<◌, ◌≤◌, ◌==◌, if◌then◌else◌, ◌⊎◌, List, [], ◌∷◌, ◌++◌, length}
+use Rattle.std.specs.Prelude.{◌≡◌, ℕ, ◌+◌, ◌*◌, ◌<◌, ◌≤◌, ◌⊎◌, List, [], ◌∷◌, ◌++◌, length}
 use Rattle.cip_base.specs.Fields.{IsWord, IsDouble, pad}
 use Rattle.cip_base.specs.declared.key.KeyFields.{KeyFields}
 use Rattle.cip_segment.specs.declared.segment.Segment.{Segment}

@@ -1,8 +1,5 @@
-use Rattle.std.proofs.Common.{◌≡◌, length, ℕ, ◌<◌, arith, sym}
+use Rattle.std.proofs.Common.{◌≡◌, length, arith, sym}
 use Rattle.std.proofs.lemmas.Bool.{eqb-false, eqb-true}
-use Rattle.cip_segment.specs.Spelling.{IsReadable, IsFault}
-use Rattle.cip_segment.specs.Seen.{segment_of}
-use Rattle.cip_base.specs.Fields.{IsBytes}
 use Rattle.cip_segment.proofs.Paths.{at_start, one_more, at_fault, falls, unreadable}
 use Rattle.cip_segment.proofs.PathsRead.{path_at-stops, path_at-TooLong, path_at-readable}
 use Rattle.cip_segment.proofs.Paths.{at_end}
