@@ -13,6 +13,10 @@ pub record Close : Type 0 where
   pub fields : CloseFields
   pub path : List ℕ
 
+-- the record of these fields
+abbrev pub close_with : CloseFields → List ℕ → Close
+close_with fields path = record { fields = fields; path = path }
+
 -- priority/time tick, time-out ticks, connection triad, path size in words, a reserved byte, path
 abbrev pub close_layout : ℕ → ℕ → Close → List ℕ
 close_layout words x o = o.fields.timing.tick ∷ o.fields.timing.ticks ∷ triad_bytes o.fields.triad ++ (words ∷ x ∷ o.path)

@@ -1,11 +1,11 @@
 -- The data of a successful Forward_Close's reply (Volume 1, chapter 3, Forward_Close, successful response).
-use Rattle.std.specs.Prelude.{◌≡◌, ℕ, ◌*◌, ◌/◌, List, [], ◌∷◌, ◌++◌, length}
+use Rattle.std.specs.Prelude.{◌≡◌, ℕ, ◌*◌, ◌/◌, List, ◌∷◌, ◌++◌, length}
 use Rattle.cip_base.specs.declared.triad.Triad.{Triad}
 use Rattle.cip_message.specs.declared.fault.DataFault.{DataFault}
 use Rattle.cip_message.specs.declared.fault.DataFault.TheVariants.{Short, Long, Path}
 use Rattle.cip_message.specs.Numbers.{triad_bytes}
 use Rattle.cip_message.specs.Cut.{IsCutOff, IsOverlong}
-use Rattle.cip_message.specs.Reply.{reply_bytes}
+use Rattle.cip_message.specs.Reply.{reply_bytes, done_with}
 
 pub record CloseSuccess : Type 0 where
   pub triad : Triad
@@ -34,4 +34,4 @@ close_reply_data s = close_reply_layout (length s.reply / 2) 0 s
 
 -- the whole message: a reply of Forward_Close with status 00
 abbrev pub close_reply_bytes : CloseSuccess → List ℕ
-close_reply_bytes s = reply_bytes (record { service = 0xCE; general = 0; extra = []; data_ = close_reply_data s })
+close_reply_bytes s = reply_bytes (done_with 0xCE (close_reply_data s))

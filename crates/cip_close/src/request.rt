@@ -1,7 +1,7 @@
 //! The request Forward_Close.
 ghost use Rattle.std.specs.Prelude.{◌≡◌, ◌≤◌, ◌++◌, length, IfOk, IfErr, IsOkAnd};
 ghost use Rattle.cip_message.specs.Gives.{Gives};
-ghost use Rattle.cip_close.specs.Close.{Close, ReadsClose, IsCloseFault, close_bytes};
+ghost use Rattle.cip_close.specs.Close.{Close, ReadsClose, IsCloseFault, close_with, close_bytes};
 ghost use Rattle.cip_close.specs.CloseAt.{close_at, close_triad_of, close_words_of};
 ghost use Rattle.cip_close.specs.Reading.{close_of};
 
@@ -80,7 +80,7 @@ pub fn close_words_at(data_: &[u8]) -> Option<u8>
 }
 
 fn joined(alloc: Global, fields: &CloseFields, path: PathView<'_>) -> Result<Vec<u8>, AllocError>
-    ensures { IfOk result (λ v. v.items ≡ close_bytes (record { fields = fields.now; path = path.entry.bytes.now })) }
+    ensures { IfOk result (λ v. v.items ≡ close_bytes (close_with fields.now path.entry.bytes.now)) }
 {
     let mut bytes = Vec::new(alloc);
     put_manager_header(&mut bytes, FORWARD_CLOSE)?;
@@ -98,7 +98,7 @@ pub fn write_close(
     fields: &CloseFields,
     path: PathView<'_>,
 ) -> Result<Bytes, NoMemory>
-    ensures { IfOk result (λ b. b ≡ close_bytes (record { fields = fields.now; path = path.entry.bytes.now })) }
+    ensures { IfOk result (λ b. b ≡ close_bytes (close_with fields.now path.entry.bytes.now)) }
 {
     Ok(Bytes::of(joined(alloc, fields, path)?))
 }

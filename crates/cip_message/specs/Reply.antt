@@ -1,5 +1,6 @@
 -- A reply of the Message Router (Volume 1, chapter 2, Message Router reply format).
 use Rattle.std.specs.Prelude.{◌≡◌, ℕ, ◌*◌, ◌<◌, ◌≤◌, List, [], ◌∷◌, ◌++◌, length, Option, Some, None}
+use Rattle.cip_base.specs.declared.timing.Status.{Status}
 use Rattle.cip_message.specs.declared.fault.ReplyFault.{ReplyFault}
 use Rattle.cip_message.specs.declared.fault.ReplyFault.TheVariants.{TooShort, NotReply, ExtraSize}
 use Rattle.cip_message.specs.Numbers.{words_bytes}
@@ -33,3 +34,11 @@ IsReplyFault b ExtraSize = (s : ℕ) × (x : ℕ) × (g : ℕ) × (n : ℕ) × (
 abbrev pub extra_words : Option ℕ → List ℕ
 extra_words None = []
 extra_words (Some n) = n ∷ []
+
+-- the record of a reply with this status
+abbrev pub reply_with : ℕ → Status → List ℕ → Reply
+reply_with service status d = record { service = service; general = status.general; extra = extra_words status.extra; data_ = d }
+
+-- the record of a reply that says that all is done
+abbrev pub done_with : ℕ → List ℕ → Reply
+done_with service d = record { service = service; general = 0; extra = []; data_ = d }

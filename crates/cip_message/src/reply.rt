@@ -2,7 +2,7 @@
 ghost use Rattle.std.specs.Prelude.{◌≡◌, ◌<◌, ◌≤◌, ◌↔◌, length, IfOk, IfErr, IsErrOf, IsOkAnd, OnOk, [], ◌++◌, slice_get};
 ghost use Rattle.cip_message.specs.Gives.{Gives};
 ghost use Rattle.cip_message.specs.Numbers.{words_in};
-ghost use Rattle.cip_message.specs.Reply.{Reply, ReadsReply, IsReplyFault, reply_bytes, extra_words};
+ghost use Rattle.cip_message.specs.Reply.{Reply, ReadsReply, IsReplyFault, reply_bytes, reply_with};
 ghost use Rattle.cip_message.specs.ReplyAt.{reply_from, reply_at};
 ghost use Rattle.cip_message.specs.Reading.{reply_of};
 
@@ -35,7 +35,10 @@ impl<'a> ReplyView<'a> {
 
     /// The general status, and the first word of additional status where there is one (Volume 1, Appendix B).
     pub fn status(self) -> Status
-        ensures { result ≡ record { general = self.entry.general; extra = slice_get (words_in self.entry.extra.now) 0 } }
+        ensures {
+            result
+                ≡ record { general = self.entry.general; extra = slice_get (words_in self.entry.extra.now) 0 }
+        }
     {
         let extra = match self.extra {
             [_, _, ..] => Some(LittleEndian::read_u16(self.extra)),
@@ -103,7 +106,7 @@ pub fn read_reply(bytes: &[u8]) -> Result<ReplyView<'_>, ReplyFault>
 /// the size of the additional status in words, the additional status (Volume 1, chapter 2, Message Router reply format). The
 /// data follows.
 pub fn put_reply_header(out: &mut Vec<u8>, service: u8, status: Status) -> Result<(), AllocError>
-    ensures { OnOk result (out.new.items ≡ out.old.items ++ reply_bytes (record { service = service; general = status.general; extra = extra_words status.extra; data_ = [] })) }
+    ensures { OnOk result (out.new.items ≡ out.old.items ++ reply_bytes (reply_with service status [])) }
 {
     out.extend_from_slice(&[service, 0, status.general])?;
     match status.extra {
@@ -119,7 +122,7 @@ pub fn put_reply_header(out: &mut Vec<u8>, service: u8, status: Status) -> Resul
 }
 
 fn joined(alloc: Global, service: u8, status: Status, data_: &[u8]) -> Result<Vec<u8>, AllocError>
-    ensures { IfOk result (λ v. v.items ≡ reply_bytes (record { service = service; general = status.general; extra = extra_words status.extra; data_ = data_.now })) }
+    ensures { IfOk result (λ v. v.items ≡ reply_bytes (reply_with service status data_.now)) }
 {
     let mut bytes = Vec::new(alloc);
     put_reply_header(&mut bytes, service, status)?;
@@ -138,9 +141,12 @@ pub fn write_reply(
     data_: &[u8],
 ) -> Result<Bytes, WriteFault>
     requires { 128 ≤ service }
-    ensures ok { IfOk result (λ b. b ≡ reply_bytes (record { service = service; general = status.general; extra = extra_words status.extra; data_ = data_.now })) }
-    ensures reads { IfOk result (λ b. ReadsReply b (record { service = service; general = status.general; extra = extra_words status.extra; data_ = data_.now })) }
-    ensures too_long { IsErrOf result WriteFault.TooLong ↔ (1400 < length (reply_bytes (record { service = service; general = status.general; extra = extra_words status.extra; data_ = data_.now }))) }
+    ensures ok { IfOk result (λ b. b ≡ reply_bytes (reply_with service status data_.now)) }
+    ensures reads { IfOk result (λ b. ReadsReply b (reply_with service status data_.now)) }
+    ensures too_long {
+        IsErrOf result WriteFault.TooLong
+            ↔ (1400 < length (reply_bytes (reply_with service status data_.now)))
+    }
 {
     let head = match status.extra {
         None => 4,

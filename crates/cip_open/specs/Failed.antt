@@ -3,8 +3,8 @@ use Rattle.std.specs.Prelude.{ℕ, List}
 use Rattle.cip_base.specs.declared.timing.Status.{Status}
 use Rattle.cip_message.specs.declared.failure.ConnectionFailure.{ConnectionFailure}
 use Rattle.cip_message.specs.Failure.{failure_data}
-use Rattle.cip_message.specs.Reply.{reply_bytes, extra_words}
+use Rattle.cip_message.specs.Reply.{reply_bytes, reply_with}
 
 -- the whole message
 abbrev pub open_failure_bytes : Status → ConnectionFailure → List ℕ
-open_failure_bytes s f = reply_bytes (record { service = 0xD4; general = s.general; extra = extra_words s.extra; data_ = failure_data f })
+open_failure_bytes s f = reply_bytes (reply_with 0xD4 s (failure_data f))

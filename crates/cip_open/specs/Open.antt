@@ -14,6 +14,10 @@ pub record Open : Type 0 where
   pub fields : OpenFields
   pub path : List ℕ
 
+-- the record of these fields
+abbrev pub open_with : OpenFields → List ℕ → Open
+open_with fields path = record { fields = fields; path = path }
+
 -- priority/time tick, time-out ticks, O→T and T→O connection id, connection triad, connection timeout multiplier, three
 -- reserved bytes, O→T RPI and parameters, T→O RPI and parameters, transport, path size in words, path
 abbrev pub open_layout : ℕ → ℕ → ℕ → ℕ → Open → List ℕ

@@ -1,12 +1,12 @@
 -- The data of a successful Forward_Open's reply (Volume 1, chapter 3, Forward_Open, successful response).
-use Rattle.std.specs.Prelude.{◌≡◌, ℕ, ◌*◌, ◌/◌, List, [], ◌∷◌, ◌++◌, length}
+use Rattle.std.specs.Prelude.{◌≡◌, ℕ, ◌*◌, ◌/◌, List, ◌∷◌, ◌++◌, length}
 use Rattle.cip_base.specs.Fields.{double}
 use Rattle.cip_base.specs.declared.triad.Triad.{Triad}
 use Rattle.cip_message.specs.declared.fault.DataFault.{DataFault}
 use Rattle.cip_message.specs.declared.fault.DataFault.TheVariants.{Short, Long, Path}
 use Rattle.cip_message.specs.Numbers.{triad_bytes}
 use Rattle.cip_message.specs.Cut.{IsCutOff, IsOverlong}
-use Rattle.cip_message.specs.Reply.{reply_bytes}
+use Rattle.cip_message.specs.Reply.{reply_bytes, done_with}
 
 pub record OpenSuccess : Type 0 where
   pub ot_id : ℕ
@@ -41,4 +41,4 @@ open_reply_data s = open_reply_layout (length s.reply / 2) 0 s
 
 -- the whole message: a reply of Forward_Open with status 00
 abbrev pub open_reply_bytes : OpenSuccess → List ℕ
-open_reply_bytes s = reply_bytes (record { service = 0xD4; general = 0; extra = []; data_ = open_reply_data s })
+open_reply_bytes s = reply_bytes (done_with 0xD4 (open_reply_data s))

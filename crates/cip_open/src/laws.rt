@@ -1,5 +1,5 @@
 //! What holds of every Forward_Open: reading gives exactly what has the layout, and what is written is read back.
-ghost use Rattle.std.specs.Prelude.{◌≡◌, ◌%◌, ℕ, List, [], length, Ok, Err, MatchResult};
+ghost use Rattle.std.specs.Prelude.{◌≡◌, ◌%◌, ℕ, List, length, Ok, Err, MatchResult};
 ghost use Rattle.cip_base.specs.Fields.{IsBytes};
 ghost use Rattle.cip_base.specs.declared.timing.Status.{Status};
 ghost use Rattle.cip_segment.specs.Spelling.{IsReadable};
@@ -7,7 +7,7 @@ ghost use Rattle.cip_message.specs.declared.fault.DataFault.{DataFault as Fault}
 ghost use Rattle.cip_message.specs.declared.failure.ConnectionFailure.{ConnectionFailure as Failure};
 ghost use Rattle.cip_message.specs.Failure.{failure_data};
 ghost use Rattle.cip_message.specs.Manager.{manager_request};
-ghost use Rattle.cip_message.specs.Reply.{extra_words};
+ghost use Rattle.cip_message.specs.Reply.{reply_with, done_with};
 ghost use Rattle.cip_message.specs.ReplyAt.{reply_at};
 ghost use Rattle.cip_message.specs.RequestAt.{request_at};
 ghost use Rattle.cip_open.specs.Failed.{open_failure_bytes};
@@ -39,12 +39,13 @@ pub fn written_open_is_read()
 
 /// The reply of a success that is written is read as a reply of status 00, and its data as the same record.
 pub fn written_open_reply_is_read()
-    ensures reply { (s : OpenSuccess) → reply_at (open_reply_bytes s) ≡ Ok (record { service = 0xD4; general = 0; extra = []; data_ = open_reply_data s }) }
+    ensures reply { (s : OpenSuccess) → reply_at (open_reply_bytes s) ≡ Ok (done_with 0xD4 (open_reply_data s)) }
     ensures data_ { (s : OpenSuccess) → length s.reply % 2 ≡ 0 → open_reply_at (open_reply_data s) ≡ Ok s }
 {}
 
 /// The reply of a failure that is written is read as a reply of that status; its data is read back as the law of failures
 /// says.
 pub fn written_open_failure_is_read()
-    ensures { (status : Status) (f : Failure) → reply_at (open_failure_bytes status f) ≡ Ok (record { service = 0xD4; general = status.general; extra = extra_words status.extra; data_ = failure_data f }) }
+    ensures { (status : Status) (f : Failure)
+        → reply_at (open_failure_bytes status f) ≡ Ok (reply_with 0xD4 status (failure_data f)) }
 {}

@@ -1,7 +1,7 @@
 //! The request Forward_Open.
 ghost use Rattle.std.specs.Prelude.{◌≡◌, ◌≤◌, ◌++◌, length, IfOk, IfErr, IsOkAnd};
 ghost use Rattle.cip_message.specs.Gives.{Gives};
-ghost use Rattle.cip_open.specs.Open.{Open, ReadsOpen, IsOpenFault, open_bytes};
+ghost use Rattle.cip_open.specs.Open.{Open, ReadsOpen, IsOpenFault, open_with, open_bytes};
 ghost use Rattle.cip_open.specs.OpenAt.{open_fields_in, open_at, open_triad_of, open_words_of};
 ghost use Rattle.cip_open.specs.Reading.{open_of};
 
@@ -115,7 +115,7 @@ pub fn words_at(data_: &[u8]) -> Option<u8>
 }
 
 fn joined(alloc: Global, fields: &OpenFields, path: PathView<'_>) -> Result<Vec<u8>, AllocError>
-    ensures { IfOk result (λ v. v.items ≡ open_bytes (record { fields = fields.now; path = path.entry.bytes.now })) }
+    ensures { IfOk result (λ v. v.items ≡ open_bytes (open_with fields.now path.entry.bytes.now)) }
 {
     let mut bytes = Vec::new(alloc);
     put_manager_header(&mut bytes, FORWARD_OPEN)?;
@@ -136,7 +136,7 @@ fn joined(alloc: Global, fields: &OpenFields, path: PathView<'_>) -> Result<Vec<
 /// The whole message of a Forward_Open to the Connection Manager: header, the fixed fields with the reserved bytes 00, path
 /// size in words, path (Volume 1, chapter 3, Forward_Open).
 pub fn write_open(alloc: Global, fields: &OpenFields, path: PathView<'_>) -> Result<Bytes, NoMemory>
-    ensures { IfOk result (λ b. b ≡ open_bytes (record { fields = fields.now; path = path.entry.bytes.now })) }
+    ensures { IfOk result (λ b. b ≡ open_bytes (open_with fields.now path.entry.bytes.now)) }
 {
     Ok(Bytes::of(joined(alloc, fields, path)?))
 }

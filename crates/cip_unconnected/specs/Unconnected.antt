@@ -14,6 +14,10 @@ pub record Unconnected : Type 0 where
   pub request : List ℕ
   pub route : List ℕ
 
+-- the record of these fields
+abbrev pub unconnected_with : Timing → List ℕ → List ℕ → Unconnected
+unconnected_with timing request route = record { timing = timing; request = request; route = route }
+
 -- priority/time tick, time-out ticks, size of the embedded request in bytes, the embedded request, a pad if that size is
 -- odd, route size in words, a reserved byte, the route
 abbrev pub unconnected_layout : List ℕ → ℕ → ℕ → Unconnected → List ℕ

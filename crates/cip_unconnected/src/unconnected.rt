@@ -3,7 +3,7 @@ ghost use Rattle.std.specs.Prelude.{◌≡◌, ◌+◌, ◌<◌, ◌≤◌, ◌�
 ghost use Rattle.cip_base.specs.Fields.{pad};
 ghost use Rattle.cip_message.specs.Gives.{Gives};
 ghost use Rattle.cip_message.specs.Numbers.{word_in};
-ghost use Rattle.cip_unconnected.specs.Unconnected.{Unconnected as Send, ReadsUnconnected, IsUnconnectedFault, unconnected_bytes};
+ghost use Rattle.cip_unconnected.specs.Unconnected.{Unconnected as Send, ReadsUnconnected, IsUnconnectedFault, unconnected_with, unconnected_bytes};
 ghost use Rattle.cip_unconnected.specs.UnconnectedAt.{route_place, unconnected_at, route_words_of};
 ghost use Rattle.cip_unconnected.specs.Reading.{unconnected_of};
 
@@ -110,7 +110,8 @@ fn joined(
     route: PathView<'_>,
 ) -> Result<Vec<u8>, AllocError>
     requires { length request.now ≤ 1400 }
-    ensures { IfOk result (λ v. v.items ≡ unconnected_bytes (record { timing = timing; request = request.now; route = route.entry.bytes.now })) }
+    ensures { IfOk result (λ v. v.items
+        ≡ unconnected_bytes (unconnected_with timing request.now route.entry.bytes.now)) }
 {
     let mut bytes = Vec::new(alloc);
     put_manager_header(&mut bytes, UNCONNECTED_SEND)?;
@@ -138,8 +139,9 @@ pub fn write_unconnected(
     request: &[u8],
     route: PathView<'_>,
 ) -> Result<Bytes, WriteFault>
-    ensures ok { IfOk result (λ b. b ≡ unconnected_bytes (record { timing = timing; request = request.now; route = route.entry.bytes.now })) }
-    ensures too_long { IsErrOf result WriteFault.TooLong ↔ (1400 < length (unconnected_bytes (record { timing = timing; request = request.now; route = route.entry.bytes.now }))) }
+    ensures ok { IfOk result (λ b. b ≡ unconnected_bytes (unconnected_with timing request.now route.entry.bytes.now)) }
+    ensures too_long { IsErrOf result WriteFault.TooLong
+        ↔ (1400 < length (unconnected_bytes (unconnected_with timing request.now route.entry.bytes.now))) }
 {
     // All but the embedded request and its pad.
     let others = 12 + route.bytes.len();
