@@ -1,13 +1,12 @@
 -- When an opening is taken, and what a fresh table keeps.
-use Rattle.std.proofs.Common.{◌≡◌, ℕ, ◌+◌, ◌<◌, ◌≤◌, ◌^◌, Bool, true, false, List, [], length, refl, sym, ap, subst, ◌∙◌, arith, Option, Some, None, IsSome, IfSome, is_some, nat_le, nat_lt, if◌then◌else◌}
+use Rattle.std.proofs.Common.{◌≡◌, ℕ, ◌+◌, ◌<◌, ◌≤◌, ◌^◌, Bool, true, false, List, [], refl, sym, ap, ◌∙◌, arith, Option, Some, None, IsSome, IfSome, is_some, nat_le, nat_lt, if◌then◌else◌}
 use Rattle.std.specs.Option.{option_and_then}
 use Rattle.std.specs.List.{count_by, slice_index_or}
 use Rattle.std.specs.Ordering.{nat_cmp}
 use Rattle.std.specs.declared.cmp.Ordering.{Ordering}
 use Rattle.std.specs.FinMap as map
-use Rattle.std.specs.FinMap.{FinMap}
 use Rattle.std.proofs.lemmas.Bool.Decides.{nat_tests}
-use Rattle.slab.specs.Slab.{Slab, get, slab_len}
+use Rattle.slab.specs.Slab.{Slab, get}
 use Rattle.cip_base.specs.Triads.{triad_cmp}
 use Rattle.cip_base.specs.declared.triad.Triad.{Triad}
 use Rattle.cip_base.proofs.Triads.{triads_total}
@@ -15,8 +14,7 @@ use Rattle.cip_hops.specs.declared.opening.BeginReason.{BeginReason}
 use Rattle.cip_hops.specs.declared.opening.BeginReason.TheVariants.{Duplicate, Full, IdsSpent}
 use Rattle.cip_hops.specs.declared.hop.Held.{Held}
 use Rattle.cip_hops.specs.declared.table.HopTable.TheInside.{Inside}
-use Rattle.cip_hops.specs.Hops.{Hops, refusal, triad_of, up_id_of, down_id_of, held_op_of}
-use Rattle.cip_hops.specs.Index.{Index}
+use Rattle.cip_hops.specs.Hops.{refusal, triad_of, up_id_of, down_id_of, held_op_of}
 use Rattle.cip_hops.specs.Kept.{Indexes, names, hops, IsKept}
 use Rattle.cip_hops.proofs.Views.{Finds, len-view}
 use Rattle.cip_hops.proofs.Counts.{tally-le}

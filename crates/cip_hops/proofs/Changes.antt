@@ -1,5 +1,5 @@
 -- A hop that is made of an opening, or changed in its place.
-use Rattle.std.proofs.Common.{◌≡◌, ◌≢◌, ℕ, ◌+◌, ◌<◌, ◌≤◌, Bool, true, false, not, refl, sym, ap, subst, ◌∙◌, arith, Option, Some, None, IsSome, IsTrue, is_some}
+use Rattle.std.proofs.Common.{◌≡◌, ℕ, ◌+◌, ◌<◌, Bool, true, false, not, refl, sym, ap, subst, ◌∙◌, Option, Some, None, IsSome, IsTrue, is_some}
 use Rattle.std.specs.Option.{option_and_then, IsSomeAnd}
 use Rattle.std.specs.FinMap as map
 use Rattle.slab.specs.Slab.{Slab, get, slab_len, Updates}
@@ -16,7 +16,7 @@ use Rattle.cip_hops.specs.Sides.{up_is_link, down_is_link}
 use Rattle.cip_hops.specs.Hops.{Hops, as_opening, as_hop, opening_at, hop_at, opened, open_in, finished, with_hop, change_in, changed, is_link, touched, counted, IsHop, IsHeld}
 use Rattle.cip_hops.specs.Kept.{hops, IsKept}
 use Rattle.cip_hops.proofs.Ids.{is_some-if}
-use Rattle.cip_hops.proofs.Steps.{SameNames, after_change, kept_changed, view_changed, put_back, held_at}
+use Rattle.cip_hops.proofs.Steps.{SameNames, kept_changed, view_changed, put_back}
 
 -- the record under a key was taken out of the slab and put back as another
 pub record PutBack (t : Inside) (triad : Triad) (key : ℕ) (x y : Held) (mid s : Slab Held) (again : ℕ) : Type 0 where

@@ -1,5 +1,5 @@
 -- The one hop of a name, through the index of that name.
-use Rattle.std.proofs.Common.{◌≡◌, ℕ, ◌+◌, Bool, true, false, ◌&&◌, ◌==◌, List, refl, sym, ap, ◌∙◌, arith, Option, Some, None, if◌then◌else◌, find}
+use Rattle.std.proofs.Common.{◌≡◌, ℕ, Bool, true, false, ◌&&◌, ◌==◌, List, refl, sym, ap, ◌∙◌, arith, Option, Some, None, if◌then◌else◌}
 use Rattle.std.specs.Option.{option_and_then, option_map_or}
 use Rattle.std.specs.Ordering.{nat_cmp}
 use Rattle.std.specs.FinMap as map
@@ -15,7 +15,7 @@ use Rattle.cip_hops.specs.declared.hop.Held.{Held}
 use Rattle.cip_hops.specs.declared.hop.Held.TheVariants.{Opening as IsOpening, Open}
 use Rattle.cip_hops.specs.declared.table.HopTable.TheInside.{Inside}
 use Rattle.cip_hops.specs.Sides.{op_of, up_is, down_is}
-use Rattle.cip_hops.specs.Hops.{Hops, triad_of, up_id_of, down_id_of, held_op_of, as_hop, is_hop, is_id, first_hop, is_hop_by_up, is_hop_by_down, is_hop_by_op, hop_by_up, hop_by_down, hop_by_op}
+use Rattle.cip_hops.specs.Hops.{triad_of, up_id_of, down_id_of, held_op_of, as_hop, is_hop, is_id, first_hop, is_hop_by_up, is_hop_by_down, is_hop_by_op, hop_by_up, hop_by_down, hop_by_op}
 use Rattle.cip_hops.specs.Kept.{Indexes, hops, IsKept}
 use Rattle.cip_hops.proofs.Views.{find-only, find-nowhere}
 use Rattle.cip_hops.proofs.Steps.{triads_apart, stands, under, within}
@@ -46,26 +46,26 @@ module _ (t : Inside) (h : IsKept t) (name_of : Held → Option ℕ) (m : FinMap
   pub hop_absent : map.get m name ≡ None → first_hop test (hops t) ≡ None
   hop_absent none =
       ap (option_and_then (λ (e : Triad × Held). as_hop e.1)) (find-nowhere triad_cmp triads_total triads_apart (hops t).held (λ e. is_hop test e.1) (λ q y e. not_true (is_hop test y) (λ pass.
-        let s = stands t h q y e in
-        let no_key : None ≡ Some s.key = sym none ∙ ix.complete name s.key y s.found (named y pass) in cc)))
+      let s = stands t h q y e in
+      let no_key : None ≡ Some s.key = sym none ∙ ix.complete name s.key y s.found (named y pass) in cc)))
 
   pub hop_found : (key : ℕ) (x : Held) (b : Bool) → map.get m name ≡ Some key → get t.records key ≡ Some x → is_hop test x ≡ b → first_hop test (hops t) ≡ (if b then as_hop x else None)
   hop_found key x true at found pass =
       ap (option_and_then (λ (e : Triad × Held). as_hop e.1)) (find-only triad_cmp triads_total triads_apart (hops t).held (λ e. is_hop test e.1) (triad_of x) x (under t h key x found) pass (λ r y e p.
-        let s = stands t h r y e in
-        let keys : Some s.key ≡ Some key = sym (ix.complete name s.key y s.found (named y p)) ∙ at in
-        let same : s.key ≡ key = cc in
-        let both : Some y ≡ Some x = sym s.found ∙ ap (get t.records) same ∙ found in
-        let one : y ≡ x = cc in
-        sym ((within t h).triads r y e) ∙ ap triad_of one))
+      let s = stands t h r y e in
+      let keys : Some s.key ≡ Some key = sym (ix.complete name s.key y s.found (named y p)) ∙ at in
+      let same : s.key ≡ key = cc in
+      let both : Some y ≡ Some x = sym s.found ∙ ap (get t.records) same ∙ found in
+      let one : y ≡ x = cc in
+      sym ((within t h).triads r y e) ∙ ap triad_of one))
   hop_found key x false at found pass =
       ap (option_and_then (λ (e : Triad × Held). as_hop e.1)) (find-nowhere triad_cmp triads_total triads_apart (hops t).held (λ e. is_hop test e.1) (λ q y e. not_true (is_hop test y) (λ p.
-        let s = stands t h q y e in
-        let keys : Some s.key ≡ Some key = sym (ix.complete name s.key y s.found (named y p)) ∙ at in
-        let same : s.key ≡ key = cc in
-        let both : Some y ≡ Some x = sym s.found ∙ ap (get t.records) same ∙ found in
-        let one : y ≡ x = cc in
-        let no_pass : false ≡ true = sym pass ∙ ap (is_hop test) (sym one) ∙ p in cc)))
+      let s = stands t h q y e in
+      let keys : Some s.key ≡ Some key = sym (ix.complete name s.key y s.found (named y p)) ∙ at in
+      let same : s.key ≡ key = cc in
+      let both : Some y ≡ Some x = sym s.found ∙ ap (get t.records) same ∙ found in
+      let one : y ≡ x = cc in
+      let no_pass : false ≡ true = sym pass ∙ ap (is_hop test) (sym one) ∙ p in cc)))
 
 module _ (t : Inside) (h : IsKept t) (id port : ℕ) (address : List ℕ) where
   named_up : (x : Held) → is_hop (is_hop_by_up id port address) x ≡ true → up_id_of x ≡ Some id

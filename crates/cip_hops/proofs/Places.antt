@@ -1,10 +1,10 @@
 -- What a place in a list of names in rising order says of the map that the list makes.
-use Rattle.std.proofs.Common.{◌≡◌, ℕ, ◌+◌, ◌<◌, ◌≤◌, T, List, [], ◌∷◌, length, get_or, sym, ap, ◌∙◌, Option, Some, None}
+use Rattle.std.proofs.Common.{◌≡◌, ℕ, List, length, get_or, sym, ap, ◌∙◌, Some, None}
 use Rattle.std.specs.List as lists
 use Rattle.std.specs.declared.cmp.Ordering.{Ordering}
 use Rattle.std.specs.Cmp.{IsTotalOrder}
 use Rattle.std.specs.FinMap as map
-use Rattle.std.specs.FinMap.{FinMap, IsAntisymmetric}
+use Rattle.std.specs.FinMap.{IsAntisymmetric}
 use Rattle.std.specs.FinMap.Entries as entries
 use Rattle.cip_base.proofs.Sorted.{find-at, find-gap, sorted_insert, from_sorted-insert, sorted_remove, from_sorted-remove}
 use Rattle.cip_hops.specs.Index.{IsRising, StandsAt, FitsAt}

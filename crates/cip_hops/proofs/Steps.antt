@@ -1,26 +1,24 @@
 -- What each change of the records and indexes is in the map of hops.
-use Rattle.std.proofs.Common.{◌≡◌, ◌≢◌, ℕ, zero, suc, ◌+◌, ◌<◌, ◌≤◌, ◌^◌, Bool, true, false, cond, List, [], ◌∷◌, length, refl, sym, ap, subst, ◌∙◌, arith, Option, Some, None, IsSome, is_some, ◌⊎◌, inl, inr, nat_le, nat_lt, if◌then◌else◌}
+use Rattle.std.proofs.Common.{◌≡◌, ◌≢◌, ℕ, ◌+◌, ◌<◌, ◌≤◌, true, false, refl, sym, ap, subst, ◌∙◌, arith, Option, Some, None, IsSome, is_some, ◌⊎◌, inl, inr}
 use Rattle.std.specs.Option.{option_and_then}
 use Rattle.std.specs.Ordering.{nat_cmp, eq_by_cmp, is_eq}
-use Rattle.std.specs.Cmp.{IsTotalOrder, nat_cmp_total, tied_itself}
+use Rattle.std.specs.Cmp.{nat_cmp_total, tied_itself}
 use Rattle.std.specs.FinMap as map
 use Rattle.std.specs.FinMap.{FinMap, IsAntisymmetric, nat_cmp-IsAntisymmetric}
-use Rattle.std.proofs.lemmas.Bool.Decides.{nat_tests}
 use Rattle.slab.specs.Slab.{Slab, get, slab_len, Updates}
 use Rattle.cip_base.specs.Triads.{triad_cmp}
 use Rattle.cip_base.specs.declared.triad.Triad.{Triad}
 use Rattle.cip_base.proofs.Triads.{triads_total, exact_triads}
 use Rattle.cip_hops.specs.declared.opening.Opening.{Opening}
-use Rattle.cip_hops.specs.declared.hop.Hop.{Hop}
 use Rattle.cip_hops.specs.declared.hop.Held.{Held}
-use Rattle.cip_hops.specs.declared.hop.Held.TheVariants.{Opening as IsOpening, Open}
+use Rattle.cip_hops.specs.declared.hop.Held.TheVariants.{Opening as IsOpening}
 use Rattle.cip_hops.specs.declared.table.HopTable.TheInside.{Inside}
 use Rattle.cip_hops.specs.Sides.{up_is_link, down_is_link, op_of, ids_drawn, own_ids}
-use Rattle.cip_hops.specs.Hops.{Hops, begun, without, triad_of, up_id_of, down_id_of, held_op_of, as_hop, IsOpFree, IsHeld, IsHop, IsWithin}
+use Rattle.cip_hops.specs.Hops.{Hops, begun, without, triad_of, up_id_of, down_id_of, held_op_of, IsOpFree, IsHeld, IsWithin}
 use Rattle.cip_hops.specs.Index.{Index, noted, forgot}
-use Rattle.cip_hops.specs.Kept.{HasName, Indexes, names, hops, IsKept}
-use Rattle.cip_hops.proofs.Views.{Finds, view, get-view, len-view, view-insert, view-remove, view-change}
-use Rattle.cip_hops.proofs.Counts.{one_if, tally-insert, tally-remove, tally-change, tally-le}
+use Rattle.cip_hops.specs.Kept.{Indexes, names, hops, IsKept}
+use Rattle.cip_hops.proofs.Views.{Finds, get-view, len-view, view-insert, view-remove, view-change}
+use Rattle.cip_hops.proofs.Counts.{one_if, tally-insert, tally-remove, tally-change}
 use Rattle.cip_hops.proofs.Indexing.{same_or_not, Others, index_add, index_drop, index_change, len-noted, len-forgot}
 use Rattle.cip_hops.proofs.Ids.{is_some-if, up_range, down_range, drawn_apart}
 
@@ -186,6 +184,7 @@ module _ (t : Inside) (h : IsKept t) (o : Opening) (key : ℕ) (s : Slab Held) (
           room_noted : (m : Index nat_cmp) (name : Option ℕ) → (noted m name key).room ≡ m.room
           room_noted m None = refl
           room_noted m (Some n) = refl
+
           len_more : map.len (map.insert t.triads.keys o.triad key) ≡ 1 + map.len t.triads.keys
           len_more = len-noted triad_cmp triads_total triads_apart (λ x. Some (triad_of x)) t.triads (Some o.triad) key (λ n e. let same : o.triad ≡ n = cc in ap (map.get t.triads.keys) (sym same) ∙ free)
 
@@ -267,8 +266,10 @@ module _ (t : Inside) (h : IsKept t) (triad : Triad) (key : ℕ) (x : Held) (s :
         room_forgot : (m : Index nat_cmp) (name : Option ℕ) → (forgot m name).room ≡ m.room
         room_forgot m None = refl
         room_forgot m (Some n) = refl
+
         less_left : (one a b c d : ℕ) → one + a ≡ b → b ≡ d → one + c ≡ d → a ≡ c
         less_left one a b c d e f g = omega arith
+
         len_less : 1 + map.len (map.remove t.triads.keys triad) ≡ map.len t.triads.keys
         len_less = len-forgot triad_cmp triads_total triads_apart (λ x. Some (triad_of x)) t.triads (Some triad) key (λ n e. let same : triad ≡ n = cc in ap (map.get t.triads.keys) (sym same) ∙ at)
 
@@ -372,6 +373,7 @@ within t h = record {
         let one : x ≡ y.held = let both : Some x ≡ Some y.held = sym found ∙ y.stands in cc in
         let name : triad_of y.held ≡ q = let both : Some (triad_of y.held) ≡ Some q = y.named in cc in
         ap triad_of one ∙ name
+
     one_place : (a b : Triad) (x y : Held) (s : Stands t a x) (r : Stands t b y) → s.key ≡ r.key → a ≡ b
     one_place a b x y s r same =
         let one : x ≡ y = let both : Some x ≡ Some y = sym s.found ∙ ap (get t.records) same ∙ r.found in cc in

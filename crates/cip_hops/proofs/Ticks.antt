@@ -19,13 +19,12 @@ use Rattle.cip_hops.specs.declared.hop.Hop.{Hop}
 use Rattle.cip_hops.specs.declared.hop.Held.{Held}
 use Rattle.cip_hops.specs.declared.hop.Held.TheVariants.{Opening as IsOpening, Open}
 use Rattle.cip_hops.specs.declared.table.HopTable.TheInside.{Inside}
-use Rattle.cip_hops.specs.Hops.{Hops, triad_of, as_hop, is_hop, is_hop_due, is_late, first_hop, first_due, due, rest, without, is_after, first_after}
-use Rattle.cip_hops.specs.Joined.{joined, passes}
+use Rattle.cip_hops.specs.Hops.{Hops, triad_of, as_hop, is_hop, is_hop_due, first_due, due, rest, without, is_after, first_after}
+use Rattle.cip_hops.specs.Joined.{passes}
 use Rattle.cip_hops.specs.Kept.{hops, IsKept}
 use Rattle.cip_hops.proofs.Joined.{joined_none, joined_first}
 use Rattle.cip_hops.proofs.Views.{get-at, entries-view, found-gives}
 use Rattle.cip_hops.proofs.Steps.{triads_apart, held_at}
-use Rattle.cip_hops.proofs.Named.{is_open}
 
 pub record FirstGoes {X : Type 0} (p : X → Bool) (es : List X) (x : X) : Type 0 where
   pub place : ℕ
@@ -155,9 +154,9 @@ module _ (t : Inside) (h : IsKept t) where
         ap (option_and_then (λ (e : Triad × Held). as_hop e.1))
         (ap (find is_next) (entries-view triad_cmp triads_total triads_apart t.triads.keys (get t.records))
         ∙ joined_none is_next es (get t.records) (no-found (passes is_next (get t.records)) es (λ k d lt.
-          before_or_not (passes is_next (get t.records) (get_or es k d) ≡ false) k (never_before k d lt) (λ above.
-            let len = length-drop from es in
-            shut_after k d lt above (ap (passes is_open_at (get t.records)) (sym (in_rest k d above)) ∙ all_miss (passes is_open_at (get t.records)) (drop from es) none (k - from) d (omega (arith, len)))))))
+        before_or_not (passes is_next (get t.records) (get_or es k d) ≡ false) k (never_before k d lt) (λ above.
+        let len = length-drop from es in
+        shut_after k d lt above (ap (passes is_open_at (get t.records)) (sym (in_rest k d above)) ∙ all_miss (passes is_open_at (get t.records)) (drop from es) none (k - from) d (omega (arith, len)))))))
 
     pub next_is : (at : ℕ) (d : Triad × ℕ) (x : Held) → position (passes is_open_at (get t.records)) (drop from es) ≡ Some at → get t.records (get_or es (from + at) d).1 ≡ Some x → first_after after (hops t) ≡ as_hop x
     next_is at d x e found =
@@ -167,8 +166,8 @@ module _ (t : Inside) (h : IsKept t) where
         let open_ : passes is_open_at (get t.records) (get_or es (from + at) d) ≡ true = ap (passes is_open_at (get t.records)) (sym (get_or-drop from es at d)) ∙ here.1 in
         let hit : passes is_next (get t.records) (get_or es (from + at) d) ≡ true = next_by (from + at) d true true lt (parts.1 (from + at) d (omega arith) lt) open_ in
         let miss : (k : ℕ) → k < from + at → passes is_next (get t.records) (get_or es k d) ≡ false = λ k below.
-          before_or_not (passes is_next (get t.records) (get_or es k d) ≡ false) k (never_before k d (omega arith)) (λ above.
-            shut_after k d (omega arith) above (ap (passes is_open_at (get t.records)) (sym (in_rest k d above)) ∙ here.2 (k - from) (omega arith))) in
+        before_or_not (passes is_next (get t.records) (get_or es k d) ≡ false) k (never_before k d (omega arith)) (λ above.
+        shut_after k d (omega arith) above (ap (passes is_open_at (get t.records)) (sym (in_rest k d above)) ∙ here.2 (k - from) (omega arith))) in
         ap (option_and_then (λ (e : Triad × Held). as_hop e.1))
         (ap (find is_next) (entries-view triad_cmp triads_total triads_apart t.triads.keys (get t.records))
         ∙ joined_first is_next es (get t.records) (get_or es (from + at) d) x (find-first (passes is_next (get t.records)) es (from + at) d lt hit miss) found)

@@ -1,14 +1,14 @@
 -- The map from names to records that an index and the records under its keys make.
-use Rattle.std.proofs.Common.{◌≡◌, ℕ, zero, suc, ◌+◌, ◌<◌, ◌≤◌, Bool, true, false, cond, not, T, List, [], ◌∷◌, length, get_or, refl, sym, ap, subst, ◌∙◌, arith, Option, Some, None, IsSome, find}
+use Rattle.std.proofs.Common.{◌≡◌, ℕ, zero, suc, ◌<◌, Bool, true, false, cond, List, [], ◌∷◌, length, get_or, refl, sym, ap, ◌∙◌, arith, Option, Some, None, IsSome, find}
 use Rattle.std.specs.Option.{option_and_then}
 use Rattle.std.specs.Ordering.{eq_by_cmp, is_eq}
 use Rattle.std.specs.declared.cmp.Ordering.{Ordering}
 use Rattle.std.specs.declared.cmp.Ordering.TheVariants.{Less, Equal, Greater}
-use Rattle.std.specs.Cmp.{IsTotalOrder, tied_itself}
+use Rattle.std.specs.Cmp.{IsTotalOrder}
 use Rattle.std.specs.FinMap as map
 use Rattle.std.specs.FinMap.{FinMap, IsAntisymmetric}
 use Rattle.std.specs.FinMap.Entries as entries
-use Rattle.cip_base.proofs.Sorted.{first, second, find-at}
+use Rattle.cip_base.proofs.Sorted.{find-at}
 use Rattle.cip_hops.specs.Joined.{put_before, joined, IsPresent}
 use Rattle.cip_hops.proofs.Joined.{sorted_joined, length_joined}
 
@@ -150,11 +150,11 @@ module _ {K X : Type 0} (R : K → K → Ordering) (o : IsTotalOrder R) (same : 
   find-only m p q x stands pass only =
       some_or (find p (map.entries m)) (find p (map.entries m) ≡ Some (q, x))
       (λ none.
-        let at = place_in q x (map.entries m) (sym (map.get-entries m q) ∙ stands) in
-        let miss : p (get_or (map.entries m) at.0 (q, x)) ≡ false = missed p (map.entries m) none at.0 (q, x) at.1 in
-        let hit : p (get_or (map.entries m) at.0 (q, x)) ≡ true = ap p at.2 ∙ pass in absurd (cc))
+      let at = place_in q x (map.entries m) (sym (map.get-entries m q) ∙ stands) in
+      let miss : p (get_or (map.entries m) at.0 (q, x)) ≡ false = missed p (map.entries m) none at.0 (q, x) at.1 in
+      let hit : p (get_or (map.entries m) at.0 (q, x)) ≡ true = ap p at.2 ∙ pass in absurd (cc))
       (λ e f.
-        let is = found-gives m p e f in
-        let name : e.0 ≡ q = only e.0 e.1 is.0 is.1 in
-        let value : e.1 ≡ x = let both : Some e.1 ≡ Some x = sym is.0 ∙ ap (map.get m) name ∙ stands in cc in
-        f ∙ (λ i. Some (name i, value i)))
+      let is = found-gives m p e f in
+      let name : e.0 ≡ q = only e.0 e.1 is.0 is.1 in
+      let value : e.1 ≡ x = let both : Some e.1 ≡ Some x = sym is.0 ∙ ap (map.get m) name ∙ stands in cc in
+      f ∙ (λ i. Some (name i, value i)))

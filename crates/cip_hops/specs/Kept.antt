@@ -4,11 +4,9 @@ use Rattle.std.specs.FinMap as map
 use Rattle.std.specs.declared.cmp.Ordering.{Ordering}
 use Rattle.slab.specs.Slab.{get, slab_len}
 use Rattle.cip_base.specs.Triads.{triad_cmp}
-use Rattle.cip_base.specs.declared.triad.Triad.{Triad}
 use Rattle.cip_hops.specs.declared.hop.Held.{Held}
 use Rattle.cip_hops.specs.declared.table.HopTable.TheInside.{Inside}
 use Rattle.cip_hops.specs.Hops.{Hops, triad_of, up_id_of, down_id_of, held_op_of, IsHeld}
-use Rattle.cip_hops.specs.Index.{Index}
 use Rattle.cip_hops.specs.Joined.{joined}
 
 -- the record under a key has this name

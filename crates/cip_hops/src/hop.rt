@@ -1,11 +1,9 @@
 //! A connection that is open.
 ghost use Rattle.std.specs.Prelude.{◌≡◌, ◌<◌, ◌^◌, false, nat_le};
 ghost use Rattle.std.specs.Option.{option_map_or};
-
 ghost use Rattle.cip_hops.specs.Hops.{watched as watched_until};
 
 use crate::opening::{Opening, OwnIds};
-
 use cip_clock::Clock;
 
 /// A side of a connection: up towards its originator, down towards its target.
@@ -102,7 +100,12 @@ impl Hop {
         let is_link = opening.down.is_link();
         Hop {
             their_id: is_link.then_some(their_id),
-            up_deadline: watched(&clock, opening.up.is_link(), opening.ot_rpi, opening.multiplier),
+            up_deadline: watched(
+                &clock,
+                opening.up.is_link(),
+                opening.ot_rpi,
+                opening.multiplier,
+            ),
             down_deadline: watched(&clock, is_link, opening.to_rpi, opening.multiplier),
             opening,
             ids,

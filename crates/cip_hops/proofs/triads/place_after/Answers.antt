@@ -1,4 +1,4 @@
-use Rattle.std.proofs.Common.{◌≡◌, ℕ, sym, ap, subst, rules, true, false, Option, Some}
+use Rattle.std.proofs.Common.{◌≡◌, ℕ, sym, ap, subst, rules, true, false, Option}
 use Rattle.std.specs.Option.{option_copied}
 use Rattle.std.specs.Ordering.{is_ge}
 use Rattle.std.specs.List.Sorted.{IsPartitionPoint}

@@ -1,12 +1,9 @@
-use Rattle.std.proofs.Common.{◌≡◌, ◌<◌, ◌≤◌, ℕ, get_or, List, [], ◌∷◌, Option, Some, None, IfSome, IsSome, sym, ap, subst, ◌∙◌, arith}
+use Rattle.std.proofs.Common.{ℕ, List, Some, sym, ap, subst, ◌∙◌}
 use Rattle.std.specs.FinMap as map
-use Rattle.std.specs.List as lists
 use Rattle.std.specs.Ordering.{nat_cmp}
 use Rattle.std.specs.Cmp.{nat_cmp_total}
-use Rattle.std.specs.FinMap.{nat_cmp-IsAntisymmetric}
-use Rattle.cip_base.proofs.Sorted.{from_sorted-none}
-use Rattle.cip_hops.specs.Index.{Index, IsRising, StandsAt, FitsAt, noted, forgot}
-use Rattle.cip_hops.proofs.Places.{found_at, not_found, rising_insert, map_insert, rising_remove, map_remove, len_of}
+use Rattle.cip_hops.specs.Index.{Index, StandsAt, FitsAt}
+use Rattle.cip_hops.proofs.Places.{found_at, not_found}
 use Rattle.cip_hops.proofs.index.NumberIndex.find.Goals as goal
 
 pub returns-in-Ok : goal.returns-in-Ok

@@ -1,11 +1,9 @@
-use Rattle.std.proofs.Common.{◌≡◌, ℕ, ◌+◌, ◌<◌, ◌≤◌, Option, Some, None, sym, ap, subst, ◌∙◌, arith}
-use Rattle.std.specs.FinMap as map
+use Rattle.std.proofs.Common.{◌≡◌, ℕ, ◌+◌, ◌≤◌, Option, Some, sym, ap, subst, ◌∙◌, arith}
 use Rattle.slab.specs.Slab.{Updates}
 use Rattle.cip_hops.specs.declared.opening.OwnIds.{OwnIds}
 use Rattle.cip_hops.specs.declared.hop.Held.TheVariants.{Opening as IsOpening}
-use Rattle.cip_hops.specs.declared.table.HopTable.TheInside.{Inside}
 use Rattle.cip_hops.specs.Sides.{op_of, ids_drawn}
-use Rattle.cip_hops.specs.Hops.{Hops, refusal, begun, IsOpFree}
+use Rattle.cip_hops.specs.Hops.{refusal, begun, IsOpFree}
 use Rattle.cip_hops.specs.Index.{noted}
 use Rattle.cip_hops.specs.Kept.{IsKept, hops}
 use Rattle.cip_hops.proofs.Answering.{accepted, if_some, ups_left, downs_left, ops_left}
@@ -66,15 +64,15 @@ invariant_of-self c =
     let ids = c.own_ids-ids.ensures in
     let key = c.insert_reserved-key.result in
     let made : after_begin c.self.inside c.self.invariant c.args.opening c.insert_reserved-key.result c.insert_reserved-key.new.self c.insert_reserved-key.ensures.was_vacant updates acc.0 ≡ record { room = t.room; next = t.next + c.from.result; triads = c.note.new.self; ups = c.note-in-None.new.self; downs = c.note-in-None-2.new.self; ops = c.note-in-None-3.new.self; records = c.insert_reserved-key.new.self } =
-        λ i. record {
-          room = t.room;
-          next = t.next + sym (c.from.ensures ∙ c.ids_drawn-in-None.ensures.value) i;
-          triads = sym c.note.ensures i;
-          ups = sym (c.note-in-None.ensures ∙ ap (λ (d : OwnIds). noted t.ups d.up key) ids) i;
-          downs = sym (c.note-in-None-2.ensures ∙ ap (λ (d : OwnIds). noted t.downs d.down key) ids) i;
-          ops = sym (c.note-in-None-3.ensures ∙ ap (λ (d : Option ℕ). noted t.ops d key) c.op-op.ensures) i;
-          records = c.insert_reserved-key.new.self;
-        } in
+    λ i. record {
+      room = t.room;
+      next = t.next + sym (c.from.ensures ∙ c.ids_drawn-in-None.ensures.value) i;
+      triads = sym c.note.ensures i;
+      ups = sym (c.note-in-None.ensures ∙ ap (λ (d : OwnIds). noted t.ups d.up key) ids) i;
+      downs = sym (c.note-in-None-2.ensures ∙ ap (λ (d : OwnIds). noted t.downs d.down key) ids) i;
+      ops = sym (c.note-in-None-3.ensures ∙ ap (λ (d : Option ℕ). noted t.ops d key) c.op-op.ensures) i;
+      records = c.insert_reserved-key.new.self;
+    } in
     let drawn : t.next + ids_drawn o ≤ 4294967296 = subst (λ n. t.next + n ≤ 4294967296) c.ids_drawn.ensures.value acc.2 in
     subst IsKept made (kept_begun c.self.inside c.self.invariant c.args.opening c.insert_reserved-key.result c.insert_reserved-key.new.self c.insert_reserved-key.ensures.was_vacant updates acc.0 free c.requires.multiplier acc.1 drawn c.insert_reserved-key.ensures.len c.insert_reserved-key.ensures.capacity)
 
@@ -87,13 +85,13 @@ returns-in-None-clause-after c =
     let ids = c.own_ids-ids.ensures in
     let key = c.insert_reserved-key.result in
     let made : after_begin c.self.inside c.self.invariant c.args.opening c.insert_reserved-key.result c.insert_reserved-key.new.self c.insert_reserved-key.ensures.was_vacant updates acc.0 ≡ record { room = t.room; next = t.next + c.from.result; triads = c.note.new.self; ups = c.note-in-None.new.self; downs = c.note-in-None-2.new.self; ops = c.note-in-None-3.new.self; records = c.insert_reserved-key.new.self } =
-        λ i. record {
-          room = t.room;
-          next = t.next + sym (c.from.ensures ∙ c.ids_drawn-in-None.ensures.value) i;
-          triads = sym c.note.ensures i;
-          ups = sym (c.note-in-None.ensures ∙ ap (λ (d : OwnIds). noted t.ups d.up key) ids) i;
-          downs = sym (c.note-in-None-2.ensures ∙ ap (λ (d : OwnIds). noted t.downs d.down key) ids) i;
-          ops = sym (c.note-in-None-3.ensures ∙ ap (λ (d : Option ℕ). noted t.ops d key) c.op-op.ensures) i;
-          records = c.insert_reserved-key.new.self;
-        } in
+    λ i. record {
+      room = t.room;
+      next = t.next + sym (c.from.ensures ∙ c.ids_drawn-in-None.ensures.value) i;
+      triads = sym c.note.ensures i;
+      ups = sym (c.note-in-None.ensures ∙ ap (λ (d : OwnIds). noted t.ups d.up key) ids) i;
+      downs = sym (c.note-in-None-2.ensures ∙ ap (λ (d : OwnIds). noted t.downs d.down key) ids) i;
+      ops = sym (c.note-in-None-3.ensures ∙ ap (λ (d : Option ℕ). noted t.ops d key) c.op-op.ensures) i;
+      records = c.insert_reserved-key.new.self;
+    } in
     ap hops (sym made) ∙ view_begun c.self.inside c.self.invariant c.args.opening c.insert_reserved-key.result c.insert_reserved-key.new.self c.insert_reserved-key.ensures.was_vacant updates acc.0 ∙ ap (λ p. begun p o) c.self.view_is

@@ -1,5 +1,4 @@
-use Rattle.std.proofs.Common.{◌≡◌, true, false, is_some, sym, ap, ◌∙◌, arith}
-use Rattle.std.specs.FinMap as map
+use Rattle.std.proofs.Common.{is_some, sym, ap, ◌∙◌, arith}
 use Rattle.cip_hops.specs.Hops.{refusal}
 use Rattle.cip_hops.proofs.Answering.{refusal_used, refusal_full, refusal_spent, refusal_none}
 use Rattle.cip_hops.proofs.table.HopTable.can_begin.Goals as goal

@@ -1,11 +1,11 @@
-use Rattle.std.proofs.Common.{◌≡◌, ℕ, List, get_or, Option, Some, None, true, false, sym, ap, subst, ◌∙◌}
+use Rattle.std.proofs.Common.{◌≡◌, ℕ, List, get_or, Some, None, true, false, sym, ap, subst, ◌∙◌}
 use Rattle.std.specs.List.{position}
 use Rattle.std.specs.FinMap as map
 use Rattle.slab.specs.Slab.{get}
 use Rattle.cip_base.specs.declared.triad.Triad.{Triad}
 use Rattle.cip_hops.specs.declared.hop.Held.{Held}
 use Rattle.cip_hops.specs.declared.hop.Held.TheVariants.{Opening as IsOpening, Open}
-use Rattle.cip_hops.specs.Hops.{Hops, is_hop_due, first_due, without, IsWithin}
+use Rattle.cip_hops.specs.Hops.{is_hop_due, first_due, without, IsWithin}
 use Rattle.cip_hops.specs.Joined.{passes}
 use Rattle.cip_hops.specs.Kept.{hops}
 use Rattle.cip_hops.proofs.Steps.{within}

@@ -1,4 +1,4 @@
-use Rattle.std.proofs.Common.{◌≡◌, ◌+◌, ℕ, List, get_or, drop, Option, Some, None, is_some, true, false, sym, ap, subst, ◌∙◌}
+use Rattle.std.proofs.Common.{◌≡◌, ◌+◌, ℕ, List, get_or, drop, Some, None, is_some, true, false, sym, ap, subst, ◌∙◌}
 use Rattle.std.specs.List.{position}
 use Rattle.std.specs.List.Sorted.{IsPartitionPoint}
 use Rattle.std.specs.Option.{option_copied}

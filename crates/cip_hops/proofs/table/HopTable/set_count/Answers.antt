@@ -1,14 +1,13 @@
-use Rattle.std.proofs.Common.{◌≡◌, ℕ, ◌<◌, Option, Some, None, IsTrue, not, sym, ap, subst, ◌∙◌}
+use Rattle.std.proofs.Common.{Some, IsTrue, not, sym, ap, subst, ◌∙◌}
 use Rattle.std.specs.FinMap as map
 use Rattle.slab.specs.Slab.{Updates}
 use Rattle.cip_hops.specs.declared.hop.Hop.{Hop}
-use Rattle.cip_hops.specs.declared.hop.Held.{Held}
 use Rattle.cip_hops.specs.declared.hop.Held.TheVariants.{Opening as IsOpening, Open}
 use Rattle.cip_hops.specs.Sides.{down_is_link}
-use Rattle.cip_hops.specs.Hops.{Hops, finished, changed, opened, touched, counted, is_link, with_hop}
+use Rattle.cip_hops.specs.Hops.{Hops, changed, counted}
 use Rattle.cip_hops.specs.Kept.{hops}
 use Rattle.cip_hops.proofs.Steps.{finds, held_none, held_at}
-use Rattle.cip_hops.proofs.Changes.{PutBack, kept_put, view_put, opened_sound, opened_alike, finished_is, changed_is, touched_alike, touched_sound, counted_alike, counted_sound, no_opening, not_open, no_hop, not_opening, its_hop}
+use Rattle.cip_hops.proofs.Changes.{PutBack, kept_put, view_put, changed_is, counted_alike, counted_sound, no_hop, not_opening, its_hop}
 use Rattle.cip_hops.proofs.table.HopTable.set_count.Goals as goal
 
 pub unreachable-requires : goal.unreachable-requires
