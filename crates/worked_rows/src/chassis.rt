@@ -220,7 +220,10 @@ pub fn is_request(output: &Output, port: u16, to: u8, number: u32, message: &[u8
             port: by,
             to: there,
             body: Body::Request { number: n, bytes },
-        } => by.get() == port && there.as_slice() == [to].as_slice() && *n == number && bytes.as_slice() == message,
+        } => by.get() == port
+            && there.as_slice() == [to].as_slice()
+            && *n == number
+            && bytes.as_slice() == message,
         _ => false,
     }
 }
@@ -232,7 +235,10 @@ pub fn is_reply(output: &Output, port: u16, to: u8, number: u32, message: &[u8])
             port: by,
             to: there,
             body: Body::Reply { number: n, bytes },
-        } => by.get() == port && there.as_slice() == [to].as_slice() && *n == number && bytes.as_slice() == message,
+        } => by.get() == port
+            && there.as_slice() == [to].as_slice()
+            && *n == number
+            && bytes.as_slice() == message,
         _ => false,
     }
 }

@@ -20,9 +20,15 @@ fn refused(alloc: Global, script: &[u8], line: usize, fault: ScriptFault) -> boo
 
 #[test]
 fn ticks_that_are_spent(rt: HostRuntime) -> Result<(), Fail> {
-    let (result, text) = written(rt.alloc(), b"send S 1 0x07 2 02050103 010220012401\r\nrun 10\r\n");
+    let (result, text) = written(
+        rt.alloc(),
+        b"send S 1 0x07 2 02050103 010220012401\r\nrun 10\r\n",
+    );
     assert_eq!(rt; result, Ok(()));
-    assert!(rt; text.as_slice() == b"0 S send 1\n  0 send 2 05 request 1 5202200624010701060001022001240101000103\n1 A frame 0.0\n  0 send 2 01 reply 1 D2000101040201\n2 S frame 1.0\n  0 done 1 D2000101040201\nquiet\n".as_slice());
+    assert!(rt;
+        text.as_slice()
+            == b"0 S send 1\n  0 send 2 05 request 1 5202200624010701060001022001240101000103\n1 A frame 0.0\n  0 send 2 01 reply 1 D2000101040201\n2 S frame 1.0\n  0 done 1 D2000101040201\nquiet\n".as_slice()
+    );
     Ok(())
 }
 
@@ -45,7 +51,14 @@ fn faulty_lines(rt: HostRuntime) -> Result<(), Fail> {
     assert!(rt; refused(alloc, b"run 1 2", 1, ScriptFault::Count));
     assert!(rt; refused(alloc, b"run +1", 1, ScriptFault::BadNumber));
     assert!(rt; refused(alloc, b"send C x 7 7 - -", 1, ScriptFault::NoModule));
-    assert!(rt; refused(alloc, b"send S 4294967296 7 7 - -", 1, ScriptFault::BadNumber));
+    assert!(rt;
+        refused(
+            alloc,
+            b"send S 4294967296 7 7 - -",
+            1,
+            ScriptFault::BadNumber
+        )
+    );
     assert!(rt; refused(alloc, b"send S 1 256 7 - -", 1, ScriptFault::BadNumber));
     assert!(rt; refused(alloc, b"send S 1 7 7 0 -", 1, ScriptFault::BadBytes));
     assert!(rt; refused(alloc, b"send S 1 7 7 0005 zz", 1, ScriptFault::BadPath));

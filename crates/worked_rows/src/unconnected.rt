@@ -9,11 +9,14 @@ const TO_A: [u8; 20] = [
     0x52, 0x02, 0x20, 0x06, 0x24, 0x01, 0x07, 0xF9, 0x06, 0x00, 0x01, 0x02, 0x20, 0x01, 0x24, 0x01,
     0x01, 0x00, 0x01, 0x03,
 ];
+
 const TO_B: [u8; 6] = [0x01, 0x02, 0x20, 0x01, 0x24, 0x01];
+
 const FROM_B: [u8; 21] = [
     0x81, 0x00, 0x00, 0x00, 0x01, 0x01, 0x0C, 0x00, 0x02, 0x00, 0x01, 0x03, 0x00, 0x00, 0x0B, 0x0B,
     0x00, 0x00, 0x02, 0x42, 0x52,
 ];
+
 const LATE: [u8; 7] = [0xD2, 0x00, 0x01, 0x01, 0x04, 0x02, 0x01];
 
 #[test]
@@ -22,7 +25,10 @@ fn the_identity_of_the_second_bridge(rt: HostRuntime) -> Result<(), Fail> {
     let mut s = plain(alloc, device_of(b'S'))?;
     let mut a = plain(alloc, device_of(b'A'))?;
     let mut b = plain(alloc, device_of(b'B'))?;
-    let sent = one(&mut s, send(alloc, 1, (0x07, 0xFA), &[0x02, 0x05, 0x01, 0x03], &TO_B)?)?;
+    let sent = one(
+        &mut s,
+        send(alloc, 1, (0x07, 0xFA), &[0x02, 0x05, 0x01, 0x03], &TO_B)?,
+    )?;
     assert!(rt; is_request(&sent, 2, 0x05, 1, &TO_A));
     let on = one(&mut a, request(alloc, 2, 0x01, 1, &TO_A)?)?;
     assert!(rt; is_request(&on, 1, 0x03, 1, &TO_B));
@@ -81,7 +87,10 @@ fn every_length_of_a_message(rt: HostRuntime) -> Result<(), Fail> {
 fn replies_that_answer_nothing(rt: HostRuntime) -> Result<(), Fail> {
     let alloc = rt.alloc();
     let mut s = plain(alloc, device_of(b'S'))?;
-    let _ = one(&mut s, send(alloc, 1, (0x07, 0xFA), &[0x02, 0x05, 0x01, 0x03], &TO_B)?)?;
+    let _ = one(
+        &mut s,
+        send(alloc, 1, (0x07, 0xFA), &[0x02, 0x05, 0x01, 0x03], &TO_B)?,
+    )?;
     let cut = one(&mut s, reply(alloc, 2, 0x05, 1, &FROM_B[..3])?)?;
     assert!(rt; cut == Output::Dropped(Dropped::Malformed));
     let other = one(&mut s, reply(alloc, 2, 0x05, 9, &FROM_B)?)?;
