@@ -5,7 +5,8 @@ ghost use Rattle.cip_target.specs.Identity.{is_printable};
 
 use cip_base::{Address, Bytes, NoMemory, PortNumber};
 use cip_module::{
-    Assemblies, LegalAddresses, ModuleConfig, ModuleKind, ModuleSettings, PlainModule, PortConfig, Ports,
+    Assemblies, LegalAddresses, ModuleConfig, ModuleKind, ModuleSettings, PlainModule, PortConfig,
+    Ports,
 };
 use cip_target::{Identity, IdentityFields};
 use std::alloc::Global;
@@ -22,10 +23,12 @@ const LAN: Link = Link {
     place: 0,
     last: 0xFE,
 };
+
 const RACK: Link = Link {
     place: 1,
     last: 0x10,
 };
+
 const SUB: Link = Link {
     place: 2,
     last: 0x3F,

@@ -11,5 +11,5 @@ mod text;
 mod world;
 
 pub use run::{ConsoleFault, run_fixed};
-pub use steps::{Numbered, ScriptFault, Step};
 pub use source::{Out, Plain, SCRIPT_LIMIT, Script, Sink, Source};
+pub use steps::{Numbered, ScriptFault, Step};

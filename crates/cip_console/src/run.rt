@@ -91,7 +91,12 @@ fn arrive(
     let name = name_text(alloc, names, module_)?;
     let next = world.next_entry();
     let head = format!(in alloc; "{next} {name} frame {entry}.{output}\n")?;
-    world.step(module_, Event::Frame { port, from, body }, head.as_str(), text)
+    world.step(
+        module_,
+        Event::Frame { port, from, body },
+        head.as_str(),
+        text,
+    )
 }
 
 // Writes the text that was gathered, once there is enough of it.

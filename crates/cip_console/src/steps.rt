@@ -24,7 +24,9 @@ pub enum Step {
         request: Bytes,
     },
     /// Deliver the waiting frame of least name, up to so many times.
-    Run { limit: usize },
+    Run {
+        limit: usize,
+    },
 }
 
 /// A step, and the line that it stands in, from 1.

@@ -16,9 +16,7 @@ ghost use Rattle.cip_message.specs.ReplyAt.{reply_at};
 /// Reading bytes as a request gives the one record that has its layout, or the one fault that fits.
 pub fn request_is_exact()
     ensures only { (b : List ℕ) (r : Request) → ReadsRequest b r → request_at b ≡ Ok r }
-    ensures verdict {
-        (b : List ℕ) → IsBytes b → MatchResult (request_at b) (ReadsRequest b) (IsRequestFault b)
-    }
+    ensures verdict { (b : List ℕ) → IsBytes b → MatchResult (request_at b) (ReadsRequest b) (IsRequestFault b) }
     ensures faults { (b : List ℕ) (f : NoRequest) → IsBytes b → IsRequestFault b f → request_at b ≡ Err f }
 {}
 
@@ -36,10 +34,8 @@ pub fn written_request_is_read()
 
 /// A request to the Connection Manager that is written is read back as the same record.
 pub fn written_manager_request_is_read()
-    ensures {
-        (service : ℕ) (d : List ℕ) → service < 128
-            → request_at (manager_bytes service d) ≡ Ok (manager_request service d)
-    }
+    ensures { (service : ℕ) (d : List ℕ) → service < 128
+        → request_at (manager_bytes service d) ≡ Ok (manager_request service d) }
 {}
 
 /// A reply that is written is read back as the same record.
@@ -50,9 +46,7 @@ pub fn written_reply_is_read()
 /// Reading the data of a failure gives the one record that has its layout, or the fault.
 pub fn failure_is_exact()
     ensures only { (b : List ℕ) (f : Failure) → ReadsFailure b f → failure_at b ≡ Ok f }
-    ensures verdict {
-        (b : List ℕ) → IsBytes b → MatchResult (failure_at b) (ReadsFailure b) (IsFailureFault b)
-    }
+    ensures verdict { (b : List ℕ) → IsBytes b → MatchResult (failure_at b) (ReadsFailure b) (IsFailureFault b) }
     ensures faults { (b : List ℕ) (f : NoData) → IsFailureFault b f → failure_at b ≡ Err f }
 {}
 

@@ -35,10 +35,8 @@ impl<'a> ReplyView<'a> {
 
     /// The general status, and the first word of additional status where there is one (Volume 1, Appendix B).
     pub fn status(self) -> Status
-        ensures {
-            result
-                ≡ record { general = self.entry.general; extra = slice_get (words_in self.entry.extra.now) 0 }
-        }
+        ensures { result
+            ≡ record { general = self.entry.general; extra = slice_get (words_in self.entry.extra.now) 0 } }
     {
         let extra = match self.extra {
             [_, _, ..] => Some(LittleEndian::read_u16(self.extra)),
@@ -143,10 +141,8 @@ pub fn write_reply(
     requires { 128 ≤ service }
     ensures ok { IfOk result (λ b. b ≡ reply_bytes (reply_with service status data_.now)) }
     ensures reads { IfOk result (λ b. ReadsReply b (reply_with service status data_.now)) }
-    ensures too_long {
-        IsErrOf result WriteFault.TooLong
-            ↔ (1400 < length (reply_bytes (reply_with service status data_.now)))
-    }
+    ensures too_long { IsErrOf result WriteFault.TooLong
+        ↔ (1400 < length (reply_bytes (reply_with service status data_.now))) }
 {
     let head = match status.extra {
         None => 4,

@@ -42,7 +42,7 @@ insert_is op (x ∷ xs) (suc i) le low high =
 pub rising_insert : (op : ℕ) (xs : List ℕ) (i : ℕ) → IsRising xs → i ≤ length xs → ((k : ℕ) → k < i → get_or xs k 0 < op) → ((k : ℕ) → i ≤ k → k < length xs → op < get_or xs k 0) → IsRising (insert xs i op)
 rising_insert op xs i rising le low high =
     λ a b ab lt. IsNonDecreasingBy-insert (λ n. n) xs i op (IsNonDecreasingBy-from_default (λ n. n) xs 0 rising) le
-        (λ k d lt. let h = low k lt in rw (get_or_default xs k d 0 (omega arith)) (omega arith)) (λ k d least most. let h = high k least most in rw (get_or_default xs k d 0 most) (omega arith)) a b 0 ab lt
+    (λ k d lt. let h = low k lt in rw (get_or_default xs k d 0 (omega arith)) (omega arith)) (λ k d least most. let h = high k least most in rw (get_or_default xs k d 0 most) (omega arith)) a b 0 ab lt
 
 pub either_rising : (b : Bool) (xs ys : List ℕ) → IsRising xs → IsRising ys → IsRising (cond b xs ys)
 either_rising true xs ys h k = h

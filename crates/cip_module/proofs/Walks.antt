@@ -52,7 +52,7 @@ pub goes : {X : Type 0} (after : Option ℕ) (es : List (ℕ × X)) (x : ℕ × 
 goes after [] x sorted e = absurd (cc)
 goes {X} after (y ∷ es) x sorted e =
     elim (is_after after y.0) as (λ b. is_after after y.0 ≡ b → cond b (Some y) (find (λ (e : ℕ × X). is_after after e.0) es) ≡ Some x
-        → cond b (y ∷ above after es) (above after es) ≡ x ∷ cond (ltb x.0 y.0) (y ∷ above (Some x.0) es) (above (Some x.0) es)) [
+    → cond b (y ∷ above after es) (above after es) ≡ x ∷ cond (ltb x.0 y.0) (y ∷ above (Some x.0) es) (above (Some x.0) es)) [
       | true ↦ λ t s. (let same : y ≡ x = cc in
           subst (λ (z : ℕ × X). (y ∷ above after es) ≡ z ∷ cond (ltb z.0 y.0) (y ∷ above (Some z.0) es) (above (Some z.0) es)) same
           (ap (λ (z : List (ℕ × X)). y ∷ z)

@@ -6,8 +6,8 @@ ghost use Rattle.cip_module.specs.Keys.{fits, minor_fits, key_mismatch, leading_
 use crate::config::ModuleSettings;
 use crate::rows::KeyPart;
 use cip_base::KeyFields;
-use cip_target::IdentityFields;
 use cip_segment::{PathView, SegmentView, split_first};
+use cip_target::IdentityFields;
 
 // A field of 0 fits anything.
 fn fits(asked: u16, own: u16) -> bool

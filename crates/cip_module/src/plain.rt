@@ -48,8 +48,11 @@ impl PlainModule {
     {
         let settings = config.settings();
         let clock = Clock::new(settings.clock);
-        let pendings =
-            PendingTable::with_room(alloc, settings.pending_room, settings.first_number)?;
+        let pendings = PendingTable::with_room(
+            alloc,
+            settings.pending_room,
+            settings.first_number,
+        )?;
         let identity = settings.identity.copy(alloc)?;
         let target = Target::new(alloc, identity, settings.assemblies.as_slice())?;
         Ok(PlainModule {

@@ -10,5 +10,9 @@ use cip_base::PortNumber;
 pub(crate) fn port_of(settings: &ModuleSettings, number: PortNumber) -> Option<&PortConfig>
     ensures { option_copied result ≡ port_of settings.now number }
 {
-    settings.ports.as_slice().iter().find(|port| port.number == number)
+    settings
+        .ports
+        .as_slice()
+        .iter()
+        .find(|port| port.number == number)
 }

@@ -25,6 +25,7 @@ use cip_unconnected::{UnconnectedFault, read_unconnected, route_words};
 
 // The Connection Manager's class, and its service Unconnected_Send (Volume 1, chapter 3).
 const CONNECTION_MANAGER: u16 = 6;
+
 const UNCONNECTED_SEND: u8 = 0x52;
 
 /// Whether a message came by a port that the module lacks, or is too long.
@@ -76,12 +77,7 @@ impl PlainModule {
     ghost use Rattle.cip_module.specs.Does.{Does};
     ghost use Rattle.cip_module.specs.Table.{request_effects};
 
-    fn refuse(
-        &self,
-        up: UpSide,
-        service: u8,
-        refusal: RequestRefusal,
-    ) -> Result<Output, NoMemory>
+    fn refuse(&self, up: UpSide, service: u8, refusal: RequestRefusal) -> Result<Output, NoMemory>
         requires { service < 128 }
         ensures { IfOk result (λ o. Does self.now.config (state_of_plain self.now) (request_effects self.now.config (state_of_plain self.now) up (Refuses service refusal)) (state_of_plain self.now) (o ∷ [])) }
     {
@@ -166,7 +162,11 @@ impl PlainModule {
             Ok(request) => self.object(up, request),
             Err(RequestFault::TooShort) => Ok(Output::Dropped(Dropped::Malformed)),
             Err(RequestFault::NotRequest) => Ok(Output::Dropped(Dropped::Malformed)),
-            Err(RequestFault::PathSize) => self.refuse(up, bytes[0], RequestRefusal::PathPastTheEnd),
+            Err(RequestFault::PathSize) => self.refuse(
+                up,
+                bytes[0],
+                RequestRefusal::PathPastTheEnd,
+            ),
             Err(RequestFault::Path(_)) => self.refuse(up, bytes[0], RequestRefusal::PathUnreadable),
         }
     }

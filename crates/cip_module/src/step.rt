@@ -38,12 +38,14 @@ impl PlainModule {
         ensures config { self.new.config ≡ self.old.config }
     {
         match event {
-            Event::Command(Command::Send {
-                op,
-                timing,
-                path,
-                request,
-            }) => {
+            Event::Command(
+                Command::Send {
+                    op,
+                    timing,
+                    path,
+                    request,
+                },
+            ) => {
                 let view = UnconnectedView {
                     timing: *timing,
                     request: request.as_slice(),

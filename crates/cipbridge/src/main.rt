@@ -16,9 +16,7 @@ fn status(fault: ConsoleFault) -> u8 {
 }
 
 fn main(rt: HostRuntime) -> ExitCode {
-    let mut reader = Plain {
-        inner: rt.reader(),
-    };
+    let mut reader = Plain { inner: rt.reader() };
     let mut writer = Out {
         inner: io::writer(&rt),
     };
