@@ -1,7 +1,7 @@
 //! The modules of the tests.
 use cip_base::{Address, Bytes, Ms, PortNumber, Timing};
 use cip_module::{
-    Assemblies, Body, Command, Event, LegalAddresses, Module, ModuleConfig, ModuleKind,
+    Assemblies, Body, Command, Dropped, Event, LegalAddresses, Module, ModuleConfig, ModuleKind,
     ModuleSettings, Output, PlainModule, PortConfig, Ports,
 };
 use cip_segment::read_path;
@@ -249,4 +249,42 @@ pub fn is_done(output: &Output, op: u32, message: &[u8]) -> bool {
         Output::Done { op: o, reply } => *o == op && reply.as_slice() == message,
         _ => false,
     }
+}
+
+/// What a module answers to a request from address 01 by port 2.
+pub fn asked(alloc: Global, module: &mut PlainModule, message: &[u8]) -> Result<Output, Fail> {
+    one(module, request(alloc, 2, 0x01, 1, message)?)
+}
+
+/// Whether a module answers this to a request from address 01 by port 2.
+pub fn answers(
+    alloc: Global,
+    module: &mut PlainModule,
+    message: &[u8],
+    expected: &[u8],
+) -> Result<bool, Fail> {
+    let output = asked(alloc, module, message)?;
+    Ok(is_reply(&output, 2, 0x01, 1, expected))
+}
+
+/// Whether a module drops a request from address 01 by port 2 as malformed.
+pub fn drops(alloc: Global, module: &mut PlainModule, message: &[u8]) -> Result<bool, Fail> {
+    let output = asked(alloc, module, message)?;
+    Ok(output == Output::Dropped(Dropped::Malformed))
+}
+
+/// What becomes of a reply from address 05 by port 2.
+pub fn replied(
+    alloc: Global,
+    module: &mut PlainModule,
+    from: u8,
+    number: u32,
+    message: &[u8],
+) -> Result<Output, Fail> {
+    one(module, reply(alloc, 2, from, number, message)?)
+}
+
+/// A module of the chassis.
+pub fn module_of(alloc: Global, name: u8) -> Result<PlainModule, Fail> {
+    plain(alloc, device_of(name))
 }

@@ -44,25 +44,30 @@ fn a_script_that_does_nothing(rt: HostRuntime) -> Result<(), Fail> {
 }
 
 #[test]
-fn faulty_lines(rt: HostRuntime) -> Result<(), Fail> {
+fn unknown_words_and_wrong_counts(rt: HostRuntime) -> Result<(), Fail> {
     let alloc = rt.alloc();
     assert!(rt; refused(alloc, b"open S", 1, ScriptFault::UnknownWord));
     assert!(rt; refused(alloc, b"\nrun", 2, ScriptFault::Count));
     assert!(rt; refused(alloc, b"run 1 2", 1, ScriptFault::Count));
+    assert!(rt; refused(alloc, b"# \xC3\xA9", 1, ScriptFault::NotText));
+    Ok(())
+}
+
+#[test]
+fn bad_numbers_and_names(rt: HostRuntime) -> Result<(), Fail> {
+    let alloc = rt.alloc();
     assert!(rt; refused(alloc, b"run +1", 1, ScriptFault::BadNumber));
     assert!(rt; refused(alloc, b"send C x 7 7 - -", 1, ScriptFault::NoModule));
-    assert!(rt;
-        refused(
-            alloc,
-            b"send S 4294967296 7 7 - -",
-            1,
-            ScriptFault::BadNumber
-        )
-    );
+    assert!(rt; refused(alloc, b"send S 4294967296 7 7 - -", 1, ScriptFault::BadNumber));
     assert!(rt; refused(alloc, b"send S 1 256 7 - -", 1, ScriptFault::BadNumber));
+    Ok(())
+}
+
+#[test]
+fn bad_bytes_and_paths(rt: HostRuntime) -> Result<(), Fail> {
+    let alloc = rt.alloc();
     assert!(rt; refused(alloc, b"send S 1 7 7 0 -", 1, ScriptFault::BadBytes));
     assert!(rt; refused(alloc, b"send S 1 7 7 0005 zz", 1, ScriptFault::BadPath));
     assert!(rt; refused(alloc, b"send S 1 7 7 - zz", 1, ScriptFault::BadBytes));
-    assert!(rt; refused(alloc, b"# \xC3\xA9", 1, ScriptFault::NotText));
     Ok(())
 }
