@@ -33,6 +33,20 @@ fn ticks_that_are_spent(rt: HostRuntime) -> Result<(), Fail> {
 }
 
 #[test]
+fn ticks_of_one_and_of_none(rt: HostRuntime) -> Result<(), Fail> {
+    let (result, text) = written(
+        rt.alloc(),
+        b"send S 1 0x07 1 02050103 010220012401\nsend S 2 0x07 0 02050103 010220012401\n",
+    );
+    assert_eq!(rt; result, Ok(()));
+    assert!(rt;
+        text.as_slice()
+            == b"0 S send 1\n  0 done 1 D2000101040202\n1 S send 2\n  0 done 2 D2000101040202\n".as_slice()
+    );
+    Ok(())
+}
+
+#[test]
 fn a_script_that_does_nothing(rt: HostRuntime) -> Result<(), Fail> {
     let (result, text) = written(rt.alloc(), b"");
     assert_eq!(rt; result, Ok(()));
@@ -58,7 +72,14 @@ fn bad_numbers_and_names(rt: HostRuntime) -> Result<(), Fail> {
     let alloc = rt.alloc();
     assert!(rt; refused(alloc, b"run +1", 1, ScriptFault::BadNumber));
     assert!(rt; refused(alloc, b"send C x 7 7 - -", 1, ScriptFault::NoModule));
-    assert!(rt; refused(alloc, b"send S 4294967296 7 7 - -", 1, ScriptFault::BadNumber));
+    assert!(rt;
+        refused(
+            alloc,
+            b"send S 4294967296 7 7 - -",
+            1,
+            ScriptFault::BadNumber
+        )
+    );
     assert!(rt; refused(alloc, b"send S 1 256 7 - -", 1, ScriptFault::BadNumber));
     Ok(())
 }

@@ -1,11 +1,5 @@
-//! Tests that cross crates: a scanner S, bridges A and B and an end E, whose frames are carried by hand, and the console.
+//! Tests that cross crates: the console over scripts in memory, with its modules, their tables and their codecs below it.
 #![tactic(auto)]
 
 #[cfg(test)]
-mod chassis;
-#[cfg(test)]
 mod console;
-#[cfg(test)]
-mod tables;
-#[cfg(test)]
-mod unconnected;
