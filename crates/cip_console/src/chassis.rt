@@ -1,21 +1,27 @@
 //! The fixed chassis: a scanner S, and the bridges A and B.
-ghost use Rattle.std.specs.Prelude.{◌<◌, ◌&&◌, nat_le, length, IsTrue};
-ghost use Rattle.std.specs.List.{list_all};
-ghost use Rattle.cip_target.specs.Identity.{is_printable};
+ghost use Rattle.std.specs.Prelude.{◌≡◌, ◌∷◌, ◌++◌, [], ◌<◌, IfOk, OnOk, IsTrue, map};
+ghost use Rattle.cip_module.specs.Config.{is_settings};
+ghost use Rattle.cip_module.specs.Plain.{config_of_plain, state_of_plain};
+ghost use Rattle.cip_module.specs.State.{opening};
+ghost use Rattle.cip_module.specs.declared.config.ModuleKind.{ModuleKind as Kind};
+ghost use Rattle.cip_target.specs.Identity.{is_identity};
+ghost use Rattle.cip_console.specs.Chassis.{port_on, plain_settings, scanner, first_bridge, second_bridge, fixed_configs};
+ghost use Rattle.cip_console.specs.Transcript.{names_of};
+ghost use Rattle.cip_console.specs.Worlds.{configs_in, states_in};
 
 use cip_base::{Address, Bytes, NoMemory, PortNumber};
 use cip_module::{
-    Assemblies, LegalAddresses, ModuleConfig, ModuleKind, ModuleSettings, PlainModule, PortConfig,
-    Ports,
+    Assemblies, LegalAddresses, Module, ModuleConfig, ModuleKind, ModuleSettings, PlainModule,
+    PortConfig, Ports,
 };
 use cip_target::{Identity, IdentityFields};
 use std::alloc::Global;
 
-/// A link, and the bytes that are addresses on it.
+/// A link, and the bytes from 0 that are addresses on it.
 #[derive(Clone, Copy)]
-struct Link {
-    place: usize,
-    last: u8,
+pub(crate) struct Link {
+    pub place: usize,
+    pub last: u8,
 }
 
 // The network of the scanner, the backplane, and a network below the second bridge.
@@ -36,6 +42,7 @@ const SUB: Link = Link {
 
 fn port(number: u16, link: Link, address: u8) -> PortConfig
     requires { 0 < number }
+    ensures { result ≡ port_on number link address }
 {
     let Some(number) = PortNumber::new(number) else {
         unreachable!()
@@ -65,12 +72,9 @@ struct Device<'a> {
     first_id: u32,
 }
 
-fn settings(
-    alloc: Global,
-    device: &Device<'_>,
-    ports: Vec<PortConfig>,
-) -> Result<ModuleSettings, NoMemory>
-    requires { IsTrue (nat_le (length device.now.product_name.now) 32 && list_all is_printable device.now.product_name.now) }
+fn identity(alloc: Global, device: &Device<'_>) -> Result<Identity, NoMemory>
+    requires { IsTrue (is_identity (plain_settings device.now.name.now device.now.device_type device.now.product device.now.serial device.now.product_name.now device.now.first_id []).identity) }
+    ensures { IfOk result (λ i. i ≡ (plain_settings device.now.name.now device.now.device_type device.now.product device.now.serial device.now.product_name.now device.now.first_id []).identity) }
 {
     let fields = IdentityFields {
         vendor: 0x0101,
@@ -85,10 +89,21 @@ fn settings(
     let Some(identity) = Identity::new(fields) else {
         unreachable!()
     };
+    Ok(identity)
+}
+
+fn settings(
+    alloc: Global,
+    device: &Device<'_>,
+    ports: Vec<PortConfig>,
+) -> Result<ModuleSettings, NoMemory>
+    requires { IsTrue (is_identity (plain_settings device.now.name.now device.now.device_type device.now.product device.now.serial device.now.product_name.now device.now.first_id []).identity) }
+    ensures { IfOk result (λ s. s ≡ plain_settings device.now.name.now device.now.device_type device.now.product device.now.serial device.now.product_name.now device.now.first_id ports.items) }
+{
     Ok(ModuleSettings {
         name: Bytes::of(Vec::from_slice(alloc, device.name)?),
         kind: ModuleKind::Plain,
-        identity,
+        identity: identity(alloc, device)?,
         clock: 0,
         first_id: device.first_id,
         first_number: 1,
@@ -99,7 +114,9 @@ fn settings(
     })
 }
 
-fn scanner(alloc: Global) -> Result<ModuleSettings, NoMemory> {
+fn scanner(alloc: Global) -> Result<ModuleSettings, NoMemory>
+    ensures { IfOk result (λ s. s ≡ scanner) }
+{
     let device = Device {
         name: b"S",
         device_type: 14,
@@ -113,7 +130,9 @@ fn scanner(alloc: Global) -> Result<ModuleSettings, NoMemory> {
     settings(alloc, &device, ports)
 }
 
-fn first_bridge(alloc: Global) -> Result<ModuleSettings, NoMemory> {
+fn first_bridge(alloc: Global) -> Result<ModuleSettings, NoMemory>
+    ensures { IfOk result (λ s. s ≡ first_bridge) }
+{
     let device = Device {
         name: b"A",
         device_type: 12,
@@ -128,7 +147,9 @@ fn first_bridge(alloc: Global) -> Result<ModuleSettings, NoMemory> {
     settings(alloc, &device, ports)
 }
 
-fn second_bridge(alloc: Global) -> Result<ModuleSettings, NoMemory> {
+fn second_bridge(alloc: Global) -> Result<ModuleSettings, NoMemory>
+    ensures { IfOk result (λ s. s ≡ second_bridge) }
+{
     let device = Device {
         name: b"B",
         device_type: 12,
@@ -143,26 +164,46 @@ fn second_bridge(alloc: Global) -> Result<ModuleSettings, NoMemory> {
     settings(alloc, &device, ports)
 }
 
-// A module of these settings, if they are legal for a plain one.
+// One more module, in the opening state of these settings.
 fn add(
     alloc: Global,
     modules: &mut Vec<PlainModule>,
     settings: ModuleSettings,
-) -> Result<(), NoMemory> {
-    if let ModuleKind::Plain = settings.kind {
-        if let Some(config) = ModuleConfig::new(settings) {
-            let module_ = PlainModule::new(alloc, config)?;
-            modules.push(module_)?;
-        }
-    }
+) -> Result<(), NoMemory>
+    requires legal { IsTrue (is_settings settings) }
+    requires plain { settings.kind ≡ ModuleKind.Plain }
+    ensures configs { OnOk result (configs_in modules.new.items ≡ configs_in modules.old.items ++ settings ∷ []) }
+    ensures states { OnOk result (states_in modules.new.items ≡ states_in modules.old.items ++ opening settings ∷ []) }
+{
+    let Some(config) = ModuleConfig::new(settings) else {
+        unreachable!()
+    };
+    let module_ = PlainModule::new(alloc, config)?;
+    modules.push(module_)?;
     Ok(())
 }
 
-/// The modules of the fixed chassis, in their order.
-pub(crate) fn fixed_chassis(alloc: Global) -> Result<Vec<PlainModule>, NoMemory> {
+/// The modules of the fixed chassis, in their order and their opening states.
+#[tactic(auto, unfolding(crate::specs::Chassis::fixed_configs))]
+pub(crate) fn fixed_chassis(alloc: Global) -> Result<Vec<PlainModule>, NoMemory>
+    ensures configs { IfOk result (λ v. configs_in v.items ≡ fixed_configs) }
+    ensures states { IfOk result (λ v. states_in v.items ≡ map opening fixed_configs) }
+{
     let mut modules = Vec::new(alloc);
     add(alloc, &mut modules, scanner(alloc)?)?;
     add(alloc, &mut modules, first_bridge(alloc)?)?;
     add(alloc, &mut modules, second_bridge(alloc)?)?;
     Ok(modules)
+}
+
+/// The names of modules.
+pub(crate) fn names_of(alloc: Global, modules: &[PlainModule]) -> Result<Vec<Bytes>, NoMemory>
+    ensures { IfOk result (λ v. v.items ≡ names_of (configs_in modules.now)) }
+{
+    let mut names = Vec::new(alloc);
+    for module_ in modules {
+        let name = module_.config().settings().name.as_slice();
+        names.push(Bytes::of(Vec::from_slice(alloc, name)?))?;
+    }
+    Ok(names)
 }

@@ -8,6 +8,7 @@ mod show;
 mod source;
 mod steps;
 mod text;
+mod waiting;
 mod world;
 
 pub use run::{ConsoleFault, run_fixed};

@@ -1,23 +1,32 @@
 //! The run of a script over the fixed chassis.
-ghost use Rattle.std.specs.Prelude.{◌≡◌, ◌⊎◌, ◌+◌, ◌<◌, ◌≤◌, length, IfSome, IfOk};
+ghost use Rattle.std.specs.Prelude.{◌≡◌, ◌≢◌, ◌⊎◌, ◌+◌, ◌<◌, ◌≤◌, ◌++◌, [], length, IfSome, OnOk, OnErr};
+ghost use Rattle.cip_console.specs.Chassis.{fixed_configs};
+ghost use Rattle.cip_console.specs.Known.{AppendsFront};
+ghost use Rattle.cip_console.specs.Outcome.{Wrote};
+ghost use Rattle.cip_console.specs.Playing.{Prints, Plays};
+ghost use Rattle.cip_console.specs.Runs.{Run as RunOf, opening_run};
 ghost use Rattle.cip_console.specs.Steps.{steps};
-ghost use Rattle.cip_console.specs.Outcome.{fixed_names, Tells, IsOfRun};
-ghost use Rattle.cip_console.specs.declared.run.ConsoleFault.TheVariants.{NoMemory as NoConsoleMemory};
+ghost use Rattle.cip_console.specs.Transcript.{deliveries, end_text, fed, ran, played, names_of};
+ghost use Rattle.cip_console.specs.Worlds.{StandsAt, configs_of, standing_of};
+ghost use Rattle.cip_console.specs.declared.run.ConsoleFault.TheVariants.{NoMemory as NoConsoleMemory, Write as NotWritten};
+ghost use Rattle.cip_console.specs.declared.run.PlayFault.TheVariants.{NoMemory as NoPlayMemory, Write as NotPlayed};
 
-use crate::chassis::fixed_chassis;
-use crate::show::hex_text;
-use crate::source::{ReadFault, SCRIPT_LIMIT, Sink, Source, read_script, write_text};
+use crate::chassis::{fixed_chassis, names_of};
+use crate::show::put;
+use crate::source::{ReadFault, SCRIPT_LIMIT, Sink, Source, WriteFault, read_script, write_text};
 use crate::steps::{Numbered, ScriptFault, Step, StepsFault, read_steps};
-use crate::world::{Waiting, World};
-use cip_base::{Bytes, NoMemory};
+use crate::world::{HappenFault, World};
+use cip_base::NoMemory;
 use cip_module::{Command, Event};
 use std::alloc::{AllocError, Global};
+use std::collections::VecDeque;
 use thiserror::Error;
 
 /// Why a script was not run to its end.
 #[derive(Clone, Copy, Debug, PartialEq, Eq, Error)]
 pub enum ConsoleFault {
-    /// The first faulty line, from 1, and its fault. Nothing was written.
+    /// The first faulty line, from 1, and its fault. Nothing was written, but for ClockFull: that comes in the run, after the
+    /// transcript so far.
     #[error("line {0}: {1}")]
     Script(usize, ScriptFault),
     /// The script can't be read, or has more than 1,048,576 bytes. Nothing was written.
@@ -47,110 +56,140 @@ impl From<NoMemory> for ConsoleFault {
     }
 }
 
-// How much text is gathered before it is written.
-const FULL: usize = 32_768;
+impl From<WriteFault> for ConsoleFault {
+    ghost from_gives = { λ _ fault. fault ≡ NotWritten };
 
-// The names of the fixed chassis.
-fn fixed_names(alloc: Global) -> Result<Vec<Bytes>, NoMemory>
-    ensures { IfOk result (λ v. v.items ≡ fixed_names) }
-{
-    let mut names = Vec::new(alloc);
-    names.push(Bytes::of(Vec::from_slice(alloc, b"S")?))?;
-    names.push(Bytes::of(Vec::from_slice(alloc, b"A")?))?;
-    names.push(Bytes::of(Vec::from_slice(alloc, b"B")?))?;
-    Ok(names)
-}
-
-// The name of a module, as text.
-fn name_text(alloc: Global, names: &[Bytes], module_: usize) -> Result<String, NoMemory> {
-    match names.get(module_) {
-        Some(name) => match std::str::from_utf8(name.as_slice()) {
-            Ok(text) => Ok(String::from_str(alloc, text)?),
-            Err(_) => hex_text(alloc, name.as_slice()),
-        },
-        None => Ok(String::new(alloc)),
+    fn from(_refused: WriteFault) -> ConsoleFault {
+        ConsoleFault::Write
     }
 }
 
-// The arrival of a waiting frame.
-fn arrive(
-    alloc: Global,
-    names: &[Bytes],
-    world: &mut World,
-    waiting: Waiting,
-    text: &mut Vec<u8>,
-) -> Result<(), NoMemory> {
-    let Waiting {
-        entry,
-        output,
-        module_,
-        port,
-        from,
-        body,
-    } = waiting;
-    let name = name_text(alloc, names, module_)?;
-    let next = world.next_entry();
-    let head = format!(in alloc; "{next} {name} frame {entry}.{output}\n")?;
-    world.step(
-        module_,
-        Event::Frame { port, from, body },
-        head.as_str(),
-        text,
-    )
+/// Why a step of a script was not played to its end.
+#[derive(Clone, Copy, Debug, PartialEq, Eq)]
+pub(crate) enum PlayFault {
+    /// The clock is full.
+    Full,
+    Write,
+    NoMemory,
 }
 
+impl From<NoMemory> for PlayFault {
+    ghost from_gives = { λ _ fault. fault ≡ NoPlayMemory };
+
+    fn from(_refused: NoMemory) -> PlayFault {
+        PlayFault::NoMemory
+    }
+}
+
+impl From<WriteFault> for PlayFault {
+    ghost from_gives = { λ _ fault. fault ≡ NotPlayed };
+
+    fn from(_refused: WriteFault) -> PlayFault {
+        PlayFault::Write
+    }
+}
+
+// How much text is gathered before it is written.
+const FULL: usize = 32_768;
+
 // Writes the text that was gathered, once there is enough of it.
-fn flush<W: Sink>(writer: &mut W, text: &mut Vec<u8>, least: usize) -> Result<(), ConsoleFault>
-    ensures write { result ≡ Err ConsoleFault.Write → W.has_refused writer.new }
-    ensures other { IsOfRun result }
+fn flush<W: Sink>(writer: &mut W, text: &mut Vec<u8>, least: usize) -> Result<(), WriteFault>
+    ensures ok { OnOk result (Prints (W.contents writer.old) (W.contents writer.new) text.old.items text.new.items []) }
+    ensures all { OnOk result (least ≡ 0 → text.new.items ≡ []) }
+    ensures err { OnErr result (AppendsFront (W.contents writer.old) (W.contents writer.new) text.old.items) }
+    ensures refused { OnErr result (W.has_refused writer.new) }
 {
     if text.len() >= least {
-        if write_text(writer, text.as_slice()).is_err() {
-            return Err(ConsoleFault::Write);
-        }
+        write_text(writer, text.as_slice())?;
         text.clear();
     }
     Ok(())
 }
 
-// Delivers the waiting frame of least name, up to so many times, and tells whether none is left.
-fn run_frames<W: Sink>(
-    alloc: Global,
-    names: &[Bytes],
+// Delivers the waiting frame of least name, up to so many times.
+fn deliver<W: Sink>(
     world: &mut World,
     limit: usize,
     writer: &mut W,
     text: &mut Vec<u8>,
-) -> Result<(), ConsoleFault>
-    ensures write { result ≡ Err ConsoleFault.Write → W.has_refused writer.new }
-    ensures other { IsOfRun result }
+) -> Result<(), PlayFault>
+    ensures configs { configs_of world.new ≡ configs_of world.old }
+    ensures plays { (run : RunOf) → StandsAt (configs_of world.old) (standing_of world.old) run
+        → Plays (configs_of world.old) (deliveries (configs_of world.old) limit run) (W.contents writer.old) (W.contents writer.new) text.old.items text.new.items (standing_of world.new) result }
+    ensures write { result ≡ Err PlayFault.Write → W.has_refused writer.new }
 {
-    for _ in 0..limit {
-        match world.take_first() {
-            Some(waiting) => arrive(alloc, names, world, waiting, text)?,
-            None => break,
+    for i in 0..limit {
+        let Some(frame) = world.take_first() else {
+            return Ok(());
+        };
+        match world.arrive(frame, text) {
+            Ok(()) => flush(writer, text, FULL)?,
+            Err(HappenFault::Full) => return Err(PlayFault::Full),
+            Err(HappenFault::NoMemory) => return Err(PlayFault::NoMemory),
         }
-        flush(writer, text, FULL)?;
     }
+    Ok(())
+}
+
+// Whether a frame is left that waits.
+fn put_end(world: &World, text: &mut Vec<u8>) -> Result<(), NoMemory>
+    ensures { OnOk result (text.new.items ≡ text.old.items ++ end_text world.now.waiting.items) }
+{
     if world.is_quiet() {
-        text.extend_from_slice(b"quiet\n")?;
+        put(text, b"quiet\n")
     } else {
-        text.extend_from_slice(b"limit\n")?;
+        put(text, b"limit\n")
     }
+}
+
+// The command Send.
+fn feed<W: Sink>(
+    world: &mut World,
+    place: usize,
+    command: Command,
+    writer: &mut W,
+    text: &mut Vec<u8>,
+) -> Result<(), PlayFault>
+    ensures configs { configs_of world.new ≡ configs_of world.old }
+    ensures plays { (run : RunOf) → StandsAt (configs_of world.old) (standing_of world.old) run
+        → Plays (configs_of world.old) (fed (configs_of world.old) run place command) (W.contents writer.old) (W.contents writer.new) text.old.items text.new.items (standing_of world.new) result }
+    ensures write { result ≡ Err PlayFault.Write → W.has_refused writer.new }
+{
+    match world.happen(place, None, Event::Command(command), text) {
+        Ok(()) => Ok(flush(writer, text, FULL)?),
+        Err(HappenFault::Full) => Err(PlayFault::Full),
+        Err(HappenFault::NoMemory) => Err(PlayFault::NoMemory),
+    }
+}
+
+// `run N`
+fn run<W: Sink>(
+    world: &mut World,
+    limit: usize,
+    writer: &mut W,
+    text: &mut Vec<u8>,
+) -> Result<(), PlayFault>
+    ensures configs { configs_of world.new ≡ configs_of world.old }
+    ensures plays { (run : RunOf) → StandsAt (configs_of world.old) (standing_of world.old) run
+        → Plays (configs_of world.old) (ran (configs_of world.old) limit run) (W.contents writer.old) (W.contents writer.new) text.old.items text.new.items (standing_of world.new) result }
+    ensures write { result ≡ Err PlayFault.Write → W.has_refused writer.new }
+{
+    deliver(world, limit, writer, text)?;
+    put_end(world, text)?;
     Ok(())
 }
 
 // One step of a script.
 fn play<W: Sink>(
-    alloc: Global,
-    names: &[Bytes],
     world: &mut World,
     step: Step,
     writer: &mut W,
     text: &mut Vec<u8>,
-) -> Result<(), ConsoleFault>
-    ensures write { result ≡ Err ConsoleFault.Write → W.has_refused writer.new }
-    ensures other { IsOfRun result }
+) -> Result<(), PlayFault>
+    ensures configs { configs_of world.new ≡ configs_of world.old }
+    ensures plays { (run : RunOf) → StandsAt (configs_of world.old) (standing_of world.old) run
+        → Plays (configs_of world.old) (played (configs_of world.old) run step) (W.contents writer.old) (W.contents writer.new) text.old.items text.new.items (standing_of world.new) result }
+    ensures write { result ≡ Err PlayFault.Write → W.has_refused writer.new }
 {
     match step {
         Step::Send {
@@ -160,37 +199,46 @@ fn play<W: Sink>(
             path,
             request,
         } => {
-            let name = name_text(alloc, names, module_.0)?;
-            let next = world.next_entry();
-            let head = format!(in alloc; "{next} {name} send {op}\n")?;
             let command = Command::Send {
                 op,
                 timing,
                 path,
                 request,
             };
-            world.step(module_.0, Event::Command(command), head.as_str(), text)?;
-            flush(writer, text, FULL)
+            feed(world, module_.0, command, writer, text)
         }
-        Step::Run { limit } => run_frames(alloc, names, world, limit, writer, text),
+        Step::Run { limit } => run(world, limit, writer, text),
     }
 }
 
+// All steps of a script, from the opening states on.
 fn run_steps<W: Sink>(
     alloc: Global,
-    names: &[Bytes],
     world: &mut World,
     steps: Vec<Numbered>,
     writer: &mut W,
 ) -> Result<(), ConsoleFault>
+    requires { StandsAt (configs_of world.old) (standing_of world.old) (opening_run (configs_of world.old)) }
+    ensures wrote { Wrote (configs_of world.old) (W.contents writer.old) (W.contents writer.new) (Ok steps.items) result }
+    ensures read { result ≢ Err ConsoleFault.Read }
     ensures write { result ≡ Err ConsoleFault.Write → W.has_refused writer.new }
-    ensures other { IsOfRun result }
 {
+    let mut left = VecDeque::from(steps);
     let mut text = Vec::new(alloc);
-    for numbered in steps {
-        play(alloc, names, world, numbered.step, writer, &mut text)?;
+    while let Some(numbered) = left.pop_front() {
+        let line = numbered.line;
+        match play(world, numbered.step, writer, &mut text) {
+            Ok(()) => {}
+            Err(PlayFault::Full) => {
+                flush(writer, &mut text, 0)?;
+                return Err(ConsoleFault::Script(line, ScriptFault::ClockFull));
+            }
+            Err(PlayFault::Write) => return Err(ConsoleFault::Write),
+            Err(PlayFault::NoMemory) => return Err(ConsoleFault::NoMemory),
+        }
     }
-    flush(writer, &mut text, 0)
+    flush(writer, &mut text, 0)?;
+    Ok(())
 }
 
 /// Reads a whole script of the words `send` and `run`, runs it over the fixed chassis of the scanner S and the bridges A
@@ -201,7 +249,7 @@ pub fn run_fixed<R: Source, W: Sink>(
     writer: &mut W,
 ) -> Result<(), ConsoleFault>
     // What was written, by the answer.
-    ensures wrote { IfSome (R.remaining reader.old) (λ script. Tells (W.contents writer.old) (W.contents writer.new) (steps fixed_names script) result) }
+    ensures wrote { IfSome (R.remaining reader.old) (λ script. Wrote fixed_configs (W.contents writer.old) (W.contents writer.new) (steps (names_of fixed_configs) script) result) }
     // Read only where the reader failed or has too much.
     ensures read { result ≡ Err ConsoleFault.Read → R.has_failed reader.new ⊎ IfSome (R.remaining reader.old) (λ bytes. SCRIPT_LIMIT < length bytes) }
     // Write only where the writer failed or took no byte.
@@ -214,11 +262,11 @@ pub fn run_fixed<R: Source, W: Sink>(
         Err(_) => return Err(ConsoleFault::Read),
     };
     let modules = fixed_chassis(alloc)?;
-    let names = fixed_names(alloc)?;
+    let names = names_of(alloc, modules.as_slice())?;
     match read_steps(alloc, names.as_slice(), script.as_slice()) {
         Ok(steps) => {
             let mut world = World::new(alloc, modules);
-            run_steps(alloc, names.as_slice(), &mut world, steps, writer)
+            run_steps(alloc, &mut world, steps, writer)
         }
         Err(StepsFault::Script(line, fault)) => Err(ConsoleFault::Script(line, fault)),
         Err(StepsFault::NoMemory) => Err(ConsoleFault::NoMemory),

@@ -60,6 +60,9 @@ pub enum ScriptFault {
     /// The line has a byte that is not ASCII.
     #[error("not text")]
     NotText,
+    /// The clock of a module is full. This comes in the run alone.
+    #[error("the clock is full")]
+    ClockFull,
 }
 
 /// Why a line gave no step.

@@ -1,63 +1,139 @@
 //! The modules of a chassis and the frames that wait between them.
-use crate::links::{node_at, origin};
-use crate::show::output_line;
-use cip_base::{Address, NoMemory, PortNumber};
-use cip_module::{Body, Event, Module, Output, PlainModule, StepFault};
+ghost use Rattle.std.specs.Prelude.{◌≡◌, ◌==◌, ◌++◌, [], length, option_to_list, OnOk, Some};
+ghost use Rattle.std.specs.Option.{option_copied};
+ghost use Rattle.cip_console.specs.Journal.{frame_of, sent, arrival};
+ghost use Rattle.cip_console.specs.Show.{name_of};
+ghost use Rattle.cip_console.specs.Transcript.{names_of};
+ghost use Rattle.cip_console.specs.Worlds.{configs_in, states_in, configs_of, standing_of, StepsAt, Happens};
+ghost use Rattle.cip_console.specs.declared.world.HappenFault.TheVariants.{NoMemory as NoHappenMemory};
+
+use crate::links::{node_at, own_port};
+use crate::show::{event_text, put_head, put_outputs};
+use crate::waiting::{FrameName, Waiting};
+use cip_base::NoMemory;
+use cip_module::{Event, Module, Output, PlainModule, StepFault};
 use std::alloc::Global;
 use std::collections::VecDeque;
 
-/// A frame that waits: its name, the module and the port that it goes to, and whom it is from.
-#[derive(Drop)]
-pub(crate) struct Waiting {
-    pub entry: u64,
-    pub output: usize,
-    pub module_: usize,
-    pub port: PortNumber,
-    pub from: Address,
-    pub body: Body,
+/// Why an event did not happen.
+#[derive(Clone, Copy, Debug, PartialEq, Eq)]
+pub(crate) enum HappenFault {
+    /// The clock is full, and nothing was done.
+    Full,
+    NoMemory,
 }
 
-/// The modules, the number of entries so far, and the frames that wait, in the order of their names.
+impl From<NoMemory> for HappenFault {
+    ghost from_gives = { λ _ fault. fault ≡ NoHappenMemory };
+
+    fn from(_refused: NoMemory) -> HappenFault {
+        HappenFault::NoMemory
+    }
+}
+
+/// The modules, the number of entries so far, and the frames that wait, in rising name.
 #[derive(Drop)]
 pub(crate) struct World {
-    alloc: Global,
-    modules: Vec<PlainModule>,
-    entries: u64,
-    waiting: VecDeque<Waiting>,
+    pub alloc: Global,
+    pub modules: Vec<PlainModule>,
+    pub entries: usize,
+    pub waiting: VecDeque<Waiting>,
 }
 
-// A frame that was sent, as it waits; None where no module has its address.
-fn as_waiting(
+// The frame that an output sends, as it waits; None where no module has its address.
+fn frame_of(
     modules: &[PlainModule],
     from: usize,
-    entry: u64,
-    output: usize,
-    sent: Output,
-) -> Option<Waiting> {
-    let Output::Send { port, to, body } = sent else {
+    name: FrameName,
+    output: Output,
+) -> Option<Waiting>
+    ensures { result ≡ frame_of (configs_in modules.now) from name output }
+{
+    let Output::Send { port, to, body } = output else {
         return None;
     };
-    let Some(sender) = modules.get(from) else {
-        return None;
-    };
-    let Some((link, own)) = origin(sender, port) else {
-        return None;
-    };
-    let Some(found) = node_at(modules, link, &to) else {
-        return None;
-    };
+    let own = own_port(modules, from, port)?;
+    let there = node_at(modules, own.link, &to)?;
     Some(Waiting {
-        entry,
-        output,
-        module_: found.module_,
-        port: found.port,
-        from: own,
+        name,
+        place: there.place,
+        port: there.port,
+        from: own.address.copy(),
         body,
     })
 }
 
+// The frame that an output sends waits from now on.
+fn queue_frame(
+    modules: &[PlainModule],
+    from: usize,
+    name: FrameName,
+    output: Output,
+    waiting: &mut VecDeque<Waiting>,
+) -> Result<(), NoMemory>
+    ensures { OnOk result (waiting.new.items ≡ waiting.old.items ++ option_to_list (frame_of (configs_in modules.now) from name output)) }
+{
+    if let Some(frame) = frame_of(modules, from, name, output) {
+        waiting.push_back(frame)?;
+    }
+    Ok(())
+}
+
+// What the outputs of an entry send waits from now on.
+fn queue_frames(
+    modules: &[PlainModule],
+    from: usize,
+    entry: usize,
+    outputs: Vec<Output>,
+    waiting: &mut VecDeque<Waiting>,
+) -> Result<(), NoMemory>
+    ensures { OnOk result (waiting.new.items ≡ waiting.old.items ++ sent (configs_in modules.now) from entry 0 outputs.items) }
+{
+    let count = outputs.len();
+    let mut left = VecDeque::from(outputs);
+    for output in 0..count {
+        if let Some(first) = left.pop_front() {
+            queue_frame(modules, from, FrameName { entry, output }, first, waiting)?;
+        }
+    }
+    Ok(())
+}
+
+// One step of the module at a place; the others stay as they are.
+fn step_at(
+    modules: &mut Vec<PlainModule>,
+    place: usize,
+    event: Event,
+) -> Result<Vec<Output>, HappenFault>
+    ensures configs { configs_in modules.new.items ≡ configs_in modules.old.items }
+    ensures steps { StepsAt (λ v. v.items) (configs_in modules.old.items) (states_in modules.old.items) place event (states_in modules.new.items) result }
+{
+    let Some(stepped) = modules.get_mut(place) else {
+        return Err(HappenFault::Full);
+    };
+    match stepped.step(event) {
+        Ok(outputs) => Ok(outputs),
+        Err(StepFault::NoMemory(_)) => Err(HappenFault::NoMemory),
+        Err(StepFault::ClockFull(_)) => Err(HappenFault::Full),
+    }
+}
+
+// The name of a module.
+fn name_in(modules: &[PlainModule], place: usize) -> &[u8]
+    ensures { result.now ≡ name_of (names_of (configs_in modules.now)) place }
+{
+    match modules.get(place) {
+        Some(module_) => module_.config().settings().name.as_slice(),
+        None => &[],
+    }
+}
+
 impl World {
-    pub(crate) fn new(alloc: Global, modules: Vec<PlainModule>) -> World {
+    pub(crate) fn new(alloc: Global, modules: Vec<PlainModule>) -> World
+        ensures modules { result.modules.items ≡ modules.items }
+        ensures entries { result.entries ≡ 0 }
+        ensures waiting { result.waiting.items ≡ [] }
+    {
         World {
             alloc,
             modules,
@@ -66,66 +142,65 @@ impl World {
         }
     }
 
-    /// The number of the next entry, from 0.
-    pub(crate) fn next_entry(&self) -> u64 {
-        self.entries
-    }
-
-    /// The modules.
-    pub(crate) fn modules(&self) -> &[PlainModule] {
-        self.modules.as_slice()
-    }
-
     /// The waiting frame of least name, which waits no longer.
-    pub(crate) fn take_first(&mut self) -> Option<Waiting> {
+    pub(crate) fn take_first(&mut self) -> Option<Waiting>
+        ensures first { self.old.waiting.items ≡ option_to_list result ++ self.new.waiting.items }
+        ensures modules { self.new.modules ≡ self.old.modules }
+        ensures entries { self.new.entries ≡ self.old.entries }
+    {
         self.waiting.pop_front()
     }
 
     /// Whether no frame waits.
-    pub(crate) fn is_quiet(&self) -> bool {
+    pub(crate) fn is_quiet(&self) -> bool
+        ensures { result ≡ (length self.now.waiting.items == 0) }
+    {
         self.waiting.is_empty()
     }
 
-    // The outputs of a step, one line each; what they send waits.
-    fn put_outputs(
+    /// An event at a module, and its entry behind a text. Where the clock is full nothing happens.
+    pub(crate) fn happen(
         &mut self,
-        from: usize,
-        outputs: Vec<Output>,
+        place: usize,
+        arrived: Option<FrameName>,
+        event: Event,
         text: &mut Vec<u8>,
-    ) -> Result<(), NoMemory> {
+    ) -> Result<(), HappenFault>
+        ensures configs { configs_of self.new ≡ configs_of self.old }
+        ensures happens { Happens (configs_of self.old) (standing_of self.old) place arrived event (standing_of self.new) text.old.items text.new.items result }
+    {
+        let what = event_text(self.alloc, arrived, &event)?;
+        let outputs = step_at(&mut self.modules, place, event)?;
         let entry = self.entries;
-        let mut output = 0usize;
-        for sent in outputs {
-            let line = output_line(self.alloc, output, &sent)?;
-            text.extend_from_slice(line.as_bytes())?;
-            if let Some(waiting) = as_waiting(&self.modules, from, entry, output, sent) {
-                self.waiting.push_back(waiting)?;
-            }
-            output = output.saturating_add(1);
-        }
+        let Some(next) = entry.checked_add(1) else {
+            return Err(HappenFault::NoMemory);
+        };
+        let name = name_in(self.modules.as_slice(), place);
+        put_head(self.alloc, entry, name, what.as_str(), text)?;
+        put_outputs(self.alloc, outputs.as_slice(), text)?;
+        queue_frames(
+            self.modules.as_slice(),
+            place,
+            entry,
+            outputs,
+            &mut self.waiting,
+        )?;
+        self.entries = next;
         Ok(())
     }
 
-    /// One event at a module: its line and those of its outputs. Nothing happens at a module that is not there.
-    pub(crate) fn step(
-        &mut self,
-        module_: usize,
-        event: Event,
-        head: &str,
-        text: &mut Vec<u8>,
-    ) -> Result<(), NoMemory> {
-        let Some(stepped) = self.modules.get_mut(module_) else {
-            return Ok(());
-        };
-        match stepped.step(event) {
-            Ok(outputs) => {
-                text.extend_from_slice(head.as_bytes())?;
-                self.put_outputs(module_, outputs, text)?;
-                self.entries = self.entries.saturating_add(1);
-                Ok(())
-            }
-            Err(StepFault::NoMemory(_)) => Err(NoMemory),
-            Err(StepFault::ClockFull(_)) => Ok(()),
-        }
+    /// The arrival of a frame that waited.
+    pub(crate) fn arrive(&mut self, frame: Waiting, text: &mut Vec<u8>) -> Result<(), HappenFault>
+        ensures configs { configs_of self.new ≡ configs_of self.old }
+        ensures happens { Happens (configs_of self.old) (standing_of self.old) frame.place (Some frame.name) (arrival frame) (standing_of self.new) text.old.items text.new.items result }
+    {
+        let Waiting {
+            name,
+            place,
+            port,
+            from,
+            body,
+        } = frame;
+        self.happen(place, Some(name), Event::Frame { port, from, body }, text)
     }
 }

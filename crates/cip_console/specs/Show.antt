@@ -1,0 +1,81 @@
+-- The lines of a transcript. Numbers are decimal; bytes are upper-case pairs, `-` for none.
+use Rattle.std.specs.Prelude.{ℕ, ◌+◌, ◌==◌, List, [], ◌∷◌, ◌++◌, length, codes, decimal, if◌then◌else◌, Option, Some, None, slice_index_or}
+use Rattle.hex.specs.Hex.{encode_upper}
+use Rattle.cip_module.specs.declared.event.Body.{Body}
+use Rattle.cip_module.specs.declared.event.Body.TheVariants.{Request, Reply}
+use Rattle.cip_module.specs.declared.event.Command.{Command}
+use Rattle.cip_module.specs.declared.event.Command.TheVariants as commands
+use Rattle.cip_module.specs.declared.event.Event.{Event}
+use Rattle.cip_module.specs.declared.event.Event.TheVariants as events
+use Rattle.cip_module.specs.declared.event.Output.{Output}
+use Rattle.cip_module.specs.declared.event.Output.TheVariants.{Send, Done, Refused, Dropped}
+use Rattle.cip_module.specs.declared.event.Refused.{Refused as Refusal}
+use Rattle.cip_module.specs.declared.event.Refused.TheVariants.{OpUsed, WrongSize, ReservedService}
+use Rattle.cip_module.specs.declared.event.Dropped.{Dropped as Drop}
+use Rattle.cip_module.specs.declared.event.Dropped.TheVariants.{Malformed, Late}
+use Rattle.cip_console.specs.declared.waiting.FrameName.{FrameName}
+use Rattle.cip_console.specs.Journal.{Entry, Happened, Lost}
+
+abbrev pub bytes_text : List ℕ → List ℕ
+bytes_text bytes = if length bytes == 0 then codes "-" else encode_upper bytes
+
+-- `request NUMBER BYTES` and the like
+abbrev pub body_text : Body → List ℕ
+body_text (Request number bytes) = codes "request " ++ decimal number ++ codes " " ++ bytes_text bytes
+body_text (Reply number bytes) = codes "reply " ++ decimal number ++ codes " " ++ bytes_text bytes
+
+abbrev pub refusal_text : Refusal → List ℕ
+refusal_text OpUsed = codes "OpUsed"
+refusal_text WrongSize = codes "WrongSize"
+refusal_text ReservedService = codes "ReservedService"
+
+abbrev pub drop_text : Drop → List ℕ
+drop_text Malformed = codes "Malformed"
+drop_text Late = codes "Late"
+
+abbrev pub output_text : Output → List ℕ
+output_text (Send port to body) = codes "send " ++ decimal port ++ codes " " ++ bytes_text to ++ codes " " ++ body_text body
+output_text (Done op reply) = codes "done " ++ decimal op ++ codes " " ++ bytes_text reply
+output_text (Refused fault) = codes "refused " ++ refusal_text fault
+output_text (Dropped reason) = codes "dropped " ++ drop_text reason
+
+-- the line of an output
+abbrev pub output_line : ℕ → Output → List ℕ
+output_line i output = codes "  " ++ decimal i ++ codes " " ++ output_text output ++ codes "\n"
+
+-- the lines of outputs, the first of which has this number
+abbrev pub outputs_text : ℕ → List Output → List ℕ
+outputs_text i [] = []
+outputs_text i (output ∷ outputs) = output_line i output ++ outputs_text (i + 1) outputs
+
+abbrev pub frame_text : FrameName → List ℕ
+frame_text f = decimal f.entry ++ codes "." ++ decimal f.output
+
+abbrev pub command_text : Command → List ℕ
+command_text (commands.Send op timing path asked) = codes "send " ++ decimal op
+
+abbrev pub arrived_text : FrameName → List ℕ
+arrived_text f = codes "frame " ++ frame_text f
+
+-- a command, or a tick; a frame that arrives has a name
+abbrev pub fed_text : Event → List ℕ
+fed_text (events.Command command) = command_text command
+fed_text (events.Tick ms) = codes "tick " ++ decimal ms
+fed_text (events.Frame port from body) = codes "frame"
+
+abbrev pub event_text : Option FrameName → Event → List ℕ
+event_text (Some f) event = arrived_text f
+event_text None event = fed_text event
+
+-- the name of module m
+abbrev pub name_of : List (List ℕ) → ℕ → List ℕ
+name_of names m = slice_index_or names m []
+
+-- the line of entry k, before those of its outputs
+abbrev pub head_text : ℕ → List ℕ → List ℕ → List ℕ
+head_text k name what = decimal k ++ codes " " ++ name ++ codes " " ++ what ++ codes "\n"
+
+-- entry k: its own line, and one for each output; the names are those of the modules
+abbrev pub entry_text : List (List ℕ) → ℕ → Entry → List ℕ
+entry_text names k (Happened m arrived event outputs) = head_text k (name_of names m) (event_text arrived event) ++ outputs_text 0 outputs
+entry_text names k (Lost frame) = decimal k ++ codes " lost " ++ frame_text frame ++ codes "\n"
