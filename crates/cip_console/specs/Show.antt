@@ -1,5 +1,5 @@
 -- The lines of a transcript. Numbers are decimal; bytes are upper-case pairs, `-` for none.
-use Rattle.std.specs.Prelude.{ℕ, ◌+◌, ◌==◌, List, [], ◌∷◌, ◌++◌, length, codes, decimal, if◌then◌else◌, Option, Some, None, slice_index_or}
+use Rattle.std.specs.Prelude.{ℕ, ◌+◌, ◌==◌, List, [], ◌∷◌, ◌++◌, length, codes, decimal, if◌then◌else◌, Option, Some, None, unwrap_or, slice_get}
 use Rattle.hex.specs.Hex.{encode_upper}
 use Rattle.cip_module.specs.declared.event.Body.{Body}
 use Rattle.cip_module.specs.declared.event.Body.TheVariants.{Request, Reply}
@@ -69,7 +69,7 @@ event_text None event = fed_text event
 
 -- the name of module m
 abbrev pub name_of : List (List ℕ) → ℕ → List ℕ
-name_of names m = slice_index_or names m []
+name_of names m = unwrap_or (slice_get names m) []
 
 -- the line of entry k, before those of its outputs
 abbrev pub head_text : ℕ → List ℕ → List ℕ → List ℕ

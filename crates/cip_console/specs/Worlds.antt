@@ -6,7 +6,7 @@ use Rattle.cip_module.specs.declared.event.Output.{Output}
 use Rattle.cip_module.specs.declared.plain.PlainModule.{PlainModule}
 use Rattle.cip_module.specs.Plain.{config_of_plain, state_of_plain}
 use Rattle.cip_module.specs.State.{State}
-use Rattle.cip_module.specs.Table.{Stepped}
+use Rattle.cip_module.specs.Table.{Stepped, table_step}
 use Rattle.cip_console.specs.declared.waiting.FrameName.{FrameName}
 use Rattle.cip_console.specs.declared.waiting.Waiting.{Waiting}
 use Rattle.cip_console.specs.declared.world.World.{World}
@@ -47,6 +47,12 @@ pub record IsStepAt (configs : List ModuleSettings) (old : List State) (m : ℕ)
   pub state : State
   pub step : step_at configs old m event ≡ Some (record { state = state; outputs = outputs })
   pub changed : new ≡ slice_set old m state
+
+-- a module steps as the routing table says
+abbrev pub StepsAs : {V : Type 0} → (V → List Output) → ModuleSettings → State → Event → State → Result V HappenFault → Type 0
+StepsAs view config old event new (Ok outputs) = table_step config old event ≡ Some (record { state = new; outputs = view outputs })
+StepsAs view config old event new (Err Full) = table_step config old event ≡ None
+StepsAs view config old event new (Err NoMemory) = Unit {0}
 
 abbrev pub StepsAt : {V : Type 0} → (V → List Output) → List ModuleSettings → List State → ℕ → Event → List State → Result V HappenFault → Type 0
 StepsAt view configs old m event new (Ok outputs) = IsStepAt configs old m event new (view outputs)

@@ -1,10 +1,11 @@
 //! The modules of a chassis and the frames that wait between them.
 ghost use Rattle.std.specs.Prelude.{◌≡◌, ◌==◌, ◌++◌, [], length, option_to_list, OnOk, Some};
 ghost use Rattle.std.specs.Option.{option_copied};
+ghost use Rattle.cip_module.specs.Plain.{config_of_plain, state_of_plain};
 ghost use Rattle.cip_console.specs.Journal.{frame_of, sent, arrival};
 ghost use Rattle.cip_console.specs.Show.{name_of};
 ghost use Rattle.cip_console.specs.Transcript.{names_of};
-ghost use Rattle.cip_console.specs.Worlds.{configs_in, states_in, configs_of, standing_of, StepsAt, Happens};
+ghost use Rattle.cip_console.specs.Worlds.{configs_in, states_in, configs_of, standing_of, StepsAs, StepsAt, Happens};
 ghost use Rattle.cip_console.specs.declared.world.HappenFault.TheVariants.{NoMemory as NoHappenMemory};
 
 use crate::links::{node_at, own_port};
@@ -99,6 +100,18 @@ fn queue_frames(
     Ok(())
 }
 
+// One step of a module.
+fn step_of(stepped: &mut PlainModule, event: Event) -> Result<Vec<Output>, HappenFault>
+    ensures config { config_of_plain stepped.new ≡ config_of_plain stepped.old }
+    ensures steps { StepsAs (λ v. v.items) (config_of_plain stepped.old) (state_of_plain stepped.old) event (state_of_plain stepped.new) result }
+{
+    match stepped.step(event) {
+        Ok(outputs) => Ok(outputs),
+        Err(StepFault::NoMemory(_)) => Err(HappenFault::NoMemory),
+        Err(StepFault::ClockFull(_)) => Err(HappenFault::Full),
+    }
+}
+
 // One step of the module at a place; the others stay as they are.
 fn step_at(
     modules: &mut Vec<PlainModule>,
@@ -111,11 +124,7 @@ fn step_at(
     let Some(stepped) = modules.get_mut(place) else {
         return Err(HappenFault::Full);
     };
-    match stepped.step(event) {
-        Ok(outputs) => Ok(outputs),
-        Err(StepFault::NoMemory(_)) => Err(HappenFault::NoMemory),
-        Err(StepFault::ClockFull(_)) => Err(HappenFault::Full),
-    }
+    step_of(stepped, event)
 }
 
 // The name of a module.
