@@ -35,6 +35,10 @@ configs_of world = configs_in world.modules.items
 abbrev pub standing_of : World → Standing
 standing_of world = record { states = states_in world.modules.items; entries = world.entries; waiting = world.waiting.items }
 
+-- the same, with these frames that wait
+abbrev pub without : Standing → List Waiting → Standing
+without s others = record { states = s.states; entries = s.entries; waiting = others }
+
 -- this is what the code keeps of that run
 pub record StandsAt (configs : List ModuleSettings) (standing : Standing) (run : Run) : Type 0 where
   pub states : standing.states ≡ run.states

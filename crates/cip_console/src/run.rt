@@ -8,8 +8,7 @@ ghost use Rattle.cip_console.specs.Runs.{Run as RunOf, opening_run};
 ghost use Rattle.cip_console.specs.Steps.{steps};
 ghost use Rattle.cip_console.specs.Transcript.{deliveries, end_text, fed, ran, played, names_of};
 ghost use Rattle.cip_console.specs.Worlds.{StandsAt, configs_of, standing_of};
-ghost use Rattle.cip_console.specs.declared.run.ConsoleFault.TheVariants.{NoMemory as NoConsoleMemory, Write as NotWritten};
-ghost use Rattle.cip_console.specs.declared.run.PlayFault.TheVariants.{NoMemory as NoPlayMemory, Write as NotPlayed};
+ghost use Rattle.cip_console.specs.declared.run.ConsoleFault.TheVariants.{NoMemory as NoConsoleMemory};
 
 use crate::chassis::{fixed_chassis, names_of};
 use crate::show::put;
@@ -56,14 +55,6 @@ impl From<NoMemory> for ConsoleFault {
     }
 }
 
-impl From<WriteFault> for ConsoleFault {
-    ghost from_gives = { λ _ fault. fault ≡ NotWritten };
-
-    fn from(_refused: WriteFault) -> ConsoleFault {
-        ConsoleFault::Write
-    }
-}
-
 /// Why a step of a script was not played to its end.
 #[derive(Clone, Copy, Debug, PartialEq, Eq)]
 pub(crate) enum PlayFault {
@@ -71,22 +62,6 @@ pub(crate) enum PlayFault {
     Full,
     Write,
     NoMemory,
-}
-
-impl From<NoMemory> for PlayFault {
-    ghost from_gives = { λ _ fault. fault ≡ NoPlayMemory };
-
-    fn from(_refused: NoMemory) -> PlayFault {
-        PlayFault::NoMemory
-    }
-}
-
-impl From<WriteFault> for PlayFault {
-    ghost from_gives = { λ _ fault. fault ≡ NotPlayed };
-
-    fn from(_refused: WriteFault) -> PlayFault {
-        PlayFault::Write
-    }
 }
 
 // How much text is gathered before it is written.
@@ -123,7 +98,10 @@ fn deliver<W: Sink>(
             return Ok(());
         };
         match world.arrive(frame, text) {
-            Ok(()) => flush(writer, text, FULL)?,
+            Ok(()) => match flush(writer, text, FULL) {
+                Ok(()) => {}
+                Err(WriteFault) => return Err(PlayFault::Write),
+            },
             Err(HappenFault::Full) => return Err(PlayFault::Full),
             Err(HappenFault::NoMemory) => return Err(PlayFault::NoMemory),
         }
@@ -156,7 +134,10 @@ fn feed<W: Sink>(
     ensures write { result ≡ Err PlayFault.Write → W.has_refused writer.new }
 {
     match world.happen(place, None, Event::Command(command), text) {
-        Ok(()) => Ok(flush(writer, text, FULL)?),
+        Ok(()) => match flush(writer, text, FULL) {
+            Ok(()) => Ok(()),
+            Err(WriteFault) => Err(PlayFault::Write),
+        },
         Err(HappenFault::Full) => Err(PlayFault::Full),
         Err(HappenFault::NoMemory) => Err(PlayFault::NoMemory),
     }
@@ -174,9 +155,13 @@ fn run<W: Sink>(
         → Plays (configs_of world.old) (ran (configs_of world.old) limit run) (W.contents writer.old) (W.contents writer.new) text.old.items text.new.items (standing_of world.new) result }
     ensures write { result ≡ Err PlayFault.Write → W.has_refused writer.new }
 {
-    deliver(world, limit, writer, text)?;
-    put_end(world, text)?;
-    Ok(())
+    match deliver(world, limit, writer, text) {
+        Ok(()) => match put_end(world, text) {
+            Ok(()) => Ok(()),
+            Err(NoMemory) => Err(PlayFault::NoMemory),
+        },
+        Err(fault) => Err(fault),
+    }
 }
 
 // One step of a script.
@@ -230,15 +215,19 @@ fn run_steps<W: Sink>(
         match play(world, numbered.step, writer, &mut text) {
             Ok(()) => {}
             Err(PlayFault::Full) => {
-                flush(writer, &mut text, 0)?;
-                return Err(ConsoleFault::Script(line, ScriptFault::ClockFull));
+                return match flush(writer, &mut text, 0) {
+                    Ok(()) => Err(ConsoleFault::Script(line, ScriptFault::ClockFull)),
+                    Err(WriteFault) => Err(ConsoleFault::Write),
+                };
             }
             Err(PlayFault::Write) => return Err(ConsoleFault::Write),
             Err(PlayFault::NoMemory) => return Err(ConsoleFault::NoMemory),
         }
     }
-    flush(writer, &mut text, 0)?;
-    Ok(())
+    match flush(writer, &mut text, 0) {
+        Ok(()) => Ok(()),
+        Err(WriteFault) => Err(ConsoleFault::Write),
+    }
 }
 
 /// Reads a whole script of the words `send` and `run`, runs it over the fixed chassis of the scanner S and the bridges A

@@ -1,11 +1,11 @@
 //! The modules of a chassis and the frames that wait between them.
-ghost use Rattle.std.specs.Prelude.{◌≡◌, ◌==◌, ◌++◌, [], length, option_to_list, OnOk, Some};
+ghost use Rattle.std.specs.Prelude.{◌≡◌, ◌==◌, ◌++◌, [], length, option_to_list, OnOk, IfNone, Some};
 ghost use Rattle.std.specs.Option.{option_copied};
 ghost use Rattle.cip_module.specs.Plain.{config_of_plain, state_of_plain};
 ghost use Rattle.cip_console.specs.Journal.{frame_of, sent, arrival};
 ghost use Rattle.cip_console.specs.Show.{name_of};
 ghost use Rattle.cip_console.specs.Transcript.{names_of};
-ghost use Rattle.cip_console.specs.Worlds.{configs_in, states_in, configs_of, standing_of, StepsAs, StepsAt, Happens};
+ghost use Rattle.cip_console.specs.Worlds.{configs_in, states_in, configs_of, standing_of, without, StepsAs, StepsAt, Happens};
 ghost use Rattle.cip_console.specs.declared.world.HappenFault.TheVariants.{NoMemory as NoHappenMemory};
 
 use crate::links::{node_at, own_port};
@@ -154,8 +154,9 @@ impl World {
     /// The waiting frame of least name, which waits no longer.
     pub(crate) fn take_first(&mut self) -> Option<Waiting>
         ensures first { self.old.waiting.items ≡ option_to_list result ++ self.new.waiting.items }
-        ensures modules { self.new.modules ≡ self.old.modules }
-        ensures entries { self.new.entries ≡ self.old.entries }
+        ensures none { IfNone result (self.old.waiting.items ≡ []) }
+        ensures rest { standing_of self.new ≡ without (standing_of self.old) self.new.waiting.items }
+        ensures configs { configs_of self.new ≡ configs_of self.old }
     {
         self.waiting.pop_front()
     }

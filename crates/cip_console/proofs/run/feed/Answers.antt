@@ -1,0 +1,20 @@
+use Rattle.cip_console.specs.Worlds.{configs_of, standing_of}
+use Rattle.cip_console.proofs.Playing.{fed_played, fed_unwritten, fed_stopped}
+use Rattle.cip_console.proofs.Prints.{front_nothing}
+use Rattle.cip_console.proofs.run.feed.Goals as goal
+
+pub returns-in-Ok-flush-clause-plays : goal.returns-in-Ok-flush-clause-plays
+returns-in-Ok-flush-clause-plays g c = λ run stands.
+    fed_played _ run c.args.place c.args.command _ _ _ _ _ (standing_of c.args.world.now) _ stands c.in-Ok.ensures.happens c.in-Ok-flush.ensures.ok
+
+pub returns-in-Err-clause-plays : goal.returns-in-Err-clause-plays
+returns-in-Err-clause-plays g c = λ run stands.
+    fed_unwritten _ run c.args.place c.args.command _ _ _ _ (standing_of c.args.world.now) _ stands c.in-Ok.ensures.happens c.in-Err.ensures.err
+
+pub returns-in-Err-Full-clause-plays : goal.returns-in-Err-Full-clause-plays
+returns-in-Err-Full-clause-plays g c = λ run stands.
+    let h = rw c.in-Err-Full.field-0-is at c.in-Err-Full.ensures.happens in
+    fed_stopped _ run c.args.place c.args.command _ _ _ (standing_of c.args.world.now) stands h.0 h.1
+
+pub returns-in-Err-NoMemory-clause-plays : goal.returns-in-Err-NoMemory-clause-plays
+returns-in-Err-NoMemory-clause-plays g c = λ run stands. front_nothing _ _
