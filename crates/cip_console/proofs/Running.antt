@@ -1,10 +1,12 @@
 -- The steps of a script under way.
-use Rattle.std.proofs.Common.{◌≡◌, ℕ, List, [], ◌∷◌, ◌++◌, Option, Some, None, refl, sym, ap, ◌∙◌, subst, append_assoc, append-nil}
+use Rattle.std.proofs.Common.{◌≡◌, ℕ, suc, length, drop, arith, List, [], ◌∷◌, ◌++◌, Option, Some, None, Result, refl, sym, ap, ◌∙◌, subst, append_assoc, append-nil}
 use Rattle.std.specs.Io.KnownBytes.{Appends}
 use Rattle.cip_module.specs.declared.config.ModuleSettings.{ModuleSettings}
+use Rattle.cip_console.specs.declared.run.PlayFault.{PlayFault}
+use Rattle.cip_console.specs.declared.steps.Step.{Step}
 use Rattle.cip_console.specs.declared.steps.Numbered.{Numbered}
 use Rattle.cip_console.specs.Known.{AppendsFront}
-use Rattle.cip_console.specs.Playing.{Prints, Played}
+use Rattle.cip_console.specs.Playing.{Prints, Played, Plays}
 use Rattle.cip_console.specs.Runs.{Run, opening_run}
 use Rattle.cip_console.specs.Transcript.{Part, printed, continued, then_, played, played_all, transcript, stop_after, stop_from, stop_of}
 use Rattle.cip_console.specs.Worlds.{Standing, StandsAt}
@@ -19,6 +21,13 @@ pub record Running (configs : List ModuleSettings) (all : List Numbered) (old ne
   pub text : transcript configs all ≡ done ++ (played_all configs run left).text
   pub stop : stop_of configs all ≡ stop_from configs run left
 
+-- the same, said of equal configs
+pub plays_at : (configs configs' : List ModuleSettings) (step : Step) (old new : Option (List ℕ)) (before after : List ℕ) (s s' : Standing) (r : Result (Unit {0}) PlayFault) → configs' ≡ configs
+    → ((run : Run) → StandsAt configs' s run → Plays configs' (played configs' run step) old new before after s' r)
+    → (run : Run) → StandsAt configs s run → Plays configs (played configs run step) old new before after s' r
+plays_at configs configs' step old new before after s s' r e h =
+    subst (λ cs. (run : Run) → StandsAt cs s run → Plays cs (played cs run step) old new before after s' r) e h
+
 pub running_start : (configs : List ModuleSettings) (all : List Numbered) (old : Option (List ℕ)) (s : Standing) → StandsAt configs s (opening_run configs)
     → Running configs all old old [] s all
 running_start configs all old s st = record { run = opening_run configs; done = []; stands = st; prints = prints_nothing old []; text = refl; stop = refl }
@@ -32,6 +41,11 @@ stopped_there : (configs : List ModuleSettings) (run : Run) (numbered : Numbered
     → (played_all configs run (numbered ∷ more)).text ≡ (played configs run numbered.step).text
 stopped_there configs run numbered more e =
     ap (λ (o : Option Run). (continued (played configs run numbered.step).text o (λ x. played_all configs x more)).text) e
+
+-- the same, said of an equal list
+pub running_on : (configs : List ModuleSettings) (all : List Numbered) (old new : Option (List ℕ)) (gathered : List ℕ) (s : Standing) (left left' : List Numbered)
+    → Running configs all old new gathered s left → left ≡ left' → Running configs all old new gathered s left'
+running_on configs all old new gathered s left left' r e = subst (Running configs all old new gathered s) e r
 
 -- a step was played
 pub running_step : (configs : List ModuleSettings) (all : List Numbered) (old mid new : Option (List ℕ)) (between after : List ℕ) (s s' : Standing) (numbered : Numbered) (more : List Numbered)
@@ -103,3 +117,8 @@ stop_unwritten configs all old mid mid' new between after s numbered more r p f 
     let whole = r.text ∙ ap (λ l. r.done ++ l) (stopped_there configs r.run numbered more p.0) in
     let front = front_then old mid' new [] after (r.done ++ text) [] (prints_then old mid mid' [] between after r.done text r.prints p.1) (front_more mid' new after [] f) in
     subst (AppendsFront old new) (append-nil (r.done ++ text) ∙ sym whole) front
+
+-- a list that a pop leaves as it was is empty
+pub none_popped : {X : Type 0} (left rest : List X) → left ≡ rest → rest ≡ drop 1 left → left ≡ []
+none_popped [] rest e d = refl
+none_popped (x ∷ xs) rest e d = let longer : suc (length xs) ≡ length xs = ap length (e ∙ d) in absurd (omega arith)

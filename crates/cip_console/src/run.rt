@@ -214,12 +214,10 @@ fn run_steps<W: Sink>(
         let line = numbered.line;
         match play(world, numbered.step, writer, &mut text) {
             Ok(()) => {}
-            Err(PlayFault::Full) => {
-                return match flush(writer, &mut text, 0) {
-                    Ok(()) => Err(ConsoleFault::Script(line, ScriptFault::ClockFull)),
-                    Err(WriteFault) => Err(ConsoleFault::Write),
-                };
-            }
+            Err(PlayFault::Full) => match flush(writer, &mut text, 0) {
+                Ok(()) => return Err(ConsoleFault::Script(line, ScriptFault::ClockFull)),
+                Err(WriteFault) => return Err(ConsoleFault::Write),
+            },
             Err(PlayFault::Write) => return Err(ConsoleFault::Write),
             Err(PlayFault::NoMemory) => return Err(ConsoleFault::NoMemory),
         }
