@@ -83,7 +83,7 @@ one_played configs all old mid new before between text after s s' n first others
       stands = x.stands;
       prints = subst (Prints old new before after) (append-nil (p.done ++ shown_text)) (prints_then _ _ _ _ _ _ _ _ gathered f);
       is = p.is ∙ ap (printed p.done) (one_delivered configs n p.run x.next first others (sym p.stands.waiting ∙ e) x.is)
-      ∙ printed_twice p.done shown_text (deliveries configs n x.next);
+          ∙ printed_twice p.done shown_text (deliveries configs n x.next);
     }
 
 -- the entry of an arrival could not be written
@@ -109,9 +109,10 @@ pub one_stopped : (configs : List ModuleSettings) (all : Part) (old new : Option
     → (all.after ≡ None) × Prints old new before after all.text
 one_stopped configs all old new before between after s n first others p e full same =
     let is : all ≡ record { text = p.done ++ []; after = None } =
-    p.is ∙ ap (printed p.done) (stopped configs n p.run first others (sym p.stands.waiting ∙ e) (not_entered configs s p.run first.place (Some first.name) (arrival first) p.stands.states full)) in
-    (ap (λ (part : Part). part.after) is,
-    subst (Prints old new before after) (sym (ap (λ (part : Part). part.text) is)) (prints_more _ _ _ _ _ _ _ p.prints (same ∙ sym (append-nil between))))
+    p.is ∙ ap (printed p.done) (stopped configs n p.run first others (sym p.stands.waiting ∙ e) (not_entered configs s p.run first.place (Some first.name) (arrival first) p.stands.states full)) in (
+      ap (λ (part : Part). part.after) is,
+      subst (Prints old new before after) (sym (ap (λ (part : Part). part.text) is)) (prints_more _ _ _ _ _ _ _ p.prints (same ∙ sym (append-nil between))),
+    )
 
 -- one of the deliveries that are left
 pub one_more_of : (configs : List ModuleSettings) (all : Part) (old new : Option (List ℕ)) (before after : List ℕ) (s : Standing) (limit i : ℕ) → i < limit
@@ -182,7 +183,7 @@ run_played configs limit run old new before between after s p e =
       ends = ap (λ (x : Part). x.after) is;
       stands = p.stands;
       prints = subst (Prints old new before after) (sym (ap (λ (x : Part). x.text) is))
-      (prints_more _ _ _ _ _ _ _ p.prints (e ∙ ap (λ ws. between ++ end_text ws) p.stands.waiting));
+          (prints_more _ _ _ _ _ _ _ p.prints (e ∙ ap (λ ws. between ++ end_text ws) p.stands.waiting));
     }
 
 -- memory ran out for the end
@@ -206,7 +207,7 @@ fed_played configs run m command old new before text after s s' st h f =
       ends = ap (λ (part : Part). part.after) is;
       stands = x.stands;
       prints = subst (Prints old new before after) (append-nil shown_text ∙ sym (ap (λ (part : Part). part.text) is))
-      (prints_then old old new before text after shown_text [] (prints_more old old before before text [] shown_text (prints_nothing old before) x.text) f);
+          (prints_then old old new before text after shown_text [] (prints_more old old before before text [] shown_text (prints_nothing old before) x.text) f);
     }
 
 pub fed_unwritten : (configs : List ModuleSettings) (run : Run) (m : ℕ) (command : Command) (old new : Option (List ℕ)) (before text : List ℕ) (s s' : Standing)
@@ -221,6 +222,7 @@ pub fed_stopped : (configs : List ModuleSettings) (run : Run) (m : ℕ) (command
     → StandsAt configs s run → step_at configs s.states m (events.Command command) ≡ None → after ≡ before
     → ((fed configs run m command).after ≡ None) × Prints old old before after (fed configs run m command).text
 fed_stopped configs run m command old before after s st e same =
-    let is : fed configs run m command ≡ record { text = []; after = None } = ap (shown (names_of configs)) (not_entered configs s run m None (events.Command command) st.states e) in
-    (ap (λ (part : Part). part.after) is,
-    subst (Prints old old before after) (sym (ap (λ (part : Part). part.text) is)) (prints_more old old before before after [] [] (prints_nothing old before) (same ∙ sym (append-nil before))))
+    let is : fed configs run m command ≡ record { text = []; after = None } = ap (shown (names_of configs)) (not_entered configs s run m None (events.Command command) st.states e) in (
+      ap (λ (part : Part). part.after) is,
+      subst (Prints old old before after) (sym (ap (λ (part : Part). part.text) is)) (prints_more old old before before after [] [] (prints_nothing old before) (same ∙ sym (append-nil before))),
+    )

@@ -66,9 +66,10 @@ running_step configs all old mid new between after s s' numbered more r p =
 pub running_ends : (configs : List ModuleSettings) (all : List Numbered) (old mid new : Option (List ℕ)) (between : List ℕ) (s : Standing)
     → Running configs all old mid between s [] → Prints mid new between [] []
     → (stop_of configs all ≡ None) × Appends old new (transcript configs all)
-running_ends configs all old mid new between s r f =
-    (r.stop,
-    subst (Appends old new) (append-nil r.done ∙ sym (r.text ∙ append-nil r.done)) (prints_all old new [] (r.done ++ []) (prints_then old mid new [] between [] r.done [] r.prints f)))
+running_ends configs all old mid new between s r f = (
+  r.stop,
+  subst (Appends old new) (append-nil r.done ∙ sym (r.text ∙ append-nil r.done)) (prints_all old new [] (r.done ++ []) (prints_then old mid new [] between [] r.done [] r.prints f)),
+)
 
 -- a clock was full there, and what was gathered was written
 pub running_stops : (configs : List ModuleSettings) (all : List Numbered) (old mid mid' new : Option (List ℕ)) (between after : List ℕ) (s : Standing) (numbered : Numbered) (more : List Numbered)
@@ -78,10 +79,11 @@ pub running_stops : (configs : List ModuleSettings) (all : List Numbered) (old m
     → (stop_of configs all ≡ Some numbered.line) × Appends old new (transcript configs all)
 running_stops configs all old mid mid' new between after s numbered more r p f =
     let text = (played configs r.run numbered.step).text in
-    let whole = r.text ∙ ap (λ l. r.done ++ l) (stopped_there configs r.run numbered more p.0) in
-    (r.stop ∙ ap (λ (o : Option Run). stop_after numbered.line o (λ x. stop_from configs x more)) p.0,
-    subst (Appends old new) (append-nil (r.done ++ text) ∙ sym whole)
-    (prints_all old new [] ((r.done ++ text) ++ []) (prints_then old mid' new [] after [] (r.done ++ text) [] (prints_then old mid mid' [] between after r.done text r.prints p.1) f)))
+    let whole = r.text ∙ ap (λ l. r.done ++ l) (stopped_there configs r.run numbered more p.0) in (
+      r.stop ∙ ap (λ (o : Option Run). stop_after numbered.line o (λ x. stop_from configs x more)) p.0,
+      subst (Appends old new) (append-nil (r.done ++ text) ∙ sym whole)
+          (prints_all old new [] ((r.done ++ text) ++ []) (prints_then old mid' new [] after [] (r.done ++ text) [] (prints_then old mid mid' [] between after r.done text r.prints p.1) f)),
+    )
 
 more_text : (part : Part) (after : Option Run) (rest : Run → Part) → (more : List ℕ) × ((continued part.text after rest).text ≡ part.text ++ more)
 more_text part None rest = ([], sym (append-nil part.text))

@@ -173,6 +173,7 @@ frames_earlier configs (entry ∷ journal) =
     (Each-weaker (IsOf (length journal) 0) (IsOfEarlier (suc (length journal))) (λ w h. last w.name.entry h.0) _ (sent_in_of configs (length journal) entry)) where
       more : (n : ℕ) → n < length journal → n < suc (length journal)
       more n h = omega arith
+
       last : (n : ℕ) → n ≡ length journal → n < suc (length journal)
       last n e = omega arith
 

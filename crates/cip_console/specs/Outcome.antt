@@ -1,5 +1,5 @@
 -- What the console did, by its answer.
-use Rattle.std.specs.Prelude.{◌≡◌, ℕ, List, Option, Some, None, Result, Ok, Err}
+use Rattle.std.specs.Prelude.{◌≡◌, ℕ, List, Option, Some, None, Result, Ok, Err, IfSome}
 use Rattle.std.specs.Io.KnownBytes.{Keeps, Appends}
 use Rattle.cip_module.specs.declared.config.ModuleSettings.{ModuleSettings}
 use Rattle.cip_console.specs.declared.steps.Numbered.{Numbered}
@@ -8,7 +8,8 @@ use Rattle.cip_console.specs.declared.steps.ScriptFault.TheVariants.{ClockFull}
 use Rattle.cip_console.specs.declared.run.ConsoleFault.{ConsoleFault}
 use Rattle.cip_console.specs.declared.run.ConsoleFault.TheVariants.{Script, Read, Write, NoMemory}
 use Rattle.cip_console.specs.Known.{AppendsFront}
-use Rattle.cip_console.specs.Transcript.{transcript, stop_of}
+use Rattle.cip_console.specs.Steps.{steps}
+use Rattle.cip_console.specs.Transcript.{names_of, transcript, stop_of}
 
 abbrev pub Steps : Type 0
 Steps = Result (List Numbered) (ℕ × ScriptFault)
@@ -35,3 +36,9 @@ Wrote configs old new script (Err (Script line fault)) = Fails configs old new s
 Wrote configs old new script (Err Read) = Keeps old new
 Wrote configs old new script (Err Write) = Front configs old new script
 Wrote configs old new script (Err NoMemory) = Front configs old new script
+
+-- the same of the script that was read: all that the reader had left, where that is known
+pub record WroteOf (configs : List ModuleSettings) (left : Option (List ℕ)) (old new : Option (List ℕ)) (result : Result (Unit {0}) ConsoleFault) : Type 0 where
+  pub script : List ℕ
+  pub read : IfSome left (λ bytes. script ≡ bytes)
+  pub wrote : Wrote configs old new (steps (names_of configs) script) result

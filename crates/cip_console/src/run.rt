@@ -2,7 +2,7 @@
 ghost use Rattle.std.specs.Prelude.{◌≡◌, ◌≢◌, ◌⊎◌, ◌+◌, ◌<◌, ◌≤◌, ◌++◌, [], length, IfSome, OnOk, OnErr};
 ghost use Rattle.cip_console.specs.Chassis.{fixed_configs};
 ghost use Rattle.cip_console.specs.Known.{AppendsFront};
-ghost use Rattle.cip_console.specs.Outcome.{Wrote};
+ghost use Rattle.cip_console.specs.Outcome.{Wrote, WroteOf};
 ghost use Rattle.cip_console.specs.Playing.{Prints, Plays};
 ghost use Rattle.cip_console.specs.Runs.{Run as RunOf, opening_run};
 ghost use Rattle.cip_console.specs.Steps.{steps};
@@ -228,6 +228,24 @@ fn run_steps<W: Sink>(
     }
 }
 
+// Reads the steps of a script, and runs them over the fixed chassis.
+fn run_script<W: Sink>(alloc: Global, script: &[u8], writer: &mut W) -> Result<(), ConsoleFault>
+    ensures wrote { Wrote fixed_configs (W.contents writer.old) (W.contents writer.new) (steps (names_of fixed_configs) script.now) result }
+    ensures read { result ≢ Err ConsoleFault.Read }
+    ensures write { result ≡ Err ConsoleFault.Write → W.has_refused writer.new }
+{
+    let modules = fixed_chassis(alloc)?;
+    let names = names_of(alloc, modules.as_slice())?;
+    match read_steps(alloc, names.as_slice(), script) {
+        Ok(steps) => {
+            let mut world = World::new(alloc, modules);
+            run_steps(alloc, &mut world, steps, writer)
+        }
+        Err(StepsFault::Script(line, fault)) => Err(ConsoleFault::Script(line, fault)),
+        Err(StepsFault::NoMemory) => Err(ConsoleFault::NoMemory),
+    }
+}
+
 /// Reads a whole script of the words `send` and `run`, runs it over the fixed chassis of the scanner S and the bridges A
 /// and B, and writes the transcript. The reader is asked at most 1,048,577 times.
 pub fn run_fixed<R: Source, W: Sink>(
@@ -235,27 +253,17 @@ pub fn run_fixed<R: Source, W: Sink>(
     reader: &mut R,
     writer: &mut W,
 ) -> Result<(), ConsoleFault>
-    // What was written, by the answer.
-    ensures wrote { IfSome (R.remaining reader.old) (λ script. Wrote fixed_configs (W.contents writer.old) (W.contents writer.new) (steps (names_of fixed_configs) script) result) }
+    // What was written of the script that was read, by the answer.
+    ensures wrote { WroteOf fixed_configs (R.remaining reader.old) (W.contents writer.old) (W.contents writer.new) result }
     // Read only where the reader failed or has too much.
     ensures read { result ≡ Err ConsoleFault.Read → R.has_failed reader.new ⊎ IfSome (R.remaining reader.old) (λ bytes. SCRIPT_LIMIT < length bytes) }
     // Write only where the writer failed or took no byte.
     ensures write { result ≡ Err ConsoleFault.Write → W.has_refused writer.new }
     ensures asked { R.asks reader.new ≤ R.asks reader.old + 1048577 }
 {
-    let script = match read_script(alloc, reader) {
-        Ok(script) => script,
-        Err(ReadFault::NoMemory) => return Err(ConsoleFault::NoMemory),
-        Err(_) => return Err(ConsoleFault::Read),
-    };
-    let modules = fixed_chassis(alloc)?;
-    let names = names_of(alloc, modules.as_slice())?;
-    match read_steps(alloc, names.as_slice(), script.as_slice()) {
-        Ok(steps) => {
-            let mut world = World::new(alloc, modules);
-            run_steps(alloc, &mut world, steps, writer)
-        }
-        Err(StepsFault::Script(line, fault)) => Err(ConsoleFault::Script(line, fault)),
-        Err(StepsFault::NoMemory) => Err(ConsoleFault::NoMemory),
+    match read_script(alloc, reader) {
+        Ok(script) => run_script(alloc, script.as_slice(), writer),
+        Err(ReadFault::NoMemory) => Err(ConsoleFault::NoMemory),
+        Err(_) => Err(ConsoleFault::Read),
     }
 }

@@ -56,7 +56,7 @@ loop-i-preserved g c =
     record {
       same = c.arrive.ensures.configs ∙ same;
       playing = λ run stands.
-        one_played configs _ _ _ _ _ _ _ _ (standing_of c.loop-i.world) (standing_of c.arrive.new.self) (c.args.limit - (c.loop-i.i + 1)) frame others
-        (one_more_of configs _ _ _ _ _ (standing_of c.loop-i.world) c.args.limit c.loop-i.i c.loop-i-test.true (c.loop-i.invariant.playing run stands)) c.in-Some.ensures.first h
-        c.in-Ok-flush.ensures.ok;
+          one_played configs _ _ _ _ _ _ _ _ (standing_of c.loop-i.world) (standing_of c.arrive.new.self) (c.args.limit - (c.loop-i.i + 1)) frame others
+          (one_more_of configs _ _ _ _ _ (standing_of c.loop-i.world) c.args.limit c.loop-i.i c.loop-i-test.true (c.loop-i.invariant.playing run stands)) c.in-Some.ensures.first h
+          c.in-Ok-flush.ensures.ok;
     }

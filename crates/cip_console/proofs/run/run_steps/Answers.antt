@@ -13,7 +13,7 @@ loop-numbered-preserved g c =
     record {
       same = c.play.ensures.configs ∙ c.loop-numbered.invariant.same;
       running = running_step configs c.args.steps.items _ _ _ _ _ (standing_of c.loop-numbered.world) (standing_of c.play.new.world) c.in-Some.numbered c.pop_front.new.self.items running
-      (plays_at configs (configs_of c.loop-numbered.world) step _ _ _ c.play.new.text.items (standing_of c.loop-numbered.world) (standing_of c.play.new.world) (Ok tt) c.loop-numbered.invariant.same c.in-Ok.ensures.plays running.run running.stands);
+          (plays_at configs (configs_of c.loop-numbered.world) step _ _ _ c.play.new.text.items (standing_of c.loop-numbered.world) (standing_of c.play.new.world) (Ok tt) c.loop-numbered.invariant.same c.in-Ok.ensures.plays running.run running.stands);
     }
 
 pub returns-in-Ok-flush-clause-wrote : goal.returns-in-Ok-flush-clause-wrote

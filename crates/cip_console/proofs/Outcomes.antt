@@ -1,0 +1,32 @@
+-- What was written of a script, by the answer.
+use Rattle.std.proofs.Common.{◌≡◌, ℕ, List, [], Option, Some, None, Result, Ok, Err, refl}
+use Rattle.std.specs.Prelude.{IfSome}
+use Rattle.std.specs.Io.KnownBytes.{Keeps}
+use Rattle.std.proofs.KnownBytes.{Keeps-refl}
+use Rattle.cip_module.specs.declared.config.ModuleSettings.{ModuleSettings}
+use Rattle.cip_console.specs.declared.run.ConsoleFault.{ConsoleFault}
+use Rattle.cip_console.specs.declared.run.ConsoleFault.TheVariants.{Read, NoMemory}
+use Rattle.cip_console.specs.Outcome.{Steps, Front, WroteOf}
+use Rattle.cip_console.specs.Steps.{steps}
+use Rattle.cip_console.specs.Transcript.{names_of, transcript}
+use Rattle.cip_console.proofs.Prints.{front_nothing}
+
+-- where nothing was written, a front was
+pub nothing_written : (configs : List ModuleSettings) (old : Option (List ℕ)) (script : Steps) → Front configs old old script
+nothing_written configs old (Ok all) = front_nothing old (transcript configs all)
+nothing_written configs old (Err first) = Keeps-refl old
+
+-- some script that the reader may have had
+abbrev pub left_of : Option (List ℕ) → List ℕ
+left_of None = []
+left_of (Some bytes) = bytes
+
+is_left : (left : Option (List ℕ)) → IfSome left (λ bytes. left_of left ≡ bytes)
+is_left None = tt
+is_left (Some bytes) = refl
+
+pub none_read : (configs : List ModuleSettings) (left old : Option (List ℕ)) → WroteOf configs left old old (Err Read)
+none_read configs left old = record { script = left_of left; read = is_left left; wrote = Keeps-refl old }
+
+pub no_memory_to_read : (configs : List ModuleSettings) (left old : Option (List ℕ)) → WroteOf configs left old old (Err NoMemory)
+no_memory_to_read configs left old = record { script = left_of left; read = is_left left; wrote = nothing_written configs old (steps (names_of configs) (left_of left)) }
