@@ -132,9 +132,12 @@ over configs all old new before after s n p e =
       prints = subst (Prints old new before after) (sym (ap (λ (part : Part). part.text) is ∙ append-nil p.done)) p.prints;
     }
 
-pub none_waits : (configs : List ModuleSettings) (all : Part) (old new : Option (List ℕ)) (before after : List ℕ) (s : Standing) (n : ℕ)
-    → Playing configs all old new before after s (deliveries configs n) → s.waiting ≡ [] → Played configs all old new before after s
-none_waits configs all old new before after s n p e = over configs all old new before after s n p (none_delivered configs n p.run (sym p.stands.waiting ∙ e))
+pub none_waits : (configs : List ModuleSettings) (all : Part) (old new : Option (List ℕ)) (before after : List ℕ) (s s' : Standing) (n : ℕ) (rest : List Waiting)
+    → Playing configs all old new before after s (deliveries configs n) → s.waiting ≡ [] → s.waiting ≡ rest → s' ≡ without s rest → Played configs all old new before after s'
+none_waits configs all old new before after s s' n rest p e same still =
+    let there : without s rest ≡ s = ap (without s) (sym same) in
+    subst (Played configs all old new before after) (sym (still ∙ there))
+    (over configs all old new before after s n p (none_delivered configs n p.run (sym p.stands.waiting ∙ e)))
 
 none_left : (configs : List ModuleSettings) (run : Run) → deliveries configs zero run ≡ record { text = []; after = Some run }
 unfolding deliveries

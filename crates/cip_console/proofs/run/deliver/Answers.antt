@@ -1,8 +1,6 @@
-use Rattle.std.proofs.Common.{◌≡◌, ◌+◌, ◌-◌, ◌∙◌, sym, ap, subst, Some, Ok, Err}
+use Rattle.std.proofs.Common.{◌+◌, ◌-◌, ◌∙◌, Some, Ok, Err}
 use Rattle.cip_console.specs.declared.world.HappenFault.TheVariants.{Full}
 use Rattle.cip_console.specs.Journal.{arrival}
-use Rattle.cip_console.specs.Playing.{Played}
-use Rattle.cip_console.specs.Transcript.{deliveries}
 use Rattle.cip_console.specs.Worlds.{configs_of, standing_of, without}
 use Rattle.cip_console.proofs.Playing.{happens_at, one_more_of, one_played, one_unwritten, one_stopped, front_so_far, none_waits, all_delivered}
 use Rattle.cip_console.proofs.run.deliver.Goals as goal
@@ -13,10 +11,8 @@ returns-clause-plays g c = λ run stands.
 
 pub returns-in_default-clause-plays : goal.returns-in_default-clause-plays
 returns-in_default-clause-plays g c = λ run stands.
-    let configs = configs_of c.args.world.now in
-    let still = c.take_first.ensures.rest ∙ ap (without (standing_of c.loop-i.world)) (sym c.in_default.ensures.first) in
-    subst (Played configs (deliveries configs c.args.limit run) (g.W.Sink.contents c.args.writer.now) (g.W.Sink.contents c.loop-i.writer) c.args.text.now.items c.loop-i.text.items) (sym still)
-    (none_waits configs _ _ _ _ _ (standing_of c.loop-i.world) (c.args.limit - c.loop-i.i) (c.loop-i.invariant.playing run stands) c.in_default.ensures.none)
+    none_waits _ _ _ _ _ _ (standing_of c.loop-i.world) (standing_of c.take_first.new.self) (c.args.limit - c.loop-i.i) c.take_first.new.self.waiting.items
+    (c.loop-i.invariant.playing run stands) c.in_default.ensures.none c.in_default.ensures.first c.take_first.ensures.rest
 
 pub returns-in-Err-clause-plays : goal.returns-in-Err-clause-plays
 returns-in-Err-clause-plays g c = λ run stands.
