@@ -1,15 +1,14 @@
 -- A run by one more entry, and what the code keeps of it.
-use Rattle.std.proofs.Common.{◌≡◌, ℕ, ◌+◌, ◌<◌, List, [], ◌∷◌, ◌++◌, length, Option, Some, None, refl, sym, ap, ◌∙◌, subst, suc, arith}
+use Rattle.std.proofs.Common.{◌≡◌, ℕ, ◌+◌, List, ◌∷◌, ◌++◌, length, Option, Some, None, sym, ap, ◌∙◌, subst, suc, arith}
 use Rattle.std.specs.Prelude.{option_map, slice_set}
 use Rattle.cip_module.specs.declared.config.ModuleSettings.{ModuleSettings}
 use Rattle.cip_module.specs.declared.event.Event.{Event}
 use Rattle.cip_module.specs.declared.event.Output.{Output}
 use Rattle.cip_module.specs.State.{State}
-use Rattle.cip_module.specs.Table.{Stepped}
 use Rattle.cip_console.specs.declared.waiting.FrameName.{FrameName}
 use Rattle.cip_console.specs.declared.waiting.Waiting.{Waiting}
 use Rattle.cip_console.specs.Journal.{Happened, sent, waiting, arrival, IsBefore, NamesEarlier}
-use Rattle.cip_console.specs.Runs.{Run, step_at, entered, happened, delivered}
+use Rattle.cip_console.specs.Runs.{Run, step_at, entered, happened}
 use Rattle.cip_console.specs.Show.{entry_text}
 use Rattle.cip_console.specs.Transcript.{names_of, newest}
 use Rattle.cip_console.specs.Worlds.{Standing, StandsAt, without, HappensAs}

@@ -1,15 +1,15 @@
 -- An event at a module, from its parts.
-use Rattle.std.proofs.Common.{◌≡◌, ℕ, ◌+◌, List, ◌++◌, Option, Some, None, refl, append_assoc}
+use Rattle.std.proofs.Common.{◌≡◌, ℕ, ◌+◌, List, ◌++◌, Option, refl, append_assoc}
 use Rattle.cip_module.specs.declared.config.ModuleSettings.{ModuleSettings}
 use Rattle.cip_module.specs.declared.event.Event.{Event}
 use Rattle.cip_module.specs.declared.event.Output.{Output}
 use Rattle.cip_module.specs.State.{State}
 use Rattle.cip_console.specs.declared.waiting.FrameName.{FrameName}
 use Rattle.cip_console.specs.declared.waiting.Waiting.{Waiting}
-use Rattle.cip_console.specs.Journal.{Happened, sent}
-use Rattle.cip_console.specs.Show.{name_of, head_text, event_text, outputs_text, entry_text}
+use Rattle.cip_console.specs.Journal.{sent}
+use Rattle.cip_console.specs.Show.{name_of, head_text, event_text, outputs_text}
 use Rattle.cip_console.specs.Transcript.{names_of}
-use Rattle.cip_console.specs.Worlds.{Standing, standing_after, IsStepAt, HappensAs}
+use Rattle.cip_console.specs.Worlds.{Standing, IsStepAt, HappensAs}
 
 pub happens_so : (configs : List ModuleSettings) (old : Standing) (m : ℕ) (arrived : Option FrameName) (event : Event) (states : List State) (entries : ℕ) (waiting : List Waiting)
     (outputs : List Output) (before mid after name what : List ℕ) → IsStepAt configs old.states m event states outputs → entries ≡ old.entries + 1

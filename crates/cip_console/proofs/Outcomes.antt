@@ -1,10 +1,8 @@
 -- What was written of a script, by the answer.
-use Rattle.std.proofs.Common.{◌≡◌, ℕ, List, [], Option, Some, None, Result, Ok, Err, refl}
+use Rattle.std.proofs.Common.{◌≡◌, ℕ, List, [], Option, Some, None, Ok, Err, refl}
 use Rattle.std.specs.Prelude.{IfSome}
-use Rattle.std.specs.Io.KnownBytes.{Keeps}
 use Rattle.std.proofs.KnownBytes.{Keeps-refl}
 use Rattle.cip_module.specs.declared.config.ModuleSettings.{ModuleSettings}
-use Rattle.cip_console.specs.declared.run.ConsoleFault.{ConsoleFault}
 use Rattle.cip_console.specs.declared.run.ConsoleFault.TheVariants.{Read, NoMemory}
 use Rattle.cip_console.specs.Outcome.{Steps, Front, WroteOf}
 use Rattle.cip_console.specs.Steps.{steps}

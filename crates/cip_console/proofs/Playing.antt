@@ -1,5 +1,5 @@
 -- A part of a run under way.
-use Rattle.std.proofs.Common.{◌≡◌, ℕ, ◌+◌, ◌-◌, ◌<◌, ◌≤◌, zero, suc, arith, List, [], ◌∷◌, ◌++◌, Option, Some, None, Result, Ok, Err, refl, sym, ap, ◌∙◌, subst, append_assoc, append-nil}
+use Rattle.std.proofs.Common.{◌≡◌, ℕ, ◌+◌, ◌-◌, ◌<◌, ◌≤◌, zero, suc, arith, List, [], ◌∷◌, ◌++◌, Option, Some, None, Result, Err, refl, sym, ap, ◌∙◌, subst, append_assoc, append-nil}
 use Rattle.cip_module.specs.declared.config.ModuleSettings.{ModuleSettings}
 use Rattle.cip_module.specs.declared.event.Command.{Command}
 use Rattle.cip_module.specs.declared.event.Event.{Event}
@@ -12,11 +12,11 @@ use Rattle.cip_console.specs.declared.world.HappenFault.{HappenFault}
 use Rattle.cip_console.specs.Journal.{waiting, arrival}
 use Rattle.cip_console.specs.Known.{AppendsFront}
 use Rattle.cip_console.specs.Playing.{Prints, Played, Plays}
-use Rattle.cip_console.specs.Runs.{Run, step_at, happened, delivered}
+use Rattle.cip_console.specs.Runs.{Run, step_at, delivered}
 use Rattle.cip_console.specs.Transcript.{Part, printed, continued, then_, newest, shown, first_delivered, deliveries, end_text, ended, fed, ran, names_of}
 use Rattle.cip_console.specs.Worlds.{Standing, StandsAt, without, HappensAs, Happens}
-use Rattle.cip_console.proofs.Entering.{Enters, enters_fed, enters_arrived, not_entered}
-use Rattle.cip_console.proofs.Prints.{prints_nothing, prints_more, prints_then, front_nothing, front_more, front_of_prints, front_then}
+use Rattle.cip_console.proofs.Entering.{enters_fed, enters_arrived, not_entered}
+use Rattle.cip_console.proofs.Prints.{prints_nothing, prints_more, prints_then, front_more, front_of_prints, front_then}
 
 -- what was printed so far, the run that it came to, and what the rest prints
 pub record Playing (configs : List ModuleSettings) (all : Part) (old new : Option (List ℕ)) (before after : List ℕ) (standing : Standing) (rest : Run → Part) : Type 0 where

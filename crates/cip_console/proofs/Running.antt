@@ -8,9 +8,9 @@ use Rattle.cip_console.specs.declared.steps.Numbered.{Numbered}
 use Rattle.cip_console.specs.Known.{AppendsFront}
 use Rattle.cip_console.specs.Playing.{Prints, Played, Plays}
 use Rattle.cip_console.specs.Runs.{Run, opening_run}
-use Rattle.cip_console.specs.Transcript.{Part, printed, continued, then_, played, played_all, transcript, stop_after, stop_from, stop_of}
+use Rattle.cip_console.specs.Transcript.{Part, printed, continued, played, played_all, transcript, stop_after, stop_from, stop_of}
 use Rattle.cip_console.specs.Worlds.{Standing, StandsAt}
-use Rattle.cip_console.proofs.Prints.{prints_nothing, prints_then, front_more, front_of_prints, front_then, prints_all}
+use Rattle.cip_console.proofs.Prints.{prints_nothing, prints_then, front_more, front_then, prints_all}
 
 -- what was printed so far, the run that it came to, and what the steps that are left print
 pub record Running (configs : List ModuleSettings) (all : List Numbered) (old new : Option (List ℕ)) (gathered : List ℕ) (standing : Standing) (left : List Numbered) : Type 0 where

@@ -1,5 +1,5 @@
 -- The step of one of several modules.
-use Rattle.std.proofs.Common.{◌≡◌, ℕ, ◌<◌, ◌≤◌, List, [], Option, Some, None, Result, Ok, Err, length, map, get_or, refl, sym, ap, ◌∙◌, slice_get, slice_set}
+use Rattle.std.proofs.Common.{◌≡◌, ℕ, ◌<◌, ◌≤◌, List, [], Option, Some, Result, Ok, Err, length, get_or, refl, ap, ◌∙◌, slice_get, slice_set}
 use Rattle.std.specs.Prelude.{option_map, option_and_then, unwrap_or}
 use Rattle.std.proofs.lemmas.List.{map-set}
 use Rattle.std.proofs.lemmas.Option.{slice_get-map, slice_get_read, slice_get_past}
@@ -9,13 +9,13 @@ use Rattle.cip_module.specs.declared.event.Output.{Output}
 use Rattle.cip_module.specs.declared.plain.PlainModule.{PlainModule}
 use Rattle.cip_module.specs.Plain.{config_of_plain, state_of_plain}
 use Rattle.cip_module.specs.State.{State}
-use Rattle.cip_module.specs.Table.{Stepped, table_step}
+use Rattle.cip_module.specs.Table.{table_step}
 use Rattle.cip_console.specs.declared.world.HappenFault.{HappenFault}
 use Rattle.cip_console.specs.declared.world.HappenFault.TheVariants.{Full, NoMemory}
 use Rattle.cip_console.specs.Runs.{step_at}
 use Rattle.cip_console.specs.Show.{name_of}
 use Rattle.cip_console.specs.Transcript.{names_of}
-use Rattle.cip_console.specs.Worlds.{configs_in, states_in, StepsAs, StepsAt, IsStepAt}
+use Rattle.cip_console.specs.Worlds.{configs_in, states_in, StepsAs, StepsAt}
 
 -- the step at a place is that of the module there
 pub step_here : (modules : List PlainModule) (m : ℕ) (old : PlainModule) (event : Event) → slice_get modules m ≡ Some old

@@ -1,5 +1,5 @@
 -- Which frames wait after one more entry.
-use Rattle.std.proofs.Common.{◌≡◌, ℕ, ◌+◌, ◌<◌, ◌≤◌, suc, Bool, true, false, cond, ◌==◌, ◌&&◌, List, [], ◌∷◌, ◌++◌, length, Option, Some, None, refl, sym, ap, ◌∙◌, subst, arith, inl, inr}
+use Rattle.std.proofs.Common.{◌≡◌, ℕ, ◌+◌, ◌<◌, ◌≤◌, suc, Bool, true, false, cond, ◌&&◌, List, [], ◌∷◌, ◌++◌, length, Option, Some, None, refl, sym, ap, ◌∙◌, subst, arith, inl, inr}
 use Rattle.std.specs.Prelude.{not, ◌||◌, filter, option_to_list, ◌⊎◌}
 use Rattle.std.specs.List.{list_any}
 use Rattle.std.proofs.lemmas.Bool.{cases_Bool}
@@ -15,7 +15,7 @@ use Rattle.cip_console.specs.declared.links.Node.{Node}
 use Rattle.cip_console.specs.declared.waiting.FrameName.{FrameName}
 use Rattle.cip_console.specs.declared.waiting.Waiting.{Waiting}
 use Rattle.cip_console.specs.Links.{own_port, node}
-use Rattle.cip_console.specs.Journal.{Entry, Happened, Lost, Journal, waiting_at, frame_of, sent, sent_in, frames, same_name, is_some_name, names, waiting, NamesEarlier}
+use Rattle.cip_console.specs.Journal.{Entry, Happened, Lost, Journal, waiting_at, frame_of, sent, sent_in, frames, same_name, names, waiting, NamesEarlier}
 
 abbrev pub Each : {X : Type 0} → (X → Type 0) → List X → Type 0
 Each P [] = Unit {0}

@@ -1,12 +1,12 @@
 -- Runs: what the modules of a chassis do, event by event, as the routing table says.
-use Rattle.std.specs.Prelude.{ℕ, Option, Some, None, option_map, option_and_then, slice_get, slice_set, List, [], ◌∷◌, map}
+use Rattle.std.specs.Prelude.{ℕ, Option, Some, option_map, option_and_then, slice_get, slice_set, List, [], ◌∷◌, map}
 use Rattle.cip_module.specs.declared.config.ModuleSettings.{ModuleSettings}
 use Rattle.cip_module.specs.declared.event.Event.{Event}
 use Rattle.cip_module.specs.State.{State, opening}
 use Rattle.cip_module.specs.Table.{Stepped, table_step}
 use Rattle.cip_console.specs.declared.waiting.FrameName.{FrameName}
 use Rattle.cip_console.specs.declared.waiting.Waiting.{Waiting}
-use Rattle.cip_console.specs.Journal.{Entry, Happened, Journal, arrival}
+use Rattle.cip_console.specs.Journal.{Entry, Happened, arrival}
 
 -- what a run has come to: the state of each module, and the journal
 pub record Run : Type 0 where

@@ -1,5 +1,5 @@
 -- The transcript of a script: the text of the run that its steps make.
-use Rattle.std.specs.Prelude.{ℕ, zero, suc, ◌==◌, if◌then◌else◌, Option, Some, None, List, [], ◌∷◌, ◌++◌, length, codes, map}
+use Rattle.std.specs.Prelude.{ℕ, zero, suc, Option, Some, None, List, [], ◌∷◌, ◌++◌, length, codes, map}
 use Rattle.cip_module.specs.declared.config.ModuleSettings.{ModuleSettings}
 use Rattle.cip_module.specs.declared.event.Command.{Command}
 use Rattle.cip_module.specs.declared.event.Event.TheVariants as events
@@ -8,7 +8,7 @@ use Rattle.cip_console.specs.declared.steps.Step.{Step}
 use Rattle.cip_console.specs.declared.steps.Step.TheVariants.{Send, Run as RunStep}
 use Rattle.cip_console.specs.declared.steps.Numbered.{Numbered}
 use Rattle.cip_console.specs.declared.waiting.Waiting.{Waiting}
-use Rattle.cip_console.specs.Journal.{Entry, Journal, waiting}
+use Rattle.cip_console.specs.Journal.{Entry, waiting}
 use Rattle.cip_console.specs.Runs.{Run, opening_run, happened, delivered}
 use Rattle.cip_console.specs.Show.{entry_text}
 

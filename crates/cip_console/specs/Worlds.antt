@@ -12,7 +12,7 @@ use Rattle.cip_console.specs.declared.waiting.Waiting.{Waiting}
 use Rattle.cip_console.specs.declared.world.World.{World}
 use Rattle.cip_console.specs.declared.world.HappenFault.{HappenFault}
 use Rattle.cip_console.specs.declared.world.HappenFault.TheVariants.{Full, NoMemory}
-use Rattle.cip_console.specs.Journal.{Happened, Journal, NamesEarlier, sent, waiting}
+use Rattle.cip_console.specs.Journal.{Happened, NamesEarlier, sent, waiting}
 use Rattle.cip_console.specs.Runs.{Run, step_at}
 use Rattle.cip_console.specs.Show.{entry_text}
 use Rattle.cip_console.specs.Transcript.{names_of}

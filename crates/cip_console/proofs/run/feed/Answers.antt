@@ -1,4 +1,4 @@
-use Rattle.cip_console.specs.Worlds.{configs_of, standing_of}
+use Rattle.cip_console.specs.Worlds.{standing_of}
 use Rattle.cip_console.proofs.Playing.{fed_played, fed_unwritten, fed_stopped}
 use Rattle.cip_console.proofs.Prints.{front_nothing}
 use Rattle.cip_console.proofs.run.feed.Goals as goal

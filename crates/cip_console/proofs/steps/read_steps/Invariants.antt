@@ -1,4 +1,4 @@
-use Rattle.std.proofs.Common.{◌≡◌, ◌+◌, drop, map, vec_items}
+use Rattle.std.proofs.Common.{◌≡◌, ◌+◌, drop, vec_items}
 use Rattle.cip_console.specs.Steps.{texts, steps_from}
 use Rattle.cip_console.proofs.StepsLaws.{before}
 use Rattle.cip_console.proofs.steps.read_steps.Given as goal

@@ -1,6 +1,5 @@
 use Rattle.std.proofs.Common.{◌++◌, ap, ◌∙◌, rules}
 use Rattle.std.specs.Prelude.{string_bytes}
-use Rattle.cip_module.specs.declared.config.ModuleSettings.{ModuleSettings}
 use Rattle.cip_console.specs.Journal.{sent}
 use Rattle.cip_console.specs.Show.{head_text, name_of, outputs_text}
 use Rattle.cip_console.specs.Transcript.{names_of}
