@@ -15,7 +15,7 @@ use crate::chassis::{NAMES, changed, device_at, plain};
 use crate::events::event_of;
 use crate::outputs::{fault_text, op_line, output_line, pending_line, tables_line};
 use crate::words::{u64_at, word, words};
-use cip_module::{Event, Module, Output, PlainModule};
+use cip_module::{Event, Module, Output, PendingRow, PlainModule};
 use std::alloc::Global;
 use std::collections::VecDeque;
 use std::test::Fail;
@@ -57,6 +57,14 @@ fn output_lines(
     Ok(())
 }
 
+// The outputs of an event, or the line of a step that did not happen.
+fn stepped<M: Module>(module_: &mut M, event: Event) -> Result<Vec<Output>, &'static str> {
+    match module_.step(event) {
+        Ok(outputs) => Ok(outputs),
+        Err(fault) => Err(fault_text(&fault)),
+    }
+}
+
 // One event at a module, which is given a copy of it.
 fn step<M: Module>(
     alloc: Global,
@@ -64,33 +72,53 @@ fn step<M: Module>(
     event: &Event,
     lines: &mut VecDeque<String>,
 ) -> Result<(), Fail> {
-    match module_.step(event.copy(alloc)?) {
+    match stepped(module_, event.copy(alloc)?) {
         Ok(outputs) => output_lines(alloc, outputs.as_slice(), lines),
-        Err(fault) => {
-            lines.push_back(String::from_str(alloc, fault_text(&fault))?)?;
-            Ok(())
-        }
+        Err(line) => Ok(lines.push_back(String::from_str(alloc, line)?)?),
     }
+}
+
+fn pending_lines(
+    alloc: Global,
+    rows: &[PendingRow],
+    lines: &mut VecDeque<String>,
+) -> Result<(), Fail> {
+    for row in rows {
+        lines.push_back(pending_line(alloc, row)?)?;
+    }
+    Ok(())
+}
+
+fn op_lines(alloc: Global, ops: &[u32], lines: &mut VecDeque<String>) -> Result<(), Fail> {
+    for op in ops {
+        lines.push_back(op_line(alloc, *op)?)?;
+    }
+    Ok(())
 }
 
 // The lines of a module's tables.
 fn show<M: Module>(alloc: Global, module_: &M, lines: &mut VecDeque<String>) -> Result<(), Fail> {
     let tables = module_.tables()?;
     lines.push_back(tables_line(alloc, &tables)?)?;
-    for row in tables.pendings.as_slice() {
-        lines.push_back(pending_line(alloc, row)?)?;
-    }
-    for op in tables.ops.as_slice() {
-        lines.push_back(op_line(alloc, *op)?)?;
-    }
-    Ok(())
+    pending_lines(alloc, tables.pendings.as_slice(), lines)?;
+    op_lines(alloc, tables.ops.as_slice(), lines)
 }
 
-// A module with a setting of its own in the place of the one that stands there.
-fn with(alloc: Global, place: usize, words: &[&str]) -> Result<PlainModule, Fail> {
+// The module of a place with a setting of its own.
+fn plain_with(alloc: Global, place: usize, words: &[&str]) -> Result<PlainModule, Fail> {
     let key = word(words, 2)?;
     let value = u64_at(words, 3)?;
     plain(alloc, &changed(device_at(place), key, value)?)
+}
+
+fn renew(
+    alloc: Global,
+    module_: &mut PlainModule,
+    place: usize,
+    words: &[&str],
+) -> Result<(), Fail> {
+    *module_ = plain_with(alloc, place, words)?;
+    Ok(())
 }
 
 impl Bench {
@@ -103,21 +131,41 @@ impl Bench {
         })
     }
 
+    // `M with SETTING NUMBER`
+    fn make_anew(&mut self, place: usize, words: &[&str]) -> Result<(), Fail> {
+        match self.modules.get_mut(place) {
+            Some(module_) => renew(self.alloc, module_, place, words),
+            None => Err(Fail::new("no such module")),
+        }
+    }
+
+    // `M tables`
+    fn show(&mut self, place: usize) -> Result<(), Fail> {
+        match self.modules.get(place) {
+            Some(module_) => show(self.alloc, module_, &mut self.lines),
+            None => Err(Fail::new("no such module")),
+        }
+    }
+
+    // One event at a module.
+    fn step(&mut self, place: usize, event: &Event) -> Result<(), Fail> {
+        match self.modules.get_mut(place) {
+            Some(module_) => step(self.alloc, module_, event, &mut self.lines),
+            None => Err(Fail::new("no such module")),
+        }
+    }
+
     // What the words of a line ask for.
     fn obey(&mut self, words: &[&str]) -> Result<(), Fail> {
         let place = place_of(word(words, 0)?)?;
-        let Some(module_) = self.modules.get_mut(place) else {
-            return Err(Fail::new("no such module"));
-        };
         let kind = word(words, 1)?;
         if kind == "with" {
-            *module_ = with(self.alloc, place, words)?;
-            Ok(())
+            self.make_anew(place, words)
         } else if kind == "tables" {
-            show(self.alloc, module_, &mut self.lines)
+            self.show(place)
         } else {
             let event = event_of(self.alloc, words)?;
-            step(self.alloc, module_, &event, &mut self.lines)
+            self.step(place, &event)
         }
     }
 

@@ -176,9 +176,15 @@ fn config(alloc: Global, device: &Device) -> Result<ModuleConfig, Fail> {
     Ok(ModuleConfig::new(settings).ok_or("no settings")?)
 }
 
+// A copy of the config of a device.
+fn config_copy(alloc: Global, device: &Device) -> Result<ModuleConfig, Fail> {
+    let config = config(alloc, device)?;
+    Ok(config.copy(alloc)?)
+}
+
 /// The module of a device. It is made of a copy of its config.
 pub fn plain(alloc: Global, device: &Device) -> Result<PlainModule, Fail> {
-    let config = config(alloc, device)?.copy(alloc)?;
+    let config = config_copy(alloc, device)?;
     if let ModuleKind::Plain = config.settings().kind {
         Ok(PlainModule::new(alloc, config)?)
     } else {
