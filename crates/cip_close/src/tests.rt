@@ -88,10 +88,17 @@ fn a_success_is_written_and_read(rt: HostRuntime) -> Result<(), Fail> {
             Some(DataFault::Short)
         );
     }
-    let longer = [
-        0x42, 0x00, 0x01, 0x01, 0x0D, 0x0C, 0x0B, 0x0A, 0x00, 0x00, 0x00,
-    ];
-    assert_eq!(rt; read_close_reply(&longer).err(), Some(DataFault::Long));
+    Ok(())
+}
+
+#[test]
+fn each_longer_success_has_bytes_over(rt: HostRuntime) -> Result<(), Fail> {
+    for last in 0..=255u8 {
+        let mut longer = SUCCESS.to_vec(rt.alloc())?;
+        longer.push(last)?;
+        let fault = read_close_reply(&longer.as_slice()[4..]).err();
+        assert_eq!(rt; fault, Some(DataFault::Long));
+    }
     Ok(())
 }
 
@@ -115,5 +122,32 @@ fn a_failure_is_written_and_read(rt: HostRuntime) -> Result<(), Fail> {
     let reply = read_reply(&FAILURE)?;
     assert_eq!(rt; reply.status(), status);
     assert_eq!(rt; read_close_failure(reply.data_())?, failure);
+    Ok(())
+}
+
+#[test]
+fn failures_with_parts_missing(rt: HostRuntime) -> Result<(), Fail> {
+    let data_ = &FAILURE[6..];
+    assert_eq!(rt; read_close_failure(&[])?.triad, None);
+    for len in 1..8 {
+        assert_eq!(rt;
+            read_close_failure(&data_[..len]).err(),
+            Some(DataFault::Short)
+        );
+    }
+    let alone = read_close_failure(&data_[..8])?;
+    assert_eq!(rt; (alone.triad, alone.words), (Some(TRIAD), None));
+    assert_eq!(rt; read_close_failure(&data_[..9])?.words, Some(5));
+    Ok(())
+}
+
+#[test]
+fn each_longer_failure_keeps_its_words(rt: HostRuntime) -> Result<(), Fail> {
+    for last in 0..=255u8 {
+        let mut longer = FAILURE.to_vec(rt.alloc())?;
+        longer.push(last)?;
+        let failure = read_close_failure(&longer.as_slice()[6..])?;
+        assert_eq!(rt; (failure.triad, failure.words), (Some(TRIAD), Some(5)));
+    }
     Ok(())
 }

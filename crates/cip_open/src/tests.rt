@@ -133,6 +133,17 @@ fn successes_are_written_and_read(rt: HostRuntime) -> Result<(), Fail> {
 }
 
 #[test]
+fn each_longer_success_has_bytes_over(rt: HostRuntime) -> Result<(), Fail> {
+    for last in 0..=255u8 {
+        let mut longer = REPLIES[0].to_vec(rt.alloc())?;
+        longer.push(last)?;
+        let fault = read_open_reply(&longer.as_slice()[4..]).err();
+        assert_eq!(rt; fault, Some(DataFault::Long));
+    }
+    Ok(())
+}
+
+#[test]
 fn a_success_with_an_application_reply(rt: HostRuntime) -> Result<(), Fail> {
     let reply = OpenReply {
         ot_id: 1,
@@ -205,6 +216,17 @@ fn failures_are_written_and_read(rt: HostRuntime) -> Result<(), Fail> {
         let reply = read_reply(&bytes)?;
         assert_eq!(rt; reply.status(), status);
         assert_eq!(rt; read_open_failure(reply.data_())?, failure);
+    }
+    Ok(())
+}
+
+#[test]
+fn each_longer_failure_keeps_its_words(rt: HostRuntime) -> Result<(), Fail> {
+    for last in 0..=255u8 {
+        let mut longer = FAILURES[0].0.to_vec(rt.alloc())?;
+        longer.push(last)?;
+        let failure = read_open_failure(&longer.as_slice()[6..])?;
+        assert_eq!(rt; (failure.triad, failure.words), (Some(TRIAD), Some(5)));
     }
     Ok(())
 }

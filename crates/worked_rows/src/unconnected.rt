@@ -1,0 +1,281 @@
+//! Unconnected messages along the chassis: what goes on, what comes back, and what is late.
+use crate::bench::play;
+use std::test::Fail;
+
+#[test]
+fn the_scanner_reads_the_identity_of_the_second_bridge(rt: HostRuntime) -> Result<(), Fail> {
+    play(
+        rt.alloc(),
+        "
+        S send 1 0x07 0xFA 02050103 010220012401
+        > send 2 05 request 1 52022006240107F9060001022001240101000103
+        A request 2 01 1 52022006240107F9060001022001240101000103
+        > send 1 03 request 1 010220012401
+        B request 1 00 1 010220012401
+        > send 1 00 reply 1 8100000001010C000200010300000B0B0000024252
+        A reply 1 03 1 8100000001010C000200010300000B0B0000024252
+        > send 2 01 reply 1 8100000001010C000200010300000B0B0000024252
+        S reply 2 05 1 8100000001010C000200010300000B0B0000024252
+        > done 1 8100000001010C000200010300000B0B0000024252
+        ",
+    )
+}
+
+#[test]
+fn requests_of_odd_and_of_even_size(rt: HostRuntime) -> Result<(), Fail> {
+    play(
+        rt.alloc(),
+        "
+        S send 1 0x07 0xFA 020501030207 1003200424643003AA
+        > send 2 05 request 1 52022006240107F909001003200424643003AA00020001030207
+        A request 2 01 1 52022006240107F909001003200424643003AA00020001030207
+        > send 1 03 request 1 52022006240107F809001003200424643003AA0001000207
+        B request 1 00 1 52022006240107F809001003200424643003AA0001000207
+        > send 2 07 request 1 1003200424643003AA
+        E request 2 01 1 1003200424643003AA
+        > send 2 01 reply 1 90001500
+        B reply 2 07 1 90001500
+        > send 1 00 reply 1 90001500
+        A reply 1 03 1 90001500
+        > send 2 01 reply 1 90001500
+        S reply 2 05 1 90001500
+        > done 1 90001500
+        # Ten bytes have no pad after them.
+        S send 2 0x07 0xFA 020501030207 1003200424643003AABB
+        > send 2 05 request 2 52022006240107F90A001003200424643003AABB020001030207
+        A request 2 01 2 52022006240107F90A001003200424643003AABB020001030207
+        > send 1 03 request 2 52022006240107F80A001003200424643003AABB01000207
+        B request 1 00 2 52022006240107F80A001003200424643003AABB01000207
+        > send 2 07 request 2 1003200424643003AABB
+        ",
+    )
+}
+
+#[test]
+fn ticks_that_are_spent(rt: HostRuntime) -> Result<(), Fail> {
+    play(
+        rt.alloc(),
+        "
+        S send 1 0x07 2 02050103 010220012401
+        > send 2 05 request 1 5202200624010701060001022001240101000103
+        A request 2 01 1 5202200624010701060001022001240101000103
+        > send 2 01 reply 1 D2000101040201
+        S reply 2 05 1 D2000101040201
+        > done 1 D2000101040201
+        S send 2 0x07 1 02050103 010220012401
+        > done 2 D2000101040202
+        S send 3 0x07 0 02050103 010220012401
+        > done 3 D2000101040202
+        ",
+    )
+}
+
+#[test]
+fn an_address_that_no_module_has(rt: HostRuntime) -> Result<(), Fail> {
+    play(
+        rt.alloc(),
+        "
+        S send 1 0 0x0A 0209 010220012401
+        > send 2 09 request 1 010220012401
+        S tick 9
+        S tick 1
+        > done 1 D2000101040201
+        ",
+    )
+}
+
+#[test]
+fn each_request_that_is_due_with_its_own_words(rt: HostRuntime) -> Result<(), Fail> {
+    play(
+        rt.alloc(),
+        "
+        S send 1 0 0x0A 02050103 010220012401
+        > send 2 05 request 1 5202200624010009060001022001240101000103
+        S send 2 0 0x14 0209 010220012401
+        > send 2 09 request 2 010220012401
+        S send 3 0 0x1E 020501030207 010220012401
+        > send 2 05 request 3 520220062401001D0600010220012401020001030207
+        S tick 20
+        > done 1 D2000101040202
+        > done 2 D2000101040201
+        S tables
+        > now 20000 number 3
+        > pending 3 2 05 due 30000 words 3 unconnected
+        > op 1
+        > op 2
+        > op 3
+        ",
+    )
+}
+
+#[test]
+fn a_late_reply_answers_no_other_request(rt: HostRuntime) -> Result<(), Fail> {
+    play(
+        rt.alloc(),
+        "
+        S send 1 0 0x64 02050103 010220012401
+        > send 2 05 request 1 5202200624010063060001022001240101000103
+        A request 2 01 1 5202200624010063060001022001240101000103
+        > send 1 03 request 1 010220012401
+        A tick 99
+        > send 2 01 reply 1 D2000101040201
+        S reply 2 05 1 D2000101040201
+        > done 1 D2000101040201
+        S send 2 0x07 0xFA 02050103 010220012401
+        > send 2 05 request 2 52022006240107F9060001022001240101000103
+        A request 2 01 2 52022006240107F9060001022001240101000103
+        > send 1 03 request 2 010220012401
+        A reply 1 03 1 8100000001010C000200010300000B0B0000024252
+        > dropped Late
+        A reply 1 03 2 8100000001010C000200010300000B0B0000024252
+        > send 2 01 reply 2 8100000001010C000200010300000B0B0000024252
+        S reply 2 05 2 8100000001010C000200010300000B0B0000024252
+        > done 2 8100000001010C000200010300000B0B0000024252
+        ",
+    )
+}
+
+#[test]
+fn no_place_for_another_request(rt: HostRuntime) -> Result<(), Fail> {
+    play(
+        rt.alloc(),
+        "
+        A with pending_room 1
+        A request 2 01 1 52022006240107F9060001022001240101000103
+        > send 1 03 request 1 010220012401
+        A request 2 01 2 52022006240107F9060001022001240101000103
+        > send 2 01 reply 2 D2000101010301
+        A reply 1 03 1 8100000001010C000200010300000B0B0000024252
+        > send 2 01 reply 1 8100000001010C000200010300000B0B0000024252
+        A request 2 01 3 52022006240107F9060001022001240101000103
+        > send 1 03 request 2 010220012401
+        ",
+    )
+}
+
+#[test]
+fn no_number_for_another_request(rt: HostRuntime) -> Result<(), Fail> {
+    play(
+        rt.alloc(),
+        "
+        A with first_number 0xFFFFFFFF
+        A request 2 01 1 52022006240107F9060001022001240101000103
+        > send 1 03 request 4294967295 010220012401
+        A request 2 01 2 52022006240107F9060001022001240101000103
+        > send 2 01 reply 2 D2000101010301
+        A reply 1 03 4294967295 8100000001010C000200010300000B0B0000024252
+        > send 2 01 reply 1 8100000001010C000200010300000B0B0000024252
+        A request 2 01 3 52022006240107F9060001022001240101000103
+        > send 2 01 reply 3 D2000101010301
+        ",
+    )
+}
+
+#[test]
+fn the_end_of_time(rt: HostRuntime) -> Result<(), Fail> {
+    play(
+        rt.alloc(),
+        "
+        A with clock 9223372036854775807
+        A request 2 01 1 52022006240107F9060001022001240101000103
+        > send 1 03 request 1 010220012401
+        A tick 1
+        > clock full
+        A reply 1 03 1 8100000001010C000200010300000B0B0000024252
+        > send 2 01 reply 1 8100000001010C000200010300000B0B0000024252
+        A tables
+        > now 9223372036854775807 number 1
+        ",
+    )
+}
+
+#[test]
+fn replies_that_answer_nothing(rt: HostRuntime) -> Result<(), Fail> {
+    play(
+        rt.alloc(),
+        "
+        S send 1 0x07 0xFA 02050103 010220012401
+        > send 2 05 request 1 52022006240107F9060001022001240101000103
+        S reply 2 05 1 810000
+        > dropped Malformed
+        S reply 2 05 9 8100000001010C000200010300000B0B0000024252
+        > dropped Late
+        S reply 2 06 1 8100000001010C000200010300000B0B0000024252
+        > dropped Late
+        # S has no port 3.
+        S reply 3 05 1 8100000001010C000200010300000B0B0000024252
+        > dropped Malformed
+        S reply 2 05 1 8100000001010C000200010300000B0B0000024252
+        > done 1 8100000001010C000200010300000B0B0000024252
+        S reply 2 05 1 8100000001010C000200010300000B0B0000024252
+        > dropped Late
+        ",
+    )
+}
+
+#[test]
+fn commands_that_are_refused(rt: HostRuntime) -> Result<(), Fail> {
+    play(
+        rt.alloc(),
+        "
+        S send 1 0x07 0xFA 02050103 52022006240107F9060001022001240101000103
+        > refused ReservedService
+        S send 1 0x07 0xFA 02050103 010220012401+1379
+        > refused WrongSize
+        # With its header and its whole path this one has 1,400 bytes.
+        S send 1 0x07 1 02050103 010220012401+1378
+        > done 1 D2000101040202
+        S send 1 0x07 0xFA 02050103 52022006240107F9060001022001240101000103
+        > refused OpUsed
+        S tables
+        > now 0 number 0
+        > op 1
+        ",
+    )
+}
+
+// A module that answers want of memory to each event keeps every clause. Here there is memory for each step, for the tables,
+// and for the copies of configs, events and outputs on which the bench works.
+#[test]
+fn step_never_has_memory(rt: HostRuntime) -> Result<(), Fail> {
+    play(
+        rt.alloc(),
+        "
+        S send 1 0x07 0xFA 02050103 010220012401
+        > send 2 05 request 1 52022006240107F9060001022001240101000103
+        S tick 1
+        S reply 2 05 1 8100000001010C000200010300000B0B0000024252
+        > done 1 8100000001010C000200010300000B0B0000024252
+        S tables
+        > now 1000 number 1
+        > op 1
+        ",
+    )
+}
+
+#[test]
+fn what_a_module_keeps_of_a_request(rt: HostRuntime) -> Result<(), Fail> {
+    play(
+        rt.alloc(),
+        "
+        S send 7 0x07 0xFA 02050103 010220012401
+        > send 2 05 request 1 52022006240107F9060001022001240101000103
+        S tables
+        > now 0 number 1
+        > pending 1 2 05 due 32000000 words 2 unconnected
+        > op 7
+        S tick 32
+        S reply 2 05 1 8100000001010C000200010300000B0B0000024252
+        > done 7 8100000001010C000200010300000B0B0000024252
+        S tables
+        > now 32000 number 1
+        > op 7
+        A with first_number 5
+        A request 2 01 1 52022006240107F9060001022001240101000103
+        > send 1 03 request 5 010220012401
+        A tables
+        > now 0 number 5
+        > pending 5 1 03 due 31872000 words 1 unconnected
+        ",
+    )
+}
