@@ -2,15 +2,19 @@
 //! (Volume 1, chapter 5, object library).
 #![tactic(auto)]
 
+mod application;
 mod assemblies;
 mod config;
+mod ends;
 mod identity;
+mod link;
 mod object;
 mod rows;
 mod target;
 
 pub use config::AssemblyConfig;
 pub use identity::{Identity, IdentityFields};
+pub use link::EndLink;
 pub use object::{ObjectPath, object_path};
 pub use rows::TargetRefusal;
 pub use target::Target;
