@@ -1,2 +1,4 @@
 pub mod Keeping
+pub mod Holding
+pub mod Changes
 pub mod Writes

@@ -1,10 +1,8 @@
 -- What an end says to an open: the rows from an application path on, in their order; the first that fits answers
 -- (Volume 1, chapter 3, Forward_Open). And what the target is while connections end here.
-use Rattle.std.specs.Prelude.{ℕ, Bool, true, false, not, ◌+◌, ◌%◌, ◌==◌, ◌&&◌, ◌||◌, nat_lt, if◌then◌else◌, List, [], length, take, slice_index, is_some, Option, Some, None, Result, Ok, Err}
-use Rattle.std.specs.Option.{option_map, option_map_or}
-use Rattle.std.specs.Ordering.{nat_cmp}
+use Rattle.std.specs.Prelude.{ℕ, Bool, true, false, not, ◌+◌, ◌%◌, ◌==◌, ◌&&◌, ◌||◌, nat_lt, if◌then◌else◌, List, [], length, slice_index, is_some, Option, Some, None, Result, Ok, Err}
+use Rattle.std.specs.Option.{option_map_or}
 use Rattle.std.specs.FinMap as map
-use Rattle.cip_base.specs.declared.triad.Triad.{Triad}
 use Rattle.cip_base.specs.declared.timing.Status.{Status}
 use Rattle.cip_segment.specs.Reading.{segments_of}
 use Rattle.cip_message.specs.Request.{Request}
@@ -15,7 +13,7 @@ use Rattle.cip_target.specs.declared.config.AssemblyConfig.{AssemblyConfig}
 use Rattle.cip_target.specs.declared.identity.IdentityFields.{IdentityFields}
 use Rattle.cip_target.specs.declared.link.EndLink.{EndLink}
 use Rattle.cip_target.specs.ApplicationPath.{Application, application_of}
-use Rattle.cip_target.specs.Assemblies.{AssemblyMap, zeroed}
+use Rattle.cip_target.specs.Assemblies.{AssemblyMap, Owners, zeroed, size_in, written_over, owned_with}
 use Rattle.cip_target.specs.Objects.{Objects, target_after}
 
 pub data EndRow : Type 0 where
@@ -58,9 +56,6 @@ sized_row owned f a (Some config) (Some consume) (Some produce) =
     else Fits (link_of f a)
 sized_row owned f a config consume produce = NoSuchInstanceOrConfiguration
 
-abbrev pub size_in : AssemblyMap → ℕ → Option ℕ
-size_in m i = option_map length (map.get m i)
-
 abbrev pub application_row : AssemblyMap → (ℕ → Bool) → OpenFields → Option Application → EndRow
 application_row m owned f None = NotAnApplicationPath
 application_row m owned f (Some a) = sized_row owned f a (size_in m a.config) (size_in m a.consume) (size_in m a.produce)
@@ -89,10 +84,6 @@ end_gives row = Err (end_status row)
 
 -- ---- the target while connections end here
 
--- under each O→T instance that is owned, the triad of the connection that owns it
-abbrev pub Owners : Type 0
-Owners = map.FinMap nat_cmp Triad
-
 pub record Ends : Type 0 where
   pub objects : Objects
   pub owners : Owners
@@ -116,19 +107,9 @@ row_at t o = end_row t.objects.assemblies (λ i. is_some (map.get t.owners i)) o
 abbrev pub configuration_of : Open → List ℕ
 configuration_of o = option_map_or (λ a. a.bytes) (application_of (segments_of o.path)) []
 
--- with this much of the bytes in an assembly as it has
-abbrev pub written_over : AssemblyMap → ℕ → List ℕ → Option (List ℕ) → AssemblyMap
-written_over m i b None = m
-written_over m i b (Some held) = map.insert m i (take (length held) b)
-
 -- after the configuration bytes are written, without their pad
 abbrev pub configured : AssemblyMap → Open → EndLink → AssemblyMap
 configured m o link = written_over m link.config (configuration_of o) (map.get m link.config)
-
--- an assembly with bytes is owned by the connection that writes it
-abbrev pub owned_with : Owners → ℕ → Triad → Option ℕ → Owners
-owned_with owners i triad None = owners
-owned_with owners i triad (Some size) = if nat_lt 0 size then map.insert owners i triad else owners
 
 -- after the open is taken on this link
 abbrev pub accepted : Ends → EndLink → Open → Ends

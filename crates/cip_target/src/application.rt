@@ -3,7 +3,7 @@ ghost use Rattle.std.specs.Prelude.{◌≡◌, option_map};
 ghost use Rattle.cip_segment.specs.Reading.{segments_of};
 ghost use Rattle.cip_segment.specs.Seen.{segment_of};
 ghost use Rattle.cip_target.specs.ApplicationPath.{behind_key, without_inhibits, point_of, bytes_in, application_with, points_in, application_in, application_of};
-ghost use Rattle.cip_target.specs.Viewed.{application_seen, IsFirst};
+ghost use Rattle.cip_target.specs.Viewed.{application_seen, IsFirst, IsFirstPoint};
 
 use cip_segment::{PathView, SegmentView, split_first};
 
@@ -47,14 +47,17 @@ fn split(path: PathView<'_>) -> Option<(SegmentView<'_>, PathView<'_>)>
     None
 }
 
-// An instance or a connection point.
-fn point(segment: SegmentView<'_>) -> Option<u32>
-    ensures { result ≡ point_of (segment_of segment.entry) }
+// The point that stands first, if it is an instance or a connection point, and what stands behind it.
+fn split_point(path: PathView<'_>) -> Option<(Option<u32>, PathView<'_>)>
+    ensures { IsFirstPoint (without_inhibits (segments_of path.entry.bytes.now)) (option_map (λ found. (found.0, segments_of found.1.bytes.now)) result) }
 {
-    match segment {
-        SegmentView::Instance(number) => Some(number),
-        SegmentView::Point(number) => Some(number),
-        _ => None,
+    match split(path) {
+        None => None,
+        Some((first, rest)) => match first {
+            SegmentView::Instance(number) => Some((Some(number), rest)),
+            SegmentView::Point(number) => Some((Some(number), rest)),
+            _ => Some((None, rest)),
+        },
     }
 }
 
@@ -94,10 +97,16 @@ fn application_with(
 fn points_in(path: PathView<'_>) -> Option<ApplicationView<'_>>
     ensures { option_map application_seen result ≡ points_in (without_inhibits (segments_of path.entry.bytes.now)) }
 {
-    let (config, rest) = split(path)?;
-    let (consume, rest) = split(rest)?;
-    let (produce, rest) = split(rest)?;
-    application_with(point(config), point(consume), point(produce), bytes_in(rest))
+    let Some((config, rest)) = split_point(path) else {
+        return None;
+    };
+    let Some((consume, rest)) = split_point(rest) else {
+        return None;
+    };
+    let Some((produce, rest)) = split_point(rest) else {
+        return None;
+    };
+    application_with(config, consume, produce, bytes_in(rest))
 }
 
 /// What a path names, if it is an application path: after a leading key, class 4, three points, each an instance or a

@@ -4,6 +4,7 @@
 
 mod application;
 mod assemblies;
+mod assembly;
 mod config;
 mod ends;
 mod identity;

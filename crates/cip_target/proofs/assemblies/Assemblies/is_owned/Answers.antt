@@ -1,0 +1,20 @@
+use Rattle.std.proofs.Common.{◌≡◌, ℕ, List, length, Option, Some, None, refl, sym, ap, subst, ◌∙◌, ◌==◌, nat_le, ◌≤◌, Bor}
+use Rattle.std.specs.List.{position}
+use Rattle.std.specs.Option.{option_map, is_some}
+use Rattle.cip_base.specs.declared.triad.Triad.{Triad}
+use Rattle.cip_target.specs.declared.config.AssemblyConfig.{AssemblyConfig}
+use Rattle.cip_target.specs.Assemblies.{config_with, is_above}
+use Rattle.cip_target.specs.Held.{IsHeld}
+use Rattle.cip_target.proofs.Keeping.{Entry, key_is, fits_at, kept_set, kept_push, kept_insert, within, same_at}
+use Rattle.cip_target.proofs.Changes.{Stands, bytes_found, bytes_missing, owner_found, owner_missing, first_found, first_missing, write_over, own_with, own_nothing, own_missing, disown_over, disown_missing, same_length, always_there, hold_push, hold_insert, put_over}
+use Rattle.cip_target.proofs.assemblies.Assemblies.is_owned.Goals as goal
+
+pub returns-in-None : goal.returns-in-None
+returns-in-None c =
+    let at : position (λ e. e.0 == c.args.instance) c.self.inside.held.items ≡ None = ap (position (λ (e : Entry). e.0 == c.args.instance)) (sym c.deref.ensures.value) ∙ sym c.in-None.ensures in
+    ap (λ (o : Option Triad). is_some o) (sym (owner_missing c.self.inside.held.items c.args.instance c.args.self.now c.self.invariant at c.self.view_is))
+
+pub returns-in-Some : goal.returns-in-Some
+returns-in-Some c =
+    let at : position (λ e. e.0 == c.args.instance) c.self.inside.held.items ≡ Some c.in-Some.at = ap (position (λ (e : Entry). e.0 == c.args.instance)) (sym c.deref.ensures.value) ∙ sym c.in-Some.ensures in
+    c.is_some.ensures ∙ ap (λ (o : Option Triad). is_some o) (sym (owner_found c.self.inside.held.items c.args.instance c.in-Some.at c.index.result.now c.args.self.now c.self.invariant (at, c.index.ensures) c.self.view_is))
