@@ -125,3 +125,12 @@ owners-same m k o found = same_owners _ _ (λ q.
       | true ↦ λ e. sym found ∙ sym (get-owners m k) ∙ ap (map.get (owners_of m)) (tie q k e)
       | false ↦ λ e. refl
     ] refl)
+
+-- no owner is taken out of none
+pub none-removed : (owners : Owners) (i : ℕ) → owners ≡ map.empty → map.remove owners i ≡ map.empty
+none-removed owners i none = ap (λ (o : Owners). map.remove o i) none ∙ same_owners _ _ (λ q.
+    map.get-remove nat_cmp_total map.empty i q
+    ∙ elim (eq_by_cmp nat_cmp q i) as (λ b. cond b None (map.get (map.empty {X = Triad} {R = nat_cmp}) q) ≡ map.get (map.empty {X = Triad} {R = nat_cmp}) q) [
+      | true ↦ sym (map.get-empty nat_cmp q)
+      | false ↦ refl
+    ])

@@ -2,7 +2,7 @@
 ghost use Rattle.std.specs.Prelude.{◌≡◌, ◌≤◌, ◌==◌, nat_le, length, IfSome, IsSomeAnd, is_ok, is_some, if◌then◌else◌, option_map};
 ghost use Rattle.std.specs.List.{position};
 ghost use Rattle.std.specs.FinMap as map;
-ghost use Rattle.cip_target.specs.Assemblies.{config_in, size_in, owned_with, first_above, is_above};
+ghost use Rattle.cip_target.specs.Assemblies.{config_in, size_in, owned_with, written_over, first_above, is_above};
 
 use crate::assembly::Assembly;
 use crate::config::AssemblyConfig;
@@ -131,6 +131,18 @@ impl Assemblies {
         if let Some(at) = place_of(&self.held, instance) {
             self.held[at].1.bytes.overwrite(bytes);
         }
+    }
+
+    /// Writes as much of the bytes as an instance that is there has.
+    pub(crate) fn configure(&mut self, instance: u32, bytes: &[u8])
+        requires { IsSomeAnd (map.get self.old.bytes instance) (λ d. length d ≤ length bytes.now) }
+        ensures { self.new ≡ record { bytes = written_over self.old.bytes instance bytes.now (map.get self.old.bytes instance); owners = self.old.owners } }
+    {
+        let Some(held) = self.get(instance) else {
+            unreachable!()
+        };
+        let size = held.len();
+        self.write(instance, &bytes[..size]);
     }
 
     /// Enters the owner of an instance that has bytes.

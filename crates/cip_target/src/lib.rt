@@ -6,6 +6,7 @@ mod application;
 mod assemblies;
 mod assembly;
 mod config;
+mod connections;
 mod ends;
 mod identity;
 mod link;
