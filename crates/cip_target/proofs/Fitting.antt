@@ -1,12 +1,13 @@
 -- What an open that fits says of its assemblies.
-use Rattle.std.proofs.Common.{◌≡◌, ◌≤◌, ℕ, Bool, true, false, cond, not, ◌&&◌, ◌||◌, ◌==◌, nat_lt, List, [], length, refl, sym, ap, subst, ◌∙◌, arith, Option, Some, None}
-use Rattle.std.specs.Prelude.{IsSomeAnd}
+use Rattle.std.proofs.Common.{◌≡◌, ◌≤◌, ℕ, Bool, true, false, cond, not, ◌&&◌, ◌||◌, ◌==◌, nat_lt, List, [], length, refl, sym, ap, subst, ◌∙◌, arith, Option, Some, None, Result, Ok, Err}
+use Rattle.std.specs.Prelude.{IsSomeAnd, IfOk}
 use Rattle.std.specs.Option.{option_map, option_map_or, is_some}
 use Rattle.std.specs.FinMap as map
 use Rattle.std.proofs.lemmas.Bool.Decides.{nat_tests}
 use Rattle.cip_segment.specs.Reading.{segments_of}
 use Rattle.cip_open.specs.declared.request.OpenFields.{OpenFields}
 use Rattle.cip_open.specs.Open.{Open}
+use Rattle.cip_base.specs.declared.timing.Status.{Status}
 use Rattle.cip_base.specs.declared.triad.Triad.{Triad}
 use Rattle.cip_target.specs.declared.identity.IdentityFields.{IdentityFields}
 use Rattle.cip_target.specs.declared.config.AssemblyConfig.{AssemblyConfig}
@@ -15,7 +16,7 @@ use Rattle.cip_target.specs.declared.ends.Joined.{Joined}
 use Rattle.cip_target.specs.ApplicationPath.{Application, application_of}
 use Rattle.cip_target.specs.Assemblies.{AssemblyMap, size_in, config_in, config_with, written_over, owned_with}
 use Rattle.cip_target.specs.Held.{Holdings}
-use Rattle.cip_target.specs.Ends.{Ends, EndRow, NotAnApplicationPath, NoSuchInstanceOrConfiguration, ClassNotSupported, SizeMismatch, OutputOwned, Fits, class_of, is_configuration, are_sizes, link_of, sized_row, application_row, end_row, row_at, accepted}
+use Rattle.cip_target.specs.Ends.{Ends, EndRow, NotAnApplicationPath, NoSuchInstanceOrConfiguration, ClassNotSupported, SizeMismatch, OutputOwned, Fits, class_of, is_configuration, are_sizes, link_of, sized_row, application_row, end_row, row_at, end_gives, accepted}
 use Rattle.cip_target.specs.Viewed.{application_joined, IsJoined}
 
 size_is : (m : AssemblyMap) (i : ℕ) → option_map (λ c. c.size) (config_in m i) ≡ size_in m i
@@ -37,6 +38,16 @@ joined_is m owned f a j b h e =
     ∙ ap (λ (x : Option ℕ). sized_row owned f a (size_in m a.config) (size_in m a.consume) x) (sym (size_at m a.produce j.produce h.produce))
 
 -- ---- backwards
+
+-- a link comes only from the row that fits
+pub gives_fits : (r : Result EndLink Status) (row : EndRow) → r ≡ end_gives row → IfOk r (λ link. row ≡ Fits link)
+gives_fits (Err status) row e = tt
+gives_fits (Ok link) NotAnApplicationPath e = absurd cc
+gives_fits (Ok link) NoSuchInstanceOrConfiguration e = absurd cc
+gives_fits (Ok link) ClassNotSupported e = absurd cc
+gives_fits (Ok link) SizeMismatch e = absurd cc
+gives_fits (Ok link) OutputOwned e = absurd cc
+gives_fits (Ok link) (Fits other) e = let same : other ≡ link = cc in ap (λ (l : EndLink). Fits l) same
 
 unless_first : (b : Bool) (x y : EndRow) (link : EndLink) → cond (not b) x y ≡ Fits link → (x ≡ Fits link → ⊥) → (b ≡ true) × (y ≡ Fits link)
 unless_first true x y link e other = (refl, e)

@@ -1,5 +1,5 @@
 //! The target as the end of connections.
-ghost use Rattle.std.specs.Prelude.{◌≡◌, length, MatchOption, IsSome, IsSomeAnd};
+ghost use Rattle.std.specs.Prelude.{◌≡◌, ◌≤◌, length, MatchOption, IfOk, IfSome, IsSome, IsSomeAnd};
 ghost use Rattle.std.specs.FinMap as map;
 ghost use Rattle.cip_open.specs.Reading.{open_of};
 ghost use Rattle.cip_target.specs.Assemblies.{config_in};
@@ -40,7 +40,8 @@ impl Target {
 
     /// The instance and size of an assembly, if it exists.
     pub fn assembly(&self, instance: u32) -> Option<AssemblyConfig>
-        ensures { result ≡ config_in self.now.objects.assemblies instance }
+        ensures value { result ≡ config_in self.now.objects.assemblies instance }
+        ensures fits { IfSome result (λ a. a.size ≤ 511) }
     {
         self.assemblies.config(instance)
     }
@@ -51,16 +52,17 @@ impl Target {
     /// than 0 and 1, 0109 where a size is not that of its assembly, with 2 more in class 1, 0106 where the O→T instance has
     /// an owner. It takes no memory.
     #[tactic(auto, unfolding(crate::specs::Ends::end_row))]
-    pub fn check(&self, open: &OpenView<'_>) -> Result<EndLink, Status>
-        ensures { result ≡ end_gives (row_at self.now (open_of open.now)) }
+    pub fn check(&self, asked: &OpenView<'_>) -> Result<EndLink, Status>
+        ensures gives { result ≡ end_gives (row_at self.now (open_of asked.now)) }
+        ensures fits { IfOk result (λ link. row_at self.now (open_of asked.now) ≡ Fits link) }
     {
-        match application(open.path) {
+        match application(asked.path) {
             None => Err(failure(NOT_AN_APPLICATION_PATH)),
             Some(application) => match self.joined(application) {
                 None => Err(failure(NO_SUCH_INSTANCE_OR_CONFIGURATION)),
                 Some(joined) => {
                     let owned = self.assemblies.is_owned(u32::from(joined.consume.instance));
-                    joined_row(&open.fields, &joined, owned)
+                    joined_row(&asked.fields, &joined, owned)
                 }
             },
         }
@@ -68,15 +70,15 @@ impl Target {
 
     /// Takes an open that `check` gave this link: enters the connection as the owner of the O→T instance if that has bytes, and
     /// writes the configuration bytes, without a pad. It takes no memory.
-    pub fn accept(&mut self, link: &EndLink, open: &OpenView<'_>)
-        requires { row_at self.old (open_of open.now) ≡ Fits link.now }
-        ensures { self.new ≡ accepted self.old link.now (open_of open.now) }
+    pub fn accept(&mut self, link: &EndLink, asked: &OpenView<'_>)
+        requires { row_at self.old (open_of asked.now) ≡ Fits link.now }
+        ensures { self.new ≡ accepted self.old link.now (open_of asked.now) }
     {
-        let Some(application) = application(open.path) else {
+        let Some(application) = application(asked.path) else {
             unreachable!()
         };
         self.assemblies
-            .own(u32::from(link.consume), open.fields.triad);
+            .own(u32::from(link.consume), asked.fields.triad);
         self.assemblies
             .configure(u32::from(link.config), application.bytes);
     }
@@ -92,7 +94,8 @@ impl Target {
     /// The bytes of an assembly that exists. It takes no memory.
     pub fn produce(&self, instance: u16) -> &[u8]
         requires { IsSome (map.get self.now.objects.assemblies instance) }
-        ensures { map.get self.now.objects.assemblies instance ≡ Some result.now }
+        ensures value { map.get self.now.objects.assemblies instance ≡ Some result.now }
+        ensures fits { length result.now ≤ 511 }
     {
         match self.assemblies.get(u32::from(instance)) {
             Some(bytes) => bytes,
