@@ -22,4 +22,6 @@ pub use rows::TargetRefusal;
 pub use target::Target;
 
 #[cfg(test)]
+mod connection_tests;
+#[cfg(test)]
 mod tests;
