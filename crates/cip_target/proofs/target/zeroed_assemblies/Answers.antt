@@ -1,7 +1,6 @@
-use Rattle.std.proofs.Common.{rules, arith, ◌≡◌, ap, ◌∙◌}
+use Rattle.std.proofs.Common.{arith, ◌≡◌, ap, ◌∙◌}
 use Rattle.std.proofs.lemmas.Grind.{common_steps}
 use Rattle.std.specs.FinMap as map
-use Rattle.cip_target.specs.Assemblies.{zeroed_onto, zeroed}
 use Rattle.cip_target.specs.Held.{Holdings}
 use Rattle.cip_target.proofs.Holding.{none-removed}
 use Rattle.cip_target.proofs.target.zeroed_assemblies.Goals as goal

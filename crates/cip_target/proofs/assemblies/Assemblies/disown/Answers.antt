@@ -1,12 +1,7 @@
-use Rattle.std.proofs.Common.{◌≡◌, ℕ, List, length, Option, Some, None, refl, sym, ap, subst, ◌∙◌, ◌==◌, nat_le, ◌≤◌, Bor}
+use Rattle.std.proofs.Common.{◌≡◌, Some, None, refl, sym, ap, ◌∙◌, ◌==◌}
 use Rattle.std.specs.List.{position}
-use Rattle.std.specs.Option.{option_map, is_some}
-use Rattle.cip_base.specs.declared.triad.Triad.{Triad}
-use Rattle.cip_target.specs.declared.config.AssemblyConfig.{AssemblyConfig}
-use Rattle.cip_target.specs.Assemblies.{config_with, is_above}
-use Rattle.cip_target.specs.Held.{IsHeld, holdings}
-use Rattle.cip_target.proofs.Keeping.{Entry, the_map, key_is, fits_at, kept_set, kept_push, kept_insert, within, same_at}
-use Rattle.cip_target.proofs.Changes.{no_place, Stands, bytes_found, bytes_missing, owner_found, owner_missing, first_found, first_missing, write_over, own_with, own_nothing, own_missing, disown_over, disown_missing, same_length, always_there, hold_push, hold_insert, put_over}
+use Rattle.cip_target.proofs.Keeping.{Entry, key_is, fits_at, kept_set}
+use Rattle.cip_target.proofs.Changes.{no_place, disown_over, disown_missing}
 use Rattle.cip_target.proofs.assemblies.Assemblies.disown.Goals as goal
 
 pub invariant_of-self : goal.invariant_of-self

@@ -1,7 +1,7 @@
 use Rattle.std.proofs.Common.{◌≡◌, ap, ◌∙◌}
 use Rattle.std.specs.FinMap as map
 use Rattle.cip_base.proofs.Sorted.{from_sorted-none}
-use Rattle.cip_target.specs.Held.{Kept, holdings}
+use Rattle.cip_target.specs.Held.{holdings}
 use Rattle.cip_target.proofs.Changes.{holdings-none}
 use Rattle.cip_target.proofs.assemblies.Assemblies.new.Goals as goal
 

@@ -1,4 +1,4 @@
-use Rattle.std.proofs.Common.{◌≡◌, ap, sym, subst, ◌∙◌, Option}
+use Rattle.std.proofs.Common.{ap, sym, subst, ◌∙◌, Option}
 use Rattle.cip_open.specs.Reading.{open_of}
 use Rattle.cip_target.specs.ApplicationPath.{Application}
 use Rattle.cip_target.specs.Held.{Holdings}

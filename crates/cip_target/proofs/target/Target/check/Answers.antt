@@ -1,10 +1,10 @@
-use Rattle.std.proofs.Common.{◌≡◌, ℕ, Bool, ap, sym, ◌∙◌, Option, Some}
+use Rattle.std.proofs.Common.{◌≡◌, ℕ, Bool, ap, ◌∙◌, Option}
 use Rattle.std.specs.Option.{is_some}
 use Rattle.std.specs.FinMap as map
 use Rattle.cip_open.specs.Reading.{open_of}
 use Rattle.cip_target.specs.ApplicationPath.{Application}
 use Rattle.cip_target.specs.Viewed.{application_seen}
-use Rattle.cip_target.specs.Ends.{Ends, EndRow, end_gives, application_row, end_row, row_at}
+use Rattle.cip_target.specs.Ends.{Ends, end_gives, application_row, end_row, row_at}
 use Rattle.cip_target.proofs.Fitting.{joined_is, gives_fits}
 use Rattle.cip_target.proofs.target.Target.check.Goals as goal
 
