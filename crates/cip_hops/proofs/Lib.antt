@@ -10,3 +10,4 @@ pub mod Named
 pub mod Answering
 pub mod Changes
 pub mod Ticks
+pub mod Callers

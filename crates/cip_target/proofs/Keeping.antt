@@ -1,6 +1,5 @@
 -- What each change of the list of assemblies is in the finite map.
 use Rattle.std.proofs.Common.{◌≡◌, ℕ, zero, suc, ◌<◌, ◌≤◌, true, false, T, List, [], ◌∷◌, ◌++◌, length, get_or, refl, sym, ap, subst, ◌∙◌, arith, Option, Some, None, ◌==◌, nat_le, inl, inr}
-use Rattle.std.specs.Prelude.{IsSomeAnd}
 use Rattle.std.specs.List.{insert, remove, position, find}
 use Rattle.std.specs.Option.{option_map}
 use Rattle.std.specs.Ordering.{nat_cmp}
@@ -15,13 +14,14 @@ use Rattle.std.proofs.lemmas.List.{get_or-set_same, get_or-set_other}
 use Rattle.std.proofs.lemmas.List.Quantifiers.{position-Some}
 use Rattle.cip_base.proofs.Sorted.{sorted_push, sorted_insert, sorted_at, from_sorted-push, from_sorted-insert, from_sorted-at}
 use Rattle.cip_base.proofs.Places.{find-None, find-Some, find-number, all_miss}
-use Rattle.cip_target.specs.Assemblies.{AssemblyMap, first_above, is_above}
-use Rattle.cip_target.specs.Held.{IsHeld}
+use Rattle.cip_target.specs.Assemblies.{is_above}
+use Rattle.cip_target.specs.declared.assembly.Assembly.{Assembly}
+use Rattle.cip_target.specs.Held.{IsHeld, Kept, nothing}
 
-abbrev Entry : Type 0
-Entry = ℕ × List ℕ
+abbrev pub Entry : Type 0
+Entry = ℕ × Assembly
 
-abbrev the_map : List Entry → AssemblyMap
+abbrev pub the_map : List Entry → Kept
 the_map es = map.from_sorted es
 
 -- which default does not matter within the list
@@ -44,13 +44,13 @@ key_is es q i x e stands =
     let h = position-Some _ es i x e in
     (h.0, ap (λ (f : Entry). f.0) stands ∙ eqb-true _ _ h.1)
 
-pub fits_at : (es : List Entry) (i : ℕ) (x : Entry) → IsHeld es → i < length es → x ≡ get_or es i x → length x.1 ≤ 511
-fits_at es i x h lt stands = subst (λ (f : Entry). length f.1 ≤ 511) (sym (stands ∙ same_at es i x (0, []) lt)) (h.fits i)
+pub fits_at : (es : List Entry) (i : ℕ) (x : Entry) → IsHeld es → i < length es → x ≡ get_or es i x → length x.1.bytes ≤ 511
+fits_at es i x h lt stands = subst (λ (f : Entry). length f.1.bytes ≤ 511) (sym (stands ∙ same_at es i x nothing lt)) (h.fits i)
 
-pub above_none : (es : List Entry) (after : Option ℕ) → IsHeld es → position (λ e. is_above after e.0) es ≡ None → first_above after (the_map es) ≡ None
+pub above_none : (es : List Entry) (after : Option ℕ) → IsHeld es → position (λ e. is_above after e.0) es ≡ None → find (λ e. is_above after e.0) (map.entries (the_map es)) ≡ None
 above_none es after h e = ap (find (λ (e : Entry). is_above after e.0)) (map.entries-from_sorted nat_cmp _ h.sorted) ∙ find-None (λ f. is_above after f.0) es e
 
-pub above_is : (es : List Entry) (after : Option ℕ) (i : ℕ) (x : Entry) → IsHeld es → position (λ e. is_above after e.0) es ≡ Some i → x ≡ get_or es i x → first_above after (the_map es) ≡ Some x
+pub above_is : (es : List Entry) (after : Option ℕ) (i : ℕ) (x : Entry) → IsHeld es → position (λ e. is_above after e.0) es ≡ Some i → x ≡ get_or es i x → find (λ e. is_above after e.0) (map.entries (the_map es)) ≡ Some x
 above_is es after i x h e stands =
     ap (find (λ (e : Entry). is_above after e.0)) (map.entries-from_sorted nat_cmp _ h.sorted) ∙ find-Some _ _ i x e ∙ ap (λ y. Some y) (sym stands)
 
@@ -62,16 +62,16 @@ set_is (e ∷ es) zero x lt = refl
 set_is (e ∷ es) (suc i) x lt = ap (λ t. e ∷ t) (set_is es i x (omega arith))
 
 abbrev Fits : List Entry → Type 0
-Fits es = (i : ℕ) → length (get_or es i (0, [])).1 ≤ 511
+Fits es = (i : ℕ) → length (get_or es i nothing).1.bytes ≤ 511
 
-fits_set : (es : List Entry) (i : ℕ) (x : Entry) → i < length es → Fits es → length x.1 ≤ 511 → Fits (set es i x)
+fits_set : (es : List Entry) (i : ℕ) (x : Entry) → i < length es → Fits es → length x.1.bytes ≤ 511 → Fits (set es i x)
 fits_set es i x lt h p k =
     elim (cases_eq k i) [
-      | inl same ↦ subst (λ (f : Entry). length f.1 ≤ 511) (sym (ap (λ (j : ℕ). get_or (set es i x) j (0, [])) same ∙ get_or-set_same es i x (0, []) lt)) p
-      | inr other ↦ subst (λ (f : Entry). length f.1 ≤ 511) (sym (get_or-set_other es i k x (0, []) other)) (h k)
+      | inl same ↦ subst (λ (f : Entry). length f.1.bytes ≤ 511) (sym (ap (λ (j : ℕ). get_or (set es i x) j nothing) same ∙ get_or-set_same es i x nothing lt)) p
+      | inr other ↦ subst (λ (f : Entry). length f.1.bytes ≤ 511) (sym (get_or-set_other es i k x nothing other)) (h k)
     ]
 
-pub kept_set : (es : List Entry) (i : ℕ) (x y : Entry) → IsHeld es → i < length es → x ≡ get_or es i x → y.0 ≡ x.0 → length y.1 ≤ 511 → IsHeld (set es i y)
+pub kept_set : (es : List Entry) (i : ℕ) (x y : Entry) → IsHeld es → i < length es → x ≡ get_or es i x → y.0 ≡ x.0 → length y.1.bytes ≤ 511 → IsHeld (set es i y)
 kept_set es i x y h lt stands key p = record {
   sorted = subst (λ t. T (map.is_sorted nat_cmp t)) (sym (set_is es i y lt ∙ ap (λ (k : ℕ). insert (remove es i) i (k, y.1)) (key ∙ ap (λ (f : Entry). f.0) stands)))
       (sorted_at nat_cmp nat_cmp_total es i x y.1 h.sorted lt);
@@ -95,13 +95,13 @@ greater_is m n e = grind (arith, nat_tests)
 strictly : (m n : ℕ) → nat_le m n ≡ true → (n ≡ m → ⊥) → nat_cmp m n ≡ Less
 strictly m n e d = grind (arith, nat_tests)
 
-fits_push : (es : List Entry) (x : Entry) → Fits es → length x.1 ≤ 511 → Fits (es ++ x ∷ [])
+fits_push : (es : List Entry) (x : Entry) → Fits es → length x.1.bytes ≤ 511 → Fits (es ++ x ∷ [])
 fits_push [] x h p zero = p
 fits_push [] x h p (suc k) = h 0
 fits_push (e ∷ es) x h p zero = h 0
 fits_push (e ∷ es) x h p (suc k) = fits_push es x (λ j. h (suc j)) p k
 
-fits_insert : (es : List Entry) (i : ℕ) (x : Entry) → i ≤ length es → Fits es → length x.1 ≤ 511 → Fits (insert es i x)
+fits_insert : (es : List Entry) (i : ℕ) (x : Entry) → i ≤ length es → Fits es → length x.1.bytes ≤ 511 → Fits (insert es i x)
 fits_insert es zero x le h p zero = p
 fits_insert es zero x le h p (suc k) = h k
 fits_insert [] (suc i) x le h p k = absurd (omega arith)
@@ -111,13 +111,13 @@ fits_insert (e ∷ es) (suc i) x le h p (suc k) = fits_insert es i x (omega arit
 above_all : (es : List Entry) (k : ℕ) → position (λ e. nat_le k e.0) es ≡ None → (i : ℕ) (d : Entry) → i < length es → nat_cmp (get_or es i d).0 k ≡ Less
 above_all es k e i d lt = less_is _ _ (all_miss (λ (f : Entry). nat_le k f.0) es e i d lt)
 
-pub kept_push : (es : List Entry) (k : ℕ) (v : List ℕ) → IsHeld es → position (λ e. nat_le k e.0) es ≡ None → length v ≤ 511 → IsHeld (es ++ (k, v) ∷ [])
+pub kept_push : (es : List Entry) (k : ℕ) (v : Assembly) → IsHeld es → position (λ e. nat_le k e.0) es ≡ None → length v.bytes ≤ 511 → IsHeld (es ++ (k, v) ∷ [])
 kept_push es k v h e p = record {
   sorted = sorted_push nat_cmp es k v h.sorted (above_all es k e);
   fits = fits_push es (k, v) h.fits p;
 }
 
-pub view_push : (es : List Entry) (k : ℕ) (v : List ℕ) → IsHeld es → position (λ e. nat_le k e.0) es ≡ None → the_map (es ++ (k, v) ∷ []) ≡ map.insert (the_map es) k v
+pub view_push : (es : List Entry) (k : ℕ) (v : Assembly) → IsHeld es → position (λ e. nat_le k e.0) es ≡ None → the_map (es ++ (k, v) ∷ []) ≡ map.insert (the_map es) k v
 view_push es k v h e = from_sorted-push nat_cmp nat_cmp_total nat_cmp-IsAntisymmetric es k v h.sorted (above_all es k e)
 
 low : (es : List Entry) (k i : ℕ) → position (λ e. nat_le k e.0) es ≡ Some i → (j : ℕ) (d : Entry) → j < i → nat_cmp k (get_or es j d).0 ≡ Greater
@@ -130,9 +130,9 @@ high es k i x e stands other d lt =
     strictly _ _ h.1 (λ e. other (same ∙ e))
 
 pub within : (es : List Entry) (k i : ℕ) → position (λ e. nat_le k e.0) es ≡ Some i → i < length es
-within es k i e = (position-Some (λ (f : Entry). nat_le k f.0) es i (0, []) e).0
+within es k i e = (position-Some (λ (f : Entry). nat_le k f.0) es i nothing e).0
 
-pub kept_insert : (es : List Entry) (k i : ℕ) (x : Entry) (v : List ℕ) → IsHeld es → position (λ e. nat_le k e.0) es ≡ Some i → x ≡ get_or es i x → (x.0 ≡ k → ⊥) → length v ≤ 511 → IsHeld (insert es i (k, v))
+pub kept_insert : (es : List Entry) (k i : ℕ) (x : Entry) (v : Assembly) → IsHeld es → position (λ e. nat_le k e.0) es ≡ Some i → x ≡ get_or es i x → (x.0 ≡ k → ⊥) → length v.bytes ≤ 511 → IsHeld (insert es i (k, v))
 kept_insert es k i x v h e stands other p =
     let lt = within es k i e in
     record {
@@ -140,24 +140,7 @@ kept_insert es k i x v h e stands other p =
       fits = fits_insert es i (k, v) (omega arith) h.fits p;
     }
 
-pub view_insert : (es : List Entry) (k i : ℕ) (x : Entry) (v : List ℕ) → IsHeld es → position (λ e. nat_le k e.0) es ≡ Some i → x ≡ get_or es i x → (x.0 ≡ k → ⊥) → the_map (insert es i (k, v)) ≡ map.insert (the_map es) k v
+pub view_insert : (es : List Entry) (k i : ℕ) (x : Entry) (v : Assembly) → IsHeld es → position (λ e. nat_le k e.0) es ≡ Some i → x ≡ get_or es i x → (x.0 ≡ k → ⊥) → the_map (insert es i (k, v)) ≡ map.insert (the_map es) k v
 view_insert es k i x v h e stands other =
     let lt = within es k i e in
     from_sorted-insert nat_cmp nat_cmp_total es i k v h.sorted (low es k i e) (high es k i x e stands other) (omega arith)
-
--- ---- as the calls change it
-
-pub view_write : (es : List Entry) (i : ℕ) (x : Entry) (k : ℕ) (v w : List ℕ) (m : AssemblyMap) → IsHeld es → i < length es → x ≡ get_or es i x → x.0 ≡ k → v ≡ w → the_map es ≡ m → the_map (set es i (x.0, v)) ≡ map.insert m k w
-view_write es i x k v w m h lt stands key value is =
-    view_set es i x (x.0, v) h lt stands refl ∙ ap (λ (n : AssemblyMap). map.insert n x.0 v) is ∙ ap (λ (n : ℕ). map.insert m n v) key ∙ ap (λ (z : List ℕ). map.insert m k z) value
-
-pub same_length : (es : List Entry) (q i : ℕ) (x : Entry) (b : List ℕ) (m : AssemblyMap) → IsHeld es → position (λ e. e.0 == q) es ≡ Some i → x ≡ get_or es i x → the_map es ≡ m → IsSomeAnd (map.get m q) (λ d. length b ≡ length d) → length b ≡ length x.1
-same_length es q i x b m h e stands is asked =
-    subst (λ (o : Option (List ℕ)). IsSomeAnd o (λ d. length b ≡ length d)) (ap (λ (n : AssemblyMap). map.get n q) (sym is) ∙ get_is es q i x h e stands) asked
-
-pub always_there : (es : List Entry) (q : ℕ) (b : List ℕ) (m : AssemblyMap) → IsHeld es → ((i : ℕ) → position (λ e. e.0 == q) es ≡ Some i → ⊥) → the_map es ≡ m → IsSomeAnd (map.get m q) (λ d. length b ≡ length d) → ⊥
-always_there es q b m h none is asked =
-    elim (position (λ e. e.0 == q) es) as (λ (o : Option ℕ). position (λ e. e.0 == q) es ≡ o → ⊥) [
-      | Some i ↦ λ e. none i e
-      | None ↦ λ e. subst (λ (o : Option (List ℕ)). IsSomeAnd o (λ d. length b ≡ length d)) (ap (λ (n : AssemblyMap). map.get n q) (sym is) ∙ get_none es q h e) asked
-    ] refl

@@ -1,2 +1,5 @@
 pub mod Keeping
+pub mod Holding
+pub mod Changes
+pub mod Fitting
 pub mod Writes

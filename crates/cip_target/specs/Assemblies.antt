@@ -1,12 +1,17 @@
--- The assemblies of a target: the bytes of each instance.
-use Rattle.std.specs.Prelude.{ℕ, Bool, ◌&&◌, nat_le, nat_lt, true, List, [], ◌∷◌, Option, Some, None, replicate, find}
+-- The assemblies of a target: the bytes of each instance, and the owner of each that has one.
+use Rattle.std.specs.Prelude.{ℕ, Bool, ◌&&◌, nat_le, nat_lt, true, if◌then◌else◌, List, [], ◌∷◌, length, Option, Some, None, option_map, replicate, find, take}
 use Rattle.std.specs.Ordering.{nat_cmp}
 use Rattle.std.specs.FinMap as map
+use Rattle.cip_base.specs.declared.triad.Triad.{Triad}
 use Rattle.cip_target.specs.declared.config.AssemblyConfig.{AssemblyConfig}
 
 -- from instances to bytes
 abbrev pub AssemblyMap : Type 0
 AssemblyMap = map.FinMap nat_cmp (List ℕ)
+
+-- from O→T instances that are owned to the triads of the connections that own them
+abbrev pub Owners : Type 0
+Owners = map.FinMap nat_cmp Triad
 
 -- an instance from 1 and at most 511 bytes
 abbrev pub is_assembly : AssemblyConfig → Bool
@@ -20,6 +25,27 @@ zeroed_onto m (a ∷ others) = zeroed_onto (map.insert m a.instance (replicate a
 -- the assemblies that a target begins with
 abbrev pub zeroed : List AssemblyConfig → AssemblyMap
 zeroed configs = zeroed_onto map.empty configs
+
+-- the size of an assembly, if it exists
+abbrev pub size_in : AssemblyMap → ℕ → Option ℕ
+size_in m i = option_map length (map.get m i)
+
+abbrev pub config_with : ℕ → List ℕ → AssemblyConfig
+config_with i held = record { instance = i; size = length held }
+
+-- what is said of an assembly, if it exists
+abbrev pub config_in : AssemblyMap → ℕ → Option AssemblyConfig
+config_in m i = option_map (config_with i) (map.get m i)
+
+-- with as much of the bytes in an assembly as it has
+abbrev pub written_over : AssemblyMap → ℕ → List ℕ → Option (List ℕ) → AssemblyMap
+written_over m i b None = m
+written_over m i b (Some held) = map.insert m i (take (length held) b)
+
+-- an assembly with bytes is owned by the connection that writes it
+abbrev pub owned_with : Owners → ℕ → Triad → Option ℕ → Owners
+owned_with owners i triad None = owners
+owned_with owners i triad (Some size) = if nat_lt 0 size then map.insert owners i triad else owners
 
 abbrev pub is_above : Option ℕ → ℕ → Bool
 is_above None instance = true

@@ -5,3 +5,6 @@ pub mod Held
 pub mod Rows
 pub mod Objects
 pub mod Seen
+pub mod ApplicationPath
+pub mod Ends
+pub mod Viewed

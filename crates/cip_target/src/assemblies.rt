@@ -1,44 +1,46 @@
 //! The assemblies of a target, in rising instance.
-ghost use Rattle.std.specs.Prelude.{◌≡◌, ◌≤◌, ◌==◌, nat_le, length, IfSome, IsSomeAnd, is_ok, if◌then◌else◌, option_map};
+ghost use Rattle.std.specs.Prelude.{◌≡◌, ◌≤◌, ◌==◌, nat_le, length, IfSome, IsSomeAnd, is_ok, is_some, if◌then◌else◌, option_map};
 ghost use Rattle.std.specs.List.{position};
 ghost use Rattle.std.specs.FinMap as map;
-ghost use Rattle.cip_target.specs.Assemblies.{first_above, is_above};
+ghost use Rattle.cip_target.specs.Assemblies.{config_in, size_in, owned_with, written_over, first_above, is_above};
 
-use cip_base::{Bytes, NoMemory};
+use crate::assembly::Assembly;
+use crate::config::AssemblyConfig;
+use cip_base::{Bytes, NoMemory, Triad};
 use std::alloc::Global;
 use std::marker::Model;
 
-/// The bytes of each assembly, under its instance. A contract sees the finite map.
+/// Each assembly under its instance. A contract sees the finite maps of bytes and of owners.
 #[derive(Drop)]
 pub(crate) struct Assemblies {
-    held: Vec<(u16, Bytes)>,
+    held: Vec<(u16, Assembly)>,
 }
 
 impl Model for Assemblies {
-    ghost use Rattle.std.specs.Coded.{coded_list, coded_ℕ};
+    ghost use Rattle.std.specs.Coded.{codes, coded_list, coded_ℕ};
     ghost use Rattle.std.specs.FinMap as map;
     ghost use Rattle.std.specs.Ordering.{nat_cmp};
-    ghost use Rattle.cip_target.specs.Assemblies.{AssemblyMap};
-    ghost use Rattle.cip_target.specs.Held.{IsHeld};
+    ghost use Rattle.cip_base.specs.Triads.{coded_triad};
+    ghost use Rattle.cip_target.specs.Held.{Holdings, IsHeld, holdings};
 
-    ghost Value = { AssemblyMap };
+    ghost Value = { Holdings };
 
-    ghost coded = { map.code {R = nat_cmp} coded_ℕ (coded_list coded_ℕ) };
+    ghost coded = { Prim.hlevel (codes, map.code {R = nat_cmp} coded_ℕ (coded_list coded_ℕ), map.code {R = nat_cmp} coded_ℕ coded_triad) };
 
-    ghost view = { λ a. map.from_sorted a.held.items };
+    ghost view = { λ a. holdings (map.from_sorted a.held.items) };
 
     ghost invariant = { λ a. IsHeld a.held.items };
 }
 
 // Where an instance stands.
-fn place_of(held: &[(u16, Bytes)], instance: u32) -> Option<usize>
+fn place_of(held: &[(u16, Assembly)], instance: u32) -> Option<usize>
     ensures { result ≡ position (λ e. e.0 == instance) held.now }
 {
     held.iter().position(|e| u32::from(e.0) == instance)
 }
 
 // Where the instances from this one on begin.
-fn place_from(held: &[(u16, Bytes)], instance: u16) -> Option<usize>
+fn place_from(held: &[(u16, Assembly)], instance: u16) -> Option<usize>
     ensures { result ≡ position (λ e. nat_le instance e.0) held.now }
 {
     held.iter().position(|e| instance <= e.0)
@@ -54,7 +56,7 @@ fn is_above(after: Option<u16>, instance: u16) -> bool
 }
 
 // Where the instances above this one begin.
-fn place_above(held: &[(u16, Bytes)], after: Option<u16>) -> Option<usize>
+fn place_above(held: &[(u16, Assembly)], after: Option<u16>) -> Option<usize>
     ensures { result ≡ position (λ e. is_above after e.0) held.now }
 {
     held.iter().position(|e| is_above(after, e.0))
@@ -63,25 +65,26 @@ fn place_above(held: &[(u16, Bytes)], after: Option<u16>) -> Option<usize>
 impl Assemblies {
     /// No assembly.
     pub(crate) fn new(alloc: Global) -> Assemblies
-        ensures { result ≡ map.empty }
+        ensures { result ≡ record { bytes = map.empty; owners = map.empty } }
     {
         Assemblies {
             held: Vec::new(alloc),
         }
     }
 
-    /// Keeps an assembly, in the place of one of the same instance.
+    /// Keeps an assembly without an owner, in the place of one of the same instance.
     pub(crate) fn hold(&mut self, instance: u16, bytes: Bytes) -> Result<(), NoMemory>
         requires { length bytes ≤ 511 }
-        ensures { self.new ≡ (if is_ok result then map.insert self.old instance bytes else self.old) }
+        ensures { self.new ≡ (if is_ok result then record { bytes = map.insert self.old.bytes instance bytes; owners = map.remove self.old.owners instance } else self.old) }
     {
+        let assembly = Assembly { bytes, owner: None };
         match place_from(&self.held, instance) {
-            None => self.held.push((instance, bytes))?,
+            None => self.held.push((instance, assembly))?,
             Some(at) => {
                 if self.held[at].0 == instance {
-                    self.held[at].1 = bytes;
+                    self.held[at].1 = assembly;
                 } else {
-                    self.held.insert(at, (instance, bytes))?;
+                    self.held.insert(at, (instance, assembly))?;
                 }
             }
         }
@@ -90,29 +93,84 @@ impl Assemblies {
 
     /// The bytes of an instance.
     pub(crate) fn get(&self, instance: u32) -> Option<&[u8]>
-        ensures value { option_map (λ d. d.now) result ≡ map.get self.now instance }
+        ensures value { option_map (λ d. d.now) result ≡ map.get self.now.bytes instance }
         ensures fits { IfSome result (λ d. length d.now ≤ 511) }
     {
         let at = place_of(&self.held, instance)?;
-        Some(self.held[at].1.as_slice())
+        Some(self.held[at].1.bytes.as_slice())
+    }
+
+    /// The instance and its size.
+    pub(crate) fn config(&self, instance: u32) -> Option<AssemblyConfig>
+        ensures value { result ≡ config_in self.now.bytes instance }
+        ensures fits { IfSome result (λ a. a.size ≤ 511) }
+    {
+        let at = place_of(&self.held, instance)?;
+        let found = &self.held[at];
+        Some(AssemblyConfig {
+            instance: found.0,
+            size: found.1.bytes.as_slice().len() as u16,
+        })
+    }
+
+    /// Whether an instance has an owner.
+    pub(crate) fn is_owned(&self, instance: u32) -> bool
+        ensures { result ≡ is_some (map.get self.now.owners instance) }
+    {
+        match place_of(&self.held, instance) {
+            None => false,
+            Some(at) => self.held[at].1.owner.is_some(),
+        }
     }
 
     /// Writes the bytes of an instance that is there.
     pub(crate) fn write(&mut self, instance: u32, bytes: &[u8])
-        requires { IsSomeAnd (map.get self.old instance) (λ d. length bytes.now ≡ length d) }
-        ensures { self.new ≡ map.insert self.old instance bytes.now }
+        requires { IsSomeAnd (map.get self.old.bytes instance) (λ d. length bytes.now ≡ length d) }
+        ensures { self.new ≡ record { bytes = map.insert self.old.bytes instance bytes.now; owners = self.old.owners } }
     {
         if let Some(at) = place_of(&self.held, instance) {
-            self.held[at].1.overwrite(bytes);
+            self.held[at].1.bytes.overwrite(bytes);
+        }
+    }
+
+    /// Writes as much of the bytes as an instance that is there has.
+    pub(crate) fn configure(&mut self, instance: u32, bytes: &[u8])
+        requires { IsSomeAnd (map.get self.old.bytes instance) (λ d. length d ≤ length bytes.now) }
+        ensures { self.new ≡ record { bytes = written_over self.old.bytes instance bytes.now (map.get self.old.bytes instance); owners = self.old.owners } }
+    {
+        let Some(held) = self.get(instance) else {
+            unreachable!()
+        };
+        let size = held.len();
+        self.write(instance, &bytes[..size]);
+    }
+
+    /// Enters the owner of an instance that has bytes.
+    pub(crate) fn own(&mut self, instance: u32, triad: Triad)
+        ensures { self.new ≡ record { bytes = self.old.bytes; owners = owned_with self.old.owners instance triad (size_in self.old.bytes instance) } }
+    {
+        if let Some(at) = place_of(&self.held, instance) {
+            if !self.held[at].1.bytes.as_slice().is_empty() {
+                self.held[at].1.owner = Some(triad);
+            }
+        }
+    }
+
+    /// Takes out the owner of an instance, if it has one.
+    pub(crate) fn disown(&mut self, instance: u32)
+        ensures { self.new ≡ record { bytes = self.old.bytes; owners = map.remove self.old.owners instance } }
+    {
+        if let Some(at) = place_of(&self.held, instance) {
+            self.held[at].1.owner = None;
         }
     }
 
     /// The assembly of the least instance above, or of all.
     pub(crate) fn next_above(&self, after: Option<u16>) -> Option<(u16, &[u8])>
-        ensures { option_map (λ e. (e.0, e.1.now)) result ≡ first_above after self.now }
+        ensures { option_map (λ e. (e.0, e.1.now)) result ≡ first_above after self.now.bytes }
     {
         let at = place_above(&self.held, after)?;
         let found = &self.held[at];
-        Some((found.0, found.1.as_slice()))
+        Some((found.0, found.1.bytes.as_slice()))
     }
 }

@@ -2,18 +2,26 @@
 //! (Volume 1, chapter 5, object library).
 #![tactic(auto)]
 
+mod application;
 mod assemblies;
+mod assembly;
 mod config;
+mod connections;
+mod ends;
 mod identity;
+mod link;
 mod object;
 mod rows;
 mod target;
 
 pub use config::AssemblyConfig;
 pub use identity::{Identity, IdentityFields};
+pub use link::EndLink;
 pub use object::{ObjectPath, object_path};
 pub use rows::TargetRefusal;
 pub use target::Target;
 
+#[cfg(test)]
+mod connection_tests;
 #[cfg(test)]
 mod tests;

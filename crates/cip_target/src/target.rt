@@ -2,12 +2,14 @@
 ghost use Rattle.std.specs.Prelude.{◌≡◌, ◌≤◌, [], length, IfOk, IsTrue, is_ok, if◌then◌else◌, option_map};
 ghost use Rattle.std.specs.Option.{ForSome};
 ghost use Rattle.std.specs.List.{list_all};
+ghost use Rattle.std.specs.FinMap as map;
 ghost use Rattle.cip_message.specs.Reading.{request_of};
 ghost use Rattle.cip_message.specs.Reply.{reply_bytes};
 ghost use Rattle.cip_target.specs.Assemblies.{is_assembly, zeroed, first_above};
 ghost use Rattle.cip_target.specs.Identity.{is_identity, identity_bytes};
 ghost use Rattle.cip_target.specs.Rows.{read_row, get_row, set_identity_row, set_assembly_row, identity_attribute, assembly_attribute, identity_row, assembly_row, object_row, target_row, reply_service};
-ghost use Rattle.cip_target.specs.Objects.{target_answer, target_after};
+ghost use Rattle.cip_target.specs.Objects.{target_answer};
+ghost use Rattle.cip_target.specs.Ends.{fresh, ends_after};
 ghost use Rattle.cip_target.specs.Seen.{seen, IsSmall};
 
 use crate::assemblies::Assemblies;
@@ -20,13 +22,14 @@ use cip_message::{RequestView, WriteFault, write_reply};
 use std::alloc::Global;
 use std::marker::Model;
 
-/// The Identity object and the Assembly objects of a module, which answer requests to classes 1 and 4
-/// (Volume 1, chapter 5). A contract sees the fields of the identity, and the finite map from instances to bytes.
+/// The Identity object and the Assembly objects of a module, which answer requests to classes 1 and 4, and are the end of
+/// connections (Volume 1, chapters 3 and 5). A contract sees the fields of the identity, and the finite maps from instances
+/// to bytes and to the triads of the connections that own them as outputs.
 #[derive(Drop)]
 pub struct Target {
     identity: Identity,
     attributes: Bytes,
-    assemblies: Assemblies,
+    pub(crate) assemblies: Assemblies,
 }
 
 impl Model for Target {
@@ -34,15 +37,16 @@ impl Model for Target {
     ghost use Rattle.std.specs.Coded.{codes, coded_list, coded_ℕ};
     ghost use Rattle.std.specs.FinMap as map;
     ghost use Rattle.std.specs.Ordering.{nat_cmp};
+    ghost use Rattle.cip_base.specs.Triads.{coded_triad};
     ghost use Rattle.cip_target.specs.contracts.identity.IdentityFields as fields;
     ghost use Rattle.cip_target.specs.Identity.{identity_bytes};
-    ghost use Rattle.cip_target.specs.Objects.{Objects};
+    ghost use Rattle.cip_target.specs.Ends.{Ends};
 
-    ghost Value = { Objects };
+    ghost Value = { Ends };
 
-    ghost coded = { Prim.hlevel (codes, fields.the_row.coded, map.code {R = nat_cmp} coded_ℕ (coded_list coded_ℕ)) };
+    ghost coded = { Prim.hlevel (codes, fields.the_row.coded, map.code {R = nat_cmp} coded_ℕ (coded_list coded_ℕ), map.code {R = nat_cmp} coded_ℕ coded_triad) };
 
-    ghost view = { λ t. record { identity = t.identity; assemblies = t.assemblies } };
+    ghost view = { λ t. record { objects = record { identity = t.identity; assemblies = t.assemblies.bytes }; owners = t.assemblies.owners } };
 
     ghost invariant = { λ t. (t.attributes ≡ identity_bytes t.identity) × (length t.attributes ≤ 511) };
 }
@@ -145,7 +149,7 @@ impl Target {
         assemblies: &[AssemblyConfig],
     ) -> Result<Target, NoMemory>
         requires { IsTrue (list_all is_assembly assemblies.now) }
-        ensures { IfOk result (λ target. target ≡ record { identity = identity; assemblies = zeroed assemblies.now }) }
+        ensures { IfOk result (λ target. target ≡ fresh identity assemblies.now) }
     {
         let attributes = identity.to_bytes(alloc)?;
         let assemblies = zeroed_assemblies(alloc, assemblies)?;
@@ -158,7 +162,7 @@ impl Target {
 
     // An attribute of the Identity.
     fn identity_attribute(&self, attribute: Option<u16>) -> Option<&[u8]>
-        ensures is { option_map (λ d. d.now) result ≡ identity_attribute self.now.identity attribute }
+        ensures is { option_map (λ d. d.now) result ≡ identity_attribute self.now.objects.identity attribute }
         ensures fits { ForSome result (λ d. length d.now ≤ 511) }
     {
         let attributes = self.attributes.as_slice();
@@ -176,7 +180,7 @@ impl Target {
 
     // The services of the Identity.
     fn identity_service(&self, service: u8, attribute: Option<u16>, data_: &[u8]) -> Row<'_>
-        ensures is { seen data_.now result ≡ identity_row self.now.identity service attribute data_.now }
+        ensures is { seen data_.now result ≡ identity_row self.now.objects.identity service attribute data_.now }
         ensures fits { IsSmall result }
     {
         match service {
@@ -189,7 +193,7 @@ impl Target {
 
     // The services of the object that a path names.
     fn object_service(&self, object: ObjectPath, service: u8, data_: &[u8]) -> Row<'_>
-        ensures is { seen data_.now result ≡ object_row self.now.identity self.now.assemblies object service data_.now }
+        ensures is { seen data_.now result ≡ object_row self.now.objects.identity self.now.objects.assemblies object service data_.now }
         ensures fits { IsSmall result }
     {
         match object.class_ {
@@ -211,7 +215,7 @@ impl Target {
     // The first row that fits.
     #[tactic(auto, unfolding(crate::specs::Rows::target_row))]
     fn row(&self, request: RequestView<'_>) -> Row<'_>
-        ensures is { seen request.entry.data_.now result ≡ target_row self.now.identity self.now.assemblies (request_of request.entry) }
+        ensures is { seen request.entry.data_.now result ≡ target_row self.now.objects.identity self.now.objects.assemblies (request_of request.entry) }
         ensures fits { IsSmall result }
     {
         match object_path(request.path) {
@@ -227,8 +231,8 @@ impl Target {
     /// can be set. Assembly, class 4: Get_Attribute_Single 0E and Set_Attribute_Single 10 of attribute 3, its data, set
     /// whole. Otherwise the reply has the general status of the first `TargetRefusal` that fits. NoMemory changes nothing.
     pub fn answer(&mut self, alloc: Global, request: RequestView<'_>) -> Result<Bytes, NoMemory>
-        ensures ok { IfOk result (λ reply. reply ≡ reply_bytes (target_answer self.old (request_of request.entry))) }
-        ensures after { self.new ≡ (if is_ok result then target_after self.old (request_of request.entry) else self.old) }
+        ensures ok { IfOk result (λ reply. reply ≡ reply_bytes (target_answer self.old.objects (request_of request.entry))) }
+        ensures after { self.new ≡ (if is_ok result then ends_after self.old (request_of request.entry) else self.old) }
     {
         match self.row(request) {
             Row::Refused(refusal) => reply(alloc, request.service, refusal.status(), &[]),
@@ -243,7 +247,7 @@ impl Target {
 
     /// The fields of the identity.
     pub fn identity(&self) -> &IdentityFields
-        ensures value { result.now ≡ self.now.identity }
+        ensures value { result.now ≡ self.now.objects.identity }
         ensures legal { IsTrue (is_identity result.now) }
     {
         self.identity.fields()
@@ -251,7 +255,7 @@ impl Target {
 
     /// The assembly of the least instance above this one, or of all, with its bytes.
     pub fn next_after(&self, after: Option<u16>) -> Option<(u16, &[u8])>
-        ensures { option_map (λ e. (e.0, e.1.now)) result ≡ first_above after self.now.assemblies }
+        ensures { option_map (λ e. (e.0, e.1.now)) result ≡ first_above after self.now.objects.assemblies }
     {
         self.assemblies.next_above(after)
     }
@@ -259,7 +263,7 @@ impl Target {
 
 fn zeroed_assemblies(alloc: Global, configs: &[AssemblyConfig]) -> Result<Assemblies, NoMemory>
     requires { IsTrue (list_all is_assembly configs.now) }
-    ensures { IfOk result (λ assemblies. assemblies ≡ zeroed configs.now) }
+    ensures { IfOk result (λ assemblies. assemblies ≡ record { bytes = zeroed configs.now; owners = map.empty }) }
 {
     let mut assemblies = Assemblies::new(alloc);
     for config in configs {

@@ -1,0 +1,113 @@
+//! The target as the end of connections.
+ghost use Rattle.std.specs.Prelude.{◌≡◌, ◌≤◌, length, MatchOption, IfOk, IfSome, IsSome, IsSomeAnd};
+ghost use Rattle.std.specs.FinMap as map;
+ghost use Rattle.cip_open.specs.Reading.{open_of};
+ghost use Rattle.cip_target.specs.Assemblies.{config_in};
+ghost use Rattle.cip_target.specs.Ends.{Fits, end_gives, row_at, accepted, consumed, released};
+ghost use Rattle.cip_target.specs.Viewed.{application_seen, IsJoined, Misses};
+
+use crate::application::{ApplicationView, application};
+use crate::config::AssemblyConfig;
+use crate::ends::{
+    Joined, NO_SUCH_INSTANCE_OR_CONFIGURATION, NOT_AN_APPLICATION_PATH, failure, joined_row,
+};
+use crate::link::EndLink;
+use crate::target::Target;
+use cip_base::Status;
+use cip_open::OpenView;
+
+impl Target {
+    // The assemblies that an application path names, if all three exist.
+    fn joined<'a>(&self, application: ApplicationView<'a>) -> Option<Joined<'a>>
+        ensures { MatchOption result (Misses self.now.objects.assemblies (application_seen application.entry)) (λ j. IsJoined self.now.objects.assemblies (application_seen application.entry) j) }
+    {
+        let Some(config) = self.assemblies.config(application.config) else {
+            return None;
+        };
+        let Some(consume) = self.assemblies.config(application.consume) else {
+            return None;
+        };
+        let Some(produce) = self.assemblies.config(application.produce) else {
+            return None;
+        };
+        Some(Joined {
+            config,
+            consume,
+            produce,
+            bytes: application.bytes,
+        })
+    }
+
+    /// The instance and size of an assembly, if it exists.
+    pub fn assembly(&self, instance: u32) -> Option<AssemblyConfig>
+        ensures value { result ≡ config_in self.now.objects.assemblies instance }
+        ensures fits { IfSome result (λ a. a.size ≤ 511) }
+    {
+        self.assemblies.config(instance)
+    }
+
+    /// Whether an open can end here (Volume 1, chapter 3, Forward_Open): what it joins, or the status of the first row that
+    /// fits. General status 01, and as extended status, in this order: 0315 where the path is no application path, 0117 where
+    /// one of the three instances does not exist or the configuration bytes do not fit, 0103 for a transport class other
+    /// than 0 and 1, 0109 where a size is not that of its assembly, with 2 more in class 1, 0106 where the O→T instance has
+    /// an owner. It takes no memory.
+    #[tactic(auto, unfolding(crate::specs::Ends::end_row))]
+    pub fn check(&self, asked: &OpenView<'_>) -> Result<EndLink, Status>
+        ensures gives { result ≡ end_gives (row_at self.now (open_of asked.now)) }
+        ensures fits { IfOk result (λ link. row_at self.now (open_of asked.now) ≡ Fits link) }
+    {
+        match application(asked.path) {
+            None => Err(failure(NOT_AN_APPLICATION_PATH)),
+            Some(application) => match self.joined(application) {
+                None => Err(failure(NO_SUCH_INSTANCE_OR_CONFIGURATION)),
+                Some(joined) => {
+                    let owned = self.assemblies.is_owned(u32::from(joined.consume.instance));
+                    joined_row(&asked.fields, &joined, owned)
+                }
+            },
+        }
+    }
+
+    /// Takes an open that `check` gave this link: enters the connection as the owner of the O→T instance if that has bytes, and
+    /// writes the configuration bytes, without a pad. It takes no memory.
+    pub fn accept(&mut self, link: &EndLink, asked: &OpenView<'_>)
+        requires { row_at self.old (open_of asked.now) ≡ Fits link.now }
+        ensures { self.new ≡ accepted self.old link.now (open_of asked.now) }
+    {
+        let Some(application) = application(asked.path) else {
+            unreachable!()
+        };
+        self.assemblies
+            .own(u32::from(link.consume), asked.fields.triad);
+        self.assemblies
+            .configure(u32::from(link.config), application.bytes);
+    }
+
+    /// Writes a datum, without its sequence count, to an assembly of as many bytes. It takes no memory.
+    pub fn consume(&mut self, instance: u16, data_: &[u8])
+        requires { IsSomeAnd (map.get self.old.objects.assemblies instance) (λ held. length data_.now ≡ length held) }
+        ensures { self.new ≡ consumed self.old instance data_.now }
+    {
+        self.assemblies.write(u32::from(instance), data_);
+    }
+
+    /// The bytes of an assembly that exists. It takes no memory.
+    pub fn produce(&self, instance: u16) -> &[u8]
+        requires { IsSome (map.get self.now.objects.assemblies instance) }
+        ensures value { map.get self.now.objects.assemblies instance ≡ Some result.now }
+        ensures fits { length result.now ≤ 511 }
+    {
+        match self.assemblies.get(u32::from(instance)) {
+            Some(bytes) => bytes,
+            None => unreachable!(),
+        }
+    }
+
+    /// Gives back an instance that exists: it has no owner any more. It takes no memory.
+    pub fn release(&mut self, instance: u16)
+        requires { IsSome (map.get self.old.objects.assemblies instance) }
+        ensures { self.new ≡ released self.old instance }
+    {
+        self.assemblies.disown(u32::from(instance));
+    }
+}
