@@ -7,4 +7,4 @@ abbrev pub config_of_plain : PlainModule → ModuleSettings
 config_of_plain m = m.config
 
 abbrev pub state_of_plain : PlainModule → State
-state_of_plain m = record { now = m.clock; pendings = m.pendings; assemblies = m.target.assemblies; ops = m.ops.ops.items }
+state_of_plain m = record { now = m.clock; pendings = m.pendings; assemblies = m.target.objects.assemblies; ops = m.ops.ops.items }

@@ -33,7 +33,7 @@ pub struct PlainModule {
     pub(crate) pendings: PendingTable,
     pub(crate) target: Target,
     pub(crate) ops: SpentOps,
-    ghost identity: { target.identity ≡ config.identity },
+    ghost identity: { target.objects.identity ≡ config.identity },
 }
 
 impl PlainModule {
