@@ -120,7 +120,7 @@ fn put_end(world: &World, text: &mut Vec<u8>) -> Result<(), NoMemory>
     }
 }
 
-// The command Send.
+// A command to a module.
 fn feed<W: Sink>(
     world: &mut World,
     place: usize,

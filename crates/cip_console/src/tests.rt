@@ -2,7 +2,7 @@
 //! passes too where one growth, whichever, is refused.
 ghost use Rattle.std.specs.Prelude.{None};
 
-use crate::{ConsoleFault, SCRIPT_LIMIT, ScriptFault, Sink, Source, run_fixed};
+use crate::{ConsoleFault, Out, Plain, SCRIPT_LIMIT, ScriptFault, Sink, Source, run_fixed};
 use std::alloc::Global;
 use std::io;
 use std::test::Fail;
@@ -228,6 +228,32 @@ fn the_first_faulty_line(rt: HostRuntime) -> Result<(), Fail> {
             is_faulty(rt.alloc(), script, line, fault),
             "{line} {fault}"
         );
+    }
+    Ok(())
+}
+
+// The transcript over any reader and any writer, and what was answered.
+fn over_any(alloc: Global) -> Outcome {
+    let Ok(taken) = Vec::with_capacity(alloc, 1024) else {
+        return REFUSED;
+    };
+    let mut reader = Plain { inner: SEND };
+    let mut writer = Out { inner: taken };
+    let result = run_fixed(alloc, &mut reader, &mut writer);
+    Outcome {
+        result,
+        count: writer.inner.len(),
+        is_front: SENT.starts_with(writer.inner.as_slice()),
+    }
+}
+
+#[test]
+fn any_reader_and_any_writer(rt: HostRuntime) -> Result<(), Fail> {
+    let outcome = over_any(rt.alloc());
+    assert!(rt; outcome.is_front);
+    if outcome.result != Err(ConsoleFault::NoMemory) {
+        assert_eq!(rt; outcome.result, Ok(()));
+        assert_eq!(rt; outcome.count, SENT.len());
     }
     Ok(())
 }
