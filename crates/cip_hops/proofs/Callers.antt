@@ -1,10 +1,9 @@
 -- What a caller of the table concludes from its clauses.
-use Rattle.std.proofs.Common.{◌≡◌, ℕ, true, cond, refl, sym, ap, subst, ◌∙◌, Option, Some, None}
-use Rattle.std.specs.Prelude.{IsSome, is_ok, if◌then◌else◌, option_and_then, Result, Ok}
-use Rattle.std.specs.Ordering.{eq_by_cmp, is_eq}
+use Rattle.std.proofs.Common.{◌≡◌, ℕ, cond, refl, sym, ap, subst, ◌∙◌, Option, Some, None}
+use Rattle.std.specs.Prelude.{IsSome, option_and_then}
+use Rattle.std.specs.Ordering.{is_eq}
 use Rattle.std.specs.Cmp.{tied_itself}
 use Rattle.std.specs.FinMap as map
-use Rattle.cip_base.specs.declared.triad.Triad.{Triad}
 use Rattle.cip_base.specs.Triads.{triad_cmp}
 use Rattle.cip_base.proofs.Triads.{triads_total}
 use Rattle.cip_hops.specs.declared.opening.Opening.{Opening}

@@ -1,5 +1,5 @@
 -- What an open that fits says of its assemblies.
-use Rattle.std.proofs.Common.{◌≡◌, ◌≤◌, ℕ, Bool, true, false, cond, not, ◌&&◌, nat_lt, List, [], length, refl, sym, ap, subst, ◌∙◌, arith, Option, Some, None, Result, Ok, Err}
+use Rattle.std.proofs.Common.{◌≡◌, ◌≤◌, ◌<◌, ℕ, Bool, true, false, cond, not, ◌&&◌, nat_lt, List, [], length, refl, sym, ap, subst, ◌∙◌, arith, Option, Some, None, Result, Ok, Err}
 use Rattle.std.specs.Prelude.{IsSomeAnd, IfOk}
 use Rattle.std.specs.Option.{option_map, option_map_or, is_some}
 use Rattle.std.specs.FinMap as map
@@ -133,3 +133,30 @@ accept_is t o link a identity h owned written i j is own write at_i at_j path =
     ∙ ap (λ (i : ℕ). taken t i j a.bytes o.fields.triad) at_i
     ∙ ap (λ (j : ℕ). taken t link.consume j a.bytes o.fields.triad) at_j
     ∙ ap (λ (p : Option Application). taken t link.consume link.config (option_map_or (λ a. a.bytes) p []) o.fields.triad) path
+
+-- ---- for callers
+
+owned_alike : (size : ℕ) (x y : Bool) → (0 < size → x ≡ y) → (nat_lt 0 size && x) ≡ (nat_lt 0 size && y)
+owned_alike size x y same =
+    elim (nat_lt 0 size) as (λ b. nat_lt 0 size ≡ b → (b && x) ≡ (b && y)) [
+      | true ↦ λ e. let some : 0 < size = grind (arith, nat_tests) in same some
+      | false ↦ λ e. refl
+    ] refl
+
+sized_alike : (owned other : ℕ → Bool) (f : OpenFields) (a : Application) (x y z : Option ℕ) → ((size : ℕ) → y ≡ Some size → 0 < size → owned a.consume ≡ other a.consume) → sized_row owned f a x y z ≡ sized_row other f a x y z
+sized_alike owned other f a None y z same = refl
+sized_alike owned other f a (Some config) None z same = refl
+sized_alike owned other f a (Some config) (Some consume) None same = refl
+sized_alike owned other f a (Some config) (Some consume) (Some produce) same =
+    ap (λ (b : Bool). cond (not (is_configuration config a.bytes)) NoSuchInstanceOrConfiguration
+    (cond (nat_lt 1 (class_of f.transport)) ClassNotSupported (cond (not (are_sizes f consume produce)) SizeMismatch (cond b OutputOwned (Fits (link_of f a))))))
+    (owned_alike consume (owned a.consume) (other a.consume) (same consume refl))
+
+-- the row of an open looks at the owners of instances that have bytes alone
+pub row_alike : (m : AssemblyMap) (owned other : ℕ → Bool) (o : Open) → ((i size : ℕ) → size_in m i ≡ Some size → 0 < size → owned i ≡ other i) → end_row m owned o ≡ end_row m other o
+unfolding end_row
+row_alike m owned other o same =
+    elim (application_of (segments_of o.path)) as (λ (p : Option Application). application_row m owned o.fields p ≡ application_row m other o.fields p) [
+      | None ↦ refl
+      | Some a ↦ sized_alike owned other o.fields a (size_in m a.config) (size_in m a.consume) (size_in m a.produce) (λ size is some. same a.consume size is some)
+    ]
