@@ -10,7 +10,7 @@ use Rattle.cip_module.specs.declared.config.PortConfig.{PortConfig}
 use Rattle.cip_module.specs.declared.event.Body.{Body}
 use Rattle.cip_module.specs.declared.event.Event.{Event}
 use Rattle.cip_module.specs.declared.event.Output.{Output}
-use Rattle.cip_module.specs.declared.event.Output.TheVariants.{Send, Done, Refused, Dropped}
+use Rattle.cip_module.specs.declared.event.Output.TheVariants.{Send, Done, Refused, Consumed, Arrived, Expired, Dropped}
 use Rattle.cip_console.specs.declared.links.Node.{Node}
 use Rattle.cip_console.specs.declared.waiting.FrameName.{FrameName}
 use Rattle.cip_console.specs.declared.waiting.Waiting.{Waiting}
@@ -125,6 +125,9 @@ frame_of_name : (configs : List ModuleSettings) (m : ℕ) (name : FrameName) (ou
 frame_of_name configs m name (Send port to body) = waiting_at_name name body (own_port configs m port) (node configs m port to)
 frame_of_name configs m name (Done op reply) = tt
 frame_of_name configs m name (Refused fault) = tt
+frame_of_name configs m name (Consumed triad instance bytes) = tt
+frame_of_name configs m name (Arrived op bytes) = tt
+frame_of_name configs m name (Expired triad) = tt
 frame_of_name configs m name (Dropped reason) = tt
 
 of_name : (k i : ℕ) (w : Waiting) → w.name ≡ record { entry = k; output = i } → IsOf k i w

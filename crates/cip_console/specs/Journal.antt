@@ -7,7 +7,7 @@ use Rattle.cip_module.specs.declared.event.Body.{Body}
 use Rattle.cip_module.specs.declared.event.Event.{Event}
 use Rattle.cip_module.specs.declared.event.Event.TheVariants.{Frame}
 use Rattle.cip_module.specs.declared.event.Output.{Output}
-use Rattle.cip_module.specs.declared.event.Output.TheVariants.{Send, Done, Refused, Dropped}
+use Rattle.cip_module.specs.declared.event.Output.TheVariants.{Send, Done, Refused, Consumed, Arrived, Expired, Dropped}
 use Rattle.cip_console.specs.declared.waiting.FrameName.{FrameName}
 use Rattle.cip_console.specs.declared.waiting.Waiting.{Waiting}
 use Rattle.cip_console.specs.declared.links.Node.{Node}
@@ -34,6 +34,9 @@ abbrev pub frame_of : List ModuleSettings → ℕ → FrameName → Output → O
 frame_of configs m name (Send port to body) = waiting_at name body (own_port configs m port) (node configs m port to)
 frame_of configs m name (Done op reply) = None
 frame_of configs m name (Refused fault) = None
+frame_of configs m name (Consumed triad instance bytes) = None
+frame_of configs m name (Arrived op bytes) = None
+frame_of configs m name (Expired triad) = None
 frame_of configs m name (Dropped reason) = None
 
 -- the frames that module m sends in entry k, from output i on

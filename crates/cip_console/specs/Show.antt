@@ -1,18 +1,20 @@
 -- The lines of a transcript. Numbers are decimal; bytes are upper-case pairs, `-` for none.
 use Rattle.std.specs.Prelude.{ℕ, ◌+◌, ◌==◌, List, [], ◌∷◌, ◌++◌, length, codes, decimal, if◌then◌else◌, Option, Some, None, unwrap_or, slice_get}
 use Rattle.hex.specs.Hex.{encode_upper}
+use Rattle.cip_base.specs.declared.triad.Triad.{Triad}
 use Rattle.cip_module.specs.declared.event.Body.{Body}
-use Rattle.cip_module.specs.declared.event.Body.TheVariants.{Request, Reply}
+use Rattle.cip_module.specs.declared.event.Body.TheVariants.{Request, Reply, Data}
 use Rattle.cip_module.specs.declared.event.Command.{Command}
 use Rattle.cip_module.specs.declared.event.Command.TheVariants as commands
 use Rattle.cip_module.specs.declared.event.Event.{Event}
 use Rattle.cip_module.specs.declared.event.Event.TheVariants as events
 use Rattle.cip_module.specs.declared.event.Output.{Output}
-use Rattle.cip_module.specs.declared.event.Output.TheVariants.{Send, Done, Refused, Dropped}
+use Rattle.cip_module.specs.declared.event.Output.TheVariants.{Send, Done, Refused, Consumed, Arrived, Expired, Dropped}
 use Rattle.cip_module.specs.declared.event.Refused.{Refused as Refusal}
-use Rattle.cip_module.specs.declared.event.Refused.TheVariants.{OpUsed, WrongSize, ReservedService}
+use Rattle.cip_module.specs.declared.event.Refused.TheVariants.{OpUsed, NotOpen, WrongSize, ReservedService, NoInstance}
 use Rattle.cip_module.specs.declared.event.Dropped.{Dropped as Drop}
-use Rattle.cip_module.specs.declared.event.Dropped.TheVariants.{Malformed, Late}
+use Rattle.cip_module.specs.declared.event.Dropped.TheVariants.{Malformed, Late, UnknownId}
+use Rattle.cip_module.specs.declared.event.Dropped.TheVariants as dropped
 use Rattle.cip_console.specs.declared.waiting.FrameName.{FrameName}
 use Rattle.cip_console.specs.Journal.{Entry, Happened, Lost}
 
@@ -23,20 +25,32 @@ bytes_text bytes = if length bytes == 0 then codes "-" else encode_upper bytes
 abbrev pub body_text : Body → List ℕ
 body_text (Request number bytes) = codes "request " ++ decimal number ++ codes " " ++ bytes_text bytes
 body_text (Reply number bytes) = codes "reply " ++ decimal number ++ codes " " ++ bytes_text bytes
+body_text (Data id bytes) = codes "data " ++ decimal id ++ codes " " ++ bytes_text bytes
+
+-- the serial number, the vendor, and the originator's serial number
+abbrev pub triad_text : Triad → List ℕ
+triad_text triad = decimal triad.serial ++ codes " " ++ decimal triad.vendor ++ codes " " ++ decimal triad.originator
 
 abbrev pub refusal_text : Refusal → List ℕ
 refusal_text OpUsed = codes "OpUsed"
+refusal_text NotOpen = codes "NotOpen"
 refusal_text WrongSize = codes "WrongSize"
 refusal_text ReservedService = codes "ReservedService"
+refusal_text NoInstance = codes "NoInstance"
 
 abbrev pub drop_text : Drop → List ℕ
 drop_text Malformed = codes "Malformed"
 drop_text Late = codes "Late"
+drop_text UnknownId = codes "UnknownId"
+drop_text dropped.WrongSize = codes "WrongSize"
 
 abbrev pub output_text : Output → List ℕ
 output_text (Send port to body) = codes "send " ++ decimal port ++ codes " " ++ bytes_text to ++ codes " " ++ body_text body
 output_text (Done op reply) = codes "done " ++ decimal op ++ codes " " ++ bytes_text reply
 output_text (Refused fault) = codes "refused " ++ refusal_text fault
+output_text (Consumed triad instance bytes) = codes "consumed " ++ triad_text triad ++ codes " " ++ decimal instance ++ codes " " ++ bytes_text bytes
+output_text (Arrived op bytes) = codes "arrived " ++ decimal op ++ codes " " ++ bytes_text bytes
+output_text (Expired triad) = codes "expired " ++ triad_text triad
 output_text (Dropped reason) = codes "dropped " ++ drop_text reason
 
 -- the line of an output
@@ -52,6 +66,11 @@ abbrev pub frame_text : FrameName → List ℕ
 frame_text f = decimal f.entry ++ codes "." ++ decimal f.output
 
 abbrev pub command_text : Command → List ℕ
+command_text (commands.Open op timing path params) = codes "open " ++ decimal op
+command_text (commands.Close op of timing) = codes "close " ++ decimal op
+command_text (commands.Enter of bytes) = codes "enter " ++ decimal of
+command_text (commands.Set instance bytes) = codes "set " ++ decimal instance
+command_text (commands.Produce instance) = codes "produce " ++ decimal instance
 command_text (commands.Send op timing path asked) = codes "send " ++ decimal op
 
 abbrev pub arrived_text : FrameName → List ℕ

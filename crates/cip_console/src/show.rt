@@ -1,9 +1,9 @@
 //! The lines of a transcript.
 ghost use Rattle.std.specs.Prelude.{◌≡◌, ◌++◌, IfOk, OnOk, string_bytes};
-ghost use Rattle.cip_console.specs.Show.{bytes_text, body_text, refusal_text, drop_text, output_text, outputs_text, frame_text, command_text, event_text, head_text};
+ghost use Rattle.cip_console.specs.Show.{bytes_text, body_text, triad_text, refusal_text, drop_text, output_text, outputs_text, frame_text, command_text, event_text, head_text};
 
 use crate::waiting::FrameName;
-use cip_base::{Address, Bytes, NoMemory, PortNumber};
+use cip_base::{Address, Bytes, NoMemory, PortNumber, Triad};
 use cip_module::{Body, Command, Dropped, Event, Output, Refused};
 use std::alloc::Global;
 
@@ -31,13 +31,33 @@ fn reply_text(alloc: Global, number: u32, bytes: &Bytes) -> Result<String, NoMem
     Ok(format!(in alloc; "reply {number} {bytes}")?)
 }
 
+fn data_text(alloc: Global, id: u32, bytes: &Bytes) -> Result<String, NoMemory>
+    ensures { IfOk result (λ text. string_bytes text ≡ body_text (Body.Data id bytes.now)) }
+{
+    let bytes = bytes_text(alloc, bytes.as_slice())?;
+    Ok(format!(in alloc; "data {id} {bytes}")?)
+}
+
 fn body_text(alloc: Global, body: &Body) -> Result<String, NoMemory>
     ensures { IfOk result (λ text. string_bytes text ≡ body_text body.now) }
 {
     match body {
         Body::Request { number, bytes } => request_text(alloc, *number, bytes),
         Body::Reply { number, bytes } => reply_text(alloc, *number, bytes),
+        Body::Data { id, bytes } => data_text(alloc, *id, bytes),
     }
+}
+
+// A triad by its serial number, vendor, and originator's serial number.
+fn triad_text(alloc: Global, triad: &Triad) -> Result<String, NoMemory>
+    ensures { IfOk result (λ text. string_bytes text ≡ triad_text triad.now) }
+{
+    let Triad {
+        serial,
+        vendor,
+        originator,
+    } = *triad;
+    Ok(format!(in alloc; "{serial} {vendor} {originator}")?)
 }
 
 fn refusal_text(fault: Refused) -> &'static str
@@ -45,8 +65,10 @@ fn refusal_text(fault: Refused) -> &'static str
 {
     match fault {
         Refused::OpUsed => "OpUsed",
+        Refused::NotOpen => "NotOpen",
         Refused::WrongSize => "WrongSize",
         Refused::ReservedService => "ReservedService",
+        Refused::NoInstance => "NoInstance",
     }
 }
 
@@ -56,6 +78,8 @@ fn drop_text(reason: Dropped) -> &'static str
     match reason {
         Dropped::Malformed => "Malformed",
         Dropped::Late => "Late",
+        Dropped::UnknownId => "UnknownId",
+        Dropped::WrongSize => "WrongSize",
     }
 }
 
@@ -82,6 +106,33 @@ fn refused_text(alloc: Global, fault: Refused) -> Result<String, NoMemory>
     Ok(format!(in alloc; "refused {fault}")?)
 }
 
+fn consumed_text(
+    alloc: Global,
+    triad: &Triad,
+    instance: u32,
+    bytes: &Bytes,
+) -> Result<String, NoMemory>
+    ensures { IfOk result (λ text. string_bytes text ≡ output_text (Output.Consumed triad.now instance bytes.now)) }
+{
+    let triad = triad_text(alloc, triad)?;
+    let bytes = bytes_text(alloc, bytes.as_slice())?;
+    Ok(format!(in alloc; "consumed {triad} {instance} {bytes}")?)
+}
+
+fn datum_text(alloc: Global, op: u32, bytes: &Bytes) -> Result<String, NoMemory>
+    ensures { IfOk result (λ text. string_bytes text ≡ output_text (Output.Arrived op bytes.now)) }
+{
+    let bytes = bytes_text(alloc, bytes.as_slice())?;
+    Ok(format!(in alloc; "arrived {op} {bytes}")?)
+}
+
+fn expired_text(alloc: Global, triad: &Triad) -> Result<String, NoMemory>
+    ensures { IfOk result (λ text. string_bytes text ≡ output_text (Output.Expired triad.now)) }
+{
+    let triad = triad_text(alloc, triad)?;
+    Ok(format!(in alloc; "expired {triad}")?)
+}
+
 fn dropped_text(alloc: Global, reason: Dropped) -> Result<String, NoMemory>
     ensures { IfOk result (λ text. string_bytes text ≡ output_text (Output.Dropped reason)) }
 {
@@ -97,6 +148,13 @@ fn output_text(alloc: Global, output: &Output) -> Result<String, NoMemory>
         Output::Send { port, to, body } => send_text(alloc, *port, to, body),
         Output::Done { op, reply } => done_text(alloc, *op, reply),
         Output::Refused(fault) => refused_text(alloc, *fault),
+        Output::Consumed {
+            triad,
+            instance,
+            bytes,
+        } => consumed_text(alloc, triad, *instance, bytes),
+        Output::Arrived { op, bytes } => datum_text(alloc, *op, bytes),
+        Output::Expired { triad } => expired_text(alloc, triad),
         Output::Dropped(reason) => dropped_text(alloc, *reason),
     }
 }
@@ -148,9 +206,29 @@ fn command_text(alloc: Global, command: &Command) -> Result<String, NoMemory>
     ensures { IfOk result (λ text. string_bytes text ≡ command_text command.now) }
 {
     match command {
+        Command::Open { op, .. } => {
+            let op = *op;
+            Ok(format!(in alloc; "open {op}")?)
+        }
+        Command::Close { op, .. } => {
+            let op = *op;
+            Ok(format!(in alloc; "close {op}")?)
+        }
         Command::Send { op, .. } => {
             let op = *op;
             Ok(format!(in alloc; "send {op}")?)
+        }
+        Command::Enter { of, .. } => {
+            let of = *of;
+            Ok(format!(in alloc; "enter {of}")?)
+        }
+        Command::Set { instance, .. } => {
+            let instance = *instance;
+            Ok(format!(in alloc; "set {instance}")?)
+        }
+        Command::Produce { instance } => {
+            let instance = *instance;
+            Ok(format!(in alloc; "produce {instance}")?)
         }
     }
 }

@@ -40,7 +40,8 @@ impl Held {
     ghost use Rattle.std.specs.Option.{option_copied};
     ghost use Rattle.cip_hops.specs.Hops.{opening_of, ids_of, as_hop, is_hop_due};
 
-    pub(crate) fn opening(&self) -> &Opening
+    /// What was opened.
+    pub fn opening(&self) -> &Opening
         ensures { result.now ≡ opening_of self.now }
     {
         match self {
@@ -49,7 +50,8 @@ impl Held {
         }
     }
 
-    pub(crate) fn ids(&self) -> OwnIds
+    /// The ids that it drew.
+    pub fn ids(&self) -> OwnIds
         ensures { result ≡ ids_of self.now }
     {
         match self {
@@ -58,7 +60,8 @@ impl Held {
         }
     }
 
-    pub(crate) fn hop(&self) -> Option<&Hop>
+    /// The connection, once it is open.
+    pub fn hop(&self) -> Option<&Hop>
         ensures { option_copied result ≡ as_hop self.now }
     {
         match self {

@@ -101,6 +101,24 @@ impl HopUp {
         }
     }
 
+    /// The same side once more. Takes no memory.
+    pub fn copy(&self) -> HopUp
+        ensures { result ≡ self.now }
+    {
+        match self {
+            HopUp::Link {
+                port,
+                address,
+                their_id,
+            } => HopUp::Link {
+                port: *port,
+                address: address.copy(),
+                their_id: *their_id,
+            },
+            HopUp::Local { op } => HopUp::Local { op: *op },
+        }
+    }
+
     // Whether it is the link by this port to this address.
     pub(crate) fn is_at(&self, by: PortNumber, to: &Address) -> bool
         ensures { result ≡ up_is by to.now self.now }
@@ -120,6 +138,27 @@ impl HopDown {
         ensures { result ≡ down_is_link self.now }
     {
         matches!(self, HopDown::Link { .. })
+    }
+
+    /// The same side once more. Takes no memory.
+    pub fn copy(&self) -> HopDown
+        ensures { result ≡ self.now }
+    {
+        match self {
+            HopDown::Link { port, address } => HopDown::Link {
+                port: *port,
+                address: address.copy(),
+            },
+            HopDown::End {
+                config,
+                consume,
+                produce,
+            } => HopDown::End {
+                config: *config,
+                consume: *consume,
+                produce: *produce,
+            },
+        }
     }
 
     // Whether it is the link by this port to this address.

@@ -271,6 +271,13 @@ impl HopTable {
         (self.next - 1) as u32
     }
 
+    /// What stands under a triad, opening or open.
+    pub fn held(&self, triad: &Triad) -> Option<&Held>
+        ensures { option_copied result ≡ map.get self.now.held triad.now }
+    {
+        self.held_at(triad)
+    }
+
     fn held_at(&self, triad: &Triad) -> Option<&Held>
         ensures { option_copied result ≡ map.get self.now.held triad.now }
     {

@@ -1,5 +1,5 @@
 -- What legal settings say of their parts.
-use Rattle.std.proofs.Common.{◌≡◌, ◌&&◌, true, length}
+use Rattle.std.proofs.Common.{◌&&◌, length}
 use Rattle.std.specs.Prelude.{IsTrue, nat_le}
 use Rattle.std.specs.List.{list_all}
 use Rattle.std.proofs.lemmas.Bool.{and_parts}

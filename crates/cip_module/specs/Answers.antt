@@ -1,7 +1,11 @@
 -- The replies that rows answer.
 use Rattle.std.specs.Prelude.{ℕ, ◌+◌, List, [], ◌∷◌, Option, Some, None}
 use Rattle.cip_base.specs.declared.timing.Status.{Status}
-use Rattle.cip_message.specs.Reply.{Reply, reply_bytes, extra_words}
+use Rattle.cip_base.specs.declared.triad.Triad.{Triad}
+use Rattle.cip_message.specs.Reply.{reply_bytes, extra_words}
+use Rattle.cip_message.specs.declared.failure.ConnectionFailure.{ConnectionFailure}
+use Rattle.cip_open.specs.Failed.{open_failure_bytes}
+use Rattle.cip_close.specs.Failed.{close_failure_bytes}
 use Rattle.cip_module.specs.declared.rows.UnconnectedRefusal.{UnconnectedRefusal}
 use Rattle.cip_module.specs.Statuses.{unconnected_status}
 
@@ -17,5 +21,22 @@ abbrev pub words_data : Option ℕ → List ℕ
 words_data None = []
 words_data (Some words) = words ∷ []
 
+abbrev pub unconnected_failed : Status → Option ℕ → List ℕ
+unconnected_failed status words = answered 0x52 status (words_data words)
+
 abbrev pub unconnected_failure : UnconnectedRefusal → Option ℕ → List ℕ
-unconnected_failure refusal words = answered 0x52 (unconnected_status refusal) (words_data words)
+unconnected_failure refusal words = unconnected_failed (unconnected_status refusal) words
+
+-- what a failed open or close tells: its triad, and the words of the path as received
+abbrev pub failed_at : Triad → ℕ → ConnectionFailure
+failed_at triad words = record { triad = Some triad; words = Some words }
+
+-- of an open or a close whose fixed part is cut
+abbrev pub failed_unread : ConnectionFailure
+failed_unread = record { triad = None; words = None }
+
+abbrev pub open_failed : Status → Triad → ℕ → List ℕ
+open_failed status triad words = open_failure_bytes status (failed_at triad words)
+
+abbrev pub close_failed : Status → Triad → ℕ → List ℕ
+close_failed status triad words = close_failure_bytes status (failed_at triad words)

@@ -1,9 +1,22 @@
 -- The command group: which row a command meets.
-use Rattle.std.specs.Prelude.{◌≡◌, ℕ, ◌≤◌, ◌==◌, false, nat_lt, if◌then◌else◌, List, length, slice_index}
+use Rattle.std.specs.Prelude.{◌≡◌, ℕ, ◌≤◌, ◌==◌, false, not, nat_lt, is_some, if◌then◌else◌, List, length, slice_index, Option, Some, None}
 use Rattle.cip_unconnected.specs.Unconnected.{Unconnected, unconnected_bytes}
+use Rattle.cip_hops.specs.declared.hop.Hop.{Hop}
+use Rattle.cip_hops.specs.Hops.{hop_by_op}
 use Rattle.cip_module.specs.declared.rows.CommandRow.{CommandRow}
-use Rattle.cip_module.specs.declared.rows.CommandRow.TheVariants.{OpUsed, ReservedService, WrongSize, Taken}
+use Rattle.cip_module.specs.declared.rows.CommandRow.TheVariants.{OpUsed, NotOpen, ReservedService, WrongSize, NoInstance, Taken}
 use Rattle.cip_module.specs.State.{State, is_spent}
+
+-- the row of an Open
+abbrev pub op_row : State → ℕ → CommandRow
+op_row s op = if is_spent op s.ops then OpUsed else Taken
+
+-- the row of a Close of the connection that the op `of` opened
+abbrev pub close_command_row : State → ℕ → ℕ → CommandRow
+close_command_row s op of =
+    if is_spent op s.ops then OpUsed
+    else if not (is_some (hop_by_op s.hops of)) then NotOpen
+    else Taken
 
 -- the row of a Send, as the Unconnected_Send that it spells
 unfoldable pub send_row : State → ℕ → Unconnected → CommandRow
@@ -16,6 +29,23 @@ send_row s op u =
 -- what a Send that is taken may rely on: its op is new, and its message is no longer than a message may be
 abbrev pub CanSend : State → ℕ → Unconnected → CommandRow → Type 0
 CanSend s op u OpUsed = Unit {0}
+CanSend s op u NotOpen = Unit {0}
 CanSend s op u ReservedService = Unit {0}
 CanSend s op u WrongSize = Unit {0}
+CanSend s op u NoInstance = Unit {0}
 CanSend s op u Taken = (is_spent op s.ops ≡ false) × (length (unconnected_bytes u) ≤ 1400)
+
+-- the row of an Enter by the connection that the op opened
+abbrev pub enter_row : List ℕ → Option Hop → CommandRow
+enter_row bytes None = NotOpen
+enter_row bytes (Some hop) = if length bytes == hop.opening.ot_size then Taken else WrongSize
+
+-- the row of a Set of an assembly
+abbrev pub set_row : List ℕ → Option ℕ → CommandRow
+set_row bytes None = NoInstance
+set_row bytes (Some size) = if length bytes == size then Taken else WrongSize
+
+-- the row of a Produce of an assembly
+abbrev pub produce_row : Option (List ℕ) → CommandRow
+produce_row None = NoInstance
+produce_row (Some held) = Taken

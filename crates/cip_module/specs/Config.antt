@@ -1,8 +1,7 @@
 -- Which keys a module may have, and what its ports and its identity say of an address and of a key.
-use Rattle.std.specs.Prelude.{◌≡◌, ℕ, ◌+◌, ◌-◌, ◌%◌, ◌/◌, ◌^◌, Bool, true, false, not, ◌&&◌, ◌||◌, ◌==◌, nat_lt, nat_le, if◌then◌else◌, List, [], ◌∷◌, length, slice_index, find, IsTrue}
-use Rattle.std.specs.Prelude.{Option, Some, None}
+use Rattle.std.specs.Prelude.{ℕ, ◌^◌, Bool, true, false, not, ◌&&◌, ◌||◌, ◌==◌, nat_lt, nat_le, List, [], ◌∷◌, length, slice_index, find}
+use Rattle.std.specs.Prelude.{Option}
 use Rattle.std.specs.List.{list_all, list_any}
-use Rattle.cip_base.specs.declared.key.KeyFields.{KeyFields}
 use Rattle.cip_module.specs.declared.config.ModuleKind.{ModuleKind}
 use Rattle.cip_module.specs.declared.config.ModuleKind.TheVariants.{Plain, Adapter}
 use Rattle.cip_module.specs.declared.config.LegalAddresses.{LegalAddresses}

@@ -1,5 +1,5 @@
 -- Whether an electronic key fits a module (Volume 1, Appendix C, electronic key segment, format 4).
-use Rattle.std.specs.Prelude.{ℕ, ◌%◌, Bool, not, ◌&&◌, ◌||◌, ◌==◌, nat_le, if◌then◌else◌, Option, Some, None, List, [], ◌∷◌}
+use Rattle.std.specs.Prelude.{ℕ, ◌%◌, Bool, not, ◌&&◌, ◌||◌, ◌==◌, nat_le, if◌then◌else◌, Option, Some, None, List, ◌∷◌}
 use Rattle.cip_base.specs.declared.key.KeyFields.{KeyFields}
 use Rattle.cip_segment.specs.declared.segment.Segment.{Segment}
 use Rattle.cip_segment.specs.declared.segment.Segment.TheVariants.{Key}

@@ -1,5 +1,5 @@
 -- The request group: which row answers a request (Volume 1, chapter 2 for the Message Router, chapter 3 for the Connection Manager).
-use Rattle.std.specs.Prelude.{ℕ, ◌==◌, ◌||◌, nat_lt, not, if◌then◌else◌, Option, Some, None, Result, Ok, Err, List, [], ◌∷◌, length, slice_index, is_some, Bool}
+use Rattle.std.specs.Prelude.{ℕ, ◌==◌, ◌||◌, nat_lt, not, if◌then◌else◌, Option, Some, None, Result, Ok, Err, List, length, slice_index, is_some, Bool}
 use Rattle.cip_segment.specs.Reading.{segments_of}
 use Rattle.cip_message.specs.Request.{Request}
 use Rattle.cip_message.specs.RequestAt.{request_at}
@@ -16,8 +16,10 @@ pub data RequestRow : Type 0 where
   UnknownPortOrTooLong : RequestRow
   NotARequest : RequestRow
   Refuses : (service : ℕ) → (refusal : RequestRefusal) → RequestRow
-  -- the Connection Manager: an Unconnected_Send with this data
+  -- the Connection Manager: an Unconnected_Send, a Forward_Open or a Forward_Close with this data
   UnconnectedSend : (sent : List ℕ) → RequestRow
+  ForwardOpen : (asked : List ℕ) → RequestRow
+  ForwardClose : (asked : List ℕ) → RequestRow
   Target : (request : Request) → RequestRow
 
 -- the Connection Manager's instance first, then its services
@@ -25,6 +27,8 @@ abbrev pub manager_row : Request → ObjectPath → RequestRow
 manager_row r object =
     if not (object.instance == 1) then Refuses r.service NoSuchManagerInstance
     else if r.service == 0x52 then UnconnectedSend r.data_
+    else if r.service == 0x54 then ForwardOpen r.data_
+    else if r.service == 0x4E then ForwardClose r.data_
     else Refuses r.service ServiceNotSupported
 
 abbrev pub object_row : Request → Option ObjectPath → RequestRow

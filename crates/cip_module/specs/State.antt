@@ -3,6 +3,7 @@ use Rattle.std.specs.Prelude.{ℕ, List, [], ◌∷◌, Bool, ◌==◌, nat_lt, 
 use Rattle.std.specs.List.{list_any}
 use Rattle.std.specs.FinMap.{empty}
 use Rattle.cip_pending.specs.Pendings.{Pendings}
+use Rattle.cip_hops.specs.Hops.{Hops}
 use Rattle.cip_target.specs.Assemblies.{AssemblyMap, zeroed}
 use Rattle.cip_module.specs.declared.config.ModuleSettings.{ModuleSettings}
 
@@ -11,13 +12,21 @@ pub record State : Type 0 where
   pub now : ℕ
   -- the requests that wait, each under its number, and the next number
   pub pendings : Pendings
+  -- the connections that are opening or open, each under its triad, and the next connection id
+  pub hops : Hops
   -- the bytes of each assembly, by its instance
   pub assemblies : AssemblyMap
   -- the ops that were used, rising
   pub ops : List ℕ
 
 abbrev pub opening : ModuleSettings → State
-opening config = record { now = config.clock; pendings = record { room = config.pending_room; next = config.first_number; entries = empty }; assemblies = zeroed config.assemblies; ops = [] }
+opening config = record {
+  now = config.clock;
+  pendings = record { room = config.pending_room; next = config.first_number; entries = empty };
+  hops = record { room = config.hop_room; next = config.first_id; held = empty };
+  assemblies = zeroed config.assemblies;
+  ops = [];
+}
 
 abbrev pub is_spent : ℕ → List ℕ → Bool
 is_spent op ops = list_any (λ spent. spent == op) ops

@@ -1,10 +1,16 @@
 -- Which status each row of the routing table answers (Volume 1, Appendix B; the additional status is the Connection Manager's, chapter 3).
-use Rattle.std.specs.Prelude.{ℕ, Option, Some, None}
+use Rattle.std.specs.Prelude.{ℕ, Some, None}
 use Rattle.cip_base.specs.declared.timing.Status.{Status}
 use Rattle.cip_module.specs.declared.rows.RequestRefusal.{RequestRefusal}
-use Rattle.cip_module.specs.declared.rows.RequestRefusal.TheVariants.{PathPastTheEnd, PathUnreadable, PathFormNotSupported, NoSuchManagerInstance, ServiceNotSupported}
+use Rattle.cip_module.specs.declared.rows.RequestRefusal.TheVariants as request
+use Rattle.cip_module.specs.declared.rows.LinkRefusal.{LinkRefusal}
+use Rattle.cip_module.specs.declared.rows.LinkRefusal.TheVariants.{NoSuchPort, LinkAddressNotLegal, TicksSpent, NoPendingLeft}
 use Rattle.cip_module.specs.declared.rows.UnconnectedRefusal.{UnconnectedRefusal}
-use Rattle.cip_module.specs.declared.rows.UnconnectedRefusal.TheVariants.{CutBeforeTheRouteSize, CutInTheRoute, BytesAfterTheRoute, RouteUnreadable, EmbeddedRequestNotAllowed, KeyMismatch, NoPortSegment, NoSuchPort, LinkAddressNotLegal, TicksSpent, NoPendingLeft}
+use Rattle.cip_module.specs.declared.rows.UnconnectedRefusal.TheVariants as unconnected
+use Rattle.cip_module.specs.declared.rows.OpenRefusal.{OpenRefusal}
+use Rattle.cip_module.specs.declared.rows.OpenRefusal.TheVariants as opens
+use Rattle.cip_module.specs.declared.rows.CloseRefusal.{CloseRefusal}
+use Rattle.cip_module.specs.declared.rows.CloseRefusal.TheVariants as closes
 use Rattle.cip_module.specs.declared.rows.KeyPart.{KeyPart}
 use Rattle.cip_module.specs.declared.rows.KeyPart.TheVariants.{VendorOrProduct, DeviceType, Revision}
 
@@ -16,24 +22,57 @@ plain g = record { general = g; extra = None }
 abbrev pub extended : ℕ → Status
 extended x = record { general = 1; extra = Some x }
 
+abbrev pub key_status : KeyPart → Status
+key_status VendorOrProduct = extended 0x0114
+key_status DeviceType = extended 0x0115
+key_status Revision = extended 0x0116
+
+abbrev pub link_status : LinkRefusal → Status
+link_status NoSuchPort = extended 0x0311
+link_status LinkAddressNotLegal = extended 0x0312
+link_status TicksSpent = extended 0x0204
+link_status NoPendingLeft = extended 0x0301
+
 abbrev pub request_status : RequestRefusal → Status
-request_status PathPastTheEnd = plain 0x26
-request_status PathUnreadable = plain 0x04
-request_status PathFormNotSupported = plain 0x05
-request_status NoSuchManagerInstance = plain 0x16
-request_status ServiceNotSupported = plain 0x08
+request_status request.PathPastTheEnd = plain 0x26
+request_status request.PathUnreadable = plain 0x04
+request_status request.PathFormNotSupported = plain 0x05
+request_status request.NoSuchManagerInstance = plain 0x16
+request_status request.ServiceNotSupported = plain 0x08
 
 abbrev pub unconnected_status : UnconnectedRefusal → Status
-unconnected_status CutBeforeTheRouteSize = plain 0x13
-unconnected_status CutInTheRoute = plain 0x13
-unconnected_status BytesAfterTheRoute = plain 0x15
-unconnected_status RouteUnreadable = plain 0x04
-unconnected_status EmbeddedRequestNotAllowed = extended 0x0205
-unconnected_status (KeyMismatch VendorOrProduct) = extended 0x0114
-unconnected_status (KeyMismatch DeviceType) = extended 0x0115
-unconnected_status (KeyMismatch Revision) = extended 0x0116
-unconnected_status NoPortSegment = extended 0x0315
-unconnected_status NoSuchPort = extended 0x0311
-unconnected_status LinkAddressNotLegal = extended 0x0312
-unconnected_status TicksSpent = extended 0x0204
-unconnected_status NoPendingLeft = extended 0x0301
+unconnected_status unconnected.CutBeforeTheRouteSize = plain 0x13
+unconnected_status unconnected.CutInTheRoute = plain 0x13
+unconnected_status unconnected.BytesAfterTheRoute = plain 0x15
+unconnected_status unconnected.RouteUnreadable = plain 0x04
+unconnected_status unconnected.EmbeddedRequestNotAllowed = extended 0x0205
+unconnected_status (unconnected.KeyMismatch part) = key_status part
+unconnected_status unconnected.NoPortSegment = extended 0x0315
+unconnected_status (unconnected.NotSentOn refusal) = link_status refusal
+
+abbrev pub open_status : OpenRefusal → Status
+open_status opens.CutInTheFixedPart = plain 0x13
+open_status opens.CutInThePath = plain 0x13
+open_status opens.BytesAfterThePath = plain 0x15
+open_status opens.PathUnreadable = plain 0x04
+open_status opens.ConnectionTypeNotSupported = extended 0x0108
+open_status opens.RpiOfZero = extended 0x0111
+open_status opens.TriadInUse = extended 0x0100
+open_status (opens.KeyMismatch part) = key_status part
+open_status (opens.NotSentOn refusal) = link_status refusal
+open_status opens.NoRoomOrIdsLeft = extended 0x0113
+open_status opens.NotAnApplicationPath = extended 0x0315
+open_status opens.NoSuchInstanceOrConfiguration = extended 0x0117
+open_status opens.TransportClassNotSupported = extended 0x0103
+open_status opens.SizeMismatch = extended 0x0109
+open_status opens.OutputOwned = extended 0x0106
+open_status opens.NoRoomOrIdLeft = extended 0x0113
+
+abbrev pub close_status : CloseRefusal → Status
+close_status closes.CutInTheFixedPart = plain 0x13
+close_status closes.CutInThePath = plain 0x13
+close_status closes.BytesAfterThePath = plain 0x15
+close_status closes.PathUnreadable = plain 0x04
+close_status closes.NotThisSendersOpenTriad = extended 0x0107
+close_status closes.PathDiffersFromTheHops = extended 0x0316
+close_status (closes.NotSentOn refusal) = link_status refusal

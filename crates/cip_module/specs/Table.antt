@@ -1,50 +1,91 @@
 -- The routing table: what a module does at each event.
-use Rattle.std.specs.Prelude.{ℕ, ◌+◌, ◌-◌, ◌*◌, ◌/◌, ◌%◌, ◌^◌, ◌==◌, nat_lt, if◌then◌else◌, Option, Some, None, Result, Ok, Err, List, [], ◌∷◌, map, length}
+use Rattle.std.specs.Prelude.{ℕ, ◌+◌, ◌-◌, ◌*◌, ◌/◌, ◌%◌, ◌^◌, ◌==◌, nat_lt, if◌then◌else◌, Option, Some, None, Result, Ok, Err, List, [], ◌∷◌, ◌++◌, map, length}
+use Rattle.std.specs.FinMap as finite
 use Rattle.cip_base.specs.declared.timing.Timing.{Timing}
-use Rattle.cip_message.specs.Request.{Request}
+use Rattle.cip_base.specs.declared.triad.Triad.{Triad}
+use Rattle.cip_clock.specs.Times.{ticks_us}
+use Rattle.cip_message.specs.declared.fault.DataFault.{DataFault}
 use Rattle.cip_unconnected.specs.Unconnected.{Unconnected, unconnected_bytes}
 use Rattle.cip_unconnected.specs.UnconnectedAt.{unconnected_at, route_words_of}
 use Rattle.cip_unconnected.specs.declared.fault.UnconnectedFault.{UnconnectedFault}
+use Rattle.cip_open.specs.Open.{Open, open_bytes}
+use Rattle.cip_open.specs.OpenAt.{open_at, open_triad_of, open_words_of}
+use Rattle.cip_open.specs.Success.{open_reply_bytes}
+use Rattle.cip_open.specs.Failed.{open_failure_bytes}
+use Rattle.cip_close.specs.Close.{Close, close_bytes}
+use Rattle.cip_close.specs.CloseAt.{close_at, close_triad_of, close_words_of}
+use Rattle.cip_close.specs.Success.{close_reply_bytes}
+use Rattle.cip_close.specs.Failed.{close_failure_bytes}
 use Rattle.cip_pending.specs.declared.entry.Entry.{Entry}
 use Rattle.cip_pending.specs.declared.entry.UpSide.{UpSide}
 use Rattle.cip_pending.specs.declared.entry.UpSide.TheVariants.{Link, Local}
-use Rattle.cip_pending.specs.declared.entry.Kind.TheVariants.{Unconnected as UnconnectedKind}
+use Rattle.cip_pending.specs.declared.entry.Kind.TheVariants.{Unconnected as UnconnectedKind, Closing as ClosingKind}
 use Rattle.cip_pending.specs.Pendings.{Pendings, due}
+use Rattle.cip_hops.specs.declared.opening.HopUp.{HopUp}
+use Rattle.cip_hops.specs.declared.opening.HopUp.TheVariants.{Link as UpLink, Local as UpLocal}
+use Rattle.cip_hops.specs.declared.opening.HopDown.TheVariants.{Link as DownLink}
+use Rattle.cip_hops.specs.declared.hop.Hop.{Hop}
+use Rattle.cip_hops.specs.declared.hop.Side.{Side}
+use Rattle.cip_hops.specs.declared.hop.Side.TheVariants.{Up, Down}
+use Rattle.cip_hops.specs.Hops.{Hops, hop_by_op}
+use Rattle.cip_hops.specs.Hops as hops
+use Rattle.cip_target.specs.declared.identity.IdentityFields.{IdentityFields}
+use Rattle.cip_target.specs.Assemblies.{size_in}
 use Rattle.cip_module.specs.declared.config.ModuleSettings.{ModuleSettings}
+use Rattle.cip_module.specs.declared.event.OpenParams.{OpenParams}
 use Rattle.cip_module.specs.declared.event.Event.{Event}
 use Rattle.cip_module.specs.declared.event.Event.TheVariants as events
+use Rattle.cip_module.specs.declared.event.Command.{Command}
 use Rattle.cip_module.specs.declared.event.Command.TheVariants as commands
+use Rattle.cip_module.specs.declared.event.Body.{Body}
 use Rattle.cip_module.specs.declared.event.Body.TheVariants as bodies
 use Rattle.cip_module.specs.declared.event.Output.{Output}
 use Rattle.cip_module.specs.declared.event.Refused.TheVariants as refused
 use Rattle.cip_module.specs.declared.event.Dropped.TheVariants as dropped
-use Rattle.cip_module.specs.Answers.{failure_bytes, unconnected_failure}
-use Rattle.cip_module.specs.Statuses.{request_status}
+use Rattle.cip_module.specs.declared.rows.CommandRow.{CommandRow}
+use Rattle.cip_module.specs.declared.rows.CommandRow.TheVariants as command
+use Rattle.cip_module.specs.Answers.{failure_bytes, unconnected_failure, failed_unread, open_failed, close_failed}
+use Rattle.cip_module.specs.Statuses.{request_status, open_status, close_status}
 use Rattle.cip_module.specs.RequestRows.{RequestRow, request_row}
 use Rattle.cip_module.specs.RequestRows as request
 use Rattle.cip_module.specs.ReplyRows.{ReplyRow, reply_row}
 use Rattle.cip_module.specs.ReplyRows as reply
-use Rattle.cip_module.specs.declared.rows.CommandRow.{CommandRow}
-use Rattle.cip_module.specs.declared.rows.CommandRow.TheVariants as command
-use Rattle.cip_module.specs.CommandRows.{send_row}
-use Rattle.cip_module.specs.UnconnectedRows.{UnconnectedRow, unconnected_row, unread_row}
+use Rattle.cip_module.specs.DataRows.{DataRow, data_row}
+use Rattle.cip_module.specs.DataRows as datum
+use Rattle.cip_module.specs.CommandRows.{op_row, close_command_row, send_row, enter_row, set_row, produce_row}
+use Rattle.cip_module.specs.UnconnectedRows.{UnconnectedRow, unconnected_row}
 use Rattle.cip_module.specs.UnconnectedRows as unconnected
-use Rattle.cip_module.specs.Effects.{Effect, Spends, Replies, Answers, Forwards, Takes, Expires, Refuses, Drops, Advances, applied, outputs_of}
+use Rattle.cip_module.specs.OpenRows.{OpenRow, OpenAnswer, open_row, open_answer, opening_with, end_down}
+use Rattle.cip_module.specs.OpenRows as opens
+use Rattle.cip_module.specs.CloseRows.{CloseRow, CloseAnswer, close_row, close_answer}
+use Rattle.cip_module.specs.CloseRows as closes
+use Rattle.cip_module.specs.Effects.{Effect, Spends, Replies, Answers, Forwards, Begins, Accepts, Finishes, Takes, Expires, Removes, Lapses, Renews, Passes, Counts, Writes, Refuses, Drops, Advances, applied, outputs_of}
+use Rattle.cip_module.specs.Produced.{produced_effects}
 use Rattle.cip_module.specs.State.{State}
-
--- What goes on: the embedded request itself where no route is left behind the hop, else an Unconnected_Send with what is left
--- and one tick less.
-abbrev pub message_on : Unconnected → List ℕ → List ℕ
-message_on u rest =
-    if length rest == 0 then u.request
-    else unconnected_bytes (record { timing = record { tick = u.timing.tick; ticks = u.timing.ticks - 1 }; request = u.request; route = rest })
 
 -- how long the reply may take: 2^t times the ticks, in milliseconds, as microseconds
 abbrev pub wait_of : Timing → ℕ
-wait_of timing = 2 ^ (timing.tick % 16) * timing.ticks * 1000
+wait_of timing = ticks_us (timing.tick % 16) timing.ticks
 
 abbrev pub words_of : List ℕ → ℕ
 words_of path = length path / 2
+
+-- what goes on has one tick less
+abbrev pub one_less : Timing → Timing
+one_less timing = record { tick = timing.tick; ticks = timing.ticks - 1 }
+
+-- what a command does uses its op up first
+abbrev pub with_spending : UpSide → List Effect → List Effect
+with_spending (Link port address number) es = es
+with_spending (Local op) es = Spends op ∷ es
+
+-- ---- unconnected send
+
+-- What goes on: the embedded request itself where no route is left behind the hop, else an Unconnected_Send with what is left.
+abbrev pub message_on : Unconnected → List ℕ → List ℕ
+message_on u rest =
+    if length rest == 0 then u.request
+    else unconnected_bytes (record { timing = one_less u.timing; request = u.request; route = rest })
 
 abbrev pub unconnected_effects : UpSide → Unconnected → UnconnectedRow → List Effect
 unconnected_effects up u (unconnected.Refuses refusal) = Replies up (unconnected_failure refusal (Some (words_of u.route))) ∷ []
@@ -54,49 +95,228 @@ unconnected_effects up u (unconnected.Forwarded port address rest) =
 
 -- an Unconnected_Send by its data: where it cannot be read, the words are the route size byte, if it is there
 abbrev pub data_effects : ModuleSettings → State → UpSide → List ℕ → Result Unconnected UnconnectedFault → List Effect
-data_effects config s up sent (Err fault) = Replies up (unconnected_failure (unread_row sent fault) (route_words_of sent)) ∷ []
+data_effects config s up sent (Err fault) = Replies up (unconnected_failure (unconnected.unread_row sent fault) (route_words_of sent)) ∷ []
 data_effects config s up sent (Ok u) = unconnected_effects up u (unconnected_row config s.pendings u)
+
+-- ---- open
+
+-- the up side of a connection: the node that asked, which is sent data under its own T→O id, or the op of a command
+abbrev pub opener : UpSide → ℕ → HopUp
+opener (Link port address number) to_id = UpLink port address to_id
+opener (Local op) to_id = UpLocal op
+
+-- what goes on: one tick less, the own down id as T→O id, and what is left of the path
+abbrev pub open_on : Open → ℕ → List ℕ → List ℕ
+open_on o down_id rest = open_bytes (record { fields = record o.fields { timing = one_less o.fields.timing; to_id = down_id }; path = rest })
+
+-- the success of an end: its own up id as O→T id, the intervals as they were asked, no application reply
+abbrev pub accepted_bytes : Open → ℕ → List ℕ
+accepted_bytes o up_id = open_reply_bytes (record {
+  ot_id = up_id;
+  to_id = o.fields.to_id;
+  triad = o.fields.triad;
+  ot_api = o.fields.ot_rpi;
+  to_api = o.fields.to_rpi;
+  reply = [];
+})
+
+abbrev pub open_answered : State → UpSide → Open → OpenAnswer → List Effect
+open_answered s up o (opens.Fails status) = Replies up (open_failed status o.fields.triad (words_of o.path)) ∷ []
+open_answered s up o (opens.GoesOn port address rest) =
+    Begins up port address (open_on o s.hops.next rest) (wait_of o.fields.timing) (words_of o.path)
+    (opening_with (opener up o.fields.to_id) (DownLink port address) o) ∷ []
+open_answered s up o (opens.EndsHere link) =
+    Accepts (opening_with (opener up o.fields.to_id) (end_down link) o) o link ∷ Replies up (accepted_bytes o s.hops.next) ∷ []
+
+abbrev pub open_effects : State → UpSide → Open → OpenRow → List Effect
+open_effects s up o row = open_answered s up o (open_answer row)
+
+-- where the fixed part is cut, the failure tells nothing; else the triad and the path size byte
+abbrev pub unread_open_bytes : List ℕ → DataFault → List ℕ
+unread_open_bytes d fault =
+    if nat_lt (length d) 36 then open_failure_bytes (open_status (opens.unread_row d fault)) failed_unread
+    else open_failure_bytes (open_status (opens.unread_row d fault)) (record { triad = open_triad_of d; words = open_words_of d })
+
+abbrev pub asked_effects : ModuleSettings → State → UpSide → List ℕ → Result Open DataFault → List Effect
+asked_effects config s up d (Err fault) = Replies up (unread_open_bytes d fault) ∷ []
+asked_effects config s up d (Ok o) = open_effects s up o (open_row config s (opener up o.fields.to_id) o)
+
+-- ---- close
+
+-- what goes on: one tick less, and what is left of the path
+abbrev pub close_on : Close → List ℕ → List ℕ
+close_on c rest = close_bytes (record { fields = record c.fields { timing = one_less c.fields.timing }; path = rest })
+
+abbrev pub close_answered : UpSide → Close → CloseAnswer → List Effect
+close_answered up c (closes.Fails status) = Replies up (close_failed status c.fields.triad (words_of c.path)) ∷ []
+close_answered up c (closes.GoesOn port address rest) =
+    Removes c.fields.triad
+    ∷ Forwards up port address (close_on c rest) (wait_of c.fields.timing) (words_of c.path) (ClosingKind c.fields.triad) ∷ []
+close_answered up c closes.EndsHere =
+    Removes c.fields.triad ∷ Replies up (close_reply_bytes (record { triad = c.fields.triad; reply = [] })) ∷ []
+
+abbrev pub close_effects : UpSide → Close → CloseRow → List Effect
+close_effects up c row = close_answered up c (close_answer row)
+
+abbrev pub unread_close_bytes : List ℕ → DataFault → List ℕ
+unread_close_bytes d fault =
+    if nat_lt (length d) 12 then close_failure_bytes (close_status (closes.unread_row d fault)) failed_unread
+    else close_failure_bytes (close_status (closes.unread_row d fault)) (record { triad = close_triad_of d; words = close_words_of d })
+
+abbrev pub closing_effects : State → UpSide → List ℕ → Result Close DataFault → List Effect
+closing_effects s up d (Err fault) = Replies up (unread_close_bytes d fault) ∷ []
+closing_effects s up d (Ok c) = close_effects up c (close_row s up c)
+
+-- ---- any request
 
 abbrev pub request_effects : ModuleSettings → State → UpSide → RequestRow → List Effect
 request_effects config s up request.UnknownPortOrTooLong = Drops dropped.Malformed ∷ []
 request_effects config s up request.NotARequest = Drops dropped.Malformed ∷ []
 request_effects config s up (request.Refuses service refusal) = Replies up (failure_bytes service (request_status refusal)) ∷ []
-request_effects config s up (request.UnconnectedSend sent) = data_effects config s up sent (unconnected_at sent)
+request_effects config s up (request.UnconnectedSend d) = data_effects config s up d (unconnected_at d)
+request_effects config s up (request.ForwardOpen d) = asked_effects config s up d (open_at d)
+request_effects config s up (request.ForwardClose d) = closing_effects s up d (close_at d)
 request_effects config s up (request.Target asked) = Answers up asked ∷ []
+
+-- ---- replies
 
 abbrev pub reply_effects : ℕ → List ℕ → ReplyRow → List Effect
 reply_effects number bytes reply.UnknownPortOrTooLong = Drops dropped.Malformed ∷ []
 reply_effects number bytes reply.Late = Drops dropped.Late ∷ []
 reply_effects number bytes reply.MalformedForItsKind = Drops dropped.Malformed ∷ []
+reply_effects number bytes (reply.OpenSucceeded triad success) = Finishes number triad bytes success ∷ []
 reply_effects number bytes reply.PassedUp = Takes number bytes ∷ []
 
--- a Send that is taken is handled as the Unconnected_Send that it spells, with the op as its up side
-abbrev pub send_effects : ModuleSettings → State → ℕ → Unconnected → CommandRow → List Effect
-send_effects config s op u command.OpUsed = Refuses refused.OpUsed ∷ []
-send_effects config s op u command.ReservedService = Refuses refused.ReservedService ∷ []
-send_effects config s op u command.WrongSize = Refuses refused.WrongSize ∷ []
-send_effects config s op u command.Taken = Spends op ∷ unconnected_effects (Local op) u (unconnected_row config s.pendings u)
+-- ---- data
 
-abbrev pub expires : ℕ × Entry → Effect
-expires waiting = Expires waiting.0
+abbrev pub other : Side → Side
+other Up = Down
+other Down = Up
 
--- the due pendings, in rising number
-abbrev pub expiries : ℕ → Pendings → List Effect
-expiries now p = map expires (due now p)
+-- the count is kept where there is one
+abbrev pub counts : Triad → Option ℕ → List Effect
+counts triad None = []
+counts triad (Some count) = Counts triad Up count ∷ []
+
+abbrev pub datum_effects : List ℕ → DataRow → List Effect
+datum_effects bytes datum.UnknownId = Drops dropped.UnknownId ∷ []
+datum_effects bytes datum.WrongSize = Drops dropped.WrongSize ∷ []
+datum_effects bytes (datum.PassedOn triad side) = Passes triad (other side) bytes ∷ Renews triad side ∷ []
+datum_effects bytes (datum.Consumed triad instance count written) =
+    Passes triad Down bytes ∷ Renews triad Up ∷ Writes instance written ∷ counts triad count
+datum_effects bytes (datum.Repeated triad) = Passes triad Down bytes ∷ Renews triad Up ∷ []
+datum_effects bytes (datum.Arrived triad) = Passes triad Up bytes ∷ Renews triad Down ∷ []
+
+abbrev pub frame_effects : ModuleSettings → State → ℕ → List ℕ → Body → List Effect
+frame_effects config s port from (bodies.Request number bytes) = request_effects config s (Link port from number) (request_row config port bytes)
+frame_effects config s port from (bodies.Reply number bytes) = reply_effects number bytes (reply_row config s port from number bytes)
+frame_effects config s port from (bodies.Data id bytes) = datum_effects bytes (data_row config s port from id bytes)
+
+-- ---- commands
+
+-- A command that is taken is handled as the request that it spells, with its op as the up side.
+abbrev pub refused_effects : CommandRow → List Effect → List Effect
+refused_effects command.OpUsed es = Refuses refused.OpUsed ∷ []
+refused_effects command.NotOpen es = Refuses refused.NotOpen ∷ []
+refused_effects command.ReservedService es = Refuses refused.ReservedService ∷ []
+refused_effects command.WrongSize es = Refuses refused.WrongSize ∷ []
+refused_effects command.NoInstance es = Refuses refused.NoInstance ∷ []
+refused_effects command.Taken es = es
 
 -- the Unconnected_Send that a Send spells
 abbrev pub sent : Timing → List ℕ → List ℕ → Unconnected
 sent timing path asked = record { timing = timing; request = asked; route = path }
 
+-- the Forward_Open that an Open spells, with the vendor and the serial number of the module's identity; the O→T id is the target's to choose
+abbrev pub open_of : IdentityFields → Timing → List ℕ → OpenParams → Open
+open_of identity timing path params = record {
+  fields = record {
+    timing = timing;
+    ot_id = 0;
+    to_id = 0;
+    triad = record { serial = params.serial; vendor = identity.vendor; originator = identity.serial };
+    multiplier = params.multiplier;
+    ot_rpi = params.ot_rpi;
+    ot_params = params.ot_params;
+    to_rpi = params.to_rpi;
+    to_params = params.to_params;
+    transport = params.transport;
+  };
+  path = path;
+}
+
+-- the Forward_Close that a Close spells, with the path by which the connection was opened
+abbrev pub close_of : Timing → Hop → Close
+close_of timing hop = record { fields = record { timing = timing; triad = hop.opening.triad }; path = hop.opening.path }
+
+abbrev pub send_effects : ModuleSettings → State → ℕ → Unconnected → CommandRow → List Effect
+send_effects config s op u row = refused_effects row (with_spending (Local op) (unconnected_effects (Local op) u (unconnected_row config s.pendings u)))
+
+abbrev pub open_command_effects : ModuleSettings → State → ℕ → Open → List Effect
+open_command_effects config s op o =
+    refused_effects (op_row s op) (with_spending (Local op) (open_effects s (Local op) o (open_row config s (UpLocal op) o)))
+
+-- the request is the up side's own: the op that opened
+abbrev pub closed_effects : State → ℕ → ℕ → Timing → Option Hop → List Effect
+closed_effects s op of timing None = []
+closed_effects s op of timing (Some hop) =
+    with_spending (Local op) (close_effects (Local op) (close_of timing hop) (close_row s (Local of) (close_of timing hop)))
+
+abbrev pub close_command_effects : State → ℕ → ℕ → Timing → List Effect
+close_command_effects s op of timing = refused_effects (close_command_row s op of) (closed_effects s op of timing (hop_by_op s.hops of))
+
+abbrev pub entered_effects : List ℕ → Option Hop → List Effect
+entered_effects bytes None = []
+entered_effects bytes (Some hop) = Passes hop.opening.triad Down bytes ∷ []
+
+abbrev pub enter_effects : List ℕ → Option Hop → List Effect
+enter_effects bytes hop = refused_effects (enter_row bytes hop) (entered_effects bytes hop)
+
+abbrev pub set_effects : State → ℕ → List ℕ → List Effect
+set_effects s instance bytes = refused_effects (set_row bytes (size_in s.assemblies instance)) (Writes instance bytes ∷ [])
+
+abbrev pub made_effects : State → ℕ → Option (List ℕ) → List Effect
+made_effects s instance None = []
+made_effects s instance (Some held) = produced_effects instance held s.hops
+
+abbrev pub produce_effects : State → ℕ → Option (List ℕ) → List Effect
+produce_effects s instance held = refused_effects (produce_row held) (made_effects s instance held)
+
+abbrev pub command_effects : ModuleSettings → State → Command → List Effect
+command_effects config s (commands.Open op timing path params) = open_command_effects config s op (open_of config.identity timing path params)
+command_effects config s (commands.Close op of timing) = close_command_effects s op of timing
+command_effects config s (commands.Send op timing path asked) = send_effects config s op (sent timing path asked) (send_row s op (sent timing path asked))
+command_effects config s (commands.Enter of bytes) = enter_effects bytes (hop_by_op s.hops of)
+command_effects config s (commands.Set instance bytes) = set_effects s instance bytes
+command_effects config s (commands.Produce instance) = produce_effects s instance (finite.get s.assemblies instance)
+
+-- ---- ticks
+
+abbrev pub expires : ℕ × Entry → Effect
+expires waiting = Expires waiting.0
+
+abbrev pub lapses : Hop → Effect
+lapses hop = Lapses hop.opening.triad
+
+-- the due pendings, in rising number
+abbrev pub expiries : ℕ → Pendings → List Effect
+expiries now p = map expires (due now p)
+
+-- then the due connections, in rising triad
+abbrev pub lapsings : ℕ → Hops → List Effect
+lapsings now h = map lapses (hops.due now h)
+
+-- the clock is raised first
+abbrev pub tick_effects : State → ℕ → List Effect
+tick_effects s by = Advances by ∷ expiries (s.now + by) s.pendings ++ lapsings (s.now + by) s.hops
+
+-- ---- the step
+
 -- the effects of an event, in order; undefined for a tick alone, where the time would pass its last value
 abbrev pub decide : ModuleSettings → State → Event → Option (List Effect)
-decide config s (events.Command (commands.Send op timing path asked)) =
-    Some (send_effects config s op (sent timing path asked) (send_row s op (sent timing path asked)))
-decide config s (events.Frame port from (bodies.Request number bytes)) =
-    Some (request_effects config s (Link port from number) (request_row config port bytes))
-decide config s (events.Frame port from (bodies.Reply number bytes)) = Some (reply_effects number bytes (reply_row config s port from number bytes))
-decide config s (events.Tick ms) =
-    if nat_lt (s.now + 1000 * ms) (2 ^ 63) then Some (Advances (1000 * ms) ∷ expiries (s.now + 1000 * ms) s.pendings) else None
+decide config s (events.Command command) = Some (command_effects config s command)
+decide config s (events.Frame port from body) = Some (frame_effects config s port from body)
+decide config s (events.Tick ms) = if nat_lt (s.now + 1000 * ms) (2 ^ 63) then Some (tick_effects s (1000 * ms)) else None
 
 pub record Stepped : Type 0 where
   pub state : State

@@ -1,34 +1,50 @@
--- What a tick tells of the pendings whose time ran out.
-use Rattle.std.specs.Prelude.{◌≡◌, ℕ, ◌+◌, ◌*◌, ◌^◌, ◌<◌, ◌≤◌, List, [], ◌∷◌, map, Some, Result, Ok, Err}
+-- What a tick tells of what ran out.
+use Rattle.std.specs.Prelude.{◌≡◌, ℕ, ◌+◌, ◌*◌, ◌^◌, ◌<◌, ◌≤◌, List, map, Option, Result, Ok, Err}
+use Rattle.std.specs.Option.{option_to_list}
 use Rattle.cip_pending.specs.declared.entry.Entry.{Entry}
 use Rattle.cip_pending.specs.Pendings.{due, Pendings}
+use Rattle.cip_hops.specs.declared.hop.Hop.{Hop}
+use Rattle.cip_hops.specs.Hops.{Hops}
+use Rattle.cip_hops.specs.Hops as hops
 use Rattle.cip_module.specs.declared.event.Event.{Event}
 use Rattle.cip_module.specs.declared.event.Event.TheVariants as events
+use Rattle.cip_module.specs.declared.event.Command.{Command}
+use Rattle.cip_module.specs.declared.event.Command.TheVariants as commands
 use Rattle.cip_module.specs.declared.event.Output.{Output}
-use Rattle.cip_module.specs.declared.rows.UnconnectedRefusal.TheVariants.{TicksSpent}
-use Rattle.cip_module.specs.Answers.{unconnected_failure}
+use Rattle.cip_module.specs.declared.event.Output.TheVariants as outputs
 use Rattle.cip_module.specs.declared.config.ModuleSettings.{ModuleSettings}
 use Rattle.cip_module.specs.declared.step.TickFault.{TickFault}
 use Rattle.cip_module.specs.declared.step.TickFault.TheVariants.{OutOfMemory, Full}
 use Rattle.cip_module.specs.Does.{Does}
-use Rattle.cip_module.specs.Effects.{reply_up, applied, Advances}
+use Rattle.cip_module.specs.Effects.{Effect, reply_up, late_bytes}
 use Rattle.cip_module.specs.State.{State}
-use Rattle.cip_module.specs.Table.{expiries}
+use Rattle.cip_module.specs.Table.{expires, lapses, tick_effects}
 
--- that no answer came in time, with the words of the path as received
+-- that no answer came in time
 abbrev pub shown : ℕ × Entry → Output
-shown waiting = reply_up waiting.1.up (unconnected_failure TicksSpent (Some waiting.1.words))
+shown waiting = reply_up waiting.1.up (late_bytes waiting.1.kind waiting.1.words)
 
+-- of the due pendings, in rising number
 abbrev pub shown_all : ℕ → Pendings → List Output
 shown_all now p = map shown (due now p)
 
--- the pendings after all that are due expired
-abbrev pub AreCleared : ℕ → Pendings → Pendings → Type 0
-AreCleared t old new = (config : ModuleSettings) (s : State) → applied config (record { now = s.now; pendings = old; assemblies = s.assemblies; ops = s.ops }) (expiries t old) ≡ record { now = s.now; pendings = new; assemblies = s.assemblies; ops = s.ops }
+abbrev pub lapsed : Hop → Output
+lapsed hop = outputs.Expired hop.opening.triad
+
+-- of the due connections, in rising triad
+abbrev pub lapsed_all : ℕ → Hops → List Output
+lapsed_all now h = map lapsed (hops.due now h)
+
+-- the effect of one due pending, and that of one due connection, where there is one
+abbrev pub expiry : Option (ℕ × Entry) → List Effect
+expiry waiting = map expires (option_to_list waiting)
+
+abbrev pub lapse : Option Hop → List Effect
+lapse hop = map lapses (option_to_list hop)
 
 -- what a call that ticks answers: the clock is full exactly where the time would pass its last value, looked at first
 abbrev pub TickGives : {V : Type 0} → (V → List Output) → ModuleSettings → State → State → ℕ → Result V TickFault → Type 0
-TickGives view config old new ms (Ok outputs) = (old.now + 1000 * ms < 2 ^ 63) × Does config old (Advances (1000 * ms) ∷ expiries (old.now + 1000 * ms) old.pendings) new (view outputs)
+TickGives view config old new ms (Ok outputs) = (old.now + 1000 * ms < 2 ^ 63) × Does config old (tick_effects old (1000 * ms)) new (view outputs)
 TickGives view config old new ms (Err OutOfMemory) = (old.now + 1000 * ms < 2 ^ 63) × (new ≡ old)
 TickGives view config old new ms (Err Full) = (2 ^ 63 ≤ old.now + 1000 * ms) × (new ≡ old)
 
@@ -37,3 +53,12 @@ abbrev pub IsNoTick : Event → Type 0
 IsNoTick (events.Command command) = Unit {0}
 IsNoTick (events.Frame port from body) = Unit {0}
 IsNoTick (events.Tick by) = ⊥
+
+-- a command that has one output at the most
+abbrev pub IsSingle : Command → Type 0
+IsSingle (commands.Open op timing path params) = Unit {0}
+IsSingle (commands.Close op of timing) = Unit {0}
+IsSingle (commands.Send op timing path asked) = Unit {0}
+IsSingle (commands.Enter of bytes) = Unit {0}
+IsSingle (commands.Set instance bytes) = Unit {0}
+IsSingle (commands.Produce instance) = ⊥

@@ -1,21 +1,20 @@
 -- The unconnected send group: which row answers an Unconnected_Send (Volume 1, chapter 3, Unconnected_Send).
-use Rattle.std.specs.Prelude.{ℕ, ◌/◌, ◌==◌, nat_lt, not, if◌then◌else◌, Option, Some, None, Result, Ok, Err, List, length, is_some}
-use Rattle.cip_base.specs.declared.timing.Timing.{Timing}
+use Rattle.std.specs.Prelude.{ℕ, ◌==◌, if◌then◌else◌, Option, Some, None, Result, Ok, Err, List, length}
 use Rattle.cip_segment.specs.Reading.{HopAt, hop_of, segments_of}
 use Rattle.cip_message.specs.Request.{Request}
 use Rattle.cip_message.specs.RequestAt.{request_at}
 use Rattle.cip_message.specs.declared.fault.RequestFault.{RequestFault}
 use Rattle.cip_unconnected.specs.Unconnected.{Unconnected}
-use Rattle.cip_unconnected.specs.UnconnectedAt.{unconnected_at, route_words_of}
+use Rattle.cip_unconnected.specs.UnconnectedAt.{route_words_of}
 use Rattle.cip_unconnected.specs.declared.fault.UnconnectedFault.{UnconnectedFault}
 use Rattle.cip_unconnected.specs.declared.fault.UnconnectedFault.TheVariants.{Short, Long, Route}
-use Rattle.cip_pending.specs.Pendings.{Pendings, refusal}
-use Rattle.cip_module.specs.declared.config.PortConfig.{PortConfig}
+use Rattle.cip_pending.specs.Pendings.{Pendings}
 use Rattle.cip_module.specs.declared.config.ModuleSettings.{ModuleSettings}
 use Rattle.cip_module.specs.declared.rows.KeyPart.{KeyPart}
+use Rattle.cip_module.specs.declared.rows.LinkRefusal.{LinkRefusal}
 use Rattle.cip_module.specs.declared.rows.UnconnectedRefusal.{UnconnectedRefusal}
-use Rattle.cip_module.specs.declared.rows.UnconnectedRefusal.TheVariants.{CutBeforeTheRouteSize, CutInTheRoute, BytesAfterTheRoute, RouteUnreadable, EmbeddedRequestNotAllowed, KeyMismatch, NoPortSegment, NoSuchPort, LinkAddressNotLegal, TicksSpent, NoPendingLeft}
-use Rattle.cip_module.specs.Config.{port_of, is_adapter, is_legal}
+use Rattle.cip_module.specs.declared.rows.UnconnectedRefusal.TheVariants.{CutBeforeTheRouteSize, CutInTheRoute, BytesAfterTheRoute, RouteUnreadable, EmbeddedRequestNotAllowed, KeyMismatch, NoPortSegment, NotSentOn}
+use Rattle.cip_module.specs.Links.{link_refusal}
 use Rattle.cip_module.specs.Keys.{leading_mismatch}
 use Rattle.cip_module.specs.Object.{begins_with_manager}
 
@@ -24,29 +23,24 @@ pub data UnconnectedRow : Type 0 where
   AnsweredHere : (request : Request) → UnconnectedRow
   Forwarded : (port : ℕ) → (address : List ℕ) → (rest : List ℕ) → UnconnectedRow
 
--- by the hop's port: there, and of a module that routes; then the address, the ticks and the room
-abbrev pub port_row : ModuleSettings → Pendings → Timing → ℕ → List ℕ → List ℕ → Option PortConfig → UnconnectedRow
-port_row config p timing port address rest None = Refuses NoSuchPort
-port_row config p timing port address rest (Some own) =
-    if is_adapter config.kind then Refuses NoSuchPort
-    else if not (is_legal own.legal address) then Refuses LinkAddressNotLegal
-    else if nat_lt timing.ticks 2 then Refuses TicksSpent
-    else if is_some (refusal p) then Refuses NoPendingLeft
-    else Forwarded port address rest
+-- by the link that the first port segment names
+abbrev pub link_row : HopAt → Option LinkRefusal → UnconnectedRow
+link_row hop (Some refusal) = Refuses (NotSentOn refusal)
+link_row hop None = Forwarded hop.port hop.address hop.rest
 
-abbrev pub hop_row : ModuleSettings → Pendings → Timing → Option HopAt → UnconnectedRow
-hop_row config p timing None = Refuses NoPortSegment
-hop_row config p timing (Some hop) = port_row config p timing hop.port hop.address hop.rest (port_of config hop.port)
+abbrev pub hop_row : ModuleSettings → Pendings → Unconnected → Option HopAt → UnconnectedRow
+hop_row config p u None = Refuses NoPortSegment
+hop_row config p u (Some hop) = link_row hop (link_refusal config p u.timing hop.port hop.address)
 
-abbrev pub key_row : ModuleSettings → Pendings → Timing → List ℕ → Option KeyPart → UnconnectedRow
-key_row config p timing route (Some part) = Refuses (KeyMismatch part)
-key_row config p timing route None = hop_row config p timing (hop_of route)
+abbrev pub key_row : ModuleSettings → Pendings → Unconnected → Option KeyPart → UnconnectedRow
+key_row config p u (Some part) = Refuses (KeyMismatch part)
+key_row config p u None = hop_row config p u (hop_of u.route)
 
 -- with no route left the module answers; else the key that the route begins with is looked at, and then the hop
 abbrev pub route_row : ModuleSettings → Pendings → Unconnected → Request → UnconnectedRow
 route_row config p u embedded =
     if length u.route == 0 then AnsweredHere embedded
-    else key_row config p u.timing u.route (leading_mismatch config (segments_of u.route))
+    else key_row config p u (leading_mismatch config (segments_of u.route))
 
 abbrev pub embedded_row : ModuleSettings → Pendings → Unconnected → Result Request RequestFault → UnconnectedRow
 embedded_row config p u (Err fault) = Refuses EmbeddedRequestNotAllowed

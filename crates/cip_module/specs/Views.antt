@@ -1,16 +1,40 @@
 -- How a state is shown.
-use Rattle.std.specs.Prelude.{◌≡◌, ℕ, ◌+◌, List, map}
+use Rattle.std.specs.Prelude.{◌≡◌, ℕ, ◌+◌, List, map, filter_map}
 use Rattle.std.specs.FinMap as finite
 use Rattle.cip_pending.specs.declared.entry.Entry.{Entry}
+use Rattle.cip_hops.specs.declared.hop.Hop.{Hop}
+use Rattle.cip_hops.specs.Hops.{as_hop}
 use Rattle.cip_module.specs.declared.tables.PendingRow.{PendingRow}
+use Rattle.cip_module.specs.declared.tables.HopRow.{HopRow}
+use Rattle.cip_module.specs.declared.tables.AssemblyRow.{AssemblyRow}
 use Rattle.cip_module.specs.declared.tables.Tables.{Tables}
 use Rattle.cip_module.specs.State.{State}
 
 abbrev pub row_of : ℕ × Entry → PendingRow
 row_of waiting = record { number = waiting.0; entry = waiting.1 }
 
+abbrev pub hop_row_of : Hop → HopRow
+hop_row_of hop = record {
+  triad = hop.opening.triad;
+  up = hop.opening.up;
+  down = hop.opening.down;
+  ids = hop.ids;
+  their_id = hop.their_id;
+  path = hop.opening.path;
+  ot_size = hop.opening.ot_size;
+  to_size = hop.opening.to_size;
+  up_deadline = hop.up_deadline;
+  down_deadline = hop.down_deadline;
+}
+
+abbrev pub assembly_row_of : ℕ × List ℕ → AssemblyRow
+assembly_row_of held = record { instance = held.0; bytes = held.1 }
+
 pub record ShowsState (s : State) (tables : Tables) : Type 0 where
   pub now : tables.now ≡ s.now
+  pub last_id : tables.last_id + 1 ≡ s.hops.next
   pub last_number : tables.last_number + 1 ≡ s.pendings.next
   pub pendings : tables.pendings ≡ map row_of (finite.entries s.pendings.entries)
+  pub hops : tables.hops ≡ map hop_row_of (filter_map (λ e. as_hop e.1) (finite.entries s.hops.held))
+  pub assemblies : tables.assemblies ≡ map assembly_row_of (finite.entries s.assemblies)
   pub ops : tables.ops ≡ s.ops

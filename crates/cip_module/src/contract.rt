@@ -4,6 +4,7 @@ ghost use Rattle.cip_module.specs.declared.config.ModuleSettings.{ModuleSettings
 ghost use Rattle.cip_module.specs.State.{State};
 ghost use Rattle.cip_module.specs.Steps.{IsStep, IsStepFault};
 ghost use Rattle.cip_module.specs.Views.{ShowsState};
+ghost use Rattle.cip_module.specs.Paired.{IsPaired};
 
 use crate::config::ModuleConfig;
 use crate::event::{Event, Output};
@@ -23,10 +24,14 @@ pub enum StepFault {
 }
 
 /// A module of a chassis: a config that never changes, and a state that each event changes as the routing table says.
+/// In every state each connection that is opening waits for the reply to one request, and each request that opens for one
+/// connection: the law `paired`.
 pub trait Module: Drop {
     ghost config_of: { Self → Settings };
 
     ghost state_of: { Self → State };
+
+    ghost paired: { (m : Self) → IsPaired (state_of m).pendings (state_of m).hops };
 
     /// The module's config.
     fn config(&self) -> &ModuleConfig
@@ -48,15 +53,20 @@ impl Module for Box<dyn Module + Send> {
 
     ghost state_of = { λ b. (Module-box b).state_of b.value };
 
+    ghost paired = { λ b. (Module-box b).paired b.value };
+
     fn config(&self) -> &ModuleConfig {
-        (**self).config()
+        let inner = self.as_ref();
+        inner.config()
     }
 
     fn step(&mut self, event: Event) -> Result<Vec<Output>, StepFault> {
-        (**self).step(event)
+        let inner = self.as_mut();
+        inner.step(event)
     }
 
     fn tables(&self) -> Result<Tables, NoMemory> {
-        (**self).tables()
+        let inner = self.as_ref();
+        inner.tables()
     }
 }

@@ -85,6 +85,10 @@ impl Body {
                 number: *number,
                 bytes: copy_bytes(alloc, bytes)?,
             }),
+            Body::Data { id, bytes } => Ok(Body::Data {
+                id: *id,
+                bytes: copy_bytes(alloc, bytes)?,
+            }),
         }
     }
 }
@@ -95,6 +99,39 @@ impl Command {
         ensures { IfOk result (λ c. c ≡ self.now) }
     {
         match self {
+            Command::Open {
+                op,
+                timing,
+                path,
+                params,
+            } => {
+                let path = path.copy(alloc)?;
+                Ok(Command::Open {
+                    op: *op,
+                    timing: *timing,
+                    path,
+                    params: *params,
+                })
+            }
+            Command::Close { op, of, timing } => Ok(Command::Close {
+                op: *op,
+                of: *of,
+                timing: *timing,
+            }),
+            Command::Enter { of, bytes } => {
+                let bytes = copy_bytes(alloc, bytes)?;
+                Ok(Command::Enter { of: *of, bytes })
+            }
+            Command::Set { instance, bytes } => {
+                let bytes = copy_bytes(alloc, bytes)?;
+                Ok(Command::Set {
+                    instance: *instance,
+                    bytes,
+                })
+            }
+            Command::Produce { instance } => Ok(Command::Produce {
+                instance: *instance,
+            }),
             Command::Send {
                 op,
                 timing,
@@ -156,6 +193,23 @@ impl Output {
                 Ok(Output::Done { op: *op, reply })
             }
             Output::Refused(fault) => Ok(Output::Refused(*fault)),
+            Output::Consumed {
+                triad,
+                instance,
+                bytes,
+            } => {
+                let bytes = copy_bytes(alloc, bytes)?;
+                Ok(Output::Consumed {
+                    triad: *triad,
+                    instance: *instance,
+                    bytes,
+                })
+            }
+            Output::Arrived { op, bytes } => {
+                let bytes = copy_bytes(alloc, bytes)?;
+                Ok(Output::Arrived { op: *op, bytes })
+            }
+            Output::Expired { triad } => Ok(Output::Expired { triad: *triad }),
             Output::Dropped(reason) => Ok(Output::Dropped(*reason)),
         }
     }

@@ -4,18 +4,16 @@ ghost use Rattle.cip_segment.specs.Reading.{hop_of, segments_of};
 ghost use Rattle.cip_message.specs.RequestAt.{request_at};
 ghost use Rattle.cip_message.specs.Reading.{request_of};
 ghost use Rattle.cip_unconnected.specs.Reading.{unconnected_of};
-ghost use Rattle.cip_module.specs.Config.{port_of};
 ghost use Rattle.cip_module.specs.Keys.{leading_mismatch};
-ghost use Rattle.cip_module.specs.UnconnectedRows.{port_row, hop_row, key_row, route_row, unconnected_row};
+ghost use Rattle.cip_module.specs.UnconnectedRows.{hop_row, key_row, unconnected_row};
 ghost use Rattle.cip_module.specs.Decisions.{row_of, Leads};
 
-use crate::config::{ModuleKind, ModuleSettings};
+use crate::config::ModuleSettings;
 use crate::keys::leading_mismatch;
-use crate::legal::is_legal;
+use crate::links::link_refusal;
 use crate::object::begins_with_manager;
-use crate::ports::port_of;
 use crate::rows::UnconnectedRefusal;
-use cip_base::{Address, PortNumber, Timing};
+use cip_base::{Address, PortNumber};
 use cip_message::{RequestView, read_request};
 use cip_pending::PendingTable;
 use cip_segment::{FirstHop, PathView, first_hop, rest};
@@ -33,50 +31,15 @@ pub(crate) enum Decision<'a> {
     },
 }
 
-// By the hop's port: it has to be there, and of a module that routes; then the address, the ticks and the room.
-fn by_port<'a>(
-    settings: &ModuleSettings,
-    pendings: &PendingTable,
-    timing: Timing,
-    port: PortNumber,
-    address: Address,
-    rest: PathView<'a>,
-) -> Decision<'a>
-    ensures leads { Leads pendings.now timing rest.entry.bytes.now result }
-    ensures row { row_of result ≡ port_row settings.now pendings.now timing port address rest.entry.bytes.now (port_of settings.now port) }
-{
-    let Some(own) = port_of(settings, port) else {
-        return Decision::Refuses(UnconnectedRefusal::NoSuchPort);
-    };
-    if settings.kind == ModuleKind::Adapter {
-        return Decision::Refuses(UnconnectedRefusal::NoSuchPort);
-    }
-    if !is_legal(own.legal, address.as_slice()) {
-        return Decision::Refuses(UnconnectedRefusal::LinkAddressNotLegal);
-    }
-    if timing.ticks < 2 {
-        return Decision::Refuses(UnconnectedRefusal::TicksSpent);
-    }
-    if pendings.can_add().is_some() {
-        return Decision::Refuses(UnconnectedRefusal::NoPendingLeft);
-    }
-    Decision::Forwarded {
-        port,
-        address,
-        rest,
-    }
-}
-
 fn by_hop<'a>(
     settings: &ModuleSettings,
     pendings: &PendingTable,
-    timing: Timing,
-    route: PathView<'a>,
+    view: UnconnectedView<'a>,
 ) -> Decision<'a>
-    ensures leads { Leads pendings.now timing route.entry.bytes.now result }
-    ensures row { row_of result ≡ hop_row settings.now pendings.now timing (hop_of route.entry.bytes.now) }
+    ensures leads { Leads pendings.now view.entry.timing view.entry.route.bytes.now result }
+    ensures row { row_of result ≡ hop_row settings.now pendings.now (unconnected_of view.entry) (hop_of view.entry.route.bytes.now) }
 {
-    match first_hop(route) {
+    match first_hop(view.route) {
         FirstHop::End => Decision::Refuses(UnconnectedRefusal::NoPortSegment),
         FirstHop::Hop {
             key: _,
@@ -84,8 +47,15 @@ fn by_hop<'a>(
             address,
             rest_words: _,
         } => {
-            let behind = rest(route);
-            by_port(settings, pendings, timing, port, address, behind)
+            let behind = rest(view.route);
+            match link_refusal(settings, pendings, view.timing, port, &address) {
+                Some(refusal) => Decision::Refuses(UnconnectedRefusal::NotSentOn(refusal)),
+                None => Decision::Forwarded {
+                    port,
+                    address,
+                    rest: behind,
+                },
+            }
         }
     }
 }
@@ -93,15 +63,14 @@ fn by_hop<'a>(
 fn by_key<'a>(
     settings: &ModuleSettings,
     pendings: &PendingTable,
-    timing: Timing,
-    route: PathView<'a>,
+    view: UnconnectedView<'a>,
 ) -> Decision<'a>
-    ensures leads { Leads pendings.now timing route.entry.bytes.now result }
-    ensures row { row_of result ≡ key_row settings.now pendings.now timing route.entry.bytes.now (leading_mismatch settings.now (segments_of route.entry.bytes.now)) }
+    ensures leads { Leads pendings.now view.entry.timing view.entry.route.bytes.now result }
+    ensures row { row_of result ≡ key_row settings.now pendings.now (unconnected_of view.entry) (leading_mismatch settings.now (segments_of view.entry.route.bytes.now)) }
 {
-    match leading_mismatch(settings, route) {
+    match leading_mismatch(settings, view.route) {
         Some(part) => Decision::Refuses(UnconnectedRefusal::KeyMismatch(part)),
-        None => by_hop(settings, pendings, timing, route),
+        None => by_hop(settings, pendings, view),
     }
 }
 
@@ -125,5 +94,5 @@ pub(crate) fn unconnected_row<'a>(
     if view.route.bytes.is_empty() {
         return Decision::AnsweredHere(embedded);
     }
-    by_key(settings, pendings, view.timing, view.route)
+    by_key(settings, pendings, view)
 }

@@ -1,6 +1,6 @@
 //! What a module is given, and what it does.
 
-use cip_base::{Address, Bytes, Ms, PortNumber, Timing};
+use cip_base::{Address, Bytes, Ms, PortNumber, Timing, Triad};
 use cip_segment::Path;
 
 /// What a frame on a link holds. The receiver of a request repeats its number in the reply.
@@ -10,17 +10,62 @@ pub enum Body {
     Request { number: u32, bytes: Bytes },
     /// A Message Router reply.
     Reply { number: u32, bytes: Bytes },
+    /// A datum of a connection, under the connection id that its receiver chose.
+    Data { id: u32, bytes: Bytes },
 }
 
-/// What a module's own application asks for. `op` names what is asked, once for ever.
+/// What a command asks of a connection that it opens (Volume 1, chapter 3, Forward_Open).
+#[derive(Clone, Copy, Debug, PartialEq, Eq)]
+pub struct OpenParams {
+    /// The connection serial number; the originator vendor and serial number are those of the module's identity.
+    pub serial: u16,
+    /// The connection timeout multiplier.
+    pub multiplier: u8,
+    /// Transport class and trigger.
+    pub transport: u8,
+    /// The requested packet intervals, in microseconds, and the network connection parameters of each direction.
+    pub ot_rpi: u32,
+    pub ot_params: u16,
+    pub to_rpi: u32,
+    pub to_params: u16,
+}
+
+/// What a module's own application asks for. `op` names what is asked, once for ever; `of` is the op of an Open.
 #[derive(Debug, Drop)]
 pub enum Command {
+    /// Open a connection along a path (Volume 1, chapter 3, Forward_Open).
+    Open {
+        op: u32,
+        timing: Timing,
+        path: Path,
+        params: OpenParams,
+    },
+    /// Close a connection that an Open opened (Volume 1, chapter 3, Forward_Close).
+    Close {
+        op: u32,
+        of: u32,
+        timing: Timing,
+    },
     /// Send a request unconnected along a path (Volume 1, chapter 3, Unconnected_Send).
     Send {
         op: u32,
         timing: Timing,
         path: Path,
         request: Bytes,
+    },
+    /// Send a datum by a connection that an Open opened.
+    Enter {
+        of: u32,
+        bytes: Bytes,
+    },
+    /// Write an assembly of this module.
+    Set {
+        instance: u32,
+        bytes: Bytes,
+    },
+    /// Send an assembly of this module by each connection that takes its data from it.
+    Produce {
+        instance: u32,
     },
 }
 
@@ -43,10 +88,14 @@ pub enum Event {
 pub enum Refused {
     /// The op was used before.
     OpUsed,
-    /// The message would have more than 1,400 bytes.
+    /// No connection of that op is open here.
+    NotOpen,
+    /// The message would have more than 1,400 bytes, or the datum not the size of the connection or of the assembly.
     WrongSize,
     /// An Unconnected_Send in an Unconnected_Send.
     ReservedService,
+    /// The module has no such assembly.
+    NoInstance,
 }
 
 /// Why a frame is dropped.
@@ -56,6 +105,10 @@ pub enum Dropped {
     Malformed,
     /// No request waits for this reply.
     Late,
+    /// No connection has this id there.
+    UnknownId,
+    /// The datum has not the size of its direction.
+    WrongSize,
 }
 
 /// What a module does.
@@ -73,5 +126,20 @@ pub enum Output {
         reply: Bytes,
     },
     Refused(Refused),
+    /// A datum came to this end: of this connection, to this assembly, its sequence count included.
+    Consumed {
+        triad: Triad,
+        instance: u32,
+        bytes: Bytes,
+    },
+    /// A datum came back to the Open of this op.
+    Arrived {
+        op: u32,
+        bytes: Bytes,
+    },
+    /// The connection was silent for too long, and is gone.
+    Expired {
+        triad: Triad,
+    },
     Dropped(Dropped),
 }

@@ -1,6 +1,6 @@
 //! The replies that rows answer.
 ghost use Rattle.std.specs.Prelude.{◌≡◌, ◌≤◌, ◌<◌, ◌+◌, length, IfOk};
-ghost use Rattle.cip_module.specs.Answers.{answered, failure_bytes, words_data, unconnected_failure};
+ghost use Rattle.cip_module.specs.Answers.{answered, failure_bytes, unconnected_failed, unconnected_failure};
 
 use crate::rows::UnconnectedRefusal;
 use cip_base::{Bytes, NoMemory, Status};
@@ -35,6 +35,20 @@ pub(crate) fn failure(alloc: Global, service: u8, status: Status) -> Result<Byte
 
 /// The failure of an Unconnected_Send: its status, and the words of the path as received, where they are known
 /// (Volume 1, chapter 3, Unconnected_Send's unsuccessful response).
+pub(crate) fn unconnected_failed(
+    alloc: Global,
+    status: Status,
+    words: Option<u8>,
+) -> Result<Bytes, NoMemory>
+    ensures { IfOk result (λ b. b ≡ unconnected_failed status words) }
+{
+    match words {
+        None => answered(alloc, 0x52, status, &[]),
+        Some(words) => answered(alloc, 0x52, status, &[words]),
+    }
+}
+
+/// The failure of an Unconnected_Send by the row that refuses it.
 pub(crate) fn unconnected_failure(
     alloc: Global,
     refusal: UnconnectedRefusal,
@@ -42,8 +56,5 @@ pub(crate) fn unconnected_failure(
 ) -> Result<Bytes, NoMemory>
     ensures { IfOk result (λ b. b ≡ unconnected_failure refusal words) }
 {
-    match words {
-        None => answered(alloc, 0x52, refusal.status(), &[]),
-        Some(words) => answered(alloc, 0x52, refusal.status(), &[words]),
-    }
+    unconnected_failed(alloc, refusal.status(), words)
 }

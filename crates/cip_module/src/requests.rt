@@ -1,32 +1,38 @@
-//! The request and the reply group of a plain module.
+//! The request group.
 ghost use Rattle.std.specs.Prelude.{◌≡◌, ◌≤◌, ◌<◌, ◌+◌, ◌∷◌, [], length, IfOk, OnErr};
 ghost use Rattle.cip_segment.specs.Reading.{segments_of};
 ghost use Rattle.cip_message.specs.Reading.{request_of};
 ghost use Rattle.cip_unconnected.specs.UnconnectedAt.{unconnected_at, route_words_of};
-ghost use Rattle.cip_pending.specs.declared.entry.UpSide.{UpSide as Ups};
 ghost use Rattle.cip_pending.specs.declared.entry.UpSide.TheVariants.{Link};
-ghost use Rattle.cip_module.specs.RequestRows.{RequestRow, Refuses, is_malformed, manager_row, object_row, request_row};
-ghost use Rattle.cip_module.specs.ReplyRows.{reply_row};
+ghost use Rattle.cip_module.specs.RequestRows.{Refuses, is_malformed, manager_row, object_row, request_row};
 ghost use Rattle.cip_module.specs.UnconnectedRows.{unread_row};
 ghost use Rattle.cip_target.specs.Object.{object_of};
+ghost use Rattle.cip_module.specs.Node.{state_of_node};
+ghost use Rattle.cip_module.specs.Ready.{IsAsked};
+ghost use Rattle.cip_module.specs.Does.{Does};
+ghost use Rattle.cip_module.specs.Table.{data_effects, request_effects};
 
 use crate::config::ModuleSettings;
 use crate::event::{Dropped, Output};
 use crate::messages::reply_to;
-use crate::plain::PlainModule;
+use crate::node::Node;
 use crate::ports::port_of;
 use crate::replies::{failure, unconnected_failure};
 use crate::rows::{RequestRefusal, UnconnectedRefusal};
-use cip_base::{Address, Bytes, MAX_MESSAGE, NoMemory, PortNumber};
-use cip_message::{RequestFault, RequestView, read_reply, read_request};
+use cip_base::{Address, MAX_MESSAGE, NoMemory, PortNumber};
+use cip_message::{RequestFault, RequestView, read_request};
 use cip_pending::UpSide;
 use cip_target::{ObjectPath, object_path};
 use cip_unconnected::{UnconnectedFault, read_unconnected, route_words};
 
-// The Connection Manager's class, and its service Unconnected_Send (Volume 1, chapter 3).
+// The Connection Manager's class, and its services (Volume 1, chapter 3).
 const CONNECTION_MANAGER: u16 = 6;
 
 const UNCONNECTED_SEND: u8 = 0x52;
+
+const FORWARD_OPEN: u8 = 0x54;
+
+const FORWARD_CLOSE: u8 = 0x4E;
 
 /// Whether a message came by a port that the module lacks, or is too long.
 pub(crate) fn is_malformed(settings: &ModuleSettings, port: PortNumber, bytes: &[u8]) -> bool
@@ -49,16 +55,12 @@ fn unread_row(data_: &[u8], fault: UnconnectedFault) -> UnconnectedRefusal
     }
 }
 
-impl PlainModule {
-    ghost use Rattle.cip_module.specs.Plain.{config_of_plain, state_of_plain};
-    ghost use Rattle.cip_module.specs.Does.{Does};
-    ghost use Rattle.cip_module.specs.Table.{data_effects, request_effects};
-
+impl Node {
     // An Unconnected_Send, by its data.
     fn unconnected_send(&mut self, up: UpSide, data_: &[u8]) -> Result<Output, NoMemory>
         requires { length data_.now ≤ 1394 }
-        ensures done { IfOk result (λ o. Does self.old.config (state_of_plain self.old) (data_effects self.old.config (state_of_plain self.old) up data_.now (unconnected_at data_.now)) (state_of_plain self.new) (o ∷ [])) }
-        ensures same { OnErr result (state_of_plain self.new ≡ state_of_plain self.old) }
+        ensures done { IfOk result (λ o. Does self.old.config (state_of_node self.old) (data_effects self.old.config (state_of_node self.old) up data_.now (unconnected_at data_.now)) (state_of_node self.new) (o ∷ [])) }
+        ensures same { OnErr result (state_of_node self.new ≡ state_of_node self.old) }
         ensures config { self.new.config ≡ self.old.config }
     {
         match read_unconnected(data_) {
@@ -70,26 +72,14 @@ impl PlainModule {
             }
         }
     }
-}
-
-impl PlainModule {
-    ghost use Rattle.cip_module.specs.Plain.{config_of_plain, state_of_plain};
-    ghost use Rattle.cip_module.specs.Does.{Does};
-    ghost use Rattle.cip_module.specs.Table.{request_effects};
 
     fn refuse(&self, up: UpSide, service: u8, refusal: RequestRefusal) -> Result<Output, NoMemory>
         requires { service < 128 }
-        ensures { IfOk result (λ o. Does self.now.config (state_of_plain self.now) (request_effects self.now.config (state_of_plain self.now) up (Refuses service refusal)) (state_of_plain self.now) (o ∷ [])) }
+        ensures { IfOk result (λ o. Does self.now.config (state_of_node self.now) (request_effects self.now.config (state_of_node self.now) up (Refuses service refusal)) (state_of_node self.now) (o ∷ [])) }
     {
         let bytes = failure(self.alloc, service, refusal.status())?;
         Ok(reply_to(up, bytes))
     }
-}
-
-impl PlainModule {
-    ghost use Rattle.cip_module.specs.Plain.{config_of_plain, state_of_plain};
-    ghost use Rattle.cip_module.specs.Does.{Does};
-    ghost use Rattle.cip_module.specs.Table.{request_effects};
 
     // A request to the Connection Manager: its instance first, then its services.
     fn manager(
@@ -98,10 +88,11 @@ impl PlainModule {
         request: RequestView<'_>,
         object: ObjectPath,
     ) -> Result<Output, NoMemory>
+        requires asked { IsAsked up }
         requires service { request.service < 128 }
         requires fits { length request.data_.now ≤ 1394 }
-        ensures done { IfOk result (λ o. Does self.old.config (state_of_plain self.old) (request_effects self.old.config (state_of_plain self.old) up (manager_row (request_of request.entry) object)) (state_of_plain self.new) (o ∷ [])) }
-        ensures same { OnErr result (state_of_plain self.new ≡ state_of_plain self.old) }
+        ensures done { IfOk result (λ o. Does self.old.config (state_of_node self.old) (request_effects self.old.config (state_of_node self.old) up (manager_row (request_of request.entry) object)) (state_of_node self.new) (o ∷ [])) }
+        ensures same { OnErr result (state_of_node self.new ≡ state_of_node self.old) }
         ensures config { self.new.config ≡ self.old.config }
     {
         if object.instance != 1 {
@@ -110,15 +101,22 @@ impl PlainModule {
         if request.service == UNCONNECTED_SEND {
             return self.unconnected_send(up, request.data_);
         }
+        if request.service == FORWARD_OPEN {
+            return self.forward_open(up, request.data_);
+        }
+        if request.service == FORWARD_CLOSE {
+            return self.forward_close(up, request.data_);
+        }
         self.refuse(up, request.service, RequestRefusal::ServiceNotSupported)
     }
 
     // A request that was read, by the object that its path names.
     fn object(&mut self, up: UpSide, request: RequestView<'_>) -> Result<Output, NoMemory>
+        requires asked { IsAsked up }
         requires service { request.service < 128 }
         requires fits { 2 + length request.path.bytes.now + length request.data_.now ≤ 1400 }
-        ensures done { IfOk result (λ o. Does self.old.config (state_of_plain self.old) (request_effects self.old.config (state_of_plain self.old) up (object_row (request_of request.entry) (object_of (segments_of request.entry.path.bytes.now)))) (state_of_plain self.new) (o ∷ [])) }
-        ensures same { OnErr result (state_of_plain self.new ≡ state_of_plain self.old) }
+        ensures done { IfOk result (λ o. Does self.old.config (state_of_node self.old) (request_effects self.old.config (state_of_node self.old) up (object_row (request_of request.entry) (object_of (segments_of request.entry.path.bytes.now)))) (state_of_node self.new) (o ∷ [])) }
+        ensures same { OnErr result (state_of_node self.new ≡ state_of_node self.old) }
         ensures config { self.new.config ≡ self.old.config }
     {
         let Some(object) = object_path(request.path) else {
@@ -127,15 +125,8 @@ impl PlainModule {
         if object.class_ == CONNECTION_MANAGER {
             return self.manager(up, request, object);
         }
-        let bytes = self.target.answer(self.alloc, request)?;
-        Ok(reply_to(up, bytes))
+        self.answers(up, request)
     }
-}
-
-impl PlainModule {
-    ghost use Rattle.cip_module.specs.Plain.{config_of_plain, state_of_plain};
-    ghost use Rattle.cip_module.specs.Does.{Does};
-    ghost use Rattle.cip_module.specs.Table.{request_effects, reply_effects};
 
     /// A request that came in by a port.
     #[tactic(auto, unfolding(crate::specs::RequestRows::request_row))]
@@ -146,8 +137,8 @@ impl PlainModule {
         number: u32,
         bytes: &[u8],
     ) -> Result<Output, NoMemory>
-        ensures done { IfOk result (λ o. Does self.old.config (state_of_plain self.old) (request_effects self.old.config (state_of_plain self.old) (Link port from.now number) (request_row self.old.config port bytes.now)) (state_of_plain self.new) (o ∷ [])) }
-        ensures same { OnErr result (state_of_plain self.new ≡ state_of_plain self.old) }
+        ensures done { IfOk result (λ o. Does self.old.config (state_of_node self.old) (request_effects self.old.config (state_of_node self.old) (Link port from.now number) (request_row self.old.config port bytes.now)) (state_of_node self.new) (o ∷ [])) }
+        ensures same { OnErr result (state_of_node self.new ≡ state_of_node self.old) }
         ensures config { self.new.config ≡ self.old.config }
     {
         if is_malformed(self.config.settings(), port, bytes) {
@@ -168,35 +159,6 @@ impl PlainModule {
                 RequestRefusal::PathPastTheEnd,
             ),
             Err(RequestFault::Path(_)) => self.refuse(up, bytes[0], RequestRefusal::PathUnreadable),
-        }
-    }
-
-    /// A reply that came in by a port from an address.
-    #[tactic(auto, unfolding(crate::specs::ReplyRows::reply_row))]
-    pub(crate) fn reply(
-        &mut self,
-        port: PortNumber,
-        from: &Address,
-        number: u32,
-        bytes: &Bytes,
-    ) -> Result<Output, NoMemory>
-        ensures done { IfOk result (λ o. Does self.old.config (state_of_plain self.old) (reply_effects number bytes.now (reply_row self.old.config (state_of_plain self.old) port from.now number bytes.now)) (state_of_plain self.new) (o ∷ [])) }
-        ensures same { OnErr result (state_of_plain self.new ≡ state_of_plain self.old) }
-        ensures config { self.new.config ≡ self.old.config }
-    {
-        if is_malformed(self.config.settings(), port, bytes.as_slice()) {
-            return Ok(Output::Dropped(Dropped::Malformed));
-        }
-        if self.pendings.look(number, port, from).is_none() {
-            return Ok(Output::Dropped(Dropped::Late));
-        }
-        if read_reply(bytes.as_slice()).is_err() {
-            return Ok(Output::Dropped(Dropped::Malformed));
-        }
-        let reply = Bytes::of(Vec::from_slice(self.alloc, bytes.as_slice())?);
-        match self.pendings.take(number, port, from) {
-            Some(entry) => Ok(reply_to(entry.up, reply)),
-            None => unreachable!(),
         }
     }
 }

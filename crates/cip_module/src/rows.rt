@@ -1,6 +1,6 @@
 //! The rows of the routing table that refuse, in the order of the table.
 ghost use Rattle.std.specs.Prelude.{◌≡◌};
-ghost use Rattle.cip_module.specs.Statuses.{request_status, unconnected_status};
+ghost use Rattle.cip_module.specs.Statuses.{key_status, link_status, request_status, unconnected_status, open_status, close_status};
 
 use cip_base::Status;
 
@@ -14,6 +14,15 @@ pub enum RequestRefusal {
     ServiceNotSupported,
 }
 
+/// The rows on sending a message on by a link, which the groups below share.
+#[derive(Clone, Copy, Debug, PartialEq, Eq)]
+pub enum LinkRefusal {
+    NoSuchPort,
+    LinkAddressNotLegal,
+    TicksSpent,
+    NoPendingLeft,
+}
+
 /// The rows of an Unconnected_Send that answer with a failure. A key mismatch says which part of the key differs.
 #[derive(Clone, Copy, Debug, PartialEq, Eq)]
 pub enum UnconnectedRefusal {
@@ -24,18 +33,50 @@ pub enum UnconnectedRefusal {
     EmbeddedRequestNotAllowed,
     KeyMismatch(KeyPart),
     NoPortSegment,
-    NoSuchPort,
-    LinkAddressNotLegal,
-    TicksSpent,
-    NoPendingLeft,
+    NotSentOn(LinkRefusal),
 }
 
-/// The rows of a Send. The others than `Taken` refuse it.
+/// The rows of a Forward_Open that answer with a failure.
+#[derive(Clone, Copy, Debug, PartialEq, Eq)]
+pub enum OpenRefusal {
+    CutInTheFixedPart,
+    CutInThePath,
+    BytesAfterThePath,
+    PathUnreadable,
+    ConnectionTypeNotSupported,
+    RpiOfZero,
+    TriadInUse,
+    KeyMismatch(KeyPart),
+    NotSentOn(LinkRefusal),
+    NoRoomOrIdsLeft,
+    NotAnApplicationPath,
+    NoSuchInstanceOrConfiguration,
+    TransportClassNotSupported,
+    SizeMismatch,
+    OutputOwned,
+    NoRoomOrIdLeft,
+}
+
+/// The rows of a Forward_Close that answer with a failure.
+#[derive(Clone, Copy, Debug, PartialEq, Eq)]
+pub enum CloseRefusal {
+    CutInTheFixedPart,
+    CutInThePath,
+    BytesAfterThePath,
+    PathUnreadable,
+    NotThisSendersOpenTriad,
+    PathDiffersFromTheHops,
+    NotSentOn(LinkRefusal),
+}
+
+/// The rows of a command. The others than `Taken` refuse it.
 #[derive(Clone, Copy, Debug, PartialEq, Eq)]
 pub enum CommandRow {
     OpUsed,
+    NotOpen,
     ReservedService,
     WrongSize,
+    NoInstance,
     Taken,
 }
 
@@ -80,6 +121,33 @@ impl RequestRefusal {
     }
 }
 
+impl KeyPart {
+    /// The status of a key that does not match in this part.
+    pub fn status(self) -> Status
+        ensures { result ≡ key_status self }
+    {
+        match self {
+            KeyPart::VendorOrProduct => extended_status(0x0114),
+            KeyPart::DeviceType => extended_status(0x0115),
+            KeyPart::Revision => extended_status(0x0116),
+        }
+    }
+}
+
+impl LinkRefusal {
+    /// The status that the row answers (Volume 1, chapter 3).
+    pub fn status(self) -> Status
+        ensures { result ≡ link_status self }
+    {
+        match self {
+            LinkRefusal::NoSuchPort => extended_status(0x0311),
+            LinkRefusal::LinkAddressNotLegal => extended_status(0x0312),
+            LinkRefusal::TicksSpent => extended_status(0x0204),
+            LinkRefusal::NoPendingLeft => extended_status(0x0301),
+        }
+    }
+}
+
 impl UnconnectedRefusal {
     /// The status that the row answers (Volume 1, Appendix B, and chapter 3 for the additional status).
     pub fn status(self) -> Status
@@ -91,14 +159,52 @@ impl UnconnectedRefusal {
             UnconnectedRefusal::BytesAfterTheRoute => plain_status(0x15),
             UnconnectedRefusal::RouteUnreadable => plain_status(0x04),
             UnconnectedRefusal::EmbeddedRequestNotAllowed => extended_status(0x0205),
-            UnconnectedRefusal::KeyMismatch(KeyPart::VendorOrProduct) => extended_status(0x0114),
-            UnconnectedRefusal::KeyMismatch(KeyPart::DeviceType) => extended_status(0x0115),
-            UnconnectedRefusal::KeyMismatch(KeyPart::Revision) => extended_status(0x0116),
+            UnconnectedRefusal::KeyMismatch(part) => part.status(),
             UnconnectedRefusal::NoPortSegment => extended_status(0x0315),
-            UnconnectedRefusal::NoSuchPort => extended_status(0x0311),
-            UnconnectedRefusal::LinkAddressNotLegal => extended_status(0x0312),
-            UnconnectedRefusal::TicksSpent => extended_status(0x0204),
-            UnconnectedRefusal::NoPendingLeft => extended_status(0x0301),
+            UnconnectedRefusal::NotSentOn(refusal) => refusal.status(),
+        }
+    }
+}
+
+impl OpenRefusal {
+    /// The status that the row answers (Volume 1, Appendix B, and chapter 3 for the additional status).
+    pub fn status(self) -> Status
+        ensures { result ≡ open_status self }
+    {
+        match self {
+            OpenRefusal::CutInTheFixedPart => plain_status(0x13),
+            OpenRefusal::CutInThePath => plain_status(0x13),
+            OpenRefusal::BytesAfterThePath => plain_status(0x15),
+            OpenRefusal::PathUnreadable => plain_status(0x04),
+            OpenRefusal::ConnectionTypeNotSupported => extended_status(0x0108),
+            OpenRefusal::RpiOfZero => extended_status(0x0111),
+            OpenRefusal::TriadInUse => extended_status(0x0100),
+            OpenRefusal::KeyMismatch(part) => part.status(),
+            OpenRefusal::NotSentOn(refusal) => refusal.status(),
+            OpenRefusal::NoRoomOrIdsLeft => extended_status(0x0113),
+            OpenRefusal::NotAnApplicationPath => extended_status(0x0315),
+            OpenRefusal::NoSuchInstanceOrConfiguration => extended_status(0x0117),
+            OpenRefusal::TransportClassNotSupported => extended_status(0x0103),
+            OpenRefusal::SizeMismatch => extended_status(0x0109),
+            OpenRefusal::OutputOwned => extended_status(0x0106),
+            OpenRefusal::NoRoomOrIdLeft => extended_status(0x0113),
+        }
+    }
+}
+
+impl CloseRefusal {
+    /// The status that the row answers (Volume 1, Appendix B, and chapter 3 for the additional status).
+    pub fn status(self) -> Status
+        ensures { result ≡ close_status self }
+    {
+        match self {
+            CloseRefusal::CutInTheFixedPart => plain_status(0x13),
+            CloseRefusal::CutInThePath => plain_status(0x13),
+            CloseRefusal::BytesAfterThePath => plain_status(0x15),
+            CloseRefusal::PathUnreadable => plain_status(0x04),
+            CloseRefusal::NotThisSendersOpenTriad => extended_status(0x0107),
+            CloseRefusal::PathDiffersFromTheHops => extended_status(0x0316),
+            CloseRefusal::NotSentOn(refusal) => refusal.status(),
         }
     }
 }

@@ -1,16 +1,17 @@
-//! The step of a plain module.
+//! The step of a module of any kind.
 ghost use Rattle.std.specs.Prelude.{◌≡◌, ◌∷◌, [], IfOk, OnErr};
-ghost use Rattle.cip_module.specs.Tick.{AreCleared, TickGives, IsNoTick};
-ghost use Rattle.cip_module.specs.Steps.{IsStep};
+ghost use Rattle.std.specs.Option.{option_to_list};
+ghost use Rattle.cip_module.specs.Tick.{TickGives, IsNoTick, IsSingle};
+ghost use Rattle.cip_module.specs.Steps.{IsStep, IsStepFault};
+ghost use Rattle.cip_module.specs.Table.{command_effects, frame_effects};
+ghost use Rattle.cip_module.specs.Node.{state_of_node};
+ghost use Rattle.cip_module.specs.Does.{Does};
 
-use crate::config::ModuleConfig;
-use crate::contract::{Module, StepFault};
+use crate::contract::StepFault;
 use crate::event::{Body, Command, Event, Output};
-use crate::plain::PlainModule;
-use crate::tables::{Ops, PendingRows, Tables};
-use crate::ticks::{rows_of, timed_out_all};
-use cip_base::{Ms, NoMemory};
-use cip_pending::PendingTable;
+use crate::node::Node;
+use crate::ticks::timed_out_all;
+use cip_base::{Address, Ms, NoMemory, PortNumber};
 use cip_unconnected::UnconnectedView;
 
 /// Why a tick does not happen.
@@ -20,52 +21,84 @@ pub(crate) enum TickFault {
     Full,
 }
 
-// Takes out all that are due.
-fn clear_due(pendings: &mut PendingTable, now: u64)
-    ensures { AreCleared now pendings.old pendings.new }
-{
-    while let Some((_number, _entry)) = pendings.expire(now) {}
-}
+impl Node {
+    ghost use Rattle.std.specs.Prelude.{◌++◌};
+    ghost use Rattle.cip_hops.specs.Hops.{due};
+    ghost use Rattle.cip_module.specs.Effects.{applied};
+    ghost use Rattle.cip_module.specs.Table.{expiries, lapsings};
 
-impl PlainModule {
-    ghost use Rattle.cip_module.specs.Plain.{config_of_plain, state_of_plain};
-
-    // A command or a frame, which has one output.
-    fn occur(&mut self, event: &Event) -> Result<Output, NoMemory>
-        requires { IsNoTick event.now }
-        ensures done { IfOk result (λ o. IsStep self.old.config (state_of_plain self.old) event.now (state_of_plain self.new) (o ∷ [])) }
-        ensures same { OnErr result (state_of_plain self.new ≡ state_of_plain self.old) }
+    // A frame.
+    fn frame(&mut self, port: PortNumber, from: &Address, body: &Body) -> Result<Output, NoMemory>
+        ensures done { IfOk result (λ o. Does self.old.config (state_of_node self.old) (frame_effects self.old.config (state_of_node self.old) port from.now body.now) (state_of_node self.new) (o ∷ [])) }
+        ensures same { OnErr result (state_of_node self.new ≡ state_of_node self.old) }
         ensures config { self.new.config ≡ self.old.config }
     {
-        match event {
-            Event::Command(
-                Command::Send {
-                    op,
-                    timing,
-                    path,
-                    request,
-                },
-            ) => {
+        match body {
+            Body::Request { number, bytes } => self.request(port, from, *number, bytes.as_slice()),
+            Body::Reply { number, bytes } => self.reply(port, from, *number, bytes),
+            Body::Data { id, bytes } => self.datum(port, from, *id, bytes),
+        }
+    }
+
+    // A command that has one output at the most.
+    fn command(&mut self, command: &Command) -> Result<Option<Output>, NoMemory>
+        requires { IsSingle command.now }
+        ensures done { IfOk result (λ o. Does self.old.config (state_of_node self.old) (command_effects self.old.config (state_of_node self.old) command.now) (state_of_node self.new) (option_to_list o)) }
+        ensures same { OnErr result (state_of_node self.new ≡ state_of_node self.old) }
+        ensures config { self.new.config ≡ self.old.config }
+    {
+        match command {
+            Command::Open {
+                op,
+                timing,
+                path,
+                params,
+            } => Ok(Some(self.open_command(*op, *timing, path, params)?)),
+            Command::Close { op, of, timing } => Ok(Some(self.close_command(*op, *of, *timing)?)),
+            Command::Send {
+                op,
+                timing,
+                path,
+                request,
+            } => {
                 let view = UnconnectedView {
                     timing: *timing,
                     request: request.as_slice(),
                     route: path.view(),
                 };
-                self.send(*op, view)
+                Ok(Some(self.send(*op, view)?))
             }
-            Event::Frame { port, from, body } => match body {
-                Body::Request { number, bytes } => {
-                    self.request(*port, from, *number, bytes.as_slice())
-                }
-                Body::Reply { number, bytes } => self.reply(*port, from, *number, bytes),
-            },
-            Event::Tick(_) => unreachable!(),
+            Command::Enter { of, bytes } => Ok(Some(self.enter(*of, bytes)?)),
+            Command::Set { instance, bytes } => Ok(self.set(*instance, bytes)),
+            Command::Produce { .. } => unreachable!(),
         }
     }
 
-    // So many milliseconds go by: what is due goes up, in rising number.
+    // A command or a frame.
+    fn occur(&mut self, event: &Event) -> Result<Vec<Output>, NoMemory>
+        requires { IsNoTick event.now }
+        ensures done { IfOk result (λ o. IsStep self.old.config (state_of_node self.old) event.now (state_of_node self.new) o.items) }
+        ensures same { OnErr result (state_of_node self.new ≡ state_of_node self.old) }
+        ensures config { self.new.config ≡ self.old.config }
+    {
+        if let Event::Command(Command::Produce { instance }) = event {
+            return self.produce(*instance);
+        }
+        let mut outputs = Vec::with_capacity(self.alloc, 1)?;
+        let output = match event {
+            Event::Command(command) => self.command(command)?,
+            Event::Frame { port, from, body } => Some(self.frame(*port, from, body)?),
+            Event::Tick(_) => unreachable!(),
+        };
+        if let Some(output) = output {
+            outputs.push_reserved(output);
+        }
+        Ok(outputs)
+    }
+
+    // So many milliseconds go by: what is due goes up, in rising number, then what was silent is gone, in rising triad.
     fn tick(&mut self, by: Ms) -> Result<Vec<Output>, TickFault>
-        ensures gives { TickGives (λ v. v.items) self.old.config (state_of_plain self.old) (state_of_plain self.new) by result }
+        ensures gives { TickGives (λ v. v.items) self.old.config (state_of_node self.old) (state_of_node self.new) by result }
         ensures config { self.new.config ≡ self.old.config }
     {
         let mut clock = self.clock;
@@ -73,27 +106,46 @@ impl PlainModule {
             return Err(TickFault::Full);
         };
         let now = clock.now();
-        let Ok(outputs) = timed_out_all(self.alloc, &self.pendings, now) else {
+        let Ok(outputs) = timed_out_all(self.alloc, &self.pendings, &self.hops, now) else {
             return Err(TickFault::OutOfMemory);
         };
         self.clock = clock;
-        clear_due(&mut self.pendings, now);
+        self.clear_due(now);
         Ok(outputs)
     }
-}
 
-impl Module for PlainModule {
-    ghost use Rattle.cip_module.specs.Plain.{config_of_plain, state_of_plain};
-
-    ghost config_of = { config_of_plain };
-
-    ghost state_of = { state_of_plain };
-
-    fn config(&self) -> &ModuleConfig {
-        &self.config
+    // Takes out the pendings that are due.
+    fn clear_pendings(&mut self, now: u64)
+        ensures after { state_of_node self.new ≡ applied self.old.config (state_of_node self.old) (expiries now self.old.pendings) }
+        ensures hops { due now self.new.hops ≡ due now self.old.hops }
+        ensures config { self.new.config ≡ self.old.config }
+    {
+        while self.expires_one(now) {}
     }
 
-    fn step(&mut self, event: Event) -> Result<Vec<Output>, StepFault> {
+    // Takes out the connections that are due.
+    fn clear_hops(&mut self, now: u64)
+        ensures after { state_of_node self.new ≡ applied self.old.config (state_of_node self.old) (lapsings now self.old.hops) }
+        ensures config { self.new.config ≡ self.old.config }
+    {
+        while self.lapses_one(now) {}
+    }
+
+    // Takes out all that are due.
+    fn clear_due(&mut self, now: u64)
+        ensures after { state_of_node self.new ≡ applied self.old.config (state_of_node self.old) (expiries now self.old.pendings ++ lapsings now self.old.hops) }
+        ensures config { self.new.config ≡ self.old.config }
+    {
+        self.clear_pendings(now);
+        self.clear_hops(now);
+    }
+
+    /// One event, as the contract of a module says.
+    pub(crate) fn step(&mut self, event: Event) -> Result<Vec<Output>, StepFault>
+        ensures ok { IfOk result (λ outputs. IsStep self.old.config (state_of_node self.old) event (state_of_node self.new) outputs.items) }
+        ensures fault { IsStepFault self.old.config (state_of_node self.old) event (state_of_node self.new) result }
+        ensures config { self.new.config ≡ self.old.config }
+    {
         if let Event::Tick(by) = event {
             return match self.tick(by) {
                 Ok(outputs) => Ok(outputs),
@@ -101,22 +153,9 @@ impl Module for PlainModule {
                 Err(TickFault::Full) => Err(StepFault::ClockFull(Event::Tick(by))),
             };
         }
-        let Ok(mut outputs) = Vec::with_capacity(self.alloc, 1) else {
-            return Err(StepFault::NoMemory(event));
-        };
-        let Ok(output) = self.occur(&event) else {
-            return Err(StepFault::NoMemory(event));
-        };
-        outputs.push_reserved(output);
-        Ok(outputs)
-    }
-
-    fn tables(&self) -> Result<Tables, NoMemory> {
-        Ok(Tables {
-            now: self.clock.now(),
-            last_number: self.pendings.last(),
-            pendings: PendingRows::of(rows_of(self.alloc, &self.pendings)?),
-            ops: Ops::of(Vec::from_slice(self.alloc, &self.ops.ops)?),
-        })
+        match self.occur(&event) {
+            Ok(outputs) => Ok(outputs),
+            Err(_) => Err(StepFault::NoMemory(event)),
+        }
     }
 }

@@ -1,7 +1,10 @@
 //! The state of a module as it is shown.
 ghost use Rattle.std.specs.Prelude.{◌≡◌};
 
+use cip_base::{Bytes, Triad};
+use cip_hops::{HopDown, HopUp, OwnIds};
 use cip_pending::Entry;
+use cip_segment::Path;
 use std::marker::Model;
 
 /// A request that waits, under its number.
@@ -72,12 +75,104 @@ impl Ops {
     }
 }
 
-/// The state of a module: its time in microseconds, the last pending number (one less than the next), the requests that
-/// wait and the ops that were used, each list in rising key.
+/// A connection that is open, as it is shown.
+#[derive(Drop)]
+pub struct HopRow {
+    pub triad: Triad,
+    pub up: HopUp,
+    pub down: HopDown,
+    pub ids: OwnIds,
+    /// The O to T id of the node below; None at an end.
+    pub their_id: Option<u32>,
+    /// The path as it was received.
+    pub path: Path,
+    /// The sizes of a datum in bytes.
+    pub ot_size: u16,
+    pub to_size: u16,
+    /// The times in microseconds at which each side has been silent for too long; None where the side is no link.
+    pub up_deadline: Option<u64>,
+    pub down_deadline: Option<u64>,
+}
+
+/// The connections that are open, in rising triad.
+#[derive(Drop)]
+pub struct HopRows {
+    rows: Vec<HopRow>,
+}
+
+impl Model for HopRows {
+    ghost use Rattle.std.specs.Prelude.{List};
+    ghost use Rattle.cip_module.specs.declared.tables.HopRow.{HopRow};
+
+    ghost Value = { List HopRow };
+
+    ghost view = { λ p. p.rows.items };
+}
+
+impl HopRows {
+    /// The rows of the vector.
+    pub fn of(rows: Vec<HopRow>) -> HopRows
+        ensures { result ≡ rows.items }
+    {
+        HopRows { rows }
+    }
+
+    /// The rows, borrowed.
+    pub fn as_slice(&self) -> &[HopRow]
+        ensures { result.now ≡ self.now }
+    {
+        self.rows.as_slice()
+    }
+}
+
+/// An assembly, under its instance.
+#[derive(Drop)]
+pub struct AssemblyRow {
+    pub instance: u16,
+    pub bytes: Bytes,
+}
+
+/// The assemblies, in rising instance.
+#[derive(Drop)]
+pub struct AssemblyRows {
+    rows: Vec<AssemblyRow>,
+}
+
+impl Model for AssemblyRows {
+    ghost use Rattle.std.specs.Prelude.{List};
+    ghost use Rattle.cip_module.specs.declared.tables.AssemblyRow.{AssemblyRow};
+
+    ghost Value = { List AssemblyRow };
+
+    ghost view = { λ p. p.rows.items };
+}
+
+impl AssemblyRows {
+    /// The rows of the vector.
+    pub fn of(rows: Vec<AssemblyRow>) -> AssemblyRows
+        ensures { result ≡ rows.items }
+    {
+        AssemblyRows { rows }
+    }
+
+    /// The rows, borrowed.
+    pub fn as_slice(&self) -> &[AssemblyRow]
+        ensures { result.now ≡ self.now }
+    {
+        self.rows.as_slice()
+    }
+}
+
+/// The state of a module: its time in microseconds, the last connection id and the last pending number (one less than the
+/// next), the requests that wait, the connections that are open, the assemblies and the ops that were used, each list in
+/// rising key.
 #[derive(Drop)]
 pub struct Tables {
     pub now: u64,
+    pub last_id: u32,
     pub last_number: u32,
     pub pendings: PendingRows,
+    pub hops: HopRows,
+    pub assemblies: AssemblyRows,
     pub ops: Ops,
 }

@@ -1,8 +1,8 @@
 //! The modules of the tests: a scanner S, the bridges A and B behind it, and behind these the adapter E.
 use cip_base::{Address, Bytes, PortNumber};
 use cip_module::{
-    Assemblies, LegalAddresses, ModuleConfig, ModuleKind, ModuleSettings, PlainModule, PortConfig,
-    Ports,
+    AdapterModule, Assemblies, LegalAddresses, ModuleConfig, ModuleKind, ModuleSettings,
+    PlainModule, PortConfig, Ports,
 };
 use cip_target::{AssemblyConfig, Identity, IdentityFields};
 use std::alloc::Global;
@@ -156,6 +156,14 @@ fn identity(alloc: Global, device: &Device) -> Result<Identity, Fail> {
     Ok(Identity::new(fields).ok_or("no identity")?)
 }
 
+fn kind(name: u8) -> ModuleKind {
+    if name == b'E' {
+        ModuleKind::Adapter
+    } else {
+        ModuleKind::Plain
+    }
+}
+
 fn config(alloc: Global, device: &Device) -> Result<ModuleConfig, Fail> {
     let name = Bytes::of(Vec::from_slice(alloc, &[device.name])?);
     let identity = identity(alloc, device)?;
@@ -163,7 +171,7 @@ fn config(alloc: Global, device: &Device) -> Result<ModuleConfig, Fail> {
     let assemblies = assemblies(alloc, device.name)?;
     let settings = ModuleSettings {
         name,
-        kind: ModuleKind::Plain,
+        kind: kind(device.name),
         identity,
         clock: device.clock,
         first_id: device.first_id,
@@ -182,12 +190,18 @@ fn config_copy(alloc: Global, device: &Device) -> Result<ModuleConfig, Fail> {
     Ok(config.copy(alloc)?)
 }
 
+/// A module of either kind.
+#[derive(Drop)]
+pub enum AnyModule {
+    Plain(PlainModule),
+    Adapter(AdapterModule),
+}
+
 /// The module of a device. It is made of a copy of its config.
-pub fn plain(alloc: Global, device: &Device) -> Result<PlainModule, Fail> {
+pub fn made(alloc: Global, device: &Device) -> Result<AnyModule, Fail> {
     let config = config_copy(alloc, device)?;
-    if let ModuleKind::Plain = config.settings().kind {
-        Ok(PlainModule::new(alloc, config)?)
-    } else {
-        Err(Fail::new("no plain module"))
+    match config.settings().kind {
+        ModuleKind::Plain => Ok(AnyModule::Plain(PlainModule::new(alloc, config)?)),
+        ModuleKind::Adapter => Ok(AnyModule::Adapter(AdapterModule::new(alloc, config)?)),
     }
 }

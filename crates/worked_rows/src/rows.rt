@@ -160,3 +160,39 @@ fn messages_that_are_no_requests(rt: HostRuntime) -> Result<(), Fail> {
         ",
     )
 }
+
+#[test]
+fn requests_for_connections_that_do_not_reach_their_rows(rt: HostRuntime) -> Result<(), Fail> {
+    play(
+        rt.alloc(),
+        "
+        # Path past the end, path unreadable, path of another form, no such instance: the failure has no triad.
+        A request 2 01 1 5403200624
+        > send 2 01 reply 1 D4002600
+        A request 2 01 1 54010005420001010D0C0B0A
+        > send 2 01 reply 1 D4000400
+        A request 2 01 1 540224012006420001010D0C0B0A
+        > send 2 01 reply 1 D4000500
+        A request 2 01 1 540220062400420001010D0C0B0A
+        > send 2 01 reply 1 D4001600
+        A request 2 01 1 4E03200624
+        > send 2 01 reply 1 CE002600
+        A request 2 01 1 4E010005420001010D0C0B0A
+        > send 2 01 reply 1 CE000400
+        A request 2 01 1 4E0224012006420001010D0C0B0A
+        > send 2 01 reply 1 CE000500
+        A request 2 01 1 4E042006260002000000420001010D0C0B0A
+        > send 2 01 reply 1 CE001600
+        # Forward_Open and Forward_Close are no services of the objects of the target.
+        A request 2 01 1 540220012401
+        > send 2 01 reply 1 D4000800
+        A request 2 01 1 4E0220042464
+        > send 2 01 reply 1 CE001600
+        E request 2 01 1 4E0220042464
+        > send 2 01 reply 1 CE000800
+        # Neither goes on inside an Unconnected_Send.
+        A request 2 01 1 52022006240107F9060054022006240101000103
+        > send 2 01 reply 1 D2000101050201
+        ",
+    )
+}

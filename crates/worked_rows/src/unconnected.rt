@@ -99,7 +99,7 @@ fn each_request_that_is_due_with_its_own_words(rt: HostRuntime) -> Result<(), Fa
         > done 1 D2000101040202
         > done 2 D2000101040201
         S tables
-        > now 20000 number 3
+        > now 20000 id 16 number 3
         > pending 3 2 05 due 30000 words 3 unconnected
         > op 1
         > op 2
@@ -184,7 +184,7 @@ fn the_end_of_time(rt: HostRuntime) -> Result<(), Fail> {
         A reply 1 03 1 8100000001010C000200010300000B0B0000024252
         > send 2 01 reply 1 8100000001010C000200010300000B0B0000024252
         A tables
-        > now 9223372036854775807 number 1
+        > now 9223372036854775807 id 32 number 1
         ",
     )
 }
@@ -228,7 +228,7 @@ fn commands_that_are_refused(rt: HostRuntime) -> Result<(), Fail> {
         S send 1 0x07 0xFA 02050103 52022006240107F9060001022001240101000103
         > refused OpUsed
         S tables
-        > now 0 number 0
+        > now 0 id 16 number 0
         > op 1
         ",
     )
@@ -247,7 +247,7 @@ fn step_never_has_memory(rt: HostRuntime) -> Result<(), Fail> {
         S reply 2 05 1 8100000001010C000200010300000B0B0000024252
         > done 1 8100000001010C000200010300000B0B0000024252
         S tables
-        > now 1000 number 1
+        > now 1000 id 16 number 1
         > op 1
         ",
     )
@@ -261,21 +261,38 @@ fn what_a_module_keeps_of_a_request(rt: HostRuntime) -> Result<(), Fail> {
         S send 7 0x07 0xFA 02050103 010220012401
         > send 2 05 request 1 52022006240107F9060001022001240101000103
         S tables
-        > now 0 number 1
+        > now 0 id 16 number 1
         > pending 1 2 05 due 32000000 words 2 unconnected
         > op 7
         S tick 32
         S reply 2 05 1 8100000001010C000200010300000B0B0000024252
         > done 7 8100000001010C000200010300000B0B0000024252
         S tables
-        > now 32000 number 1
+        > now 32000 id 16 number 1
         > op 7
         A with first_number 5
         A request 2 01 1 52022006240107F9060001022001240101000103
         > send 1 03 request 5 010220012401
         A tables
-        > now 0 number 5
+        > now 0 id 32 number 5
         > pending 5 1 03 due 31872000 words 1 unconnected
+        ",
+    )
+}
+
+#[test]
+fn a_module_names_its_own_address(rt: HostRuntime) -> Result<(), Fail> {
+    play(
+        rt.alloc(),
+        "
+        A request 2 01 1 52022006240107F90600010220012401020001000103
+        > send 1 00 request 1 52022006240107F8060001022001240101000103
+        A request 1 00 1 52022006240107F8060001022001240101000103
+        > send 1 03 request 2 010220012401
+        A reply 1 03 2 8100000001010C000200010300000B0B0000024252
+        > send 1 00 reply 1 8100000001010C000200010300000B0B0000024252
+        A reply 1 00 1 8100000001010C000200010300000B0B0000024252
+        > send 2 01 reply 1 8100000001010C000200010300000B0B0000024252
         ",
     )
 }

@@ -1,4 +1,4 @@
-use Rattle.std.proofs.Common.{◌≡◌, ◌∙◌, ap}
+use Rattle.std.proofs.Common.{◌∙◌, ap}
 use Rattle.cip_module.specs.State.{is_spent}
 use Rattle.cip_module.proofs.OpsLemmas.{found_is}
 use Rattle.cip_module.proofs.spent.SpentOps.contains.Goals as goal

@@ -1,4 +1,4 @@
-use Rattle.std.proofs.Common.{◌≡◌, ◌∙◌, sym, subst, ℕ, List, Ok, Err}
+use Rattle.std.proofs.Common.{◌∙◌, sym, subst, ℕ, List, Err}
 use Rattle.std.specs.Prelude.{is_ok}
 use Rattle.cip_module.specs.Rising.{IsRising, IsPlace}
 use Rattle.cip_module.proofs.OpsLemmas.{insert_is, rising_insert, either_rising}

@@ -1,0 +1,19 @@
+use Rattle.std.proofs.Common.{◌≡◌, ℕ, Option, length}
+use Rattle.cip_base.specs.declared.triad.Triad.{Triad}
+use Rattle.cip_module.specs.declared.node.Node.{Node}
+use Rattle.cip_module.specs.Node.{state_of_node}
+use Rattle.cip_module.specs.Produced.{counted_all, open_hops}
+use Rattle.cip_module.proofs.Made.{counted_from}
+use Rattle.cip_module.proofs.Walks.{opens_above}
+use Rattle.cip_module.proofs.node.Node.count_data.Given as goal
+
+-- what is left to count leads to where the whole leads
+pub record Counting (instance : ℕ) (old now : Node) (after : Option Triad) : Type 0 where
+  pub config : now.config ≡ old.config
+  pub state : counted_from instance after (state_of_node now) ≡ record (state_of_node old) { hops = counted_all instance (open_hops old.hops) old.hops }
+
+abbrev pub invariant-loop-hop : goal.invariant-loop-hop
+invariant-loop-hop l = Counting l.instance l.fn.self l.self l.after
+
+abbrev pub decreases-loop-hop : goal.decreases-loop-hop
+decreases-loop-hop l = length (opens_above l.after l.self.hops)

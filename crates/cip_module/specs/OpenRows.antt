@@ -1,0 +1,141 @@
+-- The open group: which row answers a Forward_Open (Volume 1, chapter 3, Forward_Open).
+use Rattle.std.specs.Prelude.{ℕ, ◌==◌, Bool, true, false, not, ◌&&◌, ◌||◌, nat_lt, nat_le, if◌then◌else◌, Option, Some, None, List, length, is_some}
+use Rattle.std.specs.FinMap as map
+use Rattle.cip_segment.specs.Reading.{HopAt, hop_of, segments_of}
+use Rattle.cip_message.specs.declared.fault.DataFault.{DataFault}
+use Rattle.cip_message.specs.declared.fault.DataFault.TheVariants.{Short, Long, Path}
+use Rattle.cip_open.specs.Open.{Open}
+use Rattle.cip_open.specs.Params.{params_of}
+use Rattle.cip_open.specs.declared.parameters.Params.{Params}
+use Rattle.cip_open.specs.declared.parameters.ConnectionKind.{ConnectionKind}
+use Rattle.cip_open.specs.declared.parameters.ConnectionKind.TheVariants.{Null, Multicast, PointToPoint, Reserved}
+use Rattle.cip_hops.specs.declared.opening.HopUp.{HopUp}
+use Rattle.cip_hops.specs.declared.opening.HopDown.{HopDown}
+use Rattle.cip_hops.specs.declared.opening.HopDown.TheVariants.{Link as DownLink, End}
+use Rattle.cip_hops.specs.declared.opening.Opening.{Opening}
+use Rattle.cip_hops.specs.Sides.{up_is_link}
+use Rattle.cip_hops.specs.Hops.{Hops, refusal, first_hop}
+use Rattle.cip_target.specs.declared.link.EndLink.{EndLink}
+use Rattle.cip_target.specs.Ends.{EndRow, end_row, class_of}
+use Rattle.cip_target.specs.Ends as ends
+use Rattle.cip_module.specs.declared.config.ModuleSettings.{ModuleSettings}
+use Rattle.cip_module.specs.declared.rows.KeyPart.{KeyPart}
+use Rattle.cip_module.specs.declared.rows.LinkRefusal.{LinkRefusal}
+use Rattle.cip_module.specs.declared.rows.OpenRefusal.{OpenRefusal}
+use Rattle.cip_module.specs.declared.rows.OpenRefusal.TheVariants.{CutInTheFixedPart, CutInThePath, BytesAfterThePath, PathUnreadable, ConnectionTypeNotSupported, RpiOfZero, TriadInUse, KeyMismatch, NotSentOn, NoRoomOrIdsLeft, NotAnApplicationPath, NoSuchInstanceOrConfiguration, TransportClassNotSupported, SizeMismatch, OutputOwned, NoRoomOrIdLeft}
+use Rattle.cip_base.specs.declared.timing.Status.{Status}
+use Rattle.cip_module.specs.Statuses.{open_status}
+use Rattle.cip_module.specs.Links.{link_refusal}
+use Rattle.cip_module.specs.Keys.{leading_mismatch}
+use Rattle.cip_module.specs.State.{State}
+
+pub data OpenRow : Type 0 where
+  Refuses : (refusal : OpenRefusal) → OpenRow
+  Forwarded : (port : ℕ) → (address : List ℕ) → (rest : List ℕ) → OpenRow
+  Accepted : (link : EndLink) → OpenRow
+
+-- ---- no port segment first: a connection that ends here
+
+-- whether a connection writes this assembly
+abbrev pub writes_to : ℕ → HopDown → Bool
+writes_to instance (DownLink port address) = false
+writes_to instance (End config consume produce) = consume == instance
+
+abbrev pub is_consumed : Hops → ℕ → Bool
+is_consumed h instance = is_some (first_hop (λ hop. writes_to instance hop.opening.down) h)
+
+abbrev pub room_row : Hops → Open → EndLink → OpenRow
+room_row h o link = if is_some (refusal h o.fields.triad 1) then Refuses NoRoomOrIdLeft else Accepted link
+
+abbrev pub accepted_row : Hops → Open → EndRow → OpenRow
+accepted_row h o ends.NotAnApplicationPath = Refuses NotAnApplicationPath
+accepted_row h o ends.NoSuchInstanceOrConfiguration = Refuses NoSuchInstanceOrConfiguration
+accepted_row h o ends.ClassNotSupported = Refuses TransportClassNotSupported
+accepted_row h o ends.SizeMismatch = Refuses SizeMismatch
+accepted_row h o ends.OutputOwned = Refuses OutputOwned
+accepted_row h o (ends.Fits link) = room_row h o link
+
+-- a command opens no connection to its own module
+abbrev pub here_row : State → HopUp → Open → OpenRow
+here_row s up o =
+    if not (up_is_link up) then Refuses NotAnApplicationPath
+    else accepted_row s.hops o (end_row s.assemblies (is_consumed s.hops) o)
+
+-- ---- a port segment first: a connection that goes on
+
+-- a node that routes draws two ids, an originator one
+abbrev pub ids_on : HopUp → ℕ
+ids_on up = if up_is_link up then 2 else 1
+
+abbrev pub on_row : State → HopUp → Open → HopAt → Option LinkRefusal → OpenRow
+on_row s up o hop (Some fault) = Refuses (NotSentOn fault)
+on_row s up o hop None =
+    if is_some (refusal s.hops o.fields.triad (ids_on up)) then Refuses NoRoomOrIdsLeft else Forwarded hop.port hop.address hop.rest
+
+abbrev pub hop_row : ModuleSettings → State → HopUp → Open → Option HopAt → OpenRow
+hop_row config s up o None = here_row s up o
+hop_row config s up o (Some hop) = on_row s up o hop (link_refusal config s.pendings o.fields.timing hop.port hop.address)
+
+-- ---- what every open has to be
+
+abbrev pub key_row : ModuleSettings → State → HopUp → Open → Option KeyPart → OpenRow
+key_row config s up o (Some part) = Refuses (KeyMismatch part)
+key_row config s up o None = hop_row config s up o (hop_of o.path)
+
+abbrev pub is_point_to_point : ConnectionKind → Bool
+is_point_to_point Null = false
+is_point_to_point Multicast = false
+is_point_to_point PointToPoint = true
+is_point_to_point Reserved = false
+
+-- point to point, and no redundant owner
+abbrev pub is_direction : Params → Bool
+is_direction p = is_point_to_point p.kind && not p.redundant
+
+abbrev pub is_supported : Open → Bool
+is_supported o = is_direction (params_of o.fields.ot_params) && (is_direction (params_of o.fields.to_params) && nat_le o.fields.multiplier 7)
+
+-- the row of a Forward_Open that was read
+unfoldable pub open_row : ModuleSettings → State → HopUp → Open → OpenRow
+open_row config s up o =
+    if not (is_supported o) then Refuses ConnectionTypeNotSupported
+    else if o.fields.ot_rpi == 0 || o.fields.to_rpi == 0 then Refuses RpiOfZero
+    else if is_some (map.get s.hops.held o.fields.triad) then Refuses TriadInUse
+    else key_row config s up o (leading_mismatch config (segments_of o.path))
+
+-- the row of data that cannot be read as a Forward_Open
+abbrev pub unread_row : List ℕ → DataFault → OpenRefusal
+unread_row d Short = if nat_lt (length d) 36 then CutInTheFixedPart else CutInThePath
+unread_row d Long = BytesAfterThePath
+unread_row d (Path fault) = PathUnreadable
+
+-- ---- what is opened
+
+abbrev pub opening_with : HopUp → HopDown → Open → Opening
+opening_with up down o = record {
+  triad = o.fields.triad;
+  up = up;
+  down = down;
+  path = o.path;
+  ot_size = (params_of o.fields.ot_params).size;
+  to_size = (params_of o.fields.to_params).size;
+  ot_rpi = o.fields.ot_rpi;
+  to_rpi = o.fields.to_rpi;
+  multiplier = o.fields.multiplier;
+  class = class_of o.fields.transport;
+}
+
+abbrev pub end_down : EndLink → HopDown
+end_down link = End link.config link.consume link.produce
+
+-- ---- what a row answers
+
+pub data OpenAnswer : Type 0 where
+  Fails : (status : Status) → OpenAnswer
+  GoesOn : (port : ℕ) → (address : List ℕ) → (rest : List ℕ) → OpenAnswer
+  EndsHere : (link : EndLink) → OpenAnswer
+
+abbrev pub open_answer : OpenRow → OpenAnswer
+open_answer (Refuses refusal) = Fails (open_status refusal)
+open_answer (Forwarded port address rest) = GoesOn port address rest
+open_answer (Accepted link) = EndsHere link

@@ -1,0 +1,53 @@
+//! A module with one port that answers, and sends no request on.
+ghost use Rattle.std.specs.Prelude.{◌≡◌, IfOk};
+ghost use Rattle.cip_module.specs.declared.config.ModuleKind.{ModuleKind as Kind};
+ghost use Rattle.cip_module.specs.State.{opening};
+ghost use Rattle.cip_module.specs.Node.{config_of_adapter, state_of_adapter};
+
+use crate::config::{ModuleConfig, ModuleKind};
+use crate::contract::{Module, StepFault};
+use crate::event::{Event, Output};
+use crate::node::Node;
+use crate::tables::Tables;
+use cip_base::NoMemory;
+use std::alloc::Global;
+
+/// A module with one port that answers, and sends no request on.
+#[derive(Drop)]
+pub struct AdapterModule {
+    pub(crate) node: Node,
+}
+
+impl AdapterModule {
+    /// Such a module in the opening state of its config; NoMemory where a growth is refused.
+    pub fn new(alloc: Global, config: ModuleConfig) -> Result<AdapterModule, NoMemory>
+        requires { config.kind ≡ ModuleKind.Adapter }
+        ensures config { IfOk result (λ m. config_of_adapter m ≡ config) }
+        ensures state { IfOk result (λ m. state_of_adapter m ≡ opening config) }
+    {
+        let node = Node::new(alloc, config)?;
+        Ok(AdapterModule { node })
+    }
+}
+
+impl Module for AdapterModule {
+    ghost use Rattle.cip_module.specs.Node.{config_of_adapter, state_of_adapter};
+
+    ghost config_of = { config_of_adapter };
+
+    ghost state_of = { state_of_adapter };
+
+    ghost paired = { λ m. m.node.fit.paired };
+
+    fn config(&self) -> &ModuleConfig {
+        &self.node.config
+    }
+
+    fn step(&mut self, event: Event) -> Result<Vec<Output>, StepFault> {
+        self.node.step(event)
+    }
+
+    fn tables(&self) -> Result<Tables, NoMemory> {
+        self.node.tables()
+    }
+}

@@ -1,0 +1,171 @@
+//! The close group: Forward_Close at a router, at an end and at its originator.
+ghost use Rattle.std.specs.Prelude.{◌≡◌, ◌≤◌, ◌∷◌, [], IfOk, OnErr, None};
+ghost use Rattle.cip_close.specs.Reading.{close_of};
+ghost use Rattle.cip_close.specs.Close.{Close};
+ghost use Rattle.cip_close.specs.CloseAt.{close_at};
+ghost use Rattle.cip_pending.specs.Pendings.{refusal};
+ghost use Rattle.cip_module.specs.Answers.{close_failed};
+ghost use Rattle.cip_module.specs.CloseRows.{close_row, GoesOn, EndsHere};
+ghost use Rattle.cip_module.specs.Table.{close_on, close_answered, close_effects, closing_effects, unread_close_bytes, with_spending};
+ghost use Rattle.cip_module.specs.Ready.{CanSpend, IsAsked};
+ghost use Rattle.cip_module.specs.Does.{Does};
+ghost use Rattle.cip_module.specs.Node.{state_of_node};
+
+use crate::close_rows::{CloseDecision, unread_row};
+use crate::event::{Body, Output};
+use crate::messages::reply_to;
+use crate::node::Node;
+use cip_base::{Address, Bytes, NoMemory, PortNumber, Status, Triad};
+use cip_close::{
+    CloseFailure, CloseReply, CloseView, close_triad_at, close_words_at, read_close, write_close,
+    write_close_failure, write_close_reply,
+};
+use cip_message::DataFault;
+use cip_pending::{Entry, Kind, UpSide};
+use cip_segment::PathView;
+use std::alloc::Global;
+
+/// The failure of a Forward_Close that was read: its triad, and the words of its path as received.
+pub(crate) fn close_failed(
+    alloc: Global,
+    status: Status,
+    triad: Triad,
+    words: u8,
+) -> Result<Bytes, NoMemory>
+    ensures { IfOk result (λ b. b ≡ close_failed status triad words) }
+{
+    let failure = CloseFailure {
+        triad: Some(triad),
+        words: Some(words),
+    };
+    write_close_failure(alloc, status, &failure)
+}
+
+// The failure of a Forward_Close that cannot be read: nothing where its fixed part is cut, else its triad and its path size.
+fn unread_close(alloc: Global, data_: &[u8], fault: DataFault) -> Result<Bytes, NoMemory>
+    ensures { IfOk result (λ b. b ≡ unread_close_bytes data_.now fault) }
+{
+    let status = unread_row(data_, fault).status();
+    let failure = if data_.len() < 12 {
+        CloseFailure {
+            triad: None,
+            words: None,
+        }
+    } else {
+        CloseFailure {
+            triad: close_triad_at(data_),
+            words: close_words_at(data_),
+        }
+    };
+    write_close_failure(alloc, status, &failure)
+}
+
+// What goes on: one tick less, and what is left of the path.
+fn close_on(alloc: Global, view: &CloseView<'_>, rest: PathView<'_>) -> Result<Bytes, NoMemory>
+    requires { 2 ≤ view.now.fields.timing.ticks }
+    ensures { IfOk result (λ b. b ≡ close_on (close_of view.now) rest.entry.bytes.now) }
+{
+    let mut fields = view.fields;
+    fields.timing.ticks -= 1;
+    write_close(alloc, &fields, rest)
+}
+
+impl Node {
+    // The connection is removed, and the close goes on by a link.
+    fn close_by(
+        &mut self,
+        up: UpSide,
+        view: &CloseView<'_>,
+        port: PortNumber,
+        address: Address,
+        rest: PathView<'_>,
+    ) -> Result<Output, NoMemory>
+        requires spend { CanSpend self.old up }
+        requires ticks { 2 ≤ view.now.fields.timing.ticks }
+        requires pending { refusal self.old.pendings ≡ None }
+        ensures done { IfOk result (λ o. Does self.old.config (state_of_node self.old) (with_spending up (close_answered up (close_of view.now) (GoesOn port address rest.entry.bytes.now))) (state_of_node self.new) (o ∷ [])) }
+        ensures same { OnErr result (state_of_node self.new ≡ state_of_node self.old) }
+        ensures config { self.new.config ≡ self.old.config }
+    {
+        let bytes = close_on(self.alloc, view, rest)?;
+        let timing = view.fields.timing;
+        let deadline = self.clock.after_ticks(timing.tick % 16, timing.ticks);
+        self.spend_for(&up);
+        self.removes(&view.fields.triad);
+        let entry = Entry {
+            up,
+            port,
+            address: address.copy(),
+            deadline,
+            words: view.path.words(),
+            kind: Kind::Closing(view.fields.triad),
+        };
+        let number = self.forwards(entry);
+        Ok(Output::Send {
+            port,
+            to: address,
+            body: Body::Request { number, bytes },
+        })
+    }
+
+    // The connection ends here, and is removed.
+    fn close_at_end(&mut self, up: UpSide, triad: Triad) -> Result<Output, NoMemory>
+        requires spend { CanSpend self.old up }
+        ensures done { (c : Close) → c.fields.triad ≡ triad → IfOk result (λ o. Does self.old.config (state_of_node self.old) (with_spending up (close_answered up c EndsHere)) (state_of_node self.new) (o ∷ [])) }
+        ensures same { OnErr result (state_of_node self.new ≡ state_of_node self.old) }
+        ensures config { self.new.config ≡ self.old.config }
+    {
+        let reply = CloseReply { triad, reply: &[] };
+        let bytes = write_close_reply(self.alloc, &reply)?;
+        self.spend_for(&up);
+        self.removes(&triad);
+        Ok(reply_to(up, bytes))
+    }
+
+    /// A Forward_Close that was read. `sender` is whom it has to come from: a node, or the op of the Open.
+    pub(crate) fn close(
+        &mut self,
+        up: UpSide,
+        sender: &UpSide,
+        view: &CloseView<'_>,
+    ) -> Result<Output, NoMemory>
+        requires spend { CanSpend self.old up }
+        ensures done { IfOk result (λ o. Does self.old.config (state_of_node self.old) (with_spending up (close_effects up (close_of view.now) (close_row (state_of_node self.old) sender.now (close_of view.now)))) (state_of_node self.new) (o ∷ [])) }
+        ensures same { OnErr result (state_of_node self.new ≡ state_of_node self.old) }
+        ensures config { self.new.config ≡ self.old.config }
+    {
+        match self.close_row(sender, view) {
+            CloseDecision::Refuses(status) => {
+                let words = view.path.words();
+                let bytes = close_failed(self.alloc, status, view.fields.triad, words)?;
+                self.spend_for(&up);
+                Ok(reply_to(up, bytes))
+            }
+            CloseDecision::Forwarded {
+                port,
+                address,
+                rest,
+            } => self.close_by(up, view, port, address, rest),
+            CloseDecision::ClosedAtTheEnd => self.close_at_end(up, view.fields.triad),
+        }
+    }
+
+    /// A Forward_Close, by its data.
+    pub(crate) fn forward_close(&mut self, up: UpSide, data_: &[u8]) -> Result<Output, NoMemory>
+        requires { IsAsked up }
+        ensures done { IfOk result (λ o. Does self.old.config (state_of_node self.old) (closing_effects (state_of_node self.old) up data_.now (close_at data_.now)) (state_of_node self.new) (o ∷ [])) }
+        ensures same { OnErr result (state_of_node self.new ≡ state_of_node self.old) }
+        ensures config { self.new.config ≡ self.old.config }
+    {
+        match read_close(data_) {
+            Ok(view) => {
+                let sender = up.copy();
+                self.close(up, &sender, &view)
+            }
+            Err(fault) => {
+                let bytes = unread_close(self.alloc, data_, fault)?;
+                Ok(reply_to(up, bytes))
+            }
+        }
+    }
+}

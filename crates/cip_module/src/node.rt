@@ -1,0 +1,54 @@
+//! What the modules of each kind share: their tables, which fit one another.
+ghost use Rattle.std.specs.Prelude.{◌≡◌, IfOk};
+ghost use Rattle.cip_module.specs.declared.config.ModuleSettings.{ModuleSettings as Settings};
+ghost use Rattle.cip_module.specs.Fit.{Fit};
+
+use crate::config::ModuleConfig;
+use crate::spent::SpentOps;
+use cip_base::NoMemory;
+use cip_clock::Clock;
+use cip_hops::HopTable;
+use cip_pending::PendingTable;
+use cip_target::Target;
+use std::alloc::Global;
+
+/// A module that decodes each message and writes what goes on anew.
+#[derive(Drop)]
+pub(crate) struct Node {
+    pub config: ModuleConfig,
+    pub alloc: Global,
+    pub clock: Clock,
+    pub pendings: PendingTable,
+    pub hops: HopTable,
+    pub target: Target,
+    pub ops: SpentOps,
+    ghost fit: { Fit config pendings hops target ops.ops.items },
+}
+
+impl Node {
+    ghost use Rattle.cip_module.specs.State.{opening};
+    ghost use Rattle.cip_module.specs.Node.{config_of_node, state_of_node};
+
+    /// A module in the opening state of its config.
+    pub(crate) fn new(alloc: Global, config: ModuleConfig) -> Result<Node, NoMemory>
+        ensures config { IfOk result (λ m. config_of_node m ≡ config) }
+        ensures state { IfOk result (λ m. state_of_node m ≡ opening config) }
+    {
+        let settings = config.settings();
+        let clock = Clock::new(settings.clock);
+        let room = settings.pending_room;
+        let pendings = PendingTable::with_room(alloc, room, settings.first_number)?;
+        let hops = HopTable::with_room(alloc, settings.hop_room, settings.first_id)?;
+        let identity = settings.identity.copy(alloc)?;
+        let target = Target::new(alloc, identity, settings.assemblies.as_slice())?;
+        Ok(Node {
+            config,
+            alloc,
+            clock,
+            pendings,
+            hops,
+            target,
+            ops: SpentOps::new(alloc),
+        })
+    }
+}

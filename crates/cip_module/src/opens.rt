@@ -1,0 +1,243 @@
+//! The open group: Forward_Open at a router, at an end and at its originator.
+ghost use Rattle.std.specs.Prelude.{◌≡◌, ◌≤◌, ◌<◌, ◌∷◌, [], length, IfOk, OnErr, None, Some, Ok, true};
+ghost use Rattle.cip_open.specs.Reading.{open_of};
+ghost use Rattle.cip_open.specs.OpenAt.{open_at};
+ghost use Rattle.cip_open.specs.declared.request.OpenView.{OpenView as Views};
+ghost use Rattle.cip_pending.specs.Pendings.{refusal};
+ghost use Rattle.cip_hops.specs.Hops as hops;
+ghost use Rattle.cip_hops.specs.Sides.{up_is_link};
+ghost use Rattle.cip_target.specs.Ends.{row_at, Fits};
+ghost use Rattle.cip_module.specs.Answers.{open_failed};
+ghost use Rattle.cip_module.specs.OpenRows.{open_row, opening_with, ids_on, end_down, Fails, GoesOn, EndsHere};
+ghost use Rattle.cip_module.specs.Table.{opener, open_on, accepted_bytes, open_answered, open_effects, asked_effects, unread_open_bytes, with_spending};
+ghost use Rattle.cip_module.specs.Ready.{CanSpend, IsAsked};
+ghost use Rattle.cip_module.specs.Does.{Does};
+ghost use Rattle.cip_module.specs.Node.{state_of_node};
+
+use crate::event::{Body, Output};
+use crate::messages::reply_to;
+use crate::node::Node;
+use crate::open_rows::{OpenDecision, unread_row};
+use cip_base::{Address, Bytes, NoMemory, PortNumber, Status, Timing, Triad};
+use cip_hops::{HopDown, HopUp, Opening};
+use cip_message::DataFault;
+use cip_open::{
+    OpenFailure, OpenFields, OpenReply, OpenView, params, read_open, triad_at, words_at,
+    write_open, write_open_failure, write_open_reply,
+};
+use cip_pending::{Entry, Kind, UpSide};
+use cip_segment::{Path, PathView};
+use cip_target::EndLink;
+use std::alloc::Global;
+
+// The up side of a connection that this side asked for.
+fn opener(up: &UpSide, to_id: u32) -> HopUp
+    ensures { result ≡ opener up.now to_id }
+{
+    match up {
+        UpSide::Link { port, address, .. } => HopUp::Link {
+            port: *port,
+            address: address.copy(),
+            their_id: to_id,
+        },
+        UpSide::Local { op } => HopUp::Local { op: *op },
+    }
+}
+
+// What is opened.
+fn opening_with(up: HopUp, down: HopDown, fields: &OpenFields, path: Path) -> Opening
+    ensures { result ≡ opening_with up down (record { fields = fields.now; path = path }) }
+{
+    Opening {
+        triad: fields.triad,
+        up,
+        down,
+        path,
+        ot_size: params(fields.ot_params).size,
+        to_size: params(fields.to_params).size,
+        ot_rpi: fields.ot_rpi,
+        to_rpi: fields.to_rpi,
+        multiplier: fields.multiplier,
+        class: fields.transport % 16,
+    }
+}
+
+/// The failure of a Forward_Open that was read: its triad, and the words of its path as received.
+pub(crate) fn open_failed(
+    alloc: Global,
+    status: Status,
+    triad: Triad,
+    words: u8,
+) -> Result<Bytes, NoMemory>
+    ensures { IfOk result (λ b. b ≡ open_failed status triad words) }
+{
+    let failure = OpenFailure {
+        triad: Some(triad),
+        words: Some(words),
+    };
+    write_open_failure(alloc, status, &failure)
+}
+
+// The failure of a Forward_Open that cannot be read: nothing where its fixed part is cut, else its triad and its path size.
+fn unread_open(alloc: Global, data_: &[u8], fault: DataFault) -> Result<Bytes, NoMemory>
+    ensures { IfOk result (λ b. b ≡ unread_open_bytes data_.now fault) }
+{
+    let status = unread_row(data_, fault).status();
+    let failure = if data_.len() < 36 {
+        OpenFailure {
+            triad: None,
+            words: None,
+        }
+    } else {
+        OpenFailure {
+            triad: triad_at(data_),
+            words: words_at(data_),
+        }
+    };
+    write_open_failure(alloc, status, &failure)
+}
+
+// What goes on: one tick less, the own down id as T to O id, and what is left of the path.
+fn open_on(
+    alloc: Global,
+    view: &OpenView<'_>,
+    down_id: u32,
+    rest: PathView<'_>,
+) -> Result<Bytes, NoMemory>
+    requires { 2 ≤ view.now.fields.timing.ticks }
+    ensures { IfOk result (λ b. b ≡ open_on (open_of view.now) down_id rest.entry.bytes.now) }
+{
+    let mut fields = view.fields;
+    fields.timing.ticks -= 1;
+    fields.to_id = down_id;
+    write_open(alloc, &fields, rest)
+}
+
+// The success of an end: its own up id, and no application reply.
+fn accepted(alloc: Global, fields: &OpenFields, up_id: u32) -> Result<Bytes, NoMemory>
+    ensures { IfOk result (λ b. b ≡ accepted_bytes (record { fields = fields.now; path = [] }) up_id) }
+{
+    let reply = OpenReply {
+        ot_id: up_id,
+        to_id: fields.to_id,
+        triad: fields.triad,
+        ot_api: fields.ot_rpi,
+        to_api: fields.to_rpi,
+        reply: &[],
+    };
+    write_open_reply(alloc, &reply)
+}
+
+impl Node {
+    // The connection goes on by a link.
+    fn open_by(
+        &mut self,
+        up: UpSide,
+        view: &OpenView<'_>,
+        port: PortNumber,
+        address: Address,
+        rest: PathView<'_>,
+    ) -> Result<Output, NoMemory>
+        requires spend { CanSpend self.old up }
+        requires multiplier { view.now.fields.multiplier < 8 }
+        requires ticks { 2 ≤ view.now.fields.timing.ticks }
+        requires pending { refusal self.old.pendings ≡ None }
+        requires room { hops.refusal self.old.hops view.now.fields.triad (ids_on (opener up view.now.fields.to_id)) ≡ None }
+        ensures done { IfOk result (λ o. Does self.old.config (state_of_node self.old) (with_spending up (open_answered (state_of_node self.old) up (open_of view.now) (GoesOn port address rest.entry.bytes.now))) (state_of_node self.new) (o ∷ [])) }
+        ensures same { OnErr result (state_of_node self.new ≡ state_of_node self.old) }
+        ensures config { self.new.config ≡ self.old.config }
+    {
+        let bytes = open_on(self.alloc, view, self.hops.last() + 1, rest)?;
+        let path = view.path.to_path(self.alloc)?;
+        let timing = view.fields.timing;
+        let deadline = self.clock.after_ticks(timing.tick % 16, timing.ticks);
+        let down = HopDown::Link {
+            port,
+            address: address.copy(),
+        };
+        let opening = opening_with(opener(&up, view.fields.to_id), down, &view.fields, path);
+        self.spend_for(&up);
+        let entry = Entry {
+            up,
+            port,
+            address: address.copy(),
+            deadline,
+            words: view.path.words(),
+            kind: Kind::Opening(view.fields.triad),
+        };
+        let number = self.begins(entry, opening);
+        Ok(Output::Send {
+            port,
+            to: address,
+            body: Body::Request { number, bytes },
+        })
+    }
+
+    // The connection ends here.
+    fn open_at_end(
+        &mut self,
+        up: UpSide,
+        view: &OpenView<'_>,
+        link: EndLink,
+    ) -> Result<Output, NoMemory>
+        requires spend { CanSpend self.old up }
+        requires multiplier { view.now.fields.multiplier < 8 }
+        requires link { up_is_link (opener up view.now.fields.to_id) ≡ true }
+        requires room { hops.refusal self.old.hops view.now.fields.triad 1 ≡ None }
+        requires fits { row_at self.old.target (open_of view.now) ≡ Fits link }
+        ensures done { IfOk result (λ o. Does self.old.config (state_of_node self.old) (with_spending up (open_answered (state_of_node self.old) up (open_of view.now) (EndsHere link))) (state_of_node self.new) (o ∷ [])) }
+        ensures same { OnErr result (state_of_node self.new ≡ state_of_node self.old) }
+        ensures config { self.new.config ≡ self.old.config }
+    {
+        let bytes = accepted(self.alloc, &view.fields, self.hops.last() + 1)?;
+        let path = view.path.to_path(self.alloc)?;
+        let down = HopDown::End {
+            config: u32::from(link.config),
+            consume: u32::from(link.consume),
+            produce: u32::from(link.produce),
+        };
+        let opening = opening_with(opener(&up, view.fields.to_id), down, &view.fields, path);
+        self.accepts(opening, view, &link);
+        Ok(reply_to(up, bytes))
+    }
+
+    /// A Forward_Open that was read.
+    pub(crate) fn open(&mut self, up: UpSide, view: &OpenView<'_>) -> Result<Output, NoMemory>
+        requires spend { CanSpend self.old up }
+        ensures done { IfOk result (λ o. Does self.old.config (state_of_node self.old) (with_spending up (open_effects (state_of_node self.old) up (open_of view.now) (open_row self.old.config (state_of_node self.old) (opener up view.now.fields.to_id) (open_of view.now)))) (state_of_node self.new) (o ∷ [])) }
+        ensures same { OnErr result (state_of_node self.new ≡ state_of_node self.old) }
+        ensures config { self.new.config ≡ self.old.config }
+    {
+        let asker = opener(&up, view.fields.to_id);
+        match self.open_row(&asker, view) {
+            OpenDecision::Refuses(status) => {
+                let words = view.path.words();
+                let bytes = open_failed(self.alloc, status, view.fields.triad, words)?;
+                self.spend_for(&up);
+                Ok(reply_to(up, bytes))
+            }
+            OpenDecision::Forwarded {
+                port,
+                address,
+                rest,
+            } => self.open_by(up, view, port, address, rest),
+            OpenDecision::Accepted(link) => self.open_at_end(up, view, link),
+        }
+    }
+
+    /// A Forward_Open, by its data.
+    pub(crate) fn forward_open(&mut self, up: UpSide, data_: &[u8]) -> Result<Output, NoMemory>
+        requires { IsAsked up }
+        ensures done { IfOk result (λ o. Does self.old.config (state_of_node self.old) (asked_effects self.old.config (state_of_node self.old) up data_.now (open_at data_.now)) (state_of_node self.new) (o ∷ [])) }
+        ensures same { OnErr result (state_of_node self.new ≡ state_of_node self.old) }
+        ensures config { self.new.config ≡ self.old.config }
+    {
+        match read_open(data_) {
+            Ok(view) => self.open(up, &view),
+            Err(fault) => {
+                let bytes = unread_open(self.alloc, data_, fault)?;
+                Ok(reply_to(up, bytes))
+            }
+        }
+    }
+}

@@ -1,0 +1,139 @@
+//! Which row of the reply group a reply meets.
+ghost use Rattle.std.specs.Prelude.{◌≡◌};
+ghost use Rattle.std.specs.Option.{option_copied};
+ghost use Rattle.cip_message.specs.Reading.{reply_of};
+ghost use Rattle.cip_message.specs.ReplyAt.{reply_at};
+ghost use Rattle.cip_message.specs.Failure.{failure_at};
+ghost use Rattle.cip_open.specs.SuccessAt.{open_reply_at};
+ghost use Rattle.cip_close.specs.SuccessAt.{close_reply_at};
+ghost use Rattle.cip_module.specs.ReplyRows.{triad_eq, failure_row, opened_row, closed_row, opening_row, closing_row, kind_row, read_row};
+ghost use Rattle.cip_pending.specs.declared.entry.Kind.{Kind as Kinds};
+ghost use Rattle.cip_pending.specs.declared.entry.Kind.TheVariants as kinds;
+ghost use Rattle.cip_module.specs.Decisions.{reply_told, ReplyLeads};
+
+use cip_base::Triad;
+use cip_close::read_close_reply;
+use cip_message::{ReplyView, read_failure, read_reply};
+use cip_open::{OpenReply, read_open_reply};
+use cip_pending::Kind;
+
+/// What a reply that was waited for says.
+#[derive(Clone, Copy)]
+pub(crate) enum ReplyDecision<'a> {
+    Malformed,
+    OpenSucceeded(Triad, OpenReply<'a>),
+    PassedUp,
+}
+
+// A failure tells no triad, or the one that was asked.
+fn failed(triad: Triad, data_: &[u8]) -> ReplyDecision<'_>
+    ensures row { reply_told result ≡ failure_row triad (failure_at data_.entry.now) }
+    ensures leads { (kind : Kinds) → ReplyLeads kind result }
+{
+    match read_failure(data_) {
+        Err(_) => ReplyDecision::Malformed,
+        Ok(failure) => match failure.triad {
+            None => ReplyDecision::PassedUp,
+            Some(told) => {
+                if told == triad {
+                    ReplyDecision::PassedUp
+                } else {
+                    ReplyDecision::Malformed
+                }
+            }
+        },
+    }
+}
+
+fn opened(triad: Triad, data_: &[u8]) -> ReplyDecision<'_>
+    ensures row { reply_told result ≡ opened_row triad (open_reply_at data_.entry.now) }
+    ensures leads { ReplyLeads (kinds.Opening triad) result }
+{
+    match read_open_reply(data_) {
+        Err(_) => ReplyDecision::Malformed,
+        Ok(success) => {
+            if success.triad == triad {
+                ReplyDecision::OpenSucceeded(triad, success)
+            } else {
+                ReplyDecision::Malformed
+            }
+        }
+    }
+}
+
+fn closed(triad: Triad, data_: &[u8]) -> ReplyDecision<'_>
+    ensures row { reply_told result ≡ closed_row triad (close_reply_at data_.entry.now) }
+    ensures leads { (kind : Kinds) → ReplyLeads kind result }
+{
+    match read_close_reply(data_) {
+        Err(_) => ReplyDecision::Malformed,
+        Ok(success) => {
+            if success.triad == triad {
+                ReplyDecision::PassedUp
+            } else {
+                ReplyDecision::Malformed
+            }
+        }
+    }
+}
+
+// A success has no additional status and exactly its layout.
+fn opening<'a>(triad: Triad, reply: ReplyView<'a>) -> ReplyDecision<'a>
+    ensures row { reply_told result ≡ opening_row triad (reply_of reply.entry) }
+    ensures leads { ReplyLeads (kinds.Opening triad) result }
+{
+    if reply.general != 0 {
+        failed(triad, reply.data_)
+    } else if reply.status().extra.is_some() {
+        ReplyDecision::Malformed
+    } else {
+        opened(triad, reply.data_)
+    }
+}
+
+fn closing<'a>(triad: Triad, reply: ReplyView<'a>) -> ReplyDecision<'a>
+    ensures row { reply_told result ≡ closing_row triad (reply_of reply.entry) }
+    ensures leads { ReplyLeads (kinds.Closing triad) result }
+{
+    if reply.general != 0 {
+        failed(triad, reply.data_)
+    } else if reply.status().extra.is_some() {
+        ReplyDecision::Malformed
+    } else {
+        closed(triad, reply.data_)
+    }
+}
+
+fn by_kind<'a>(kind: Kind, reply: ReplyView<'a>) -> ReplyDecision<'a>
+    ensures row { reply_told result ≡ kind_row kind (reply_of reply.entry) }
+    ensures leads { ReplyLeads kind result }
+{
+    match kind {
+        Kind::Unconnected => ReplyDecision::PassedUp,
+        Kind::Opening(triad) => {
+            if reply.service == 0xD4 {
+                opening(triad, reply)
+            } else {
+                ReplyDecision::Malformed
+            }
+        }
+        Kind::Closing(triad) => {
+            if reply.service == 0xCE {
+                closing(triad, reply)
+            } else {
+                ReplyDecision::Malformed
+            }
+        }
+    }
+}
+
+/// The row of a reply to a request of this kind.
+pub(crate) fn reply_row(kind: Kind, bytes: &[u8]) -> ReplyDecision<'_>
+    ensures row { reply_told result ≡ read_row kind (reply_at bytes.entry.now) }
+    ensures leads { ReplyLeads kind result }
+{
+    match read_reply(bytes) {
+        Err(_) => ReplyDecision::Malformed,
+        Ok(reply) => by_kind(kind, reply),
+    }
+}

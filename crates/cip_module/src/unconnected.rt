@@ -1,0 +1,120 @@
+//! The unconnected send group: an Unconnected_Send at a router and at its end.
+ghost use Rattle.std.specs.Prelude.{◌≡◌, ◌≤◌, ◌<◌, ◌∷◌, [], length, IfOk, OnErr, None};
+ghost use Rattle.cip_message.specs.Reading.{request_of};
+ghost use Rattle.cip_unconnected.specs.Reading.{unconnected_of};
+ghost use Rattle.cip_unconnected.specs.Unconnected.{unconnected_bytes};
+ghost use Rattle.cip_pending.specs.declared.entry.Kind.{Kind as Kinds};
+ghost use Rattle.cip_pending.specs.Pendings.{refusal};
+
+use crate::decisions::{Decision, unconnected_row};
+use crate::event::{Body, Output};
+use crate::messages::{message_on, reply_to};
+use crate::node::Node;
+use crate::replies::unconnected_failure;
+use cip_base::{Address, NoMemory, PortNumber};
+use cip_message::RequestView;
+use cip_pending::{Entry, Kind, UpSide};
+use cip_segment::PathView;
+use cip_unconnected::UnconnectedView;
+
+impl Node {
+    ghost use Rattle.cip_module.specs.Node.{state_of_node};
+    ghost use Rattle.cip_module.specs.Does.{Does};
+    ghost use Rattle.cip_module.specs.Effects.{Answers};
+
+    /// The target answers a request.
+    pub(crate) fn answers(
+        &mut self,
+        up: UpSide,
+        request: RequestView<'_>,
+    ) -> Result<Output, NoMemory>
+        ensures done { IfOk result (λ o. Does self.old.config (state_of_node self.old) (Answers up (request_of request.entry) ∷ []) (state_of_node self.new) (o ∷ [])) }
+        ensures same { OnErr result (state_of_node self.new ≡ state_of_node self.old) }
+        ensures config { self.new.config ≡ self.old.config }
+        ensures ops { self.new.ops ≡ self.old.ops }
+    {
+        let bytes = self.target.answer(self.alloc, request)?;
+        Ok(reply_to(up, bytes))
+    }
+}
+
+impl Node {
+    ghost use Rattle.cip_module.specs.Node.{state_of_node};
+    ghost use Rattle.cip_module.specs.Does.{Does};
+    ghost use Rattle.cip_module.specs.Effects.{Forwards};
+    ghost use Rattle.cip_module.specs.Table.{message_on, wait_of, words_of};
+
+    // Sends on an Unconnected_Send, under the next number.
+    fn forward(
+        &mut self,
+        up: UpSide,
+        view: UnconnectedView<'_>,
+        port: PortNumber,
+        address: Address,
+        rest: PathView<'_>,
+    ) -> Result<Output, NoMemory>
+        requires fits { length (unconnected_bytes (unconnected_of view)) ≤ 1400 }
+        requires shorter { length rest.bytes.now ≤ length view.route.bytes.now }
+        requires ticks { 2 ≤ view.timing.ticks }
+        requires room { refusal self.old.pendings ≡ None }
+        ensures done { IfOk result (λ o. Does self.old.config (state_of_node self.old) (Forwards up port address (message_on (unconnected_of view.entry) rest.entry.bytes.now) (wait_of view.entry.timing) (words_of view.entry.route.bytes.now) Kinds.Unconnected ∷ []) (state_of_node self.new) (o ∷ [])) }
+        ensures same { OnErr result (state_of_node self.new ≡ state_of_node self.old) }
+        ensures config { self.new.config ≡ self.old.config }
+        ensures ops { self.new.ops ≡ self.old.ops }
+    {
+        let bytes = message_on(self.alloc, view, rest)?;
+        let deadline = self
+            .clock
+            .after_ticks(view.timing.tick % 16, view.timing.ticks);
+        let to = address.copy();
+        let words = view.route.words();
+        let entry = Entry {
+            up,
+            port,
+            address,
+            deadline,
+            words,
+            kind: Kind::Unconnected,
+        };
+        let number = self.forwards(entry);
+        Ok(Output::Send {
+            port,
+            to,
+            body: Body::Request { number, bytes },
+        })
+    }
+}
+
+impl Node {
+    ghost use Rattle.cip_module.specs.Node.{state_of_node};
+    ghost use Rattle.cip_module.specs.Does.{Does};
+    ghost use Rattle.cip_module.specs.UnconnectedRows.{unconnected_row};
+    ghost use Rattle.cip_module.specs.Table.{unconnected_effects};
+
+    // An Unconnected_Send that was read.
+    pub(crate) fn unconnected(
+        &mut self,
+        up: UpSide,
+        view: UnconnectedView<'_>,
+    ) -> Result<Output, NoMemory>
+        requires { length (unconnected_bytes (unconnected_of view)) ≤ 1400 }
+        ensures done { IfOk result (λ o. Does self.old.config (state_of_node self.old) (unconnected_effects up (unconnected_of view.entry) (unconnected_row self.old.config self.old.pendings (unconnected_of view.entry))) (state_of_node self.new) (o ∷ [])) }
+        ensures same { OnErr result (state_of_node self.new ≡ state_of_node self.old) }
+        ensures config { self.new.config ≡ self.old.config }
+        ensures ops { self.new.ops ≡ self.old.ops }
+    {
+        match unconnected_row(self.config.settings(), &self.pendings, view) {
+            Decision::Refuses(refusal) => {
+                let words = Some(view.route.words());
+                let bytes = unconnected_failure(self.alloc, refusal, words)?;
+                Ok(reply_to(up, bytes))
+            }
+            Decision::AnsweredHere(request) => { self.answers(up, request) }
+            Decision::Forwarded {
+                port,
+                address,
+                rest,
+            } => self.forward(up, view, port, address, rest),
+        }
+    }
+}

@@ -1,0 +1,184 @@
+//! The bridge, its steps, and the nodes beside it.
+ghost use Rattle.std.specs.Prelude.{◌≡◌, ◌<◌, IfOk};
+
+use crate::fault::Fault;
+use crate::frames::{ANSWER, DATUM, SEND, close, closed, open, opened};
+use cip_base::{Address, Bytes, PortNumber};
+use cip_module::{
+    Assemblies, Body, Event, LegalAddresses, Module, ModuleConfig, ModuleKind, ModuleSettings,
+    Output, PlainModule, PortConfig, Ports,
+};
+use cip_target::{Identity, IdentityFields};
+use std::alloc::Global;
+
+/// The first id that the bridge draws.
+const FIRST_ID: u32 = 0x21;
+
+fn port_number(number: u16) -> PortNumber
+    requires { 0 < number }
+{
+    let Some(number) = PortNumber::new(number) else {
+        unreachable!()
+    };
+    number
+}
+
+fn address(byte: u8) -> Address {
+    let Ok(address) = Address::read(&[byte]) else {
+        unreachable!()
+    };
+    address
+}
+
+fn port(number: u16, link: usize, byte: u8) -> PortConfig
+    requires { 0 < number }
+{
+    PortConfig {
+        number: port_number(number),
+        link,
+        legal: LegalAddresses::Byte {
+            first: 0,
+            last: 0xFE,
+        },
+        address: address(byte),
+    }
+}
+
+fn ports(alloc: Global) -> Result<Ports, Fault> {
+    let mut ports = Vec::new(alloc);
+    ports.push(port(2, 0, 0x05))?;
+    ports.push(port(1, 1, 0x00))?;
+    Ok(Ports::of(ports))
+}
+
+fn identity(alloc: Global) -> Result<Identity, Fault> {
+    let fields = IdentityFields {
+        vendor: 0x0101,
+        device_type: 12,
+        product: 1,
+        major: 1,
+        minor: 3,
+        status: 0,
+        serial: 0x0000_0A0A,
+        name: Bytes::of(Vec::from_slice(alloc, b"AR")?),
+    };
+    Identity::new(fields).ok_or(Fault::Unexpected)
+}
+
+fn settings(alloc: Global) -> Result<ModuleSettings, Fault>
+    ensures { IfOk result (λ s. s.kind ≡ ModuleKind.Plain) }
+{
+    Ok(ModuleSettings {
+        name: Bytes::of(Vec::from_slice(alloc, b"A")?),
+        kind: ModuleKind::Plain,
+        identity: identity(alloc)?,
+        clock: 0,
+        first_id: FIRST_ID,
+        first_number: 1,
+        pending_room: 256,
+        hop_room: 256,
+        ports: ports(alloc)?,
+        assemblies: Assemblies::of(Vec::new(alloc)),
+    })
+}
+
+fn made(alloc: Global) -> Result<PlainModule, Fault> {
+    let settings = settings(alloc)?;
+    let config = ModuleConfig::new(settings).ok_or(Fault::Unexpected)?;
+    Ok(PlainModule::new(alloc, config)?)
+}
+
+// A frame from the node above or below.
+fn from_above(body: Body) -> Event {
+    Event::Frame {
+        port: port_number(2),
+        from: address(0x01),
+        body,
+    }
+}
+
+fn from_below(body: Body) -> Event {
+    Event::Frame {
+        port: port_number(1),
+        from: address(0x03),
+        body,
+    }
+}
+
+/// A bridge between a node above and a node below. The clock stands still.
+#[derive(Drop)]
+pub struct Bridge {
+    alloc: Global,
+    module_: PlainModule,
+}
+
+impl Bridge {
+    /// With room for 256 requests that wait, and for 256 connections.
+    pub fn new(alloc: Global) -> Result<Bridge, Fault> {
+        let module_ = made(alloc)?;
+        Ok(Bridge { alloc, module_ })
+    }
+
+    fn bytes(&self, bytes: &[u8]) -> Result<Bytes, Fault> {
+        Ok(Bytes::of(Vec::from_slice(self.alloc, bytes)?))
+    }
+
+    // The one frame that the bridge sends at an event.
+    fn step(&mut self, event: Event) -> Result<Body, Fault> {
+        let mut outputs = self.module_.step(event)?;
+        match outputs.pop() {
+            Some(Output::Send { body, .. }) if outputs.is_empty() => Ok(body),
+            _ => Err(Fault::Unexpected),
+        }
+    }
+
+    // A request from above goes on. Its number below.
+    fn request(&mut self, number: u32, bytes: &[u8]) -> Result<u32, Fault> {
+        let bytes = self.bytes(bytes)?;
+        match self.step(from_above(Body::Request { number, bytes }))? {
+            Body::Request { number, .. } => Ok(number),
+            _ => Err(Fault::Unexpected),
+        }
+    }
+
+    // A reply from below goes on.
+    fn reply(&mut self, number: u32, bytes: &[u8]) -> Result<(), Fault> {
+        let bytes = self.bytes(bytes)?;
+        match self.step(from_below(Body::Reply { number, bytes }))? {
+            Body::Reply { .. } => Ok(()),
+            _ => Err(Fault::Unexpected),
+        }
+    }
+
+    /// An Unconnected_Send from above goes on. Its number below.
+    pub fn send(&mut self) -> Result<u32, Fault> {
+        self.request(1, &SEND)
+    }
+
+    /// The node below answers it.
+    pub fn answer(&mut self, number: u32) -> Result<(), Fault> {
+        self.reply(number, &ANSWER)
+    }
+
+    /// A connection with this serial number is opened.
+    pub fn open(&mut self, serial: u16) -> Result<(), Fault> {
+        let number = self.request(1, &open(serial))?;
+        self.reply(number, &opened(serial))
+    }
+
+    /// It is closed.
+    pub fn close(&mut self, serial: u16) -> Result<(), Fault> {
+        let number = self.request(1, &close(serial))?;
+        self.reply(number, &closed(serial))
+    }
+
+    /// A datum from above goes on by the connection that was opened after so many others.
+    pub fn datum(&mut self, before: u16) -> Result<(), Fault> {
+        let bytes = self.bytes(&DATUM)?;
+        let id = FIRST_ID + 1 + 2 * u32::from(before);
+        match self.step(from_above(Body::Data { id, bytes }))? {
+            Body::Data { .. } => Ok(()),
+            _ => Err(Fault::Unexpected),
+        }
+    }
+}

@@ -1,0 +1,119 @@
+//! The cases: a step, and what else stands in the tables.
+
+use crate::bridge::Bridge;
+use crate::fault::Fault;
+use std::alloc::Global;
+
+/// What is done in a turn.
+#[derive(Clone, Copy)]
+enum Turn {
+    /// An Unconnected_Send goes on, and the one that has waited longest is answered.
+    Send,
+    /// A connection is opened, and the one that has been open for longest is closed.
+    Open,
+    /// A datum goes on, by each connection in turn.
+    Datum,
+}
+
+/// A step, and how many other requests wait and other connections are open.
+#[derive(Clone, Copy)]
+pub struct Case {
+    pub name: &'static str,
+    turn: Turn,
+    others: u16,
+}
+
+/// With the tables empty, and with room in them for what the step takes alone.
+pub const CASES: [Case; 6] = [
+    Case {
+        name: "send",
+        turn: Turn::Send,
+        others: 0,
+    },
+    Case {
+        name: "open",
+        turn: Turn::Open,
+        others: 0,
+    },
+    Case {
+        name: "datum",
+        turn: Turn::Datum,
+        others: 0,
+    },
+    Case {
+        name: "send-full",
+        turn: Turn::Send,
+        others: 255,
+    },
+    Case {
+        name: "open-full",
+        turn: Turn::Open,
+        others: 255,
+    },
+    Case {
+        name: "datum-full",
+        turn: Turn::Datum,
+        others: 255,
+    },
+];
+
+/// The case of this name.
+pub fn case_of(name: &str) -> Option<Case> {
+    CASES.iter().find(|case| case.name == name).copied()
+}
+
+// Opens connections with serial numbers from 0 on.
+fn open_all(bridge: &mut Bridge, count: u16) -> Result<(), Fault> {
+    for serial in 0..count {
+        bridge.open(serial)?;
+    }
+    Ok(())
+}
+
+// Has so many requests wait.
+fn send_all(bridge: &mut Bridge, count: u16) -> Result<(), Fault> {
+    for _ in 0..count {
+        bridge.send()?;
+    }
+    Ok(())
+}
+
+fn send_turns(bridge: &mut Bridge, others: u16, times: u32) -> Result<(), Fault> {
+    for _ in 0..times {
+        let number = bridge.send()?;
+        bridge.answer(number.wrapping_sub(u32::from(others)))?;
+    }
+    Ok(())
+}
+
+fn open_turns(bridge: &mut Bridge, others: u16, times: u32) -> Result<(), Fault> {
+    for turn in 0..times {
+        let oldest = (turn % 65_536) as u16;
+        bridge.open(oldest.wrapping_add(others))?;
+        bridge.close(oldest)?;
+    }
+    Ok(())
+}
+
+fn datum_turns(bridge: &mut Bridge, others: u16, times: u32) -> Result<(), Fault> {
+    bridge.open(others)?;
+    for turn in 0..times {
+        let before = (turn % (u32::from(others) + 1)) as u16;
+        bridge.datum(before)?;
+    }
+    Ok(())
+}
+
+impl Case {
+    /// So many turns at a bridge of their own.
+    pub fn run(&self, alloc: Global, times: u32) -> Result<(), Fault> {
+        let mut bridge = Bridge::new(alloc)?;
+        open_all(&mut bridge, self.others)?;
+        send_all(&mut bridge, self.others)?;
+        match self.turn {
+            Turn::Send => send_turns(&mut bridge, self.others, times),
+            Turn::Open => open_turns(&mut bridge, self.others, times),
+            Turn::Datum => datum_turns(&mut bridge, self.others, times),
+        }
+    }
+}

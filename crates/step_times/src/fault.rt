@@ -1,0 +1,60 @@
+//! Why steps are not taken to their end.
+
+use cip_base::NoMemory;
+use cip_module::StepFault;
+use std::alloc::{AllocError, AllocFailed};
+use std::io;
+use std::num::ParseIntError;
+use thiserror::Error;
+
+/// Why steps are not taken to their end.
+#[derive(Clone, Copy, Debug, PartialEq, Eq, Error)]
+pub enum Fault {
+    #[error("usage: step_times [send|open|datum|send-full|open-full|datum-full TIMES]")]
+    Usage,
+    #[error("the system refused")]
+    System,
+    #[error("out of memory")]
+    NoMemory,
+    #[error("the bridge did not send what was expected")]
+    Unexpected,
+}
+
+impl From<io::Error> for Fault {
+    fn from(_fault: io::Error) -> Fault {
+        Fault::System
+    }
+}
+
+impl From<ParseIntError> for Fault {
+    fn from(_fault: ParseIntError) -> Fault {
+        Fault::Usage
+    }
+}
+
+impl From<AllocError> for Fault {
+    fn from(_refused: AllocError) -> Fault {
+        Fault::NoMemory
+    }
+}
+
+impl<T: Drop> From<AllocFailed<T>> for Fault {
+    fn from(_refused: AllocFailed<T>) -> Fault {
+        Fault::NoMemory
+    }
+}
+
+impl From<NoMemory> for Fault {
+    fn from(_refused: NoMemory) -> Fault {
+        Fault::NoMemory
+    }
+}
+
+impl From<StepFault> for Fault {
+    fn from(fault: StepFault) -> Fault {
+        match fault {
+            StepFault::NoMemory(_) => Fault::NoMemory,
+            StepFault::ClockFull(_) => Fault::Unexpected,
+        }
+    }
+}
