@@ -4,7 +4,7 @@ use Rattle.cip_module.specs.declared.config.ModuleSettings.{ModuleSettings}
 use Rattle.cip_module.specs.declared.event.Event.{Event}
 use Rattle.cip_module.specs.declared.event.Output.{Output}
 use Rattle.cip_module.specs.declared.plain.PlainModule.{PlainModule}
-use Rattle.cip_module.specs.Node.{config_of_plain, state_of_plain}
+use Rattle.cip_module.specs.Code.Node.{config_of_plain, state_of_plain}
 use Rattle.cip_module.specs.State.{State}
 use Rattle.cip_module.specs.Table.{Stepped, table_step}
 use Rattle.cip_console.specs.declared.waiting.FrameName.{FrameName}

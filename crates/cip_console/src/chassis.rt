@@ -1,7 +1,7 @@
 //! The fixed chassis: a scanner S, and the bridges A and B.
 ghost use Rattle.std.specs.Prelude.{◌≡◌, ◌∷◌, ◌++◌, [], ◌<◌, IfOk, OnOk, IsTrue, map};
 ghost use Rattle.cip_module.specs.Config.{is_settings};
-ghost use Rattle.cip_module.specs.Node.{config_of_plain, state_of_plain};
+ghost use Rattle.cip_module.specs.Code.Node.{config_of_plain, state_of_plain};
 ghost use Rattle.cip_module.specs.State.{opening};
 ghost use Rattle.cip_module.specs.declared.config.ModuleKind.{ModuleKind as Kind};
 ghost use Rattle.cip_target.specs.Identity.{is_identity};

@@ -1,7 +1,7 @@
 //! The modules of a chassis and the frames that wait between them.
 ghost use Rattle.std.specs.Prelude.{◌≡◌, ◌==◌, ◌++◌, [], length, option_to_list, OnOk, IfNone, Some};
 ghost use Rattle.std.specs.Option.{option_copied};
-ghost use Rattle.cip_module.specs.Node.{config_of_plain, state_of_plain};
+ghost use Rattle.cip_module.specs.Code.Node.{config_of_plain, state_of_plain};
 ghost use Rattle.cip_console.specs.Journal.{frame_of, sent, arrival};
 ghost use Rattle.cip_console.specs.Show.{name_of};
 ghost use Rattle.cip_console.specs.Transcript.{names_of};

@@ -24,7 +24,7 @@ use Rattle.cip_target.specs.declared.link.EndLink.{EndLink}
 use Rattle.cip_target.proofs.Fitting.{FitsWith, fitting}
 use Rattle.cip_module.specs.declared.config.ModuleSettings.{ModuleSettings}
 use Rattle.cip_module.specs.OpenRows.{writes_to, end_down}
-use Rattle.cip_module.specs.Fit.{Fit, AreOwned, writes_of}
+use Rattle.cip_module.specs.Code.Fit.{Fit, AreOwned, writes_of}
 use Rattle.cip_module.specs.State.{is_spent}
 use Rattle.cip_module.proofs.Points.{one_or_apart, put_here, put_apart}
 use Rattle.cip_module.proofs.Fits.{Becomes, becomes_put, spent_becomes, links_becomes, paired_becomes, numbers_apart, triad_or_not}

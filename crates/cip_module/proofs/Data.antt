@@ -8,7 +8,7 @@ use Rattle.cip_module.specs.declared.datum.DatumPlan.{DatumPlan}
 use Rattle.cip_module.specs.declared.datum.DatumPlan.TheVariants as plans
 use Rattle.cip_module.specs.Effects.{passed}
 use Rattle.cip_module.specs.Table.{other}
-use Rattle.cip_module.specs.Plans.{PassesBy, PassesOn}
+use Rattle.cip_module.specs.Code.Plans.{PassesBy, PassesOn}
 
 -- what goes on by the connection that was found goes on by the one under its triad
 passes_on : (h : Hops) (hop : Hop) (bytes : List ℕ) (plan : DatumPlan) → hop_at h hop.opening.triad ≡ Some hop → PassesBy hop bytes plan → PassesOn h bytes plan

@@ -26,7 +26,7 @@ use Rattle.cip_hops.specs.Hops as hops
 use Rattle.cip_hops.proofs.Changes.{finished_is}
 use Rattle.cip_target.specs.Ends.{Ends}
 use Rattle.cip_module.specs.declared.config.ModuleSettings.{ModuleSettings}
-use Rattle.cip_module.specs.Fit.{Fit, writes_of}
+use Rattle.cip_module.specs.Code.Fit.{Fit, writes_of}
 use Rattle.cip_module.specs.Effects.{abandoned, given_up_of}
 use Rattle.cip_module.specs.OpenRows.{writes_to}
 use Rattle.cip_module.specs.Paired.{IsAwaited, IsOther}

@@ -26,9 +26,9 @@ use Rattle.cip_target.specs.declared.config.AssemblyConfig.{AssemblyConfig}
 use Rattle.cip_target.specs.Assemblies.{config_with}
 use Rattle.cip_module.specs.declared.config.ModuleSettings.{ModuleSettings}
 use Rattle.cip_module.specs.declared.event.Output.{Output}
-use Rattle.cip_module.specs.Does.{Does}
+use Rattle.cip_module.specs.Code.Does.{Does}
 use Rattle.cip_module.specs.Effects.{Effect, Counts, Passes, recounted, ends_here, passed, datum_up, applied, outputs_of}
-use Rattle.cip_module.specs.Produced.{reads_from, next_count, datum_effects, held_effects, each_effects, made_of, takes_from, made_all, count_for, counted_by, counted_all, open_hops}
+use Rattle.cip_module.specs.Produced.{reads_from, next_count, made_effects, held_effects, each_effects, made_of, takes_from, made_all, count_for, counted_by, counted_all, open_hops}
 use Rattle.cip_module.specs.State.{State}
 use Rattle.cip_module.specs.Table.{produce_effects}
 use Rattle.cip_module.proofs.Fits.{triad_or_not}
@@ -173,7 +173,7 @@ module _ (config : ModuleSettings) (instance : ℕ) (held : List ℕ) where
 
   applied_one : (s : State) (hop : Hop) (rest : List Effect) → applied config s (held_effects instance held (Open hop) ++ rest) ≡ applied config (after_one s hop) rest
   applied_one s hop rest =
-      elim (reads_from instance hop.opening.down) as (λ b. applied config s ((if b then datum_effects held hop else []) ++ rest)
+      elim (reads_from instance hop.opening.down) as (λ b. applied config s ((if b then made_effects held hop else []) ++ rest)
       ≡ applied config (record s { hops = counted_by s.hops hop.opening.triad (if b then (if hop.opening.class == 1 then Some (next_count hop.produced) else None) else None) }) rest) [
         | false ↦ refl
         | true ↦
@@ -208,7 +208,7 @@ module _ (config : ModuleSettings) (instance : ℕ) (held : List ℕ) where
   made_one s hop rest hops up e =
       elim (reads_from instance hop.opening.down) as (λ b.
       outputs_of config (record s { hops = counted_by s.hops hop.opening.triad (if b then (if hop.opening.class == 1 then Some (next_count hop.produced) else None) else None) }) rest ≡ made_all instance held hops
-      → outputs_of config s ((if b then datum_effects held hop else []) ++ rest) ≡ map (made_of held) (cond b (hop ∷ filter (takes_from instance) hops) (filter (takes_from instance) hops))) [
+      → outputs_of config s ((if b then made_effects held hop else []) ++ rest) ≡ map (made_of held) (cond b (hop ∷ filter (takes_from instance) hops) (filter (takes_from instance) hops))) [
         | false ↦ λ f. f
         | true ↦
             elim (hop.opening.class == 1) as (λ c.

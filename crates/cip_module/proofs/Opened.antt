@@ -18,9 +18,9 @@ use Rattle.cip_module.specs.declared.node.Node.{Node}
 use Rattle.cip_module.specs.declared.rows.OpenRefusal.TheVariants.{ConnectionTypeNotSupported, RpiOfZero, TriadInUse}
 use Rattle.cip_module.specs.Effects.{applied}
 use Rattle.cip_module.specs.Keys.{leading_mismatch}
-use Rattle.cip_module.specs.Node.{state_of_node}
+use Rattle.cip_module.specs.Code.Node.{state_of_node}
 use Rattle.cip_module.specs.OpenRows.{OpenRow, Refuses, OpenAnswer, Fails, open_answer, open_row, opening_with, ids_on, is_supported, is_direction, key_row}
-use Rattle.cip_module.specs.Ready.{IsReady, CanSpend}
+use Rattle.cip_module.specs.Code.Ready.{IsReady, CanSpend}
 use Rattle.cip_module.specs.State.{State, is_spent}
 use Rattle.cip_module.specs.Statuses.{open_status}
 use Rattle.cip_module.specs.Table.{opener, with_spending}

@@ -24,12 +24,12 @@ use Rattle.cip_target.specs.Ends.{EndRow, NotAnApplicationPath, NoSuchInstanceOr
 use Rattle.cip_target.specs.declared.link.EndLink.{EndLink}
 use Rattle.cip_base.specs.declared.timing.Status.{Status}
 use Rattle.cip_module.specs.OpenRows.{Refuses, Accepted, writes_to, is_consumed, accepted_row, room_row, here_row, open_answer, Fails, EndsHere}
-use Rattle.cip_module.specs.declared.rows.OpenRefusal.TheVariants.{NotAnApplicationPath as NoApplication, NoRoomOrIdLeft}
+use Rattle.cip_module.specs.declared.rows.OpenRefusal.TheVariants.{NotAnApplicationPath as NoApplication, NoRoomToEndHere}
 use Rattle.cip_module.specs.Statuses.{extended}
 use Rattle.cip_module.specs.State.{State}
 use Rattle.cip_hops.specs.declared.opening.HopUp.{HopUp}
 use Rattle.cip_hops.specs.Sides.{up_is_link}
-use Rattle.cip_module.specs.Fit.{writes_of, AreOwned}
+use Rattle.cip_module.specs.Code.Fit.{writes_of, AreOwned}
 
 abbrev pub writes_it : ℕ → Hop → Bool
 writes_it i hop = writes_to i hop.opening.down
@@ -141,10 +141,10 @@ module _ (s : State) (up : HopUp) (o : OpenRecord) (link : EndLink) (asked : up_
       ∙ ap open_answer (fits_here s.hops o (end_row s.assemblies (is_consumed s.hops) o) link fits)
 
   pub here_full : is_some (refusal s.hops o.fields.triad 1) ≡ true → open_answer (here_row s up o) ≡ Fails (extended 0x0113)
-  here_full full = here_is ∙ ap (λ b. open_answer (cond b (Refuses NoRoomOrIdLeft) (Accepted link))) full
+  here_full full = here_is ∙ ap (λ b. open_answer (cond b (Refuses NoRoomToEndHere) (Accepted link))) full
 
   pub here_ends : is_some (refusal s.hops o.fields.triad 1) ≡ false → open_answer (here_row s up o) ≡ EndsHere link
-  here_ends room = here_is ∙ ap (λ b. open_answer (cond b (Refuses NoRoomOrIdLeft) (Accepted link))) room
+  here_ends room = here_is ∙ ap (λ b. open_answer (cond b (Refuses NoRoomToEndHere) (Accepted link))) room
 
 pub here_refused : (s : State) (up : HopUp) (o : OpenRecord) (status : Status) → up_is_link up ≡ true → end_gives (end_row s.assemblies (is_consumed s.hops) o) ≡ Err status
     → open_answer (here_row s up o) ≡ Fails status

@@ -14,7 +14,7 @@ use Rattle.cip_module.specs.declared.rows.CommandRow.TheVariants.{OpUsed, WrongS
 use Rattle.cip_module.specs.OpenRows.{open_row}
 use Rattle.cip_module.specs.Effects.{Effect, Passes, datum_by, passed}
 use Rattle.cip_module.specs.Table.{with_spending, refused_effects, open_effects, open_command_effects, enter_effects}
-use Rattle.cip_module.specs.Does.{Does}
+use Rattle.cip_module.specs.Code.Does.{Does}
 use Rattle.cip_module.specs.State.{State, is_spent}
 
 -- a datum of the connection that was found

@@ -44,12 +44,13 @@ pub answers_asker : (config : ModuleSettings) (s : State) (event : Event) (up : 
 answers_asker config s event up asked (Itself came) = came_asker config event up _ came
 answers_asker config s event up asked (Embedded u asks whole read) = send_asker config s event up u asks
 
-pub forwards_asker : (config : ModuleSettings) (s : State) (event : Event) (up : UpSide) (port : ℕ) (address bytes : List ℕ) (wait words : ℕ) (kind : Kind)
-    → ForwardsAs config s event up port address bytes wait words kind → asker event ≡ Some up
-forwards_asker config s event up port address bytes wait words UnconnectedKind h = send_asker config s event up h.u h.asks
-forwards_asker config s event up port address bytes wait words (OpeningKind triad) h = absurd h
-forwards_asker config s event up port address bytes wait words (ClosingKind triad) h = close_asker config s event up h.closes.sender h.c h.closes.asks
+pub forwards_asker : (config : ModuleSettings) (s : State) (event : Event) (sending : Sending) (kind : Kind)
+    → ForwardsAs config s event sending kind → asker event ≡ Some sending.up
+forwards_asker config s event sending UnconnectedKind h = send_asker config s event sending.up h.u h.asks
+forwards_asker config s event sending (OpeningKind triad) h = absurd h
+forwards_asker config s event sending (ClosingKind triad) h =
+    close_asker config s event sending.up h.closes.sender h.c h.closes.asks
 
-pub begins_asker : (config : ModuleSettings) (s : State) (event : Event) (up : UpSide) (port : ℕ) (address bytes : List ℕ) (wait words : ℕ) (opening : Opening)
-    → BeginsAs config s event up port address bytes wait words opening → asker event ≡ Some up
-begins_asker config s event up port address bytes wait words opening h = open_asker config s event up h.o h.asks
+pub begins_asker : (config : ModuleSettings) (s : State) (event : Event) (sending : Sending) (opening : Opening)
+    → BeginsAs config s event sending opening → asker event ≡ Some sending.up
+begins_asker config s event sending opening h = open_asker config s event sending.up h.o h.asks

@@ -21,7 +21,7 @@ use Rattle.cip_module.specs.Links.{wait_refusal}
 use Rattle.cip_module.specs.CloseRows.{CloseRow, Refuses, Forwarded, ClosedAtTheEnd, is_sender, wait_row, below_row, down_row, triad_row, close_row}
 use Rattle.cip_module.specs.RequestRows.{ForwardClose}
 use Rattle.cip_module.specs.State.{State}
-use Rattle.cip_module.specs.Table.{close_on, close_effects, closing_effects}
+use Rattle.cip_module.specs.Table.{close_on, close_effects, close_data_effects}
 use Rattle.cip_module.specs.Tells.{Came, AsksClose, Closes, CloseUnread, CloseFails, CloseEnds, AllTell}
 use Rattle.cip_module.proofs.TellsEach.{past, past_not}
 use Rattle.cip_module.proofs.TellsSends.{wait_ticks}
@@ -115,11 +115,11 @@ pub closes_tell : (config : ModuleSettings) (s : State) (event : Event) (up send
 closes_tell config s event up sender c asks = close_told config s event up sender c (close_row s sender c) asks refl
 
 read_told : (config : ModuleSettings) (s : State) (event : Event) (up : UpSide) (asked : List ℕ) (r : Result Close DataFault) → Came config event up (ForwardClose asked)
-    → close_at asked ≡ r → AllTell config s event (closing_effects s up asked r)
+    → close_at asked ≡ r → AllTell config s event (close_data_effects s up asked r)
 read_told config s event up asked (Err fault) came e = (CloseUnread asked fault came e refl, tt)
 read_told config s event up asked (Ok c) came e = closes_tell config s event up up c (inl (record { asked = asked; came = came; read = e; sender_is = refl }))
 
 -- a Forward_Close in a frame
 pub close_tells : (config : ModuleSettings) (s : State) (event : Event) (up : UpSide) (asked : List ℕ) → Came config event up (ForwardClose asked)
-    → AllTell config s event (closing_effects s up asked (close_at asked))
+    → AllTell config s event (close_data_effects s up asked (close_at asked))
 close_tells config s event up asked came = read_told config s event up asked (close_at asked) came refl

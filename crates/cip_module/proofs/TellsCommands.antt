@@ -30,7 +30,7 @@ use Rattle.cip_module.specs.declared.rows.CommandRow.{CommandRow}
 use Rattle.cip_module.specs.declared.rows.CommandRow.TheVariants as rows
 use Rattle.cip_module.specs.CommandRows.{op_row, close_command_row, send_row, set_row}
 use Rattle.cip_module.specs.Effects.{Effect, Counts, Passes, Writes}
-use Rattle.cip_module.specs.Produced.{reads_from, datum_effects, held_effects, each_effects, next_count}
+use Rattle.cip_module.specs.Produced.{reads_from, made_effects, held_effects, each_effects, next_count}
 use Rattle.cip_module.specs.State.{State, is_spent}
 use Rattle.cip_module.specs.Table.{refused_effects, sent, open_of, close_of, send_effects, open_command_effects, closed_effects, close_command_effects, entered_effects, enter_effects, produce_effects, command_effects}
 use Rattle.cip_module.specs.Tells.{Entered, Made, CountedDown, Set, Produced, AllTell}
@@ -126,7 +126,7 @@ module _ (config : ModuleSettings) (s : State) (instance : ℕ) (held : List ℕ
   held_tells : (key : Triad) (x : Held) → map.get s.hops.held key ≡ Some x → AllTell config s (events.Command (commands.Produce instance)) (held_effects instance held x)
   held_tells key (IsOpening o ids) at = tt
   held_tells key (IsOpen hop) at =
-      elim (reads_from instance hop.opening.down) as (λ b. reads_from instance hop.opening.down ≡ b → AllTell config s (events.Command (commands.Produce instance)) (cond b (datum_effects held hop) [])) [
+      elim (reads_from instance hop.opening.down) as (λ b. reads_from instance hop.opening.down ≡ b → AllTell config s (events.Command (commands.Produce instance)) (cond b (made_effects held hop) [])) [
         | true ↦ λ t. datum_tells config s (events.Command (commands.Produce instance)) held hop (eqb hop.opening.class 1)
             (record { instance = instance; key = key; event_is = refl; holds = holds; stands = ap (option_and_then as_hop) at; reads = t }) refl
         | false ↦ λ t. tt

@@ -16,13 +16,13 @@ use Rattle.cip_module.specs.declared.config.ModuleSettings.{ModuleSettings}
 use Rattle.cip_module.specs.declared.event.Event.{Event}
 use Rattle.cip_module.specs.declared.rows.KeyPart.{KeyPart}
 use Rattle.cip_module.specs.declared.rows.LinkRefusal.{LinkRefusal}
-use Rattle.cip_module.specs.declared.rows.OpenRefusal.TheVariants.{ConnectionTypeNotSupported, RpiOfZero, TriadInUse, NotSentOn, NoRoomOrIdsLeft, NotAnApplicationPath, NoRoomOrIdLeft}
+use Rattle.cip_module.specs.declared.rows.OpenRefusal.TheVariants.{ConnectionTypeNotSupported, RpiOfZero, TriadInUse, NotSentOn, NoRoomToPassOn, NotAnApplicationPath, NoRoomToEndHere}
 use Rattle.cip_module.specs.Keys.{leading_mismatch}
 use Rattle.cip_module.specs.Links.{link_refusal}
 use Rattle.cip_module.specs.OpenRows.{OpenRow, Refuses, Forwarded, Accepted, room_row, accepted_row, here_row, ids_on, on_row, hop_row, key_row, is_supported, open_row, is_consumed}
 use Rattle.cip_module.specs.RequestRows.{ForwardOpen}
 use Rattle.cip_module.specs.State.{State}
-use Rattle.cip_module.specs.Table.{opener, open_effects, asked_effects}
+use Rattle.cip_module.specs.Table.{opener, open_effects, open_data_effects}
 use Rattle.cip_module.specs.Tells.{Came, AsksOpen, LeadsOn, OpenUnread, OpenFails, OpenEnds, AllTell}
 use Rattle.cip_module.proofs.TellsEach.{past, past_not, none_is}
 use Rattle.cip_module.proofs.TellsSends.{link_ticks}
@@ -46,7 +46,7 @@ past_all config s up o row e type rpi triad =
 
 room_forwards : (h : Hops) (o : Open) (link : EndLink) (port : ℕ) (address rest : List ℕ) → room_row h o link ≡ Forwarded port address rest → ⊥
 room_forwards h o link port address rest e =
-    let tested = past (is_some (refusal h o.fields.triad 1)) (Refuses NoRoomOrIdLeft) (Accepted link) (Forwarded port address rest) e (λ other. cc) in
+    let tested = past (is_some (refusal h o.fields.triad 1)) (Refuses NoRoomToEndHere) (Accepted link) (Forwarded port address rest) e (λ other. cc) in
     let other : Accepted link ≡ Forwarded port address rest = tested.1 in
     cc
 
@@ -72,7 +72,7 @@ on_forwards : (config : ModuleSettings) (s : State) (up : HopUp) (o : Open) (hop
     → hop_of o.path ≡ Some hop → link_refusal config s.pendings o.fields.timing hop.port hop.address ≡ x → on_row s up o hop x ≡ Forwarded port address rest → GoesOn config s up o port address rest
 on_forwards config s up o hop (Some fault) port address rest first r e = absurd (let other : Refuses (NotSentOn fault) ≡ Forwarded port address rest = e in cc)
 on_forwards config s up o hop None port address rest first r e =
-    let tested = past (is_some (refusal s.hops o.fields.triad (ids_on up))) (Refuses NoRoomOrIdsLeft) (Forwarded hop.port hop.address hop.rest) (Forwarded port address rest) e (λ other. cc) in
+    let tested = past (is_some (refusal s.hops o.fields.triad (ids_on up))) (Refuses NoRoomToPassOn) (Forwarded hop.port hop.address hop.rest) (Forwarded port address rest) e (λ other. cc) in
     let same : Forwarded hop.port hop.address hop.rest ≡ Forwarded port address rest = tested.1 in
     let port_is : port ≡ hop.port = cc in
     let address_is : address ≡ hop.address = cc in (
@@ -117,7 +117,7 @@ ends_accept h o ends.ClassNotSupported link e = absurd (cc)
 ends_accept h o ends.SizeMismatch link e = absurd (cc)
 ends_accept h o ends.OutputOwned link e = absurd (cc)
 ends_accept h o (ends.Fits own) link e =
-    let tested = past (is_some (refusal h o.fields.triad 1)) (Refuses NoRoomOrIdLeft) (Accepted own) (Accepted link) e (λ other. cc) in
+    let tested = past (is_some (refusal h o.fields.triad 1)) (Refuses NoRoomToEndHere) (Accepted own) (Accepted link) e (λ other. cc) in
     let both : Accepted own ≡ Accepted link = tested.1 in
     let same : own ≡ link = cc in
     (ap (λ (l : EndLink). Fits l) same, none_is (refusal h o.fields.triad 1) tested.0)
@@ -132,7 +132,7 @@ here_accepts s up o link e =
 on_accepts : (s : State) (up : HopUp) (o : Open) (hop : HopAt) (x : Option LinkRefusal) (link : EndLink) → on_row s up o hop x ≡ Accepted link → ⊥
 on_accepts s up o hop (Some fault) link e = cc
 on_accepts s up o hop None link e =
-    let tested = past (is_some (refusal s.hops o.fields.triad (ids_on up))) (Refuses NoRoomOrIdsLeft) (Forwarded hop.port hop.address hop.rest) (Accepted link) e (λ other. cc) in
+    let tested = past (is_some (refusal s.hops o.fields.triad (ids_on up))) (Refuses NoRoomToPassOn) (Forwarded hop.port hop.address hop.rest) (Accepted link) e (λ other. cc) in
     let other : Forwarded hop.port hop.address hop.rest ≡ Accepted link = tested.1 in
     cc
 
@@ -169,11 +169,11 @@ pub opens_tell : (config : ModuleSettings) (s : State) (event : Event) (up : UpS
 opens_tell config s event up o asks = open_told config s event up o (open_row config s (opener up o.fields.to_id) o) asks refl
 
 read_told : (config : ModuleSettings) (s : State) (event : Event) (up : UpSide) (asked : List ℕ) (r : Result Open DataFault) → Came config event up (ForwardOpen asked)
-    → open_at asked ≡ r → AllTell config s event (asked_effects config s up asked r)
+    → open_at asked ≡ r → AllTell config s event (open_data_effects config s up asked r)
 read_told config s event up asked (Err fault) came e = (OpenUnread asked fault came e refl, tt)
 read_told config s event up asked (Ok o) came e = opens_tell config s event up o (inl (record { asked = asked; came = came; read = e }))
 
 -- a Forward_Open in a frame
 pub open_tells : (config : ModuleSettings) (s : State) (event : Event) (up : UpSide) (asked : List ℕ) → Came config event up (ForwardOpen asked)
-    → AllTell config s event (asked_effects config s up asked (open_at asked))
+    → AllTell config s event (open_data_effects config s up asked (open_at asked))
 open_tells config s event up asked came = read_told config s event up asked (open_at asked) came refl

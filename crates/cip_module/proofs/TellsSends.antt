@@ -26,7 +26,7 @@ use Rattle.cip_module.specs.Links.{link_refusal, port_refusal, wait_refusal}
 use Rattle.cip_module.specs.UnconnectedRows.{UnconnectedRow, Refuses, AnsweredHere, Forwarded, link_row, hop_row, key_row, route_row, embedded_row, unconnected_row}
 use Rattle.cip_module.specs.RequestRows.{UnconnectedSend}
 use Rattle.cip_module.specs.State.{State}
-use Rattle.cip_module.specs.Table.{unconnected_effects, data_effects}
+use Rattle.cip_module.specs.Table.{unconnected_effects, unconnected_data_effects}
 use Rattle.cip_module.specs.Tells.{Came, AsksSend, LeadsOn, SendUnread, SendFails, Embedded, AllTell}
 use Rattle.cip_module.proofs.TellsEach.{past, first_of}
 
@@ -135,11 +135,11 @@ pub sends_tell : (config : ModuleSettings) (s : State) (event : Event) (up : UpS
 sends_tell config s event up u asks = send_told config s event up u (unconnected_row config s.pendings u) asks refl
 
 read_told : (config : ModuleSettings) (s : State) (event : Event) (up : UpSide) (asked : List ℕ) (r : Result Unconnected UnconnectedFault) → Came config event up (UnconnectedSend asked)
-    → unconnected_at asked ≡ r → AllTell config s event (data_effects config s up asked r)
+    → unconnected_at asked ≡ r → AllTell config s event (unconnected_data_effects config s up asked r)
 read_told config s event up asked (Err fault) came e = (SendUnread asked fault came e refl, tt)
 read_told config s event up asked (Ok u) came e = sends_tell config s event up u (inl (record { asked = asked; came = came; read = e }))
 
 -- an Unconnected_Send in a frame
 pub send_tells : (config : ModuleSettings) (s : State) (event : Event) (up : UpSide) (asked : List ℕ) → Came config event up (UnconnectedSend asked)
-    → AllTell config s event (data_effects config s up asked (unconnected_at asked))
+    → AllTell config s event (unconnected_data_effects config s up asked (unconnected_at asked))
 send_tells config s event up asked came = read_told config s event up asked (unconnected_at asked) came refl

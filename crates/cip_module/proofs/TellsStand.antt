@@ -12,7 +12,7 @@ use Rattle.cip_hops.proofs.Named.{is_open}
 use Rattle.cip_module.specs.declared.event.Event.{Event}
 use Rattle.cip_module.specs.State.{State}
 use Rattle.cip_module.specs.Table.{other}
-use Rattle.cip_module.specs.Tells.{DatumCame, Produced, RenewsAs, LapsesAs, PassesAs, PassedOn, Entered, Made, CountsAs, CountedUp, CountedDown}
+use Rattle.cip_module.specs.Tells.{DatumCame, Produced, RenewsAs, HopTimesOutAs, PassesAs, PassedOn, Entered, Made, CountsAs, CountedUp, CountedDown}
 use Rattle.cip_module.proofs.Found.{found_held}
 
 held_stands : (h : Hops) (key : Triad) (hop : Hop) (x : Option Held) → IsWithin h → map.get h.held key ≡ x → option_and_then as_hop x ≡ Some hop → hop.opening.triad ≡ key
@@ -36,8 +36,8 @@ under s triad hop is stands = ap (hop_at s.hops) is ∙ stands
 pub renews_stands : (s : State) (event : Event) (triad : Triad) (side : Side) → IsWithin s.hops → (h : RenewsAs s event triad side) → hop_at s.hops triad ≡ Some h.hop
 renews_stands s event triad side w h = under s triad h.hop h.triad_is (came_stands s event side h.hop h.bytes w h.came)
 
-pub lapses_stands : (s : State) (event : Event) (triad : Triad) → IsWithin s.hops → (h : LapsesAs s event triad) → hop_at s.hops triad ≡ Some h.hop
-lapses_stands s event triad w h = under s triad h.hop h.triad_is (own_stands s.hops h.key h.hop w h.stands)
+pub hop_times_out_stands : (s : State) (event : Event) (triad : Triad) → IsWithin s.hops → (h : HopTimesOutAs s event triad) → hop_at s.hops triad ≡ Some h.hop
+hop_times_out_stands s event triad w h = under s triad h.hop h.triad_is (own_stands s.hops h.key h.hop w h.stands)
 
 -- the connection of a datum that goes on, and of one that is counted
 abbrev pub passing : (s : State) (event : Event) (triad : Triad) (side : Side) (bytes : List ℕ) → PassesAs s event triad side bytes → Hop

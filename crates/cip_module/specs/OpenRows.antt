@@ -22,7 +22,7 @@ use Rattle.cip_module.specs.declared.config.ModuleSettings.{ModuleSettings}
 use Rattle.cip_module.specs.declared.rows.KeyPart.{KeyPart}
 use Rattle.cip_module.specs.declared.rows.LinkRefusal.{LinkRefusal}
 use Rattle.cip_module.specs.declared.rows.OpenRefusal.{OpenRefusal}
-use Rattle.cip_module.specs.declared.rows.OpenRefusal.TheVariants.{CutInTheFixedPart, CutInThePath, BytesAfterThePath, PathUnreadable, ConnectionTypeNotSupported, RpiOfZero, TriadInUse, KeyMismatch, NotSentOn, NoRoomOrIdsLeft, NotAnApplicationPath, NoSuchInstanceOrConfiguration, TransportClassNotSupported, SizeMismatch, OutputOwned, NoRoomOrIdLeft}
+use Rattle.cip_module.specs.declared.rows.OpenRefusal.TheVariants.{CutInTheFixedPart, CutInThePath, BytesAfterThePath, PathUnreadable, ConnectionTypeNotSupported, RpiOfZero, TriadInUse, KeyMismatch, NotSentOn, NoRoomToPassOn, NotAnApplicationPath, NoSuchInstanceOrConfiguration, TransportClassNotSupported, SizeMismatch, OutputOwned, NoRoomToEndHere}
 use Rattle.cip_base.specs.declared.timing.Status.{Status}
 use Rattle.cip_module.specs.Statuses.{open_status}
 use Rattle.cip_module.specs.Links.{link_refusal}
@@ -45,7 +45,7 @@ abbrev pub is_consumed : Hops → ℕ → Bool
 is_consumed h instance = is_some (first_hop (λ hop. writes_to instance hop.opening.down) h)
 
 abbrev pub room_row : Hops → Open → EndLink → OpenRow
-room_row h o link = if is_some (refusal h o.fields.triad 1) then Refuses NoRoomOrIdLeft else Accepted link
+room_row h o link = if is_some (refusal h o.fields.triad 1) then Refuses NoRoomToEndHere else Accepted link
 
 abbrev pub accepted_row : Hops → Open → EndRow → OpenRow
 accepted_row h o ends.NotAnApplicationPath = Refuses NotAnApplicationPath
@@ -70,7 +70,7 @@ ids_on up = if up_is_link up then 2 else 1
 abbrev pub on_row : State → HopUp → Open → HopAt → Option LinkRefusal → OpenRow
 on_row s up o hop (Some fault) = Refuses (NotSentOn fault)
 on_row s up o hop None =
-    if is_some (refusal s.hops o.fields.triad (ids_on up)) then Refuses NoRoomOrIdsLeft else Forwarded hop.port hop.address hop.rest
+    if is_some (refusal s.hops o.fields.triad (ids_on up)) then Refuses NoRoomToPassOn else Forwarded hop.port hop.address hop.rest
 
 abbrev pub hop_row : ModuleSettings → State → HopUp → Open → Option HopAt → OpenRow
 hop_row config s up o None = here_row s up o

@@ -24,15 +24,15 @@ abbrev pub next_count : Option ℕ → ℕ
 next_count last = option_map_or (λ n. (n + 1) % 65536) last 1
 
 -- one datum: in class 1 it begins with its sequence count
-abbrev pub datum_effects : List ℕ → Hop → List Effect
-datum_effects held hop =
+abbrev pub made_effects : List ℕ → Hop → List Effect
+made_effects held hop =
     if hop.opening.class == 1
     then Counts hop.opening.triad Down (next_count hop.produced) ∷ Passes hop.opening.triad Up (word (next_count hop.produced) ++ held) ∷ []
     else Passes hop.opening.triad Up held ∷ []
 
 abbrev pub held_effects : ℕ → List ℕ → Held → List Effect
 held_effects instance held (IsOpening o ids) = []
-held_effects instance held (Open hop) = if reads_from instance hop.opening.down then datum_effects held hop else []
+held_effects instance held (Open hop) = if reads_from instance hop.opening.down then made_effects held hop else []
 
 abbrev pub each_effects : ℕ → List ℕ → List (Triad × Held) → List Effect
 each_effects instance held [] = []

@@ -19,8 +19,8 @@ pub record State : Type 0 where
   -- the ops that were used, rising
   pub ops : List ℕ
 
-abbrev pub opening : ModuleSettings → State
-opening config = record {
+abbrev pub initial_state : ModuleSettings → State
+initial_state config = record {
   now = config.clock;
   pendings = record { room = config.pending_room; next = config.first_number; entries = empty };
   hops = record { room = config.hop_room; next = config.first_id; held = empty };

@@ -60,13 +60,13 @@ open_status opens.RpiOfZero = extended 0x0111
 open_status opens.TriadInUse = extended 0x0100
 open_status (opens.KeyMismatch part) = key_status part
 open_status (opens.NotSentOn refusal) = link_status refusal
-open_status opens.NoRoomOrIdsLeft = extended 0x0113
+open_status opens.NoRoomToPassOn = extended 0x0113
 open_status opens.NotAnApplicationPath = extended 0x0315
 open_status opens.NoSuchInstanceOrConfiguration = extended 0x0117
 open_status opens.TransportClassNotSupported = extended 0x0103
 open_status opens.SizeMismatch = extended 0x0109
 open_status opens.OutputOwned = extended 0x0106
-open_status opens.NoRoomOrIdLeft = extended 0x0113
+open_status opens.NoRoomToEndHere = extended 0x0113
 
 abbrev pub close_status : CloseRefusal → Status
 close_status closes.CutInTheFixedPart = plain 0x13

@@ -1,6 +1,7 @@
 -- The routing table: what a module does at each event.
 use Rattle.std.specs.Prelude.{ℕ, ◌+◌, ◌-◌, ◌*◌, ◌/◌, ◌%◌, ◌^◌, ◌==◌, nat_lt, if◌then◌else◌, Option, Some, None, Result, Ok, Err, List, [], ◌∷◌, ◌++◌, map, length}
 use Rattle.std.specs.FinMap as finite
+use Rattle.cip_base.specs.Words.{Octets, LinkAddress, PortIdentifier}
 use Rattle.cip_base.specs.declared.timing.Timing.{Timing}
 use Rattle.cip_base.specs.declared.triad.Triad.{Triad}
 use Rattle.cip_clock.specs.Times.{ticks_us}
@@ -59,7 +60,7 @@ use Rattle.cip_module.specs.OpenRows.{OpenRow, OpenAnswer, open_row, open_answer
 use Rattle.cip_module.specs.OpenRows as opens
 use Rattle.cip_module.specs.CloseRows.{CloseRow, CloseAnswer, close_row, close_answer}
 use Rattle.cip_module.specs.CloseRows as closes
-use Rattle.cip_module.specs.Effects.{Effect, Spends, Replies, Answers, Forwards, Begins, Accepts, Finishes, Takes, Expires, Removes, Lapses, Renews, Passes, Counts, Writes, Refuses, Drops, Advances, applied, outputs_of}
+use Rattle.cip_module.specs.Effects.{Sending, Effect, Spends, Replies, Answers, Forwards, Begins, Accepts, Finishes, Takes, PendingTimesOut, Removes, HopTimesOut, Renews, Passes, Counts, Writes, RefusesCommand, Drops, Advances, applied, outputs_of}
 use Rattle.cip_module.specs.Produced.{produced_effects}
 use Rattle.cip_module.specs.State.{State}
 
@@ -87,16 +88,26 @@ message_on u rest =
     if length rest == 0 then u.request
     else unconnected_bytes (record { timing = one_less u.timing; request = u.request; route = rest })
 
+abbrev pub send_below : UpSide → Unconnected → PortIdentifier → LinkAddress → Octets → Sending
+send_below up u port address rest = record {
+  up = up;
+  port = port;
+  address = address;
+  bytes = message_on u rest;
+  wait = wait_of u.timing;
+  words = words_of u.route;
+}
+
 abbrev pub unconnected_effects : UpSide → Unconnected → UnconnectedRow → List Effect
 unconnected_effects up u (unconnected.Refuses refusal) = Replies up (unconnected_failure refusal (Some (words_of u.route))) ∷ []
 unconnected_effects up u (unconnected.AnsweredHere embedded) = Answers up embedded ∷ []
 unconnected_effects up u (unconnected.Forwarded port address rest) =
-    Forwards up port address (message_on u rest) (wait_of u.timing) (words_of u.route) UnconnectedKind ∷ []
+    Forwards (send_below up u port address rest) UnconnectedKind ∷ []
 
 -- an Unconnected_Send by its data: where it cannot be read, the words are the route size byte, if it is there
-abbrev pub data_effects : ModuleSettings → State → UpSide → List ℕ → Result Unconnected UnconnectedFault → List Effect
-data_effects config s up sent (Err fault) = Replies up (unconnected_failure (unconnected.unread_row sent fault) (route_words_of sent)) ∷ []
-data_effects config s up sent (Ok u) = unconnected_effects up u (unconnected_row config s.pendings u)
+abbrev pub unconnected_data_effects : ModuleSettings → State → UpSide → List ℕ → Result Unconnected UnconnectedFault → List Effect
+unconnected_data_effects config s up sent (Err fault) = Replies up (unconnected_failure (unconnected.unread_row sent fault) (route_words_of sent)) ∷ []
+unconnected_data_effects config s up sent (Ok u) = unconnected_effects up u (unconnected_row config s.pendings u)
 
 -- ---- open
 
@@ -120,11 +131,20 @@ accepted_bytes o up_id = open_reply_bytes (record {
   reply = [];
 })
 
+abbrev pub open_below : State → UpSide → Open → PortIdentifier → LinkAddress → Octets → Sending
+open_below s up o port address rest = record {
+  up = up;
+  port = port;
+  address = address;
+  bytes = open_on o s.hops.next rest;
+  wait = wait_of o.fields.timing;
+  words = words_of o.path;
+}
+
 abbrev pub open_answered : State → UpSide → Open → OpenAnswer → List Effect
 open_answered s up o (opens.Fails status) = Replies up (open_failed status o.fields.triad (words_of o.path)) ∷ []
 open_answered s up o (opens.GoesOn port address rest) =
-    Begins up port address (open_on o s.hops.next rest) (wait_of o.fields.timing) (words_of o.path)
-    (opening_with (opener up o.fields.to_id) (DownLink port address) o) ∷ []
+    Begins (open_below s up o port address rest) (opening_with (opener up o.fields.to_id) (DownLink port address) o) ∷ []
 open_answered s up o (opens.EndsHere link) =
     Accepts (opening_with (opener up o.fields.to_id) (end_down link) o) o link ∷ Replies up (accepted_bytes o s.hops.next) ∷ []
 
@@ -137,9 +157,9 @@ unread_open_bytes d fault =
     if nat_lt (length d) 36 then open_failure_bytes (open_status (opens.unread_row d fault)) failed_unread
     else open_failure_bytes (open_status (opens.unread_row d fault)) (record { triad = open_triad_of d; words = open_words_of d })
 
-abbrev pub asked_effects : ModuleSettings → State → UpSide → List ℕ → Result Open DataFault → List Effect
-asked_effects config s up d (Err fault) = Replies up (unread_open_bytes d fault) ∷ []
-asked_effects config s up d (Ok o) = open_effects s up o (open_row config s (opener up o.fields.to_id) o)
+abbrev pub open_data_effects : ModuleSettings → State → UpSide → List ℕ → Result Open DataFault → List Effect
+open_data_effects config s up d (Err fault) = Replies up (unread_open_bytes d fault) ∷ []
+open_data_effects config s up d (Ok o) = open_effects s up o (open_row config s (opener up o.fields.to_id) o)
 
 -- ---- close
 
@@ -147,11 +167,21 @@ asked_effects config s up d (Ok o) = open_effects s up o (open_row config s (ope
 abbrev pub close_on : Close → List ℕ → List ℕ
 close_on c rest = close_bytes (record { fields = record c.fields { timing = one_less c.fields.timing }; path = rest })
 
+abbrev pub close_below : UpSide → Close → PortIdentifier → LinkAddress → Octets → Sending
+close_below up c port address rest = record {
+  up = up;
+  port = port;
+  address = address;
+  bytes = close_on c rest;
+  wait = wait_of c.fields.timing;
+  words = words_of c.path;
+}
+
 abbrev pub close_answered : UpSide → Close → CloseAnswer → List Effect
 close_answered up c (closes.Fails status) = Replies up (close_failed status c.fields.triad (words_of c.path)) ∷ []
 close_answered up c (closes.GoesOn port address rest) =
     Removes c.fields.triad
-    ∷ Forwards up port address (close_on c rest) (wait_of c.fields.timing) (words_of c.path) (ClosingKind c.fields.triad) ∷ []
+    ∷ Forwards (close_below up c port address rest) (ClosingKind c.fields.triad) ∷ []
 close_answered up c closes.EndsHere =
     Removes c.fields.triad ∷ Replies up (close_reply_bytes (record { triad = c.fields.triad; reply = [] })) ∷ []
 
@@ -163,9 +193,9 @@ unread_close_bytes d fault =
     if nat_lt (length d) 12 then close_failure_bytes (close_status (closes.unread_row d fault)) failed_unread
     else close_failure_bytes (close_status (closes.unread_row d fault)) (record { triad = close_triad_of d; words = close_words_of d })
 
-abbrev pub closing_effects : State → UpSide → List ℕ → Result Close DataFault → List Effect
-closing_effects s up d (Err fault) = Replies up (unread_close_bytes d fault) ∷ []
-closing_effects s up d (Ok c) = close_effects up c (close_row s up c)
+abbrev pub close_data_effects : State → UpSide → List ℕ → Result Close DataFault → List Effect
+close_data_effects s up d (Err fault) = Replies up (unread_close_bytes d fault) ∷ []
+close_data_effects s up d (Ok c) = close_effects up c (close_row s up c)
 
 -- ---- any request
 
@@ -173,9 +203,9 @@ abbrev pub request_effects : ModuleSettings → State → UpSide → RequestRow 
 request_effects config s up request.UnknownPortOrTooLong = Drops dropped.Malformed ∷ []
 request_effects config s up request.NotARequest = Drops dropped.Malformed ∷ []
 request_effects config s up (request.Refuses service refusal) = Replies up (failure_bytes service (request_status refusal)) ∷ []
-request_effects config s up (request.UnconnectedSend d) = data_effects config s up d (unconnected_at d)
-request_effects config s up (request.ForwardOpen d) = asked_effects config s up d (open_at d)
-request_effects config s up (request.ForwardClose d) = closing_effects s up d (close_at d)
+request_effects config s up (request.UnconnectedSend d) = unconnected_data_effects config s up d (unconnected_at d)
+request_effects config s up (request.ForwardOpen d) = open_data_effects config s up d (open_at d)
+request_effects config s up (request.ForwardClose d) = close_data_effects s up d (close_at d)
 request_effects config s up (request.Target asked) = Answers up asked ∷ []
 
 -- ---- replies
@@ -216,11 +246,11 @@ frame_effects config s port from (bodies.Data id bytes) = datum_effects bytes (d
 
 -- A command that is taken is handled as the request that it spells, with its op as the up side.
 abbrev pub refused_effects : CommandRow → List Effect → List Effect
-refused_effects command.OpUsed es = Refuses refused.OpUsed ∷ []
-refused_effects command.NotOpen es = Refuses refused.NotOpen ∷ []
-refused_effects command.ReservedService es = Refuses refused.ReservedService ∷ []
-refused_effects command.WrongSize es = Refuses refused.WrongSize ∷ []
-refused_effects command.NoInstance es = Refuses refused.NoInstance ∷ []
+refused_effects command.OpUsed es = RefusesCommand refused.OpUsed ∷ []
+refused_effects command.NotOpen es = RefusesCommand refused.NotOpen ∷ []
+refused_effects command.ReservedService es = RefusesCommand refused.ReservedService ∷ []
+refused_effects command.WrongSize es = RefusesCommand refused.WrongSize ∷ []
+refused_effects command.NoInstance es = RefusesCommand refused.NoInstance ∷ []
 refused_effects command.Taken es = es
 
 -- the Unconnected_Send that a Send spells
@@ -292,23 +322,23 @@ command_effects config s (commands.Produce instance) = produce_effects s instanc
 
 -- ---- ticks
 
-abbrev pub expires : ℕ × Entry → Effect
-expires waiting = Expires waiting.0
+abbrev pub pending_times_out : ℕ × Entry → Effect
+pending_times_out waiting = PendingTimesOut waiting.0
 
-abbrev pub lapses : Hop → Effect
-lapses hop = Lapses hop.opening.triad
+abbrev pub hop_times_out : Hop → Effect
+hop_times_out hop = HopTimesOut hop.opening.triad
 
 -- the due pendings, in rising number
-abbrev pub expiries : ℕ → Pendings → List Effect
-expiries now p = map expires (due now p)
+abbrev pub pending_time_outs : ℕ → Pendings → List Effect
+pending_time_outs now p = map pending_times_out (due now p)
 
 -- then the due connections, in rising triad
-abbrev pub lapsings : ℕ → Hops → List Effect
-lapsings now h = map lapses (hops.due now h)
+abbrev pub hop_time_outs : ℕ → Hops → List Effect
+hop_time_outs now h = map hop_times_out (hops.due now h)
 
 -- the clock is raised first
 abbrev pub tick_effects : State → ℕ → List Effect
-tick_effects s by = Advances by ∷ expiries (s.now + by) s.pendings ++ lapsings (s.now + by) s.hops
+tick_effects s by = Advances by ∷ pending_time_outs (s.now + by) s.pendings ++ hop_time_outs (s.now + by) s.hops
 
 -- ---- the step
 

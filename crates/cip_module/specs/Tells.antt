@@ -62,7 +62,7 @@ use Rattle.cip_module.specs.CloseRows as closes
 use Rattle.cip_module.specs.ReplyRows.{PassedUp, kind_row}
 use Rattle.cip_module.specs.DataRows.{is_last}
 use Rattle.cip_module.specs.Produced.{reads_from, next_count, datum_bytes}
-use Rattle.cip_module.specs.Effects.{Effect, Spends, Replies, Answers, Forwards, Begins, Accepts, Finishes, Takes, Expires, Removes, Lapses, Renews, Passes, Counts, Writes, Refuses, Drops, Advances}
+use Rattle.cip_module.specs.Effects.{Sending, Effect, Spends, Replies, Answers, Forwards, Begins, Accepts, Finishes, Takes, PendingTimesOut, Removes, HopTimesOut, Renews, Passes, Counts, Writes, RefusesCommand, Drops, Advances}
 use Rattle.cip_module.specs.Table.{wait_of, words_of, message_on, opener, open_on, accepted_bytes, close_on, unread_open_bytes, unread_close_bytes, sent, open_of, close_of, other}
 use Rattle.cip_module.specs.State.{State, is_spent}
 
@@ -201,17 +201,17 @@ pub data AnswersAs (config : ModuleSettings) (s : State) (event : Event) (up : U
   Embedded : (u : Unconnected) → AsksSend config s event up u → u.route ≡ [] → request_at u.request ≡ Ok asked → AnswersAs config s event up asked
 
 -- an Unconnected_Send goes on
-pub record SendsOn (config : ModuleSettings) (s : State) (event : Event) (up : UpSide) (port : ℕ) (address bytes : List ℕ) (wait words : ℕ) : Type 0 where
+pub record SendsOn (config : ModuleSettings) (s : State) (event : Event) (sending : Sending) : Type 0 where
   pub u : Unconnected
   pub rest : List ℕ
   pub embedded : Request
-  pub asks : AsksSend config s event up u
-  pub meets : unconnected_row config s.pendings u ≡ unconnected.Forwarded port address rest
+  pub asks : AsksSend config s event sending.up u
+  pub meets : unconnected_row config s.pendings u ≡ unconnected.Forwarded sending.port sending.address rest
   pub read : request_at u.request ≡ Ok embedded
-  pub leads : LeadsOn config s u.timing u.route port address rest
-  pub bytes_are : bytes ≡ message_on u rest
-  pub wait_is : wait ≡ wait_of u.timing
-  pub words_are : words ≡ words_of u.route
+  pub leads : LeadsOn config s u.timing u.route sending.port sending.address rest
+  pub bytes_are : sending.bytes ≡ message_on u rest
+  pub wait_is : sending.wait ≡ wait_of u.timing
+  pub words_are : sending.words ≡ words_of u.route
 
 -- an open connection is asked to close, by its up side
 pub record Closes (config : ModuleSettings) (s : State) (event : Event) (up : UpSide) (c : Close) (hop : Hop) : Type 0 where
@@ -221,39 +221,39 @@ pub record Closes (config : ModuleSettings) (s : State) (event : Event) (up : Up
   pub own : is_sender sender hop.opening.up ≡ true
 
 -- a Forward_Close goes on by the link below, to which its path leads
-pub record ClosesOn (config : ModuleSettings) (s : State) (event : Event) (up : UpSide) (port : ℕ) (address bytes : List ℕ) (wait words : ℕ) (triad : Triad) : Type 0 where
+pub record ClosesOn (config : ModuleSettings) (s : State) (event : Event) (sending : Sending) (triad : Triad) : Type 0 where
   pub c : Close
   pub hop : Hop
   pub next : HopAt
-  pub closes : Closes config s event up c hop
+  pub closes : Closes config s event sending.up c hop
   pub triad_is : triad ≡ c.fields.triad
-  pub below : hop.opening.down ≡ DownLink port address
+  pub below : hop.opening.down ≡ DownLink sending.port sending.address
   pub first : hop_of c.path ≡ Some next
-  pub port_is : port ≡ next.port
-  pub address_is : address ≡ next.address
-  pub bytes_are : bytes ≡ close_on c next.rest
-  pub wait_is : wait ≡ wait_of c.fields.timing
-  pub words_are : words ≡ words_of c.path
+  pub port_is : sending.port ≡ next.port
+  pub address_is : sending.address ≡ next.address
+  pub bytes_are : sending.bytes ≡ close_on c next.rest
+  pub wait_is : sending.wait ≡ wait_of c.fields.timing
+  pub words_are : sending.words ≡ words_of c.path
   pub ticks : 2 ≤ c.fields.timing.ticks
 
-abbrev pub ForwardsAs : ModuleSettings → State → Event → UpSide → ℕ → List ℕ → List ℕ → ℕ → ℕ → Kind → Type 0
-ForwardsAs config s event up port address bytes wait words UnconnectedKind = SendsOn config s event up port address bytes wait words
-ForwardsAs config s event up port address bytes wait words (OpeningKind triad) = ⊥
-ForwardsAs config s event up port address bytes wait words (ClosingKind triad) = ClosesOn config s event up port address bytes wait words triad
+abbrev pub ForwardsAs : ModuleSettings → State → Event → Sending → Kind → Type 0
+ForwardsAs config s event sending UnconnectedKind = SendsOn config s event sending
+ForwardsAs config s event sending (OpeningKind triad) = ⊥
+ForwardsAs config s event sending (ClosingKind triad) = ClosesOn config s event sending triad
 
 -- a Forward_Open goes on: its triad is free, and there is room and an id for it
-pub record BeginsAs (config : ModuleSettings) (s : State) (event : Event) (up : UpSide) (port : ℕ) (address bytes : List ℕ) (wait words : ℕ) (opening : Opening) : Type 0 where
+pub record BeginsAs (config : ModuleSettings) (s : State) (event : Event) (sending : Sending) (opening : Opening) : Type 0 where
   pub o : Open
   pub rest : List ℕ
-  pub asks : AsksOpen config s event up o
-  pub meets : open_row config s (opener up o.fields.to_id) o ≡ opens.Forwarded port address rest
-  pub leads : LeadsOn config s o.fields.timing o.path port address rest
+  pub asks : AsksOpen config s event sending.up o
+  pub meets : open_row config s (opener sending.up o.fields.to_id) o ≡ opens.Forwarded sending.port sending.address rest
+  pub leads : LeadsOn config s o.fields.timing o.path sending.port sending.address rest
   pub free : map.get s.hops.held o.fields.triad ≡ None
-  pub room : refusal s.hops o.fields.triad (ids_on (opener up o.fields.to_id)) ≡ None
-  pub bytes_are : bytes ≡ open_on o s.hops.next rest
-  pub wait_is : wait ≡ wait_of o.fields.timing
-  pub words_are : words ≡ words_of o.path
-  pub opening_is : opening ≡ opening_with (opener up o.fields.to_id) (DownLink port address) o
+  pub room : refusal s.hops o.fields.triad (ids_on (opener sending.up o.fields.to_id)) ≡ None
+  pub bytes_are : sending.bytes ≡ open_on o s.hops.next rest
+  pub wait_is : sending.wait ≡ wait_of o.fields.timing
+  pub words_are : sending.words ≡ words_of o.path
+  pub opening_is : opening ≡ opening_with (opener sending.up o.fields.to_id) (DownLink sending.port sending.address) o
 
 -- a Forward_Open ends here: it came in a frame, its path names no hop, and it fits the target
 pub record AcceptsAs (config : ModuleSettings) (s : State) (event : Event) (opening : Opening) (o : Open) (link : EndLink) : Type 0 where
@@ -302,7 +302,7 @@ pub record TakesAs (s : State) (event : Event) (number : ℕ) (bytes : List ℕ)
 
 -- ---- ticks
 
-pub record ExpiresAs (s : State) (event : Event) (number : ℕ) : Type 0 where
+pub record PendingTimesOutAs (s : State) (event : Event) (number : ℕ) : Type 0 where
   pub ms : ℕ
   pub entry : Entry
   pub event_is : event ≡ events.Tick ms
@@ -310,7 +310,7 @@ pub record ExpiresAs (s : State) (event : Event) (number : ℕ) : Type 0 where
   pub due : entry.deadline ≤ s.now + 1000 * ms
 
 -- the connection stands under its triad in every table, which `key` leaves open
-pub record LapsesAs (s : State) (event : Event) (triad : Triad) : Type 0 where
+pub record HopTimesOutAs (s : State) (event : Event) (triad : Triad) : Type 0 where
   pub ms : ℕ
   pub key : Triad
   pub hop : Hop
@@ -407,19 +407,19 @@ abbrev pub Tells : ModuleSettings → State → Event → Effect → Type 0
 Tells config s event (Spends op) = SpendsAs s event op
 Tells config s event (Replies up bytes) = RepliesAs config s event up bytes
 Tells config s event (Answers up asked) = AnswersAs config s event up asked
-Tells config s event (Forwards up port address bytes wait words kind) = ForwardsAs config s event up port address bytes wait words kind
-Tells config s event (Begins up port address bytes wait words opening) = BeginsAs config s event up port address bytes wait words opening
+Tells config s event (Forwards sending kind) = ForwardsAs config s event sending kind
+Tells config s event (Begins sending opening) = BeginsAs config s event sending opening
 Tells config s event (Accepts opening o link) = AcceptsAs config s event opening o link
 Tells config s event (Finishes number triad bytes success) = FinishesAs s event number triad bytes success
 Tells config s event (Takes number bytes) = TakesAs s event number bytes
-Tells config s event (Expires number) = ExpiresAs s event number
+Tells config s event (PendingTimesOut number) = PendingTimesOutAs s event number
 Tells config s event (Removes triad) = RemovesAs config s event triad
-Tells config s event (Lapses triad) = LapsesAs s event triad
+Tells config s event (HopTimesOut triad) = HopTimesOutAs s event triad
 Tells config s event (Renews triad side) = RenewsAs s event triad side
 Tells config s event (Passes triad side bytes) = PassesAs s event triad side bytes
 Tells config s event (Counts triad side count) = CountsAs s event triad side count
 Tells config s event (Writes instance bytes) = WritesAs s event instance bytes
-Tells config s event (Refuses fault) = IsCommand event
+Tells config s event (RefusesCommand fault) = IsCommand event
 Tells config s event (Drops reason) = IsFrame event
 Tells config s event (Advances by) = AdvancesAs s event by
 

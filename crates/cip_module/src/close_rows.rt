@@ -5,8 +5,8 @@ ghost use Rattle.cip_segment.specs.Reading.{hop_of};
 ghost use Rattle.cip_close.specs.Reading.{close_of};
 ghost use Rattle.cip_hops.specs.declared.hop.Hop.{Hop as Hops};
 ghost use Rattle.cip_module.specs.CloseRows.{is_sender, below_row, down_row, triad_row, close_row, close_answer, unread_row};
-ghost use Rattle.cip_module.specs.Decisions.{close_told, CloseLeads};
-ghost use Rattle.cip_module.specs.Node.{state_of_node};
+ghost use Rattle.cip_module.specs.Code.Decisions.{close_told, CloseLeads};
+ghost use Rattle.cip_module.specs.Code.Node.{state_of_node};
 
 use crate::links::wait_refusal;
 use crate::node::Node;

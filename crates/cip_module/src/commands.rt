@@ -9,8 +9,8 @@ ghost use Rattle.cip_module.specs.State.{is_spent};
 ghost use Rattle.cip_module.specs.CommandRows.{CanSend, send_row};
 ghost use Rattle.cip_module.specs.UnconnectedRows.{unconnected_row};
 ghost use Rattle.cip_module.specs.Table.{open_of, send_effects, open_command_effects, close_command_effects, enter_effects, set_effects, unconnected_effects, with_spending};
-ghost use Rattle.cip_module.specs.Node.{state_of_node};
-ghost use Rattle.cip_module.specs.Does.{Does};
+ghost use Rattle.cip_module.specs.Code.Node.{state_of_node};
+ghost use Rattle.cip_module.specs.Code.Does.{Handles, HasDone};
 
 use crate::datum::datum_down;
 use crate::event::{OpenParams, Output, Refused};
@@ -63,9 +63,7 @@ impl Node {
     fn take(&mut self, op: u32, view: UnconnectedView<'_>) -> Result<Output, NoMemory>
         requires absent { is_spent op self.old.ops.ops.items ≡ false }
         requires fits { length (unconnected_bytes (unconnected_of view)) ≤ 1400 }
-        ensures done { IfOk result (λ o. Does self.old.config (state_of_node self.old) (with_spending (Local op) (unconnected_effects (Local op) (unconnected_of view.entry) (unconnected_row self.old.config self.old.pendings (unconnected_of view.entry)))) (state_of_node self.new) (o ∷ [])) }
-        ensures same { OnErr result (state_of_node self.new ≡ state_of_node self.old) }
-        ensures config { self.new.config ≡ self.old.config }
+        ensures { Handles self.old self.new (with_spending (Local op) (unconnected_effects (Local op) (unconnected_of view.entry) (unconnected_row self.old.config self.old.pendings (unconnected_of view.entry)))) result }
     {
         self.ops.reserve()?;
         let output = self.unconnected(UpSide::Local { op }, view)?;
@@ -75,9 +73,7 @@ impl Node {
 
     /// A Send: handled as the Unconnected_Send that it spells, with its op as the up side.
     pub(crate) fn send(&mut self, op: u32, view: UnconnectedView<'_>) -> Result<Output, NoMemory>
-        ensures done { IfOk result (λ o. Does self.old.config (state_of_node self.old) (send_effects self.old.config (state_of_node self.old) op (unconnected_of view.entry) (send_row (state_of_node self.old) op (unconnected_of view.entry))) (state_of_node self.new) (o ∷ [])) }
-        ensures same { OnErr result (state_of_node self.new ≡ state_of_node self.old) }
-        ensures config { self.new.config ≡ self.old.config }
+        ensures { Handles self.old self.new (send_effects self.old.config (state_of_node self.old) op (unconnected_of view.entry) (send_row (state_of_node self.old) op (unconnected_of view.entry))) result }
     {
         match self.send_row(op, view) {
             CommandRow::OpUsed => Ok(Output::Refused(Refused::OpUsed)),
@@ -120,9 +116,7 @@ impl Node {
         path: &Path,
         params: &OpenParams,
     ) -> Result<Output, NoMemory>
-        ensures done { IfOk result (λ o. Does self.old.config (state_of_node self.old) (open_command_effects self.old.config (state_of_node self.old) op (open_of self.old.config.identity timing path.now params.now)) (state_of_node self.new) (o ∷ [])) }
-        ensures same { OnErr result (state_of_node self.new ≡ state_of_node self.old) }
-        ensures config { self.new.config ≡ self.old.config }
+        ensures { Handles self.old self.new (open_command_effects self.old.config (state_of_node self.old) op (open_of self.old.config.identity timing path.now params.now)) result }
     {
         if self.ops.contains(op) {
             return Ok(Output::Refused(Refused::OpUsed));
@@ -143,9 +137,7 @@ impl Node {
         of: u32,
         timing: Timing,
     ) -> Result<Output, NoMemory>
-        ensures done { IfOk result (λ o. Does self.old.config (state_of_node self.old) (close_command_effects (state_of_node self.old) op of timing) (state_of_node self.new) (o ∷ [])) }
-        ensures same { OnErr result (state_of_node self.new ≡ state_of_node self.old) }
-        ensures config { self.new.config ≡ self.old.config }
+        ensures { Handles self.old self.new (close_command_effects (state_of_node self.old) op of timing) result }
     {
         if self.ops.contains(op) {
             return Ok(Output::Refused(Refused::OpUsed));
@@ -169,7 +161,7 @@ impl Node {
 
     /// An Enter: a datum by the connection that the op opened.
     pub(crate) fn enter(&self, of: u32, bytes: &Bytes) -> Result<Output, NoMemory>
-        ensures { IfOk result (λ o. Does self.now.config (state_of_node self.now) (enter_effects bytes.now (hop_by_op self.now.hops of)) (state_of_node self.now) (o ∷ [])) }
+        ensures { Handles self.now self.now (enter_effects bytes.now (hop_by_op self.now.hops of)) result }
     {
         let _last = self.hops.last();
         let Some(hop) = self.hops.by_op(of) else {
@@ -184,8 +176,7 @@ impl Node {
 
     /// A Set of an assembly, which has no output where it is taken.
     pub(crate) fn set(&mut self, instance: u32, bytes: &Bytes) -> Option<Output>
-        ensures done { Does self.old.config (state_of_node self.old) (set_effects (state_of_node self.old) instance bytes.now) (state_of_node self.new) (option_to_list result) }
-        ensures config { self.new.config ≡ self.old.config }
+        ensures { HasDone self.old self.new (set_effects (state_of_node self.old) instance bytes.now) (option_to_list result) }
     {
         let Some(assembly) = self.target.assembly(instance) else {
             return Some(Output::Refused(Refused::NoInstance));

@@ -6,9 +6,9 @@ ghost use Rattle.cip_hops.specs.Hops.{hop_by_up, hop_by_down};
 ghost use Rattle.cip_module.specs.Effects.{Passes, Renews, applied, datum_up, datum_down};
 ghost use Rattle.cip_module.specs.DataRows.{end_row, below_row, from_up_row, from_down_row, id_row, data_row};
 ghost use Rattle.cip_module.specs.Table.{datum_effects};
-ghost use Rattle.cip_module.specs.Plans.{writing_row, written_effects, plan_effects, PassesBy, PassesOn};
-ghost use Rattle.cip_module.specs.Does.{Does};
-ghost use Rattle.cip_module.specs.Node.{state_of_node};
+ghost use Rattle.cip_module.specs.Code.Plans.{writing_row, written_effects, plan_effects, PassesBy, PassesOn};
+ghost use Rattle.cip_module.specs.Code.Does.{Handles};
+ghost use Rattle.cip_module.specs.Code.Node.{state_of_node};
 
 use crate::event::{Body, Dropped, Output};
 use crate::node::Node;
@@ -237,9 +237,7 @@ impl Node {
         id: u32,
         bytes: &Bytes,
     ) -> Result<Output, NoMemory>
-        ensures done { IfOk result (λ o. Does self.old.config (state_of_node self.old) (datum_effects bytes.now (data_row self.old.config (state_of_node self.old) port from.now id bytes.now)) (state_of_node self.new) (o ∷ [])) }
-        ensures same { OnErr result (state_of_node self.new ≡ state_of_node self.old) }
-        ensures config { self.new.config ≡ self.old.config }
+        ensures { Handles self.old self.new (datum_effects bytes.now (data_row self.old.config (state_of_node self.old) port from.now id bytes.now)) result }
     {
         match self.datum_plan(port, from, id, bytes)? {
             DatumPlan::Drops(reason) => Ok(Output::Dropped(reason)),

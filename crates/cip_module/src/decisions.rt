@@ -6,7 +6,7 @@ ghost use Rattle.cip_message.specs.Reading.{request_of};
 ghost use Rattle.cip_unconnected.specs.Reading.{unconnected_of};
 ghost use Rattle.cip_module.specs.Keys.{leading_mismatch};
 ghost use Rattle.cip_module.specs.UnconnectedRows.{hop_row, key_row, unconnected_row};
-ghost use Rattle.cip_module.specs.Decisions.{row_of, Leads};
+ghost use Rattle.cip_module.specs.Code.Decisions.{row_of, Leads};
 
 use crate::config::ModuleSettings;
 use crate::keys::leading_mismatch;

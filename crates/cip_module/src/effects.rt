@@ -11,10 +11,10 @@ ghost use Rattle.cip_hops.specs.Sides.{down_is_link, up_is_link};
 ghost use Rattle.cip_target.specs.Ends.{row_at, Fits, configured};
 ghost use Rattle.cip_module.specs.State.{is_spent, spent_with};
 ghost use Rattle.cip_module.specs.Effects.{applied, given_up_of, given_up, removed, renewed, recounted, overwritten};
-ghost use Rattle.cip_module.specs.Fit.{given_back};
-ghost use Rattle.cip_module.specs.Node.{state_of_node};
+ghost use Rattle.cip_module.specs.Code.Fit.{given_back};
+ghost use Rattle.cip_module.specs.Code.Node.{state_of_node};
 ghost use Rattle.cip_module.specs.Table.{with_spending};
-ghost use Rattle.cip_module.specs.Ready.{IsReady, CanSpend};
+ghost use Rattle.cip_module.specs.Code.Ready.{IsReady, CanSpend};
 ghost use Rattle.cip_module.specs.OpenRows.{end_down};
 ghost use Rattle.cip_module.specs.Paired.{IsOther};
 
@@ -217,12 +217,12 @@ impl Node {
     ghost use Rattle.std.specs.Option.{option_to_list};
     ghost use Rattle.cip_pending.specs.Pendings.{first_due, due};
     ghost use Rattle.cip_hops.specs.Hops as hop;
-    ghost use Rattle.cip_module.specs.Tick.{expiry, lapse};
+    ghost use Rattle.cip_module.specs.Code.Ticks.{pending_time_out, hop_time_out};
 
     /// One due pending goes, that of the least number; whether there was one.
-    pub(crate) fn expires_one(&mut self, now: u64) -> bool
+    pub(crate) fn time_out_pending(&mut self, now: u64) -> bool
         ensures value { result ≡ is_some (first_due now self.old.pendings) }
-        ensures after { state_of_node self.new ≡ applied self.old.config (state_of_node self.old) (expiry (first_due now self.old.pendings)) }
+        ensures after { state_of_node self.new ≡ applied self.old.config (state_of_node self.old) (pending_time_out (first_due now self.old.pendings)) }
         ensures due { due now self.old.pendings ≡ option_to_list (first_due now self.old.pendings) ++ due now self.new.pendings }
         ensures hops { hop.due now self.new.hops ≡ hop.due now self.old.hops }
         ensures config { self.new.config ≡ self.old.config }
@@ -237,9 +237,9 @@ impl Node {
     }
 
     /// One due connection goes, that of the least triad; whether there was one.
-    pub(crate) fn lapses_one(&mut self, now: u64) -> bool
+    pub(crate) fn time_out_hop(&mut self, now: u64) -> bool
         ensures value { result ≡ is_some (hop.first_due now self.old.hops) }
-        ensures after { state_of_node self.new ≡ applied self.old.config (state_of_node self.old) (lapse (hop.first_due now self.old.hops)) }
+        ensures after { state_of_node self.new ≡ applied self.old.config (state_of_node self.old) (hop_time_out (hop.first_due now self.old.hops)) }
         ensures due { hop.due now self.old.hops ≡ option_to_list (hop.first_due now self.old.hops) ++ hop.due now self.new.hops }
         ensures config { self.new.config ≡ self.old.config }
     {

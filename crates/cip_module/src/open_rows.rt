@@ -7,8 +7,8 @@ ghost use Rattle.cip_target.specs.Ends.{end_row, end_gives, row_at, Fits};
 ghost use Rattle.cip_hops.specs.Sides.{up_is_link};
 ghost use Rattle.cip_module.specs.Keys.{leading_mismatch};
 ghost use Rattle.cip_module.specs.OpenRows.{is_direction, is_supported, ids_on, is_consumed, here_row, hop_row, key_row, open_row, open_answer, unread_row};
-ghost use Rattle.cip_module.specs.Decisions.{open_told, OpenLeads};
-ghost use Rattle.cip_module.specs.Node.{state_of_node};
+ghost use Rattle.cip_module.specs.Code.Decisions.{open_told, OpenLeads};
+ghost use Rattle.cip_module.specs.Code.Node.{state_of_node};
 
 use crate::keys::leading_mismatch;
 use crate::links::link_refusal;
@@ -94,7 +94,7 @@ impl Node {
             Err(status) => return OpenDecision::Refuses(status),
         };
         if self.hops.can_begin(&view.fields.triad, 1).is_some() {
-            return OpenDecision::Refuses(OpenRefusal::NoRoomOrIdLeft.status());
+            return OpenDecision::Refuses(OpenRefusal::NoRoomToEndHere.status());
         }
         OpenDecision::Accepted(link)
     }
@@ -129,7 +129,7 @@ impl Node {
                     .can_begin(&view.fields.triad, ids_on(up))
                     .is_some()
                 {
-                    return OpenDecision::Refuses(OpenRefusal::NoRoomOrIdsLeft.status());
+                    return OpenDecision::Refuses(OpenRefusal::NoRoomToPassOn.status());
                 }
                 OpenDecision::Forwarded {
                     port,

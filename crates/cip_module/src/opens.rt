@@ -9,10 +9,10 @@ ghost use Rattle.cip_hops.specs.Sides.{up_is_link};
 ghost use Rattle.cip_target.specs.Ends.{row_at, Fits};
 ghost use Rattle.cip_module.specs.Answers.{open_failed};
 ghost use Rattle.cip_module.specs.OpenRows.{open_row, opening_with, ids_on, end_down, Fails, GoesOn, EndsHere};
-ghost use Rattle.cip_module.specs.Table.{opener, open_on, accepted_bytes, open_answered, open_effects, asked_effects, unread_open_bytes, with_spending};
-ghost use Rattle.cip_module.specs.Ready.{CanSpend, IsAsked};
-ghost use Rattle.cip_module.specs.Does.{Does};
-ghost use Rattle.cip_module.specs.Node.{state_of_node};
+ghost use Rattle.cip_module.specs.Table.{opener, open_on, accepted_bytes, open_answered, open_effects, open_data_effects, unread_open_bytes, with_spending};
+ghost use Rattle.cip_module.specs.Code.Ready.{CanSpend, IsAsked};
+ghost use Rattle.cip_module.specs.Code.Does.{Handles};
+ghost use Rattle.cip_module.specs.Code.Node.{state_of_node};
 
 use crate::event::{Body, Output};
 use crate::messages::reply_to;
@@ -143,9 +143,7 @@ impl Node {
         requires ticks { 2 ≤ view.now.fields.timing.ticks }
         requires pending { refusal self.old.pendings ≡ None }
         requires room { hops.refusal self.old.hops view.now.fields.triad (ids_on (opener up view.now.fields.to_id)) ≡ None }
-        ensures done { IfOk result (λ o. Does self.old.config (state_of_node self.old) (with_spending up (open_answered (state_of_node self.old) up (open_of view.now) (GoesOn port address rest.entry.bytes.now))) (state_of_node self.new) (o ∷ [])) }
-        ensures same { OnErr result (state_of_node self.new ≡ state_of_node self.old) }
-        ensures config { self.new.config ≡ self.old.config }
+        ensures { Handles self.old self.new (with_spending up (open_answered (state_of_node self.old) up (open_of view.now) (GoesOn port address rest.entry.bytes.now))) result }
     {
         let bytes = open_on(self.alloc, view, self.hops.last() + 1, rest)?;
         let path = view.path.to_path(self.alloc)?;
@@ -185,9 +183,7 @@ impl Node {
         requires link { up_is_link (opener up view.now.fields.to_id) ≡ true }
         requires room { hops.refusal self.old.hops view.now.fields.triad 1 ≡ None }
         requires fits { row_at self.old.target (open_of view.now) ≡ Fits link }
-        ensures done { IfOk result (λ o. Does self.old.config (state_of_node self.old) (with_spending up (open_answered (state_of_node self.old) up (open_of view.now) (EndsHere link))) (state_of_node self.new) (o ∷ [])) }
-        ensures same { OnErr result (state_of_node self.new ≡ state_of_node self.old) }
-        ensures config { self.new.config ≡ self.old.config }
+        ensures { Handles self.old self.new (with_spending up (open_answered (state_of_node self.old) up (open_of view.now) (EndsHere link))) result }
     {
         let bytes = accepted(self.alloc, &view.fields, self.hops.last() + 1)?;
         let path = view.path.to_path(self.alloc)?;
@@ -204,9 +200,7 @@ impl Node {
     /// A Forward_Open that was read.
     pub(crate) fn open(&mut self, up: UpSide, view: &OpenView<'_>) -> Result<Output, NoMemory>
         requires spend { CanSpend self.old up }
-        ensures done { IfOk result (λ o. Does self.old.config (state_of_node self.old) (with_spending up (open_effects (state_of_node self.old) up (open_of view.now) (open_row self.old.config (state_of_node self.old) (opener up view.now.fields.to_id) (open_of view.now)))) (state_of_node self.new) (o ∷ [])) }
-        ensures same { OnErr result (state_of_node self.new ≡ state_of_node self.old) }
-        ensures config { self.new.config ≡ self.old.config }
+        ensures { Handles self.old self.new (with_spending up (open_effects (state_of_node self.old) up (open_of view.now) (open_row self.old.config (state_of_node self.old) (opener up view.now.fields.to_id) (open_of view.now)))) result }
     {
         let asker = opener(&up, view.fields.to_id);
         match self.open_row(&asker, view) {
@@ -228,9 +222,7 @@ impl Node {
     /// A Forward_Open, by its data.
     pub(crate) fn forward_open(&mut self, up: UpSide, data_: &[u8]) -> Result<Output, NoMemory>
         requires { IsAsked up }
-        ensures done { IfOk result (λ o. Does self.old.config (state_of_node self.old) (asked_effects self.old.config (state_of_node self.old) up data_.now (open_at data_.now)) (state_of_node self.new) (o ∷ [])) }
-        ensures same { OnErr result (state_of_node self.new ≡ state_of_node self.old) }
-        ensures config { self.new.config ≡ self.old.config }
+        ensures { Handles self.old self.new (open_data_effects self.old.config (state_of_node self.old) up data_.now (open_at data_.now)) result }
     {
         match read_open(data_) {
             Ok(view) => self.open(up, &view),

@@ -1,8 +1,8 @@
 //! What an end sends of an assembly: a datum by each connection that takes its data from it, in rising triad.
 ghost use Rattle.std.specs.Prelude.{◌≡◌, ◌≤◌, length, IfOk, OnErr};
 ghost use Rattle.std.specs.FinMap as map;
-ghost use Rattle.cip_module.specs.Does.{Does};
-ghost use Rattle.cip_module.specs.Node.{state_of_node};
+ghost use Rattle.cip_module.specs.Code.Does.{DoesOrNot};
+ghost use Rattle.cip_module.specs.Code.Node.{state_of_node};
 ghost use Rattle.cip_module.specs.Produced.{reads_from, next_count, datum_bytes, made_all, count_for, counted_all, open_hops};
 ghost use Rattle.cip_module.specs.Table.{produce_effects};
 
@@ -97,9 +97,7 @@ impl Node {
 
     /// A Produce of an assembly.
     pub(crate) fn produce(&mut self, instance: u32) -> Result<Vec<Output>, NoMemory>
-        ensures done { IfOk result (λ o. Does self.old.config (state_of_node self.old) (produce_effects (state_of_node self.old) instance (map.get self.old.target.objects.assemblies instance)) (state_of_node self.new) o.items) }
-        ensures same { OnErr result (state_of_node self.new ≡ state_of_node self.old) }
-        ensures config { self.new.config ≡ self.old.config }
+        ensures { DoesOrNot (λ v. v.items) self.old self.new (produce_effects (state_of_node self.old) instance (map.get self.old.target.objects.assemblies instance)) result }
     {
         let Some(assembly) = self.target.assembly(instance) else {
             let mut outputs = Vec::with_capacity(self.alloc, 1)?;

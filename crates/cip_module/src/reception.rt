@@ -4,8 +4,8 @@ ghost use Rattle.std.specs.FinMap as map;
 ghost use Rattle.cip_open.specs.Reading.{success_of};
 ghost use Rattle.cip_module.specs.Effects.{succeeded};
 ghost use Rattle.cip_module.specs.ReplyRows.{reply_row};
-ghost use Rattle.cip_module.specs.Node.{state_of_node};
-ghost use Rattle.cip_module.specs.Does.{Does};
+ghost use Rattle.cip_module.specs.Code.Node.{state_of_node};
+ghost use Rattle.cip_module.specs.Code.Does.{Handles};
 ghost use Rattle.cip_module.specs.Table.{reply_effects};
 
 use crate::event::{Dropped, Output};
@@ -49,9 +49,7 @@ impl Node {
         number: u32,
         bytes: &Bytes,
     ) -> Result<Output, NoMemory>
-        ensures done { IfOk result (λ o. Does self.old.config (state_of_node self.old) (reply_effects number bytes.now (reply_row self.old.config (state_of_node self.old) port from.now number bytes.now)) (state_of_node self.new) (o ∷ [])) }
-        ensures same { OnErr result (state_of_node self.new ≡ state_of_node self.old) }
-        ensures config { self.new.config ≡ self.old.config }
+        ensures { Handles self.old self.new (reply_effects number bytes.now (reply_row self.old.config (state_of_node self.old) port from.now number bytes.now)) result }
     {
         if is_malformed(self.config.settings(), port, bytes.as_slice()) {
             return Ok(Output::Dropped(Dropped::Malformed));

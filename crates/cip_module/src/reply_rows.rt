@@ -9,7 +9,7 @@ ghost use Rattle.cip_close.specs.SuccessAt.{close_reply_at};
 ghost use Rattle.cip_module.specs.ReplyRows.{triad_eq, failure_row, opened_row, closed_row, opening_row, closing_row, kind_row, read_row};
 ghost use Rattle.cip_pending.specs.declared.entry.Kind.{Kind as Kinds};
 ghost use Rattle.cip_pending.specs.declared.entry.Kind.TheVariants as kinds;
-ghost use Rattle.cip_module.specs.Decisions.{reply_told, ReplyLeads};
+ghost use Rattle.cip_module.specs.Code.Decisions.{reply_told, ReplyLeads};
 
 use cip_base::Triad;
 use cip_close::read_close_reply;

@@ -7,10 +7,10 @@ ghost use Rattle.cip_pending.specs.declared.entry.UpSide.TheVariants.{Link};
 ghost use Rattle.cip_module.specs.RequestRows.{Refuses, is_malformed, manager_row, object_row, request_row};
 ghost use Rattle.cip_module.specs.UnconnectedRows.{unread_row};
 ghost use Rattle.cip_target.specs.Object.{object_of};
-ghost use Rattle.cip_module.specs.Node.{state_of_node};
-ghost use Rattle.cip_module.specs.Ready.{IsAsked};
-ghost use Rattle.cip_module.specs.Does.{Does};
-ghost use Rattle.cip_module.specs.Table.{data_effects, request_effects};
+ghost use Rattle.cip_module.specs.Code.Node.{state_of_node};
+ghost use Rattle.cip_module.specs.Code.Ready.{IsAsked};
+ghost use Rattle.cip_module.specs.Code.Does.{Handles};
+ghost use Rattle.cip_module.specs.Table.{unconnected_data_effects, request_effects};
 
 use crate::config::ModuleSettings;
 use crate::event::{Dropped, Output};
@@ -59,9 +59,7 @@ impl Node {
     // An Unconnected_Send, by its data.
     fn unconnected_send(&mut self, up: UpSide, data_: &[u8]) -> Result<Output, NoMemory>
         requires { length data_.now ≤ 1394 }
-        ensures done { IfOk result (λ o. Does self.old.config (state_of_node self.old) (data_effects self.old.config (state_of_node self.old) up data_.now (unconnected_at data_.now)) (state_of_node self.new) (o ∷ [])) }
-        ensures same { OnErr result (state_of_node self.new ≡ state_of_node self.old) }
-        ensures config { self.new.config ≡ self.old.config }
+        ensures { Handles self.old self.new (unconnected_data_effects self.old.config (state_of_node self.old) up data_.now (unconnected_at data_.now)) result }
     {
         match read_unconnected(data_) {
             Ok(view) => self.unconnected(up, view),
@@ -75,7 +73,7 @@ impl Node {
 
     fn refuse(&self, up: UpSide, service: u8, refusal: RequestRefusal) -> Result<Output, NoMemory>
         requires { service < 128 }
-        ensures { IfOk result (λ o. Does self.now.config (state_of_node self.now) (request_effects self.now.config (state_of_node self.now) up (Refuses service refusal)) (state_of_node self.now) (o ∷ [])) }
+        ensures { Handles self.now self.now (request_effects self.now.config (state_of_node self.now) up (Refuses service refusal)) result }
     {
         let bytes = failure(self.alloc, service, refusal.status())?;
         Ok(reply_to(up, bytes))
@@ -91,9 +89,7 @@ impl Node {
         requires asked { IsAsked up }
         requires service { request.service < 128 }
         requires fits { length request.data_.now ≤ 1394 }
-        ensures done { IfOk result (λ o. Does self.old.config (state_of_node self.old) (request_effects self.old.config (state_of_node self.old) up (manager_row (request_of request.entry) object)) (state_of_node self.new) (o ∷ [])) }
-        ensures same { OnErr result (state_of_node self.new ≡ state_of_node self.old) }
-        ensures config { self.new.config ≡ self.old.config }
+        ensures { Handles self.old self.new (request_effects self.old.config (state_of_node self.old) up (manager_row (request_of request.entry) object)) result }
     {
         if object.instance != 1 {
             return self.refuse(up, request.service, RequestRefusal::NoSuchManagerInstance);
@@ -115,9 +111,7 @@ impl Node {
         requires asked { IsAsked up }
         requires service { request.service < 128 }
         requires fits { 2 + length request.path.bytes.now + length request.data_.now ≤ 1400 }
-        ensures done { IfOk result (λ o. Does self.old.config (state_of_node self.old) (request_effects self.old.config (state_of_node self.old) up (object_row (request_of request.entry) (object_of (segments_of request.entry.path.bytes.now)))) (state_of_node self.new) (o ∷ [])) }
-        ensures same { OnErr result (state_of_node self.new ≡ state_of_node self.old) }
-        ensures config { self.new.config ≡ self.old.config }
+        ensures { Handles self.old self.new (request_effects self.old.config (state_of_node self.old) up (object_row (request_of request.entry) (object_of (segments_of request.entry.path.bytes.now)))) result }
     {
         let Some(object) = object_path(request.path) else {
             return self.refuse(up, request.service, RequestRefusal::PathFormNotSupported);
@@ -137,9 +131,7 @@ impl Node {
         number: u32,
         bytes: &[u8],
     ) -> Result<Output, NoMemory>
-        ensures done { IfOk result (λ o. Does self.old.config (state_of_node self.old) (request_effects self.old.config (state_of_node self.old) (Link port from.now number) (request_row self.old.config port bytes.now)) (state_of_node self.new) (o ∷ [])) }
-        ensures same { OnErr result (state_of_node self.new ≡ state_of_node self.old) }
-        ensures config { self.new.config ≡ self.old.config }
+        ensures { Handles self.old self.new (request_effects self.old.config (state_of_node self.old) (Link port from.now number) (request_row self.old.config port bytes.now)) result }
     {
         if is_malformed(self.config.settings(), port, bytes) {
             return Ok(Output::Dropped(Dropped::Malformed));

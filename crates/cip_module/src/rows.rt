@@ -48,13 +48,13 @@ pub enum OpenRefusal {
     TriadInUse,
     KeyMismatch(KeyPart),
     NotSentOn(LinkRefusal),
-    NoRoomOrIdsLeft,
+    NoRoomToPassOn,
     NotAnApplicationPath,
     NoSuchInstanceOrConfiguration,
     TransportClassNotSupported,
     SizeMismatch,
     OutputOwned,
-    NoRoomOrIdLeft,
+    NoRoomToEndHere,
 }
 
 /// The rows of a Forward_Close that answer with a failure.
@@ -181,13 +181,13 @@ impl OpenRefusal {
             OpenRefusal::TriadInUse => extended_status(0x0100),
             OpenRefusal::KeyMismatch(part) => part.status(),
             OpenRefusal::NotSentOn(refusal) => refusal.status(),
-            OpenRefusal::NoRoomOrIdsLeft => extended_status(0x0113),
+            OpenRefusal::NoRoomToPassOn => extended_status(0x0113),
             OpenRefusal::NotAnApplicationPath => extended_status(0x0315),
             OpenRefusal::NoSuchInstanceOrConfiguration => extended_status(0x0117),
             OpenRefusal::TransportClassNotSupported => extended_status(0x0103),
             OpenRefusal::SizeMismatch => extended_status(0x0109),
             OpenRefusal::OutputOwned => extended_status(0x0106),
-            OpenRefusal::NoRoomOrIdLeft => extended_status(0x0113),
+            OpenRefusal::NoRoomToEndHere => extended_status(0x0113),
         }
     }
 }

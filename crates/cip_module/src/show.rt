@@ -3,7 +3,7 @@ ghost use Rattle.std.specs.Prelude.{◌≡◌, map, filter_map, IfOk};
 ghost use Rattle.std.specs.FinMap as finite;
 ghost use Rattle.cip_hops.specs.Hops.{as_hop};
 ghost use Rattle.cip_module.specs.Views.{row_of, hop_row_of, assembly_row_of, ShowsState};
-ghost use Rattle.cip_module.specs.Node.{state_of_node};
+ghost use Rattle.cip_module.specs.Code.Node.{state_of_node};
 
 use crate::node::Node;
 use crate::tables::{

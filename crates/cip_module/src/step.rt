@@ -1,11 +1,11 @@
 //! The step of a module of any kind.
 ghost use Rattle.std.specs.Prelude.{◌≡◌, ◌∷◌, [], IfOk, OnErr};
 ghost use Rattle.std.specs.Option.{option_to_list};
-ghost use Rattle.cip_module.specs.Tick.{TickGives, IsNoTick, IsSingle};
+ghost use Rattle.cip_module.specs.Code.Ticks.{TickGives, IsNoTick, IsSingle};
 ghost use Rattle.cip_module.specs.Steps.{IsStep, IsStepFault};
 ghost use Rattle.cip_module.specs.Table.{command_effects, frame_effects};
-ghost use Rattle.cip_module.specs.Node.{state_of_node};
-ghost use Rattle.cip_module.specs.Does.{Does};
+ghost use Rattle.cip_module.specs.Code.Node.{state_of_node};
+ghost use Rattle.cip_module.specs.Code.Does.{DoesOrNot, Handles};
 
 use crate::contract::StepFault;
 use crate::event::{Body, Command, Event, Output};
@@ -25,13 +25,11 @@ impl Node {
     ghost use Rattle.std.specs.Prelude.{◌++◌};
     ghost use Rattle.cip_hops.specs.Hops.{due};
     ghost use Rattle.cip_module.specs.Effects.{applied};
-    ghost use Rattle.cip_module.specs.Table.{expiries, lapsings};
+    ghost use Rattle.cip_module.specs.Table.{pending_time_outs, hop_time_outs};
 
     // A frame.
     fn frame(&mut self, port: PortNumber, from: &Address, body: &Body) -> Result<Output, NoMemory>
-        ensures done { IfOk result (λ o. Does self.old.config (state_of_node self.old) (frame_effects self.old.config (state_of_node self.old) port from.now body.now) (state_of_node self.new) (o ∷ [])) }
-        ensures same { OnErr result (state_of_node self.new ≡ state_of_node self.old) }
-        ensures config { self.new.config ≡ self.old.config }
+        ensures { Handles self.old self.new (frame_effects self.old.config (state_of_node self.old) port from.now body.now) result }
     {
         match body {
             Body::Request { number, bytes } => self.request(port, from, *number, bytes.as_slice()),
@@ -43,9 +41,7 @@ impl Node {
     // A command that has one output at the most.
     fn command(&mut self, command: &Command) -> Result<Option<Output>, NoMemory>
         requires { IsSingle command.now }
-        ensures done { IfOk result (λ o. Does self.old.config (state_of_node self.old) (command_effects self.old.config (state_of_node self.old) command.now) (state_of_node self.new) (option_to_list o)) }
-        ensures same { OnErr result (state_of_node self.new ≡ state_of_node self.old) }
-        ensures config { self.new.config ≡ self.old.config }
+        ensures { DoesOrNot option_to_list self.old self.new (command_effects self.old.config (state_of_node self.old) command.now) result }
     {
         match command {
             Command::Open {
@@ -116,24 +112,24 @@ impl Node {
 
     // Takes out the pendings that are due.
     fn clear_pendings(&mut self, now: u64)
-        ensures after { state_of_node self.new ≡ applied self.old.config (state_of_node self.old) (expiries now self.old.pendings) }
+        ensures after { state_of_node self.new ≡ applied self.old.config (state_of_node self.old) (pending_time_outs now self.old.pendings) }
         ensures hops { due now self.new.hops ≡ due now self.old.hops }
         ensures config { self.new.config ≡ self.old.config }
     {
-        while self.expires_one(now) {}
+        while self.time_out_pending(now) {}
     }
 
     // Takes out the connections that are due.
     fn clear_hops(&mut self, now: u64)
-        ensures after { state_of_node self.new ≡ applied self.old.config (state_of_node self.old) (lapsings now self.old.hops) }
+        ensures after { state_of_node self.new ≡ applied self.old.config (state_of_node self.old) (hop_time_outs now self.old.hops) }
         ensures config { self.new.config ≡ self.old.config }
     {
-        while self.lapses_one(now) {}
+        while self.time_out_hop(now) {}
     }
 
     // Takes out all that are due.
     fn clear_due(&mut self, now: u64)
-        ensures after { state_of_node self.new ≡ applied self.old.config (state_of_node self.old) (expiries now self.old.pendings ++ lapsings now self.old.hops) }
+        ensures after { state_of_node self.new ≡ applied self.old.config (state_of_node self.old) (pending_time_outs now self.old.pendings ++ hop_time_outs now self.old.hops) }
         ensures config { self.new.config ≡ self.old.config }
     {
         self.clear_pendings(now);

@@ -2,7 +2,7 @@
 ghost use Rattle.std.specs.Prelude.{◌≡◌, ◌++◌, IfOk, OnOk};
 ghost use Rattle.cip_hops.specs.Hops.{is_past, is_late};
 ghost use Rattle.cip_module.specs.Effects.{late_bytes};
-ghost use Rattle.cip_module.specs.Tick.{shown, shown_all, lapsed_all};
+ghost use Rattle.cip_module.specs.Code.Ticks.{shown, pendings_timed_out, hops_timed_out};
 
 use crate::closes::close_failed;
 use crate::event::Output;
@@ -42,7 +42,7 @@ fn pendings_out(
     pendings: &PendingTable,
     now: u64,
 ) -> Result<(), NoMemory>
-    ensures { OnOk result (outputs.new.items ≡ outputs.old.items ++ shown_all now pendings.now) }
+    ensures { OnOk result (outputs.new.items ≡ outputs.old.items ++ pendings_timed_out now pendings.now) }
 {
     let mut after = None;
     while let Some((number, entry)) = pendings.next_after(after) {
@@ -72,7 +72,7 @@ fn is_late(hop: &Hop, now: u64) -> bool
 
 // The connections that were silent for too long, in rising triad.
 fn hops_out(outputs: &mut Vec<Output>, hops: &HopTable, now: u64) -> Result<(), NoMemory>
-    ensures { OnOk result (outputs.new.items ≡ outputs.old.items ++ lapsed_all now hops.now) }
+    ensures { OnOk result (outputs.new.items ≡ outputs.old.items ++ hops_timed_out now hops.now) }
 {
     let _last = hops.last();
     let mut after = None;
@@ -94,7 +94,7 @@ pub(crate) fn timed_out_all(
     hops: &HopTable,
     now: u64,
 ) -> Result<Vec<Output>, NoMemory>
-    ensures { IfOk result (λ v. v.items ≡ shown_all now pendings.now ++ lapsed_all now hops.now) }
+    ensures { IfOk result (λ v. v.items ≡ pendings_timed_out now pendings.now ++ hops_timed_out now hops.now) }
 {
     let mut outputs = Vec::new(alloc);
     pendings_out(&mut outputs, alloc, pendings, now)?;

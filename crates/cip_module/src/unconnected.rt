@@ -18,8 +18,8 @@ use cip_segment::PathView;
 use cip_unconnected::UnconnectedView;
 
 impl Node {
-    ghost use Rattle.cip_module.specs.Node.{state_of_node};
-    ghost use Rattle.cip_module.specs.Does.{Does};
+    ghost use Rattle.cip_module.specs.Code.Node.{state_of_node};
+    ghost use Rattle.cip_module.specs.Code.Does.{Handles};
     ghost use Rattle.cip_module.specs.Effects.{Answers};
 
     /// The target answers a request.
@@ -28,9 +28,7 @@ impl Node {
         up: UpSide,
         request: RequestView<'_>,
     ) -> Result<Output, NoMemory>
-        ensures done { IfOk result (λ o. Does self.old.config (state_of_node self.old) (Answers up (request_of request.entry) ∷ []) (state_of_node self.new) (o ∷ [])) }
-        ensures same { OnErr result (state_of_node self.new ≡ state_of_node self.old) }
-        ensures config { self.new.config ≡ self.old.config }
+        ensures handled { Handles self.old self.new (Answers up (request_of request.entry) ∷ []) result }
         ensures ops { self.new.ops ≡ self.old.ops }
     {
         let bytes = self.target.answer(self.alloc, request)?;
@@ -39,10 +37,10 @@ impl Node {
 }
 
 impl Node {
-    ghost use Rattle.cip_module.specs.Node.{state_of_node};
-    ghost use Rattle.cip_module.specs.Does.{Does};
+    ghost use Rattle.cip_module.specs.Code.Node.{state_of_node};
+    ghost use Rattle.cip_module.specs.Code.Does.{Handles};
     ghost use Rattle.cip_module.specs.Effects.{Forwards};
-    ghost use Rattle.cip_module.specs.Table.{message_on, wait_of, words_of};
+    ghost use Rattle.cip_module.specs.Table.{send_below};
 
     // Sends on an Unconnected_Send, under the next number.
     fn forward(
@@ -57,9 +55,7 @@ impl Node {
         requires shorter { length rest.bytes.now ≤ length view.route.bytes.now }
         requires ticks { 2 ≤ view.timing.ticks }
         requires room { refusal self.old.pendings ≡ None }
-        ensures done { IfOk result (λ o. Does self.old.config (state_of_node self.old) (Forwards up port address (message_on (unconnected_of view.entry) rest.entry.bytes.now) (wait_of view.entry.timing) (words_of view.entry.route.bytes.now) Kinds.Unconnected ∷ []) (state_of_node self.new) (o ∷ [])) }
-        ensures same { OnErr result (state_of_node self.new ≡ state_of_node self.old) }
-        ensures config { self.new.config ≡ self.old.config }
+        ensures handled { Handles self.old self.new (Forwards (send_below up (unconnected_of view.entry) port address rest.entry.bytes.now) Kinds.Unconnected ∷ []) result }
         ensures ops { self.new.ops ≡ self.old.ops }
     {
         let bytes = message_on(self.alloc, view, rest)?;
@@ -86,8 +82,8 @@ impl Node {
 }
 
 impl Node {
-    ghost use Rattle.cip_module.specs.Node.{state_of_node};
-    ghost use Rattle.cip_module.specs.Does.{Does};
+    ghost use Rattle.cip_module.specs.Code.Node.{state_of_node};
+    ghost use Rattle.cip_module.specs.Code.Does.{Handles};
     ghost use Rattle.cip_module.specs.UnconnectedRows.{unconnected_row};
     ghost use Rattle.cip_module.specs.Table.{unconnected_effects};
 
@@ -98,9 +94,7 @@ impl Node {
         view: UnconnectedView<'_>,
     ) -> Result<Output, NoMemory>
         requires { length (unconnected_bytes (unconnected_of view)) ≤ 1400 }
-        ensures done { IfOk result (λ o. Does self.old.config (state_of_node self.old) (unconnected_effects up (unconnected_of view.entry) (unconnected_row self.old.config self.old.pendings (unconnected_of view.entry))) (state_of_node self.new) (o ∷ [])) }
-        ensures same { OnErr result (state_of_node self.new ≡ state_of_node self.old) }
-        ensures config { self.new.config ≡ self.old.config }
+        ensures handled { Handles self.old self.new (unconnected_effects up (unconnected_of view.entry) (unconnected_row self.old.config self.old.pendings (unconnected_of view.entry))) result }
         ensures ops { self.new.ops ≡ self.old.ops }
     {
         match unconnected_row(self.config.settings(), &self.pendings, view) {

@@ -1,6 +1,6 @@
 use Rattle.std.proofs.Common.{ap, ◌∙◌}
 use Rattle.std.proofs.Math.Seq.{map-set_same}
-use Rattle.cip_module.specs.Node.{config_of_plain}
+use Rattle.cip_module.specs.Code.Node.{config_of_plain}
 use Rattle.cip_console.proofs.StepAt.{found_here, step_placed}
 use Rattle.cip_console.proofs.world.step_at.Goals as goal
 

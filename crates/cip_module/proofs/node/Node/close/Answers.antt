@@ -2,8 +2,8 @@ use Rattle.std.proofs.Common.{subst, refl, ◌∷◌, []}
 use Rattle.std.specs.Prelude.{IfOk}
 use Rattle.cip_close.specs.Reading.{close_of}
 use Rattle.cip_module.specs.CloseRows.{CloseAnswer}
-use Rattle.cip_module.specs.Does.{Does}
-use Rattle.cip_module.specs.Node.{state_of_node}
+use Rattle.cip_module.specs.Code.Does.{Does}
+use Rattle.cip_module.specs.Code.Node.{state_of_node}
 use Rattle.cip_module.specs.Table.{close_answered, with_spending}
 use Rattle.cip_module.proofs.node.Node.close.Goals as goal
 

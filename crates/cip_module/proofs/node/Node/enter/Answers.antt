@@ -3,8 +3,8 @@ use Rattle.cip_hops.specs.declared.hop.Hop.{Hop}
 use Rattle.cip_hops.specs.Hops.{is_hop_by_op}
 use Rattle.cip_module.specs.Effects.{datum_down}
 use Rattle.cip_module.specs.Table.{enter_effects}
-use Rattle.cip_module.specs.Node.{state_of_node}
-use Rattle.cip_module.specs.Does.{Does}
+use Rattle.cip_module.specs.Code.Node.{state_of_node}
+use Rattle.cip_module.specs.Code.Does.{Does}
 use Rattle.cip_module.proofs.Found.{found_held}
 use Rattle.cip_module.proofs.Sends.{enters}
 use Rattle.cip_module.proofs.node.Node.enter.Goals as goal

@@ -1,5 +1,5 @@
 use Rattle.cip_open.specs.Reading.{open_of}
-use Rattle.cip_module.specs.Node.{state_of_node}
+use Rattle.cip_module.specs.Code.Node.{state_of_node}
 use Rattle.cip_module.specs.OpenRows.{GoesOn, EndsHere}
 use Rattle.cip_module.proofs.Opened.{multiplier_below}
 use Rattle.cip_module.proofs.node.Node.open.Goals as goal

@@ -1,6 +1,6 @@
 use Rattle.std.proofs.Common.{sym, ap, ◌∙◌, List, ℕ}
 use Rattle.cip_module.specs.Table.{open_of}
-use Rattle.cip_module.specs.Node.{state_of_node}
+use Rattle.cip_module.specs.Code.Node.{state_of_node}
 use Rattle.cip_module.proofs.Sends.{opens}
 use Rattle.cip_module.proofs.node.Node.open_command.Goals as goal
 

@@ -1,7 +1,7 @@
 use Rattle.std.proofs.Common.{sym, ap, ◌∙◌, is_some}
 use Rattle.cip_open.specs.Reading.{open_of}
 use Rattle.cip_module.specs.OpenRows.{Fails}
-use Rattle.cip_module.specs.Node.{state_of_node}
+use Rattle.cip_module.specs.Code.Node.{state_of_node}
 use Rattle.cip_module.proofs.Outputs.{here_full, here_ends, here_refused}
 use Rattle.cip_module.proofs.node.Node.open_here.Goals as goal
 

@@ -1,6 +1,6 @@
 use Rattle.std.proofs.Common.{ap, sym, ◌∙◌}
 use Rattle.std.specs.FinMap as map
-use Rattle.cip_module.specs.Node.{state_of_node}
+use Rattle.cip_module.specs.Code.Node.{state_of_node}
 use Rattle.cip_module.proofs.Made.{makes, named_instance}
 use Rattle.cip_module.proofs.node.Node.produce.Goals as goal
 

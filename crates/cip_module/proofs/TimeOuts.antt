@@ -25,10 +25,10 @@ use Rattle.cip_hops.proofs.Steps.{triads_apart}
 use Rattle.cip_hops.proofs.Views.{found-gives, find-only, tied_name}
 use Rattle.cip_module.specs.declared.config.ModuleSettings.{ModuleSettings}
 use Rattle.cip_module.specs.declared.event.Output.{Output}
-use Rattle.cip_module.specs.Effects.{Effect, Expires, Lapses, apply, applied, output_of, outputs_of, expired, given_up, given_up_of}
-use Rattle.cip_module.specs.Does.{Does}
-use Rattle.cip_module.specs.Table.{expires, expiries, lapses, lapsings, tick_effects}
-use Rattle.cip_module.specs.Tick.{shown, shown_all, lapsed, lapsed_all, expiry, lapse}
+use Rattle.cip_module.specs.Effects.{Effect, PendingTimesOut, HopTimesOut, apply, applied, output_of, outputs_of, timed_out_reply, given_up, given_up_of}
+use Rattle.cip_module.specs.Code.Does.{Does}
+use Rattle.cip_module.specs.Table.{pending_times_out, pending_time_outs, hop_times_out, hop_time_outs, tick_effects}
+use Rattle.cip_module.specs.Code.Ticks.{shown, pendings_timed_out, hop_timed_out, hops_timed_out, pending_time_out, hop_time_out}
 use Rattle.cip_module.specs.State.{State}
 use Rattle.cip_module.proofs.Found.{found_held}
 use Rattle.cip_module.proofs.Walks.{none_left, opens, due_open, first_open}
@@ -61,25 +61,25 @@ pub stands : (t : ℕ) (p : Pendings) (x : ℕ × Entry) → first_due t p ≡ S
 stands t p x e = (found-gives nat_cmp nat_cmp_total nat_cmp-IsAntisymmetric p.entries (is_due t) x e).0
 
 -- its number alone tells what goes
-pub expiry_is : (config : ModuleSettings) (t : ℕ) (s : State) (p : Pendings) (h : Hops) (x : ℕ × Entry) → Some x ≡ first_due t s.pendings → p ≡ without s.pendings x.0 → h ≡ given_up_of x.1.kind s.hops
-    → record s { pendings = p; hops = h } ≡ applied config s (expiry (first_due t s.pendings))
-expiry_is config t s p h x e gone given =
+pub pending_time_out_is : (config : ModuleSettings) (t : ℕ) (s : State) (p : Pendings) (h : Hops) (x : ℕ × Entry) → Some x ≡ first_due t s.pendings → p ≡ without s.pendings x.0 → h ≡ given_up_of x.1.kind s.hops
+    → record s { pendings = p; hops = h } ≡ applied config s (pending_time_out (first_due t s.pendings))
+pending_time_out_is config t s p h x e gone given =
     ap (λ (q : Pendings). record s { pendings = q; hops = h }) gone
     ∙ ap (λ (q : Hops). record s { pendings = without s.pendings x.0; hops = q }) (given ∙ ap (λ (o : Option Entry). given_up o s.hops) (sym (stands t s.pendings x (sym e))))
-    ∙ ap (λ (o : Option (ℕ × Entry)). applied config s (expiry o)) e
+    ∙ ap (λ (o : Option (ℕ × Entry)). applied config s (pending_time_out o)) e
 
 -- what the others do stays the same
-pub expiry_goes : (config : ModuleSettings) (t : ℕ) (o : Option (ℕ × Entry)) (s new : State) → due t s.pendings ≡ option_to_list o ++ due t new.pendings → new ≡ applied config s (expiry o)
-    → applied config s (expiries t s.pendings) ≡ applied config new (expiries t new.pendings)
-expiry_goes config t None s new d e = ap (λ (ds : List (ℕ × Entry)). applied config s (map expires ds)) d ∙ ap (λ (z : State). applied config z (expiries t new.pendings)) (sym e)
-expiry_goes config t (Some x) s new d e = ap (λ (ds : List (ℕ × Entry)). applied config s (map expires ds)) d ∙ ap (λ (z : State). applied config z (expiries t new.pendings)) (sym e)
+pub pending_time_out_goes : (config : ModuleSettings) (t : ℕ) (o : Option (ℕ × Entry)) (s new : State) → due t s.pendings ≡ option_to_list o ++ due t new.pendings → new ≡ applied config s (pending_time_out o)
+    → applied config s (pending_time_outs t s.pendings) ≡ applied config new (pending_time_outs t new.pendings)
+pending_time_out_goes config t None s new d e = ap (λ (ds : List (ℕ × Entry)). applied config s (map pending_times_out ds)) d ∙ ap (λ (z : State). applied config z (pending_time_outs t new.pendings)) (sym e)
+pending_time_out_goes config t (Some x) s new d e = ap (λ (ds : List (ℕ × Entry)). applied config s (map pending_times_out ds)) d ∙ ap (λ (z : State). applied config z (pending_time_outs t new.pendings)) (sym e)
 
--- where none is due, nothing expires
-pub expiries_end : (config : ModuleSettings) (t : ℕ) (s new : State) → is_some (first_due t s.pendings) ≡ false → new ≡ applied config s (expiry (first_due t s.pendings)) → applied config s (expiries t s.pendings) ≡ new
-expiries_end config t s new none e =
+-- where none is due, nothing pending_times_out
+pub pending_time_outs_end : (config : ModuleSettings) (t : ℕ) (s new : State) → is_some (first_due t s.pendings) ≡ false → new ≡ applied config s (pending_time_out (first_due t s.pendings)) → applied config s (pending_time_outs t s.pendings) ≡ new
+pending_time_outs_end config t s new none e =
     let is = none_is (first_due t s.pendings) none in
-    ap (λ (ds : List (ℕ × Entry)). applied config s (map expires ds)) (none_due t (finite.entries s.pendings.entries) is).0
-    ∙ sym (e ∙ ap (λ (o : Option (ℕ × Entry)). applied config s (expiry o)) is)
+    ap (λ (ds : List (ℕ × Entry)). applied config s (map pending_times_out ds)) (none_due t (finite.entries s.pendings.entries) is).0
+    ∙ sym (e ∙ ap (λ (o : Option (ℕ × Entry)). applied config s (pending_time_out o)) is)
 
 -- the first of a filtered list is what is found
 first_is : {X : Type 0} (p : X → Bool) (es : List X) (x : X) (xs : List X) → filter p es ≡ x ∷ xs → find p es ≡ Some x
@@ -94,13 +94,13 @@ tail_is : {X : Type 0} (x y : X) (xs ys : List X) → x ∷ xs ≡ y ∷ ys → 
 tail_is x y xs ys e = cc
 
 -- the outputs of all that expire
-all_shown : (config : ModuleSettings) (t : ℕ) (s : State) (ds : List (ℕ × Entry)) → due t s.pendings ≡ ds → outputs_of config s (map expires ds) ≡ map shown ds
-all_shown config t s [] e = refl
-all_shown config t s (x ∷ ds) e =
+all_pendings_timed_out : (config : ModuleSettings) (t : ℕ) (s : State) (ds : List (ℕ × Entry)) → due t s.pendings ≡ ds → outputs_of config s (map pending_times_out ds) ≡ map shown ds
+all_pendings_timed_out config t s [] e = refl
+all_pendings_timed_out config t s (x ∷ ds) e =
     let found = first_is (is_due t) (finite.entries s.pendings.entries) x ds e in
     let left : due t (without s.pendings x.0) ≡ ds = tail_is x x _ _ (sym (due_goes t s.pendings x found).chosen ∙ e) in
-    ap (λ (o : Option Entry). expired o ++ outputs_of config (apply config s (Expires x.0)) (map expires ds)) (stands t s.pendings x found)
-    ∙ ap (λ (z : List Output). shown x ∷ z) (all_shown config t (apply config s (Expires x.0)) ds left)
+    ap (λ (o : Option Entry). timed_out_reply o ++ outputs_of config (apply config s (PendingTimesOut x.0)) (map pending_times_out ds)) (stands t s.pendings x found)
+    ∙ ap (λ (z : List Output). shown x ∷ z) (all_pendings_timed_out config t (apply config s (PendingTimesOut x.0)) ds left)
 
 -- ---- what was opening is given up, which is not due
 
@@ -147,41 +147,41 @@ due_given_up t (OpeningOf triad) h =
 
 -- ---- the connections
 
-pub lapse_is : (config : ModuleSettings) (t : ℕ) (s : State) (h : Hops) (hop : Hop) → IsWithin s.hops → Some hop ≡ hops.first_due t s.hops → h ≡ hops.without s.hops hop.opening.triad
-    → record s { hops = h } ≡ applied config s (lapse (hops.first_due t s.hops))
-lapse_is config t s h hop w e gone =
+pub hop_time_out_is : (config : ModuleSettings) (t : ℕ) (s : State) (h : Hops) (hop : Hop) → IsWithin s.hops → Some hop ≡ hops.first_due t s.hops → h ≡ hops.without s.hops hop.opening.triad
+    → record s { hops = h } ≡ applied config s (hop_time_out (hops.first_due t s.hops))
+hop_time_out_is config t s h hop w e gone =
     ap (λ (q : Hops). record s { hops = q }) (gone
     ∙ sym (ap (λ (o : Option Hop). cond (is_some o) (hops.without s.hops hop.opening.triad) s.hops) (found_held (is_late t) s.hops hop (sym e) w)))
-    ∙ ap (λ (o : Option Hop). applied config s (lapse o)) e
+    ∙ ap (λ (o : Option Hop). applied config s (hop_time_out o)) e
 
-pub lapse_goes : (config : ModuleSettings) (t : ℕ) (o : Option Hop) (s new : State) → hops.due t s.hops ≡ option_to_list o ++ hops.due t new.hops → new ≡ applied config s (lapse o)
-    → applied config s (lapsings t s.hops) ≡ applied config new (lapsings t new.hops)
-lapse_goes config t None s new d e = ap (λ (hs : List Hop). applied config s (map lapses hs)) d ∙ ap (λ (z : State). applied config z (lapsings t new.hops)) (sym e)
-lapse_goes config t (Some hop) s new d e = ap (λ (hs : List Hop). applied config s (map lapses hs)) d ∙ ap (λ (z : State). applied config z (lapsings t new.hops)) (sym e)
+pub hop_time_out_goes : (config : ModuleSettings) (t : ℕ) (o : Option Hop) (s new : State) → hops.due t s.hops ≡ option_to_list o ++ hops.due t new.hops → new ≡ applied config s (hop_time_out o)
+    → applied config s (hop_time_outs t s.hops) ≡ applied config new (hop_time_outs t new.hops)
+hop_time_out_goes config t None s new d e = ap (λ (hs : List Hop). applied config s (map hop_times_out hs)) d ∙ ap (λ (z : State). applied config z (hop_time_outs t new.hops)) (sym e)
+hop_time_out_goes config t (Some hop) s new d e = ap (λ (hs : List Hop). applied config s (map hop_times_out hs)) d ∙ ap (λ (z : State). applied config z (hop_time_outs t new.hops)) (sym e)
 
 none_late : (t : ℕ) (h : Hops) → hops.first_due t h ≡ None → hops.due t h ≡ []
 none_late t h none = due_open t h ∙ none_left (is_late t) (opens h) (sym (first_open (is_late t) (finite.entries h.held)) ∙ none)
 
-pub lapsings_end : (config : ModuleSettings) (t : ℕ) (s new : State) → is_some (hops.first_due t s.hops) ≡ false → new ≡ applied config s (lapse (hops.first_due t s.hops)) → applied config s (lapsings t s.hops) ≡ new
-lapsings_end config t s new none e =
+pub hop_time_outs_end : (config : ModuleSettings) (t : ℕ) (s new : State) → is_some (hops.first_due t s.hops) ≡ false → new ≡ applied config s (hop_time_out (hops.first_due t s.hops)) → applied config s (hop_time_outs t s.hops) ≡ new
+hop_time_outs_end config t s new none e =
     let is = none_is (hops.first_due t s.hops) none in
-    ap (λ (hs : List Hop). applied config s (map lapses hs)) (none_late t s.hops is)
-    ∙ sym (e ∙ ap (λ (o : Option Hop). applied config s (lapse o)) is)
+    ap (λ (hs : List Hop). applied config s (map hop_times_out hs)) (none_late t s.hops is)
+    ∙ sym (e ∙ ap (λ (o : Option Hop). applied config s (hop_time_out o)) is)
 
-all_lapsed : (config : ModuleSettings) (s : State) (hs : List Hop) → outputs_of config s (map lapses hs) ≡ map lapsed hs
-all_lapsed config s [] = refl
-all_lapsed config s (hop ∷ hs) = ap (λ (z : List Output). lapsed hop ∷ z) (all_lapsed config (apply config s (Lapses hop.opening.triad)) hs)
+all_hops_timed_out : (config : ModuleSettings) (s : State) (hs : List Hop) → outputs_of config s (map hop_times_out hs) ≡ map hop_timed_out hs
+all_hops_timed_out config s [] = refl
+all_hops_timed_out config s (hop ∷ hs) = ap (λ (z : List Output). hop_timed_out hop ∷ z) (all_hops_timed_out config (apply config s (HopTimesOut hop.opening.triad)) hs)
 
 -- ---- the whole of a tick
 
 pub ticked : (config : ModuleSettings) (s new : State) (us t : ℕ) (outs : List Output) → t ≡ s.now + us
-    → new ≡ applied config (record s { now = t }) (expiries t s.pendings ++ lapsings t s.hops) → outs ≡ shown_all t s.pendings ++ lapsed_all t s.hops
+    → new ≡ applied config (record s { now = t }) (pending_time_outs t s.pendings ++ hop_time_outs t s.hops) → outs ≡ pendings_timed_out t s.pendings ++ hops_timed_out t s.hops
     → Does config s (tick_effects s us) new outs
 ticked config s new us t outs e after out = record {
-  state = ap (λ k. applied config (record s { now = k }) (expiries k s.pendings ++ lapsings k s.hops)) (sym e) ∙ sym after;
+  state = ap (λ k. applied config (record s { now = k }) (pending_time_outs k s.pendings ++ hop_time_outs k s.hops)) (sym e) ∙ sym after;
   out = let at : State = record s { now = s.now + us } in
-      outputs_more config at (expiries (s.now + us) s.pendings) (lapsings (s.now + us) s.hops)
-      ∙ ap (λ (z : List Output). z ++ outputs_of config (applied config at (expiries (s.now + us) s.pendings)) (lapsings (s.now + us) s.hops)) (all_shown config (s.now + us) at (due (s.now + us) s.pendings) refl)
-      ∙ ap (λ (z : List Output). shown_all (s.now + us) s.pendings ++ z) (all_lapsed config (applied config at (expiries (s.now + us) s.pendings)) (hops.due (s.now + us) s.hops))
-      ∙ ap (λ k. shown_all k s.pendings ++ lapsed_all k s.hops) (sym e) ∙ sym out;
+      outputs_more config at (pending_time_outs (s.now + us) s.pendings) (hop_time_outs (s.now + us) s.hops)
+      ∙ ap (λ (z : List Output). z ++ outputs_of config (applied config at (pending_time_outs (s.now + us) s.pendings)) (hop_time_outs (s.now + us) s.hops)) (all_pendings_timed_out config (s.now + us) at (due (s.now + us) s.pendings) refl)
+      ∙ ap (λ (z : List Output). pendings_timed_out (s.now + us) s.pendings ++ z) (all_hops_timed_out config (applied config at (pending_time_outs (s.now + us) s.pendings)) (hops.due (s.now + us) s.hops))
+      ∙ ap (λ k. pendings_timed_out k s.pendings ++ hops_timed_out k s.hops) (sym e) ∙ sym out;
 }

@@ -15,32 +15,32 @@ use Rattle.cip_module.specs.declared.event.Output.TheVariants as outputs
 use Rattle.cip_module.specs.declared.config.ModuleSettings.{ModuleSettings}
 use Rattle.cip_module.specs.declared.step.TickFault.{TickFault}
 use Rattle.cip_module.specs.declared.step.TickFault.TheVariants.{OutOfMemory, Full}
-use Rattle.cip_module.specs.Does.{Does}
+use Rattle.cip_module.specs.Code.Does.{Does}
 use Rattle.cip_module.specs.Effects.{Effect, reply_up, late_bytes}
 use Rattle.cip_module.specs.State.{State}
-use Rattle.cip_module.specs.Table.{expires, lapses, tick_effects}
+use Rattle.cip_module.specs.Table.{pending_times_out, hop_times_out, tick_effects}
 
 -- that no answer came in time
 abbrev pub shown : ℕ × Entry → Output
 shown waiting = reply_up waiting.1.up (late_bytes waiting.1.kind waiting.1.words)
 
 -- of the due pendings, in rising number
-abbrev pub shown_all : ℕ → Pendings → List Output
-shown_all now p = map shown (due now p)
+abbrev pub pendings_timed_out : ℕ → Pendings → List Output
+pendings_timed_out now p = map shown (due now p)
 
-abbrev pub lapsed : Hop → Output
-lapsed hop = outputs.Expired hop.opening.triad
+abbrev pub hop_timed_out : Hop → Output
+hop_timed_out hop = outputs.Expired hop.opening.triad
 
 -- of the due connections, in rising triad
-abbrev pub lapsed_all : ℕ → Hops → List Output
-lapsed_all now h = map lapsed (hops.due now h)
+abbrev pub hops_timed_out : ℕ → Hops → List Output
+hops_timed_out now h = map hop_timed_out (hops.due now h)
 
 -- the effect of one due pending, and that of one due connection, where there is one
-abbrev pub expiry : Option (ℕ × Entry) → List Effect
-expiry waiting = map expires (option_to_list waiting)
+abbrev pub pending_time_out : Option (ℕ × Entry) → List Effect
+pending_time_out waiting = map pending_times_out (option_to_list waiting)
 
-abbrev pub lapse : Option Hop → List Effect
-lapse hop = map lapses (option_to_list hop)
+abbrev pub hop_time_out : Option Hop → List Effect
+hop_time_out hop = map hop_times_out (option_to_list hop)
 
 -- what a call that ticks answers: the clock is full exactly where the time would pass its last value, looked at first
 abbrev pub TickGives : {V : Type 0} → (V → List Output) → ModuleSettings → State → State → ℕ → Result V TickFault → Type 0
