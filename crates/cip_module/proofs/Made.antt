@@ -28,7 +28,8 @@ use Rattle.cip_module.specs.declared.config.ModuleSettings.{ModuleSettings}
 use Rattle.cip_module.specs.declared.event.Output.{Output}
 use Rattle.cip_module.specs.Code.Does.{Does}
 use Rattle.cip_module.specs.Effects.{Effect, Counts, Passes, recounted, ends_here, passed, datum_up, applied, outputs_of}
-use Rattle.cip_module.specs.Produced.{reads_from, next_count, made_effects, held_effects, each_effects, made_of, takes_from, made_all, count_for, counted_by, counted_all, open_hops}
+use Rattle.cip_module.specs.Produced.{reads_from, next_count, made_effects, held_effects, each_effects}
+use Rattle.cip_module.specs.Code.Made.{made_of, takes_from, made_all, count_for, counted_by, counted_all, open_hops}
 use Rattle.cip_module.specs.State.{State}
 use Rattle.cip_module.specs.Table.{produce_effects}
 use Rattle.cip_module.proofs.Fits.{triad_or_not}

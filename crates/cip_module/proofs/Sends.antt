@@ -1,6 +1,5 @@
 -- A command does what the request does that it spells.
 use Rattle.std.proofs.Common.{◌≡◌, ℕ, false, cond, List, [], ◌∷◌, ◌++◌, length, refl, sym, ap, subst, ◌∙◌, Some, Result}
-use Rattle.std.specs.Prelude.{IfOk}
 use Rattle.std.proofs.lemmas.Bool.{eq-eqb}
 use Rattle.cip_open.specs.Open.{Open}
 use Rattle.cip_pending.specs.declared.entry.UpSide.TheVariants.{Local}
@@ -14,7 +13,7 @@ use Rattle.cip_module.specs.declared.rows.CommandRow.TheVariants.{OpUsed, WrongS
 use Rattle.cip_module.specs.OpenRows.{open_row}
 use Rattle.cip_module.specs.Effects.{Effect, Passes, datum_by, passed}
 use Rattle.cip_module.specs.Table.{with_spending, refused_effects, open_effects, open_command_effects, enter_effects}
-use Rattle.cip_module.specs.Code.Does.{Does}
+use Rattle.cip_module.specs.Code.Does.{Does, DoesOrNot, one_output}
 use Rattle.cip_module.specs.State.{State, is_spent}
 
 -- a datum of the connection that was found
@@ -28,9 +27,13 @@ abbrev opened_effects : ModuleSettings → State → ℕ → Open → List Effec
 opened_effects config s op o = with_spending (Local op) (open_effects s (Local op) o (open_row config s (UpLocal op) o))
 
 -- an Open whose op is new does what the Forward_Open does that was sent, once there is room for the op
-pub opens : {E : Type 0} (config : ModuleSettings) (s reserved new : State) (op : ℕ) (asked sent : Open) (r : Result Output E) → is_spent op s.ops ≡ false → reserved ≡ s → sent ≡ asked
-    → IfOk r (λ o. Does config reserved (opened_effects config reserved op sent) new (o ∷ [])) → IfOk r (λ o. Does config s (open_command_effects config s op asked) new (o ∷ []))
-opens config s reserved new op asked sent r fresh same alike d =
-    subst (λ b. IfOk r (λ o. Does config s (refused_effects (cond b OpUsed Taken) (opened_effects config s op asked)) new (o ∷ []))) (sym fresh)
-    (subst (λ (x : State). IfOk r (λ o. Does config x (opened_effects config x op asked) new (o ∷ []))) same
-    (subst (λ (x : Open). IfOk r (λ o. Does config reserved (opened_effects config reserved op x) new (o ∷ []))) alike d))
+module _ {E : Type 0} (config : ModuleSettings) (s reserved : State) (after : ModuleSettings) (new : State) (op : ℕ) (r : Result Output E) where
+  abbrev Did : State → List Effect → Type 0
+  Did from es = DoesOrNot one_output config from after new es r
+
+  pub opens : (asked sent : Open) → is_spent op s.ops ≡ false → reserved ≡ s → sent ≡ asked
+      → Did reserved (opened_effects config reserved op sent) → Did s (open_command_effects config s op asked)
+  opens asked sent fresh same alike d =
+      subst (λ b. Did s (refused_effects (cond b OpUsed Taken) (opened_effects config s op asked))) (sym fresh)
+      (subst (λ (x : State). Did x (opened_effects config x op asked)) same
+      (subst (λ (x : Open). Did reserved (opened_effects config reserved op x)) alike d))

@@ -11,6 +11,7 @@ use Rattle.cip_hops.specs.declared.opening.Opening.{Opening}
 use Rattle.cip_module.specs.declared.config.ModuleSettings.{ModuleSettings}
 use Rattle.cip_module.specs.declared.event.Event.{Event}
 use Rattle.cip_module.specs.RequestRows.{RequestRow}
+use Rattle.cip_module.specs.Effects.{Sending}
 use Rattle.cip_module.specs.State.{State}
 use Rattle.cip_module.specs.Tells.{asker, Came, AsksSend, AsksOpen, AsksClose, RepliesAs, RequestFails, SendUnread, SendFails, OpenUnread, OpenFails, OpenEnds, CloseUnread, CloseFails, CloseEnds, AnswersAs, Itself, Embedded, ForwardsAs, BeginsAs}
 

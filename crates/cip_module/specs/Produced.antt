@@ -41,34 +41,6 @@ each_effects instance held (e ∷ es) = held_effects instance held e.1 ++ each_e
 abbrev pub produced_effects : ℕ → List ℕ → Hops → List Effect
 produced_effects instance held h = each_effects instance held (finite.entries h.held)
 
--- ---- the same, connection by connection
-
 -- the bytes of one datum
 abbrev pub datum_bytes : List ℕ → Hop → List ℕ
 datum_bytes held hop = if hop.opening.class == 1 then word (next_count hop.produced) ++ held else held
-
-abbrev pub made_of : List ℕ → Hop → Output
-made_of held hop = datum_up hop.opening.up (datum_bytes held hop)
-
-abbrev pub takes_from : ℕ → Hop → Bool
-takes_from instance hop = reads_from instance hop.opening.down
-
--- what goes up of all that take their data from this assembly, in rising triad
-abbrev pub made_all : ℕ → List ℕ → List Hop → List Output
-made_all instance held hops = map (made_of held) (filter (takes_from instance) hops)
-
--- the count that a datum of this connection begins with, if it sends one and counts
-abbrev pub count_for : ℕ → Hop → Option ℕ
-count_for instance hop = if reads_from instance hop.opening.down then (if hop.opening.class == 1 then Some (next_count hop.produced) else None) else None
-
-abbrev pub counted_by : Hops → Triad → Option ℕ → Hops
-counted_by h triad None = h
-counted_by h triad (Some count) = recounted h triad Down count
-
-abbrev pub counted_all : ℕ → List Hop → Hops → Hops
-counted_all instance [] h = h
-counted_all instance (hop ∷ hops) h = counted_all instance hops (counted_by h hop.opening.triad (count_for instance hop))
-
--- those that are open, in rising triad
-abbrev pub open_hops : Hops → List Hop
-open_hops h = filter_map (λ e. as_hop e.1) (finite.entries h.held)

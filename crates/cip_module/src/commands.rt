@@ -10,7 +10,7 @@ ghost use Rattle.cip_module.specs.CommandRows.{CanSend, send_row};
 ghost use Rattle.cip_module.specs.UnconnectedRows.{unconnected_row};
 ghost use Rattle.cip_module.specs.Table.{open_of, send_effects, open_command_effects, close_command_effects, enter_effects, set_effects, unconnected_effects, with_spending};
 ghost use Rattle.cip_module.specs.Code.Node.{state_of_node};
-ghost use Rattle.cip_module.specs.Code.Does.{Handles, HasDone};
+ghost use Rattle.cip_module.specs.Code.Does.{Handled, Handles};
 
 use crate::datum::datum_down;
 use crate::event::{OpenParams, Output, Refused};
@@ -176,7 +176,7 @@ impl Node {
 
     /// A Set of an assembly, which has no output where it is taken.
     pub(crate) fn set(&mut self, instance: u32, bytes: &Bytes) -> Option<Output>
-        ensures { HasDone self.old self.new (set_effects (state_of_node self.old) instance bytes.now) (option_to_list result) }
+        ensures { Handled self.old self.new (set_effects (state_of_node self.old) instance bytes.now) (option_to_list result) }
     {
         let Some(assembly) = self.target.assembly(instance) else {
             return Some(Output::Refused(Refused::NoInstance));

@@ -1,9 +1,10 @@
 //! What an end sends of an assembly: a datum by each connection that takes its data from it, in rising triad.
 ghost use Rattle.std.specs.Prelude.{◌≡◌, ◌≤◌, length, IfOk, OnErr};
 ghost use Rattle.std.specs.FinMap as map;
-ghost use Rattle.cip_module.specs.Code.Does.{DoesOrNot};
+ghost use Rattle.cip_module.specs.Code.Does.{HandlesAs};
 ghost use Rattle.cip_module.specs.Code.Node.{state_of_node};
-ghost use Rattle.cip_module.specs.Produced.{reads_from, next_count, datum_bytes, made_all, count_for, counted_all, open_hops};
+ghost use Rattle.cip_module.specs.Produced.{reads_from, next_count, datum_bytes};
+ghost use Rattle.cip_module.specs.Code.Made.{made_all, count_for, counted_all, open_hops};
 ghost use Rattle.cip_module.specs.Table.{produce_effects};
 
 use crate::datum::datum_up;
@@ -97,7 +98,7 @@ impl Node {
 
     /// A Produce of an assembly.
     pub(crate) fn produce(&mut self, instance: u32) -> Result<Vec<Output>, NoMemory>
-        ensures { DoesOrNot (λ v. v.items) self.old self.new (produce_effects (state_of_node self.old) instance (map.get self.old.target.objects.assemblies instance)) result }
+        ensures { HandlesAs (λ v. v.items) self.old self.new (produce_effects (state_of_node self.old) instance (map.get self.old.target.objects.assemblies instance)) result }
     {
         let Some(assembly) = self.target.assembly(instance) else {
             let mut outputs = Vec::with_capacity(self.alloc, 1)?;

@@ -5,7 +5,7 @@ ghost use Rattle.cip_module.specs.Code.Ticks.{TickGives, IsNoTick, IsSingle};
 ghost use Rattle.cip_module.specs.Steps.{IsStep, IsStepFault};
 ghost use Rattle.cip_module.specs.Table.{command_effects, frame_effects};
 ghost use Rattle.cip_module.specs.Code.Node.{state_of_node};
-ghost use Rattle.cip_module.specs.Code.Does.{DoesOrNot, Handles};
+ghost use Rattle.cip_module.specs.Code.Does.{Handles, HandlesAs};
 
 use crate::contract::StepFault;
 use crate::event::{Body, Command, Event, Output};
@@ -41,7 +41,7 @@ impl Node {
     // A command that has one output at the most.
     fn command(&mut self, command: &Command) -> Result<Option<Output>, NoMemory>
         requires { IsSingle command.now }
-        ensures { DoesOrNot option_to_list self.old self.new (command_effects self.old.config (state_of_node self.old) command.now) result }
+        ensures { HandlesAs option_to_list self.old self.new (command_effects self.old.config (state_of_node self.old) command.now) result }
     {
         match command {
             Command::Open {

@@ -5,7 +5,8 @@ use Rattle.cip_target.specs.declared.application.ApplicationView.{ApplicationVie
 use Rattle.cip_target.specs.declared.ends.Joined.{Joined}
 use Rattle.cip_open.specs.declared.request.OpenFields.{OpenFields}
 use Rattle.cip_target.specs.Assemblies.{AssemblyMap, config_in}
-use Rattle.cip_target.specs.Ends.{NoSuchInstanceOrConfiguration, application_row}
+use Rattle.cip_target.specs.declared.ends.EndRefusal.TheVariants.{NoSuchInstanceOrConfiguration}
+use Rattle.cip_target.specs.Ends.{application_row}
 use Rattle.cip_target.specs.ApplicationPath.{Application, without_inhibits, point_of}
 
 abbrev pub application_seen : ApplicationView → Application

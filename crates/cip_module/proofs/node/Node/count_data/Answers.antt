@@ -1,7 +1,7 @@
 use Rattle.std.proofs.Common.{ℕ, Option, refl, ap, ◌∙◌, Some}
 use Rattle.cip_hops.specs.Hops.{first_after}
 use Rattle.cip_module.specs.Code.Node.{state_of_node}
-use Rattle.cip_module.specs.Produced.{counted_by}
+use Rattle.cip_module.specs.Code.Made.{counted_by}
 use Rattle.cip_module.specs.State.{State}
 use Rattle.cip_module.proofs.Made.{counted_from, counts_next, counts_all, counts_done, counts_fewer}
 use Rattle.cip_module.proofs.Walks.{hop_fewer}
