@@ -1,5 +1,5 @@
 -- That the tables of a module fit one another after a connection ends here.
-use Rattle.std.proofs.Common.{◌≡◌, ℕ, ◌≤◌, ◌<◌, Bool, true, false, cond, eqb, ◌&&◌, refl, sym, ap, subst, ◌∙◌, Option, Some, None, is_some, List, [], length, ◌⊎◌, inl, inr}
+use Rattle.std.proofs.Common.{◌≡◌, ℕ, ◌≤◌, ◌<◌, Bool, true, false, cond, eqb, ◌&&◌, refl, sym, ap, subst, ◌∙◌, Option, Some, None, is_some, List, [], length, ◌⊎◌, inl, inr, Ok, Err}
 use Rattle.std.specs.Prelude.{option_and_then, nat_lt, not, IsSomeAnd}
 use Rattle.std.specs.Option.{option_map_or}
 use Rattle.std.specs.Cmp.{nat_cmp_total}
@@ -19,7 +19,8 @@ use Rattle.cip_hops.specs.Hops.{Hops, begun, finished, opened, opening_at, held_
 use Rattle.cip_hops.proofs.Changes.{finished_is}
 use Rattle.cip_target.specs.ApplicationPath.{Application, application_of}
 use Rattle.cip_target.specs.Assemblies.{AssemblyMap, Owners, size_in, owned_with}
-use Rattle.cip_target.specs.Ends.{Ends, NotAnApplicationPath, NoSuchInstanceOrConfiguration, ClassNotSupported, SizeMismatch, OutputOwned, Fits, sized_row, application_row, end_row, row_at, is_configuration, are_sizes, class_of, link_of, configuration_of, configured, accepted}
+use Rattle.cip_target.specs.declared.ends.EndRefusal.TheVariants.{NotAnApplicationPath, NoSuchInstanceOrConfiguration, TransportClassNotSupported, SizeMismatch, OutputOwned}
+use Rattle.cip_target.specs.Ends.{Ends, EndRow, sized_row, application_row, end_row, row_at, is_configuration, are_sizes, class_of, link_of, configuration_of, configured, accepted}
 use Rattle.cip_target.specs.declared.link.EndLink.{EndLink}
 use Rattle.cip_target.proofs.Fitting.{FitsWith, fitting}
 use Rattle.cip_module.specs.declared.config.ModuleSettings.{ModuleSettings}
@@ -32,7 +33,7 @@ use Rattle.cip_module.proofs.Sizes.{written_sizes}
 
 -- ---- what fits has an output that nothing owns
 
-last_row : (a b c d : Bool) (l link : EndLink) → cond a NoSuchInstanceOrConfiguration (cond b ClassNotSupported (cond c SizeMismatch (cond d OutputOwned (Fits l)))) ≡ Fits link → (d ≡ false) × (l ≡ link)
+last_row : (a b c d : Bool) (l link : EndLink) → cond a (Err NoSuchInstanceOrConfiguration) (cond b (Err TransportClassNotSupported) (cond c (Err SizeMismatch) (cond d (Err OutputOwned) (Ok l)))) ≡ Ok link → (d ≡ false) × (l ≡ link)
 last_row true b c d l link e = absurd (cc)
 last_row false true c d l link e = absurd (cc)
 last_row false false true d l link e = absurd (cc)
@@ -42,23 +43,23 @@ last_row false false false false l link e = (refl, cc)
 both_false : (d : ℕ) (b : Bool) → (nat_lt 0 d && b) ≡ false → 0 < d → b ≡ false
 both_false d b e some = sym (ap (λ t. t && b) (lt-ltb 0 d some)) ∙ e
 
-sized_free : (owned : ℕ → Bool) (f : OpenFields) (a : Application) (x y z : Option ℕ) (link : EndLink) → sized_row owned f a x y z ≡ Fits link
+sized_free : (owned : ℕ → Bool) (f : OpenFields) (a : Application) (x y z : Option ℕ) (link : EndLink) → sized_row owned f a x y z ≡ Ok link
     → (link_of f a ≡ link) × ((d : ℕ) → y ≡ Some d → 0 < d → owned a.consume ≡ false)
-sized_free owned f a None y z link e = absurd (let none : NoSuchInstanceOrConfiguration ≡ Fits link = e in cc)
-sized_free owned f a (Some c) None z link e = absurd (let none : NoSuchInstanceOrConfiguration ≡ Fits link = e in cc)
-sized_free owned f a (Some c) (Some d) None link e = absurd (let none : NoSuchInstanceOrConfiguration ≡ Fits link = e in cc)
+sized_free owned f a None y z link e = absurd (let none : (Err NoSuchInstanceOrConfiguration) ≡ Ok link = e in cc)
+sized_free owned f a (Some c) None z link e = absurd (let none : (Err NoSuchInstanceOrConfiguration) ≡ Ok link = e in cc)
+sized_free owned f a (Some c) (Some d) None link e = absurd (let none : (Err NoSuchInstanceOrConfiguration) ≡ Ok link = e in cc)
 sized_free owned f a (Some c) (Some d) (Some p) link e =
     let r = last_row (not (is_configuration c a.bytes)) (nat_lt 1 (class_of f.transport)) (not (are_sizes f d p)) (nat_lt 0 d && owned a.consume) (link_of f a) link e in
     (r.1, λ n same some. both_false d (owned a.consume) r.0 (let one : d ≡ n = cc in subst (λ k. 0 < k) (sym one) some))
 
-application_free : (m : AssemblyMap) (owned : ℕ → Bool) (f : OpenFields) (a : Option Application) (link : EndLink) (d : ℕ) → application_row m owned f a ≡ Fits link
+application_free : (m : AssemblyMap) (owned : ℕ → Bool) (f : OpenFields) (a : Option Application) (link : EndLink) (d : ℕ) → application_row m owned f a ≡ Ok link
     → size_in m link.consume ≡ Some d → 0 < d → owned link.consume ≡ false
-application_free m owned f None link d e at some = absurd (let none : NotAnApplicationPath ≡ Fits link = e in cc)
+application_free m owned f None link d e at some = absurd (let none : (Err NotAnApplicationPath) ≡ Ok link = e in cc)
 application_free m owned f (Some a) link d e at some =
     let r = sized_free owned f a (size_in m a.config) (size_in m a.consume) (size_in m a.produce) link e in
     ap (λ (l : EndLink). owned l.consume) (sym r.0) ∙ r.1 d (ap (λ (l : EndLink). size_in m l.consume) r.0 ∙ at) some
 
-output_free : (t : Ends) (o : OpenRecord) (link : EndLink) (d : ℕ) → row_at t o ≡ Fits link → size_in t.objects.assemblies link.consume ≡ Some d → 0 < d → is_some (map.get t.owners link.consume) ≡ false
+output_free : (t : Ends) (o : OpenRecord) (link : EndLink) (d : ℕ) → row_at t o ≡ Ok link → size_in t.objects.assemblies link.consume ≡ Some d → 0 < d → is_some (map.get t.owners link.consume) ≡ false
 unfolding end_row
 output_free t o link d e at some = application_free t.objects.assemblies (λ i. is_some (map.get t.owners i)) o.fields (application_of (segments_of o.path)) link d e at some
 
@@ -66,7 +67,7 @@ configured_in : (m : AssemblyMap) (o : OpenRecord) (link : EndLink) (a : Option 
 configured_in m o link None e fits j = absurd fits
 configured_in m o link (Some a) e fits j = written_sizes m link.config (configuration_of o) (let same : configuration_of o ≡ a.bytes = ap (λ (p : Option Application). option_map_or (λ a. a.bytes) p []) e in subst (λ (b : List ℕ). IsSomeAnd (map.get m link.config) (λ held. length held ≤ length b)) (sym same) fits) j
 
-configured_sizes : (t : Ends) (o : OpenRecord) (link : EndLink) → row_at t o ≡ Fits link → (j : ℕ) → size_in (configured t.objects.assemblies o link) j ≡ size_in t.objects.assemblies j
+configured_sizes : (t : Ends) (o : OpenRecord) (link : EndLink) → row_at t o ≡ Ok link → (j : ℕ) → size_in (configured t.objects.assemblies o link) j ≡ size_in t.objects.assemblies j
 configured_sizes t o link e j = configured_in t.objects.assemblies o link (application_of (segments_of o.path)) refl (fitting t o link e) j
 
 -- ---- who owns what after it
@@ -130,7 +131,7 @@ some_held : (x y : Held) → Some x ≡ Some y → x ≡ y
 some_held x y e = cc
 
 pub fit_accepts : (config : ModuleSettings) (p : Pendings) (h new : Hops) (t after : Ends) (ops : List ℕ) (o : Opening) (asked : OpenRecord) (link : EndLink) (now : ℕ)
-    → Fit config p h t ops → map.get h.held o.triad ≡ None → o.down ≡ end_down link → asked.fields.triad ≡ o.triad → row_at t asked ≡ Fits link
+    → Fit config p h t ops → map.get h.held o.triad ≡ None → o.down ≡ end_down link → asked.fields.triad ≡ o.triad → row_at t asked ≡ Ok link
     → ((op : ℕ) → op_of o.up ≡ Some op → is_spent op ops ≡ true) → new ≡ finished (begun h o) o.triad 0 now → after ≡ accepted t link asked → Fit config p new after ops
 fit_accepts config p h new t after ops o asked link now f free down named fits spent is gives =
     let ids : OwnIds = own_ids h.next o in

@@ -10,13 +10,13 @@ use Rattle.cip_hops.specs.declared.opening.HopUp.{HopUp}
 use Rattle.cip_hops.specs.Sides.{up_is_link}
 use Rattle.cip_hops.specs.Hops.{Hops, refusal}
 use Rattle.cip_target.specs.declared.link.EndLink.{EndLink}
-use Rattle.cip_target.specs.Ends.{EndRow, end_row, Fits}
-use Rattle.cip_target.specs.Ends as ends
+use Rattle.cip_target.specs.Ends.{EndRow, end_row}
+use Rattle.cip_target.specs.declared.ends.EndRefusal.TheVariants.{NotAnApplicationPath}
 use Rattle.cip_module.specs.declared.config.ModuleSettings.{ModuleSettings}
 use Rattle.cip_module.specs.declared.event.Event.{Event}
 use Rattle.cip_module.specs.declared.rows.KeyPart.{KeyPart}
 use Rattle.cip_module.specs.declared.rows.LinkRefusal.{LinkRefusal}
-use Rattle.cip_module.specs.declared.rows.OpenRefusal.TheVariants.{ConnectionTypeNotSupported, RpiOfZero, TriadInUse, NotSentOn, NoRoomToPassOn, NotAnApplicationPath, NoRoomToEndHere}
+use Rattle.cip_module.specs.declared.rows.OpenRefusal.TheVariants.{ConnectionTypeNotSupported, RpiOfZero, TriadInUse, NotSentOn, NoRoomToPassOn, NotAccepted, NoRoomToEndHere}
 use Rattle.cip_module.specs.Keys.{leading_mismatch}
 use Rattle.cip_module.specs.Links.{link_refusal}
 use Rattle.cip_module.specs.OpenRows.{OpenRow, Refuses, Forwarded, Accepted, room_row, accepted_row, here_row, ids_on, on_row, hop_row, key_row, is_supported, open_row, is_consumed}
@@ -51,17 +51,13 @@ room_forwards h o link port address rest e =
     cc
 
 ends_forwards : (h : Hops) (o : Open) (row : EndRow) (port : ℕ) (address rest : List ℕ) → accepted_row h o row ≡ Forwarded port address rest → ⊥
-ends_forwards h o ends.NotAnApplicationPath port address rest e = cc
-ends_forwards h o ends.NoSuchInstanceOrConfiguration port address rest e = cc
-ends_forwards h o ends.ClassNotSupported port address rest e = cc
-ends_forwards h o ends.SizeMismatch port address rest e = cc
-ends_forwards h o ends.OutputOwned port address rest e = cc
-ends_forwards h o (ends.Fits link) port address rest e = room_forwards h o link port address rest e
+ends_forwards h o (Err refused) port address rest e = cc
+ends_forwards h o (Ok link) port address rest e = room_forwards h o link port address rest e
 
 here_forwards : (s : State) (up : HopUp) (o : Open) (port : ℕ) (address rest : List ℕ) → here_row s up o ≡ Forwarded port address rest → ⊥
 here_forwards s up o port address rest e =
     let row = end_row s.assemblies (is_consumed s.hops) o in
-    let tested = past_not (up_is_link up) (Refuses NotAnApplicationPath) (accepted_row s.hops o row) (Forwarded port address rest) e (λ other. cc) in
+    let tested = past_not (up_is_link up) (Refuses (NotAccepted NotAnApplicationPath)) (accepted_row s.hops o row) (Forwarded port address rest) e (λ other. cc) in
     ends_forwards s.hops o row port address rest tested.1
 
 -- the link, and room for the connection
@@ -108,26 +104,25 @@ open_forwards config s up o port address rest e =
 -- ---- an open that ends here
 
 abbrev EndsHere : State → HopUp → Open → EndLink → Type 0
-EndsHere s up o link = (up_is_link up ≡ true) × (end_row s.assemblies (is_consumed s.hops) o ≡ Fits link) × (refusal s.hops o.fields.triad 1 ≡ None)
+EndsHere s up o link = (up_is_link up ≡ true) × (end_row s.assemblies (is_consumed s.hops) o ≡ Ok link) × (refusal s.hops o.fields.triad 1 ≡ None)
 
-ends_accept : (h : Hops) (o : Open) (row : EndRow) (link : EndLink) → accepted_row h o row ≡ Accepted link → (row ≡ Fits link) × (refusal h o.fields.triad 1 ≡ None)
-ends_accept h o ends.NotAnApplicationPath link e = absurd (cc)
-ends_accept h o ends.NoSuchInstanceOrConfiguration link e = absurd (cc)
-ends_accept h o ends.ClassNotSupported link e = absurd (cc)
-ends_accept h o ends.SizeMismatch link e = absurd (cc)
-ends_accept h o ends.OutputOwned link e = absurd (cc)
-ends_accept h o (ends.Fits own) link e =
+abbrev fits : EndLink → EndRow
+fits link = Ok link
+
+ends_accept : (h : Hops) (o : Open) (row : EndRow) (link : EndLink) → accepted_row h o row ≡ Accepted link → (row ≡ Ok link) × (refusal h o.fields.triad 1 ≡ None)
+ends_accept h o (Err refused) link e = absurd (cc)
+ends_accept h o (Ok own) link e =
     let tested = past (is_some (refusal h o.fields.triad 1)) (Refuses NoRoomToEndHere) (Accepted own) (Accepted link) e (λ other. cc) in
     let both : Accepted own ≡ Accepted link = tested.1 in
     let same : own ≡ link = cc in
-    (ap (λ (l : EndLink). Fits l) same, none_is (refusal h o.fields.triad 1) tested.0)
+    (ap fits same, none_is (refusal h o.fields.triad 1) tested.0)
 
 here_accepts : (s : State) (up : HopUp) (o : Open) (link : EndLink) → here_row s up o ≡ Accepted link → EndsHere s up o link
 here_accepts s up o link e =
     let row = end_row s.assemblies (is_consumed s.hops) o in
-    let tested = past_not (up_is_link up) (Refuses NotAnApplicationPath) (accepted_row s.hops o row) (Accepted link) e (λ other. cc) in
-    let fits = ends_accept s.hops o row link tested.1 in
-    (tested.0, fits.0, fits.1)
+    let tested = past_not (up_is_link up) (Refuses (NotAccepted NotAnApplicationPath)) (accepted_row s.hops o row) (Accepted link) e (λ other. cc) in
+    let accepted = ends_accept s.hops o row link tested.1 in
+    (tested.0, accepted.0, accepted.1)
 
 on_accepts : (s : State) (up : HopUp) (o : Open) (hop : HopAt) (x : Option LinkRefusal) (link : EndLink) → on_row s up o hop x ≡ Accepted link → ⊥
 on_accepts s up o hop (Some fault) link e = cc

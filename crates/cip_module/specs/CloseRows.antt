@@ -17,8 +17,6 @@ use Rattle.cip_hops.specs.Hops.{hop_at, is_id}
 use Rattle.cip_module.specs.declared.rows.LinkRefusal.{LinkRefusal}
 use Rattle.cip_module.specs.declared.rows.CloseRefusal.{CloseRefusal}
 use Rattle.cip_module.specs.declared.rows.CloseRefusal.TheVariants.{CutInTheFixedPart, CutInThePath, BytesAfterThePath, PathUnreadable, NotThisSendersOpenTriad, PathDiffersFromTheHops, NotSentOn}
-use Rattle.cip_base.specs.declared.timing.Status.{Status}
-use Rattle.cip_module.specs.Statuses.{close_status}
 use Rattle.cip_module.specs.Links.{wait_refusal}
 use Rattle.cip_module.specs.State.{State}
 
@@ -62,15 +60,3 @@ abbrev pub unread_row : List ℕ → DataFault → CloseRefusal
 unread_row d Short = if nat_lt (length d) 12 then CutInTheFixedPart else CutInThePath
 unread_row d Long = BytesAfterThePath
 unread_row d (Path fault) = PathUnreadable
-
--- ---- what a row answers
-
-pub data CloseAnswer : Type 0 where
-  Fails : (status : Status) → CloseAnswer
-  GoesOn : (port : ℕ) → (address : List ℕ) → (rest : List ℕ) → CloseAnswer
-  EndsHere : CloseAnswer
-
-abbrev pub close_answer : CloseRow → CloseAnswer
-close_answer (Refuses refusal) = Fails (close_status refusal)
-close_answer (Forwarded port address rest) = GoesOn port address rest
-close_answer ClosedAtTheEnd = EndsHere

@@ -1,5 +1,5 @@
 -- The open group: which row answers a Forward_Open (Volume 1, chapter 3, Forward_Open).
-use Rattle.std.specs.Prelude.{ℕ, ◌==◌, Bool, true, false, not, ◌&&◌, ◌||◌, nat_lt, nat_le, if◌then◌else◌, Option, Some, None, List, length, is_some}
+use Rattle.std.specs.Prelude.{ℕ, ◌==◌, Bool, true, false, not, ◌&&◌, ◌||◌, nat_lt, nat_le, if◌then◌else◌, Option, Some, None, Ok, Err, List, length, is_some}
 use Rattle.std.specs.FinMap as map
 use Rattle.cip_segment.specs.Reading.{HopAt, hop_of, segments_of}
 use Rattle.cip_message.specs.declared.fault.DataFault.{DataFault}
@@ -17,14 +17,12 @@ use Rattle.cip_hops.specs.Sides.{up_is_link}
 use Rattle.cip_hops.specs.Hops.{Hops, refusal, first_hop}
 use Rattle.cip_target.specs.declared.link.EndLink.{EndLink}
 use Rattle.cip_target.specs.Ends.{EndRow, end_row, class_of}
-use Rattle.cip_target.specs.Ends as ends
+use Rattle.cip_target.specs.declared.ends.EndRefusal.TheVariants.{NotAnApplicationPath}
 use Rattle.cip_module.specs.declared.config.ModuleSettings.{ModuleSettings}
 use Rattle.cip_module.specs.declared.rows.KeyPart.{KeyPart}
 use Rattle.cip_module.specs.declared.rows.LinkRefusal.{LinkRefusal}
 use Rattle.cip_module.specs.declared.rows.OpenRefusal.{OpenRefusal}
-use Rattle.cip_module.specs.declared.rows.OpenRefusal.TheVariants.{CutInTheFixedPart, CutInThePath, BytesAfterThePath, PathUnreadable, ConnectionTypeNotSupported, RpiOfZero, TriadInUse, KeyMismatch, NotSentOn, NoRoomToPassOn, NotAnApplicationPath, NoSuchInstanceOrConfiguration, TransportClassNotSupported, SizeMismatch, OutputOwned, NoRoomToEndHere}
-use Rattle.cip_base.specs.declared.timing.Status.{Status}
-use Rattle.cip_module.specs.Statuses.{open_status}
+use Rattle.cip_module.specs.declared.rows.OpenRefusal.TheVariants.{CutInTheFixedPart, CutInThePath, BytesAfterThePath, PathUnreadable, ConnectionTypeNotSupported, RpiOfZero, TriadInUse, KeyMismatch, NotSentOn, NoRoomToPassOn, NotAccepted, NoRoomToEndHere}
 use Rattle.cip_module.specs.Links.{link_refusal}
 use Rattle.cip_module.specs.Keys.{leading_mismatch}
 use Rattle.cip_module.specs.State.{State}
@@ -48,17 +46,13 @@ abbrev pub room_row : Hops → Open → EndLink → OpenRow
 room_row h o link = if is_some (refusal h o.fields.triad 1) then Refuses NoRoomToEndHere else Accepted link
 
 abbrev pub accepted_row : Hops → Open → EndRow → OpenRow
-accepted_row h o ends.NotAnApplicationPath = Refuses NotAnApplicationPath
-accepted_row h o ends.NoSuchInstanceOrConfiguration = Refuses NoSuchInstanceOrConfiguration
-accepted_row h o ends.ClassNotSupported = Refuses TransportClassNotSupported
-accepted_row h o ends.SizeMismatch = Refuses SizeMismatch
-accepted_row h o ends.OutputOwned = Refuses OutputOwned
-accepted_row h o (ends.Fits link) = room_row h o link
+accepted_row h o (Err refusal) = Refuses (NotAccepted refusal)
+accepted_row h o (Ok link) = room_row h o link
 
 -- a command opens no connection to its own module
 abbrev pub here_row : State → HopUp → Open → OpenRow
 here_row s up o =
-    if not (up_is_link up) then Refuses NotAnApplicationPath
+    if not (up_is_link up) then Refuses (NotAccepted NotAnApplicationPath)
     else accepted_row s.hops o (end_row s.assemblies (is_consumed s.hops) o)
 
 -- ---- a port segment first: a connection that goes on
@@ -127,15 +121,3 @@ opening_with up down o = record {
 
 abbrev pub end_down : EndLink → HopDown
 end_down link = End link.config link.consume link.produce
-
--- ---- what a row answers
-
-pub data OpenAnswer : Type 0 where
-  Fails : (status : Status) → OpenAnswer
-  GoesOn : (port : ℕ) → (address : List ℕ) → (rest : List ℕ) → OpenAnswer
-  EndsHere : (link : EndLink) → OpenAnswer
-
-abbrev pub open_answer : OpenRow → OpenAnswer
-open_answer (Refuses refusal) = Fails (open_status refusal)
-open_answer (Forwarded port address rest) = GoesOn port address rest
-open_answer (Accepted link) = EndsHere link

@@ -1,6 +1,7 @@
 -- Which status each row of the routing table answers (Volume 1, Appendix B; the additional status is the Connection Manager's, chapter 3).
 use Rattle.std.specs.Prelude.{ℕ, Some, None}
 use Rattle.cip_base.specs.declared.timing.Status.{Status}
+use Rattle.cip_target.specs.Ends.{end_status}
 use Rattle.cip_module.specs.declared.rows.RequestRefusal.{RequestRefusal}
 use Rattle.cip_module.specs.declared.rows.RequestRefusal.TheVariants as request
 use Rattle.cip_module.specs.declared.rows.LinkRefusal.{LinkRefusal}
@@ -61,11 +62,7 @@ open_status opens.TriadInUse = extended 0x0100
 open_status (opens.KeyMismatch part) = key_status part
 open_status (opens.NotSentOn refusal) = link_status refusal
 open_status opens.NoRoomToPassOn = extended 0x0113
-open_status opens.NotAnApplicationPath = extended 0x0315
-open_status opens.NoSuchInstanceOrConfiguration = extended 0x0117
-open_status opens.TransportClassNotSupported = extended 0x0103
-open_status opens.SizeMismatch = extended 0x0109
-open_status opens.OutputOwned = extended 0x0106
+open_status (opens.NotAccepted refusal) = end_status refusal
 open_status opens.NoRoomToEndHere = extended 0x0113
 
 abbrev pub close_status : CloseRefusal → Status

@@ -56,9 +56,9 @@ use Rattle.cip_module.specs.DataRows as datum
 use Rattle.cip_module.specs.CommandRows.{op_row, close_command_row, send_row, enter_row, set_row, produce_row}
 use Rattle.cip_module.specs.UnconnectedRows.{UnconnectedRow, unconnected_row}
 use Rattle.cip_module.specs.UnconnectedRows as unconnected
-use Rattle.cip_module.specs.OpenRows.{OpenRow, OpenAnswer, open_row, open_answer, opening_with, end_down}
+use Rattle.cip_module.specs.OpenRows.{OpenRow, open_row, opening_with, end_down}
 use Rattle.cip_module.specs.OpenRows as opens
-use Rattle.cip_module.specs.CloseRows.{CloseRow, CloseAnswer, close_row, close_answer}
+use Rattle.cip_module.specs.CloseRows.{CloseRow, close_row}
 use Rattle.cip_module.specs.CloseRows as closes
 use Rattle.cip_module.specs.Effects.{Sending, Effect, Spends, Replies, Answers, Forwards, Begins, Accepts, Finishes, Takes, PendingTimesOut, Removes, HopTimesOut, Renews, Passes, Counts, Writes, RefusesCommand, Drops, Advances, applied, outputs_of}
 use Rattle.cip_module.specs.Produced.{produced_effects}
@@ -141,15 +141,13 @@ open_below s up o port address rest = record {
   words = words_of o.path;
 }
 
-abbrev pub open_answered : State → UpSide → Open → OpenAnswer → List Effect
-open_answered s up o (opens.Fails status) = Replies up (open_failed status o.fields.triad (words_of o.path)) ∷ []
-open_answered s up o (opens.GoesOn port address rest) =
-    Begins (open_below s up o port address rest) (opening_with (opener up o.fields.to_id) (DownLink port address) o) ∷ []
-open_answered s up o (opens.EndsHere link) =
-    Accepts (opening_with (opener up o.fields.to_id) (end_down link) o) o link ∷ Replies up (accepted_bytes o s.hops.next) ∷ []
-
 abbrev pub open_effects : State → UpSide → Open → OpenRow → List Effect
-open_effects s up o row = open_answered s up o (open_answer row)
+open_effects s up o (opens.Refuses refusal) =
+    Replies up (open_failed (open_status refusal) o.fields.triad (words_of o.path)) ∷ []
+open_effects s up o (opens.Forwarded port address rest) =
+    Begins (open_below s up o port address rest) (opening_with (opener up o.fields.to_id) (DownLink port address) o) ∷ []
+open_effects s up o (opens.Accepted link) =
+    Accepts (opening_with (opener up o.fields.to_id) (end_down link) o) o link ∷ Replies up (accepted_bytes o s.hops.next) ∷ []
 
 -- where the fixed part is cut, the failure tells nothing; else the triad and the path size byte
 abbrev pub unread_open_bytes : List ℕ → DataFault → List ℕ
@@ -177,16 +175,14 @@ close_below up c port address rest = record {
   words = words_of c.path;
 }
 
-abbrev pub close_answered : UpSide → Close → CloseAnswer → List Effect
-close_answered up c (closes.Fails status) = Replies up (close_failed status c.fields.triad (words_of c.path)) ∷ []
-close_answered up c (closes.GoesOn port address rest) =
+abbrev pub close_effects : UpSide → Close → CloseRow → List Effect
+close_effects up c (closes.Refuses refusal) =
+    Replies up (close_failed (close_status refusal) c.fields.triad (words_of c.path)) ∷ []
+close_effects up c (closes.Forwarded port address rest) =
     Removes c.fields.triad
     ∷ Forwards (close_below up c port address rest) (ClosingKind c.fields.triad) ∷ []
-close_answered up c closes.EndsHere =
+close_effects up c closes.ClosedAtTheEnd =
     Removes c.fields.triad ∷ Replies up (close_reply_bytes (record { triad = c.fields.triad; reply = [] })) ∷ []
-
-abbrev pub close_effects : UpSide → Close → CloseRow → List Effect
-close_effects up c row = close_answered up c (close_answer row)
 
 abbrev pub unread_close_bytes : List ℕ → DataFault → List ℕ
 unread_close_bytes d fault =

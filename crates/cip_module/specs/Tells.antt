@@ -35,7 +35,7 @@ use Rattle.cip_hops.specs.Sides.{up_is_link}
 use Rattle.cip_hops.specs.Hops.{Hops, refusal, hop_at, hop_by_up, hop_by_down, hop_by_op, is_late}
 use Rattle.cip_target.specs.declared.link.EndLink.{EndLink}
 use Rattle.cip_target.specs.Assemblies.{size_in}
-use Rattle.cip_target.specs.Ends.{end_row, Fits}
+use Rattle.cip_target.specs.Ends.{end_row}
 use Rattle.cip_module.specs.declared.config.ModuleSettings.{ModuleSettings}
 use Rattle.cip_module.specs.declared.event.OpenParams.{OpenParams}
 use Rattle.cip_module.specs.declared.event.Event.{Event}
@@ -262,7 +262,7 @@ pub record AcceptsAs (config : ModuleSettings) (s : State) (event : Event) (open
   pub meets : open_row config s (opener up o.fields.to_id) o ≡ opens.Accepted link
   pub came : up_is_link (opener up o.fields.to_id) ≡ true
   pub ends : hop_of o.path ≡ None
-  pub fits : end_row s.assemblies (is_consumed s.hops) o ≡ Fits link
+  pub fits : end_row s.assemblies (is_consumed s.hops) o ≡ Ok link
   pub free : map.get s.hops.held o.fields.triad ≡ None
   pub room : refusal s.hops o.fields.triad 1 ≡ None
   pub opening_is : opening ≡ opening_with (opener up o.fields.to_id) (end_down link) o

@@ -5,8 +5,8 @@ ghost use Rattle.cip_close.specs.Close.{Close};
 ghost use Rattle.cip_close.specs.CloseAt.{close_at};
 ghost use Rattle.cip_pending.specs.Pendings.{refusal};
 ghost use Rattle.cip_module.specs.Answers.{close_failed};
-ghost use Rattle.cip_module.specs.CloseRows.{close_row, GoesOn, EndsHere};
-ghost use Rattle.cip_module.specs.Table.{close_on, close_answered, close_effects, close_data_effects, unread_close_bytes, with_spending};
+ghost use Rattle.cip_module.specs.CloseRows.{close_row, Forwarded, ClosedAtTheEnd};
+ghost use Rattle.cip_module.specs.Table.{close_on, close_effects, close_data_effects, unread_close_bytes, with_spending};
 ghost use Rattle.cip_module.specs.Code.Ready.{CanSpend, IsAsked};
 ghost use Rattle.cip_module.specs.Code.Does.{Handles};
 ghost use Rattle.cip_module.specs.Code.Node.{state_of_node};
@@ -83,7 +83,7 @@ impl Node {
         requires spend { CanSpend self.old up }
         requires ticks { 2 ≤ view.now.fields.timing.ticks }
         requires pending { refusal self.old.pendings ≡ None }
-        ensures { Handles self.old self.new (with_spending up (close_answered up (close_of view.now) (GoesOn port address rest.entry.bytes.now))) result }
+        ensures { Handles self.old self.new (with_spending up (close_effects up (close_of view.now) (Forwarded port address rest.entry.bytes.now))) result }
     {
         let bytes = close_on(self.alloc, view, rest)?;
         let timing = view.fields.timing;
@@ -109,7 +109,7 @@ impl Node {
     // The connection ends here, and is removed.
     fn close_at_end(&mut self, up: UpSide, triad: Triad) -> Result<Output, NoMemory>
         requires spend { CanSpend self.old up }
-        ensures { (c : Close) → c.fields.triad ≡ triad → Handles self.old self.new (with_spending up (close_answered up c EndsHere)) result }
+        ensures { (c : Close) → c.fields.triad ≡ triad → Handles self.old self.new (with_spending up (close_effects up c ClosedAtTheEnd)) result }
     {
         let reply = CloseReply { triad, reply: &[] };
         let bytes = write_close_reply(self.alloc, &reply)?;
@@ -129,9 +129,9 @@ impl Node {
         ensures { Handles self.old self.new (with_spending up (close_effects up (close_of view.now) (close_row (state_of_node self.old) sender.now (close_of view.now)))) result }
     {
         match self.close_row(sender, view) {
-            CloseDecision::Refuses(status) => {
+            CloseDecision::Refuses(refusal) => {
                 let words = view.path.words();
-                let bytes = close_failed(self.alloc, status, view.fields.triad, words)?;
+                let bytes = close_failed(self.alloc, refusal.status(), view.fields.triad, words)?;
                 self.spend_for(&up);
                 Ok(reply_to(up, bytes))
             }

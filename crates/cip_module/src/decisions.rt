@@ -6,7 +6,7 @@ ghost use Rattle.cip_message.specs.Reading.{request_of};
 ghost use Rattle.cip_unconnected.specs.Reading.{unconnected_of};
 ghost use Rattle.cip_module.specs.Keys.{leading_mismatch};
 ghost use Rattle.cip_module.specs.UnconnectedRows.{hop_row, key_row, unconnected_row};
-ghost use Rattle.cip_module.specs.Code.Decisions.{row_of, Leads};
+ghost use Rattle.cip_module.specs.Code.Decisions.{unconnected_row_of, Leads};
 
 use crate::config::ModuleSettings;
 use crate::keys::leading_mismatch;
@@ -37,7 +37,7 @@ fn by_hop<'a>(
     view: UnconnectedView<'a>,
 ) -> Decision<'a>
     ensures leads { Leads pendings.now view.entry.timing view.entry.route.bytes.now result }
-    ensures row { row_of result ≡ hop_row settings.now pendings.now (unconnected_of view.entry) (hop_of view.entry.route.bytes.now) }
+    ensures row { unconnected_row_of result ≡ hop_row settings.now pendings.now (unconnected_of view.entry) (hop_of view.entry.route.bytes.now) }
 {
     match first_hop(view.route) {
         FirstHop::End => Decision::Refuses(UnconnectedRefusal::NoPortSegment),
@@ -66,7 +66,7 @@ fn by_key<'a>(
     view: UnconnectedView<'a>,
 ) -> Decision<'a>
     ensures leads { Leads pendings.now view.entry.timing view.entry.route.bytes.now result }
-    ensures row { row_of result ≡ key_row settings.now pendings.now (unconnected_of view.entry) (leading_mismatch settings.now (segments_of view.entry.route.bytes.now)) }
+    ensures row { unconnected_row_of result ≡ key_row settings.now pendings.now (unconnected_of view.entry) (leading_mismatch settings.now (segments_of view.entry.route.bytes.now)) }
 {
     match leading_mismatch(settings, view.route) {
         Some(part) => Decision::Refuses(UnconnectedRefusal::KeyMismatch(part)),
@@ -82,7 +82,7 @@ pub(crate) fn unconnected_row<'a>(
     view: UnconnectedView<'a>,
 ) -> Decision<'a>
     ensures leads { Leads pendings.now view.entry.timing view.entry.route.bytes.now result }
-    ensures row { row_of result ≡ unconnected_row settings.now pendings.now (unconnected_of view.entry) }
+    ensures row { unconnected_row_of result ≡ unconnected_row settings.now pendings.now (unconnected_of view.entry) }
 {
     let embedded = match read_request(view.request) {
         Ok(embedded) => embedded,

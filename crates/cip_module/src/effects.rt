@@ -8,7 +8,7 @@ ghost use Rattle.cip_pending.specs.declared.entry.Kind.TheVariants as kinds;
 ghost use Rattle.cip_pending.specs.Pendings.{refusal, added, without, waiting_at};
 ghost use Rattle.cip_hops.specs.Hops.{begun, finished};
 ghost use Rattle.cip_hops.specs.Sides.{down_is_link, up_is_link};
-ghost use Rattle.cip_target.specs.Ends.{row_at, Fits, configured};
+ghost use Rattle.cip_target.specs.Ends.{row_at, configured};
 ghost use Rattle.cip_module.specs.State.{is_spent, spent_with};
 ghost use Rattle.cip_module.specs.Effects.{applied, given_up_of, given_up, removed, renewed, recounted, overwritten};
 ghost use Rattle.cip_module.specs.Code.Fit.{given_back};
@@ -112,7 +112,7 @@ impl Node {
         requires up { up_is_link opening.up ≡ true }
         requires down { opening.down ≡ end_down link.now }
         requires ready { IsReady self.old opening }
-        requires fits { row_at self.old.target (open_of view.now) ≡ Fits link.now }
+        requires fits { row_at self.old.target (open_of view.now) ≡ Ok link.now }
         ensures after { state_of_node self.new ≡ record (state_of_node self.old) { hops = finished (begun self.old.hops opening) opening.triad 0 self.old.clock; assemblies = configured self.old.target.objects.assemblies (open_of view.now) link.now } }
         ensures config { self.new.config ≡ self.old.config }
     {

@@ -6,10 +6,10 @@ ghost use Rattle.cip_open.specs.declared.request.OpenView.{OpenView as Views};
 ghost use Rattle.cip_pending.specs.Pendings.{refusal};
 ghost use Rattle.cip_hops.specs.Hops as hops;
 ghost use Rattle.cip_hops.specs.Sides.{up_is_link};
-ghost use Rattle.cip_target.specs.Ends.{row_at, Fits};
+ghost use Rattle.cip_target.specs.Ends.{row_at};
 ghost use Rattle.cip_module.specs.Answers.{open_failed};
-ghost use Rattle.cip_module.specs.OpenRows.{open_row, opening_with, ids_on, end_down, Fails, GoesOn, EndsHere};
-ghost use Rattle.cip_module.specs.Table.{opener, open_on, accepted_bytes, open_answered, open_effects, open_data_effects, unread_open_bytes, with_spending};
+ghost use Rattle.cip_module.specs.OpenRows.{open_row, opening_with, ids_on, end_down, Forwarded, Accepted};
+ghost use Rattle.cip_module.specs.Table.{opener, open_on, accepted_bytes, open_effects, open_data_effects, unread_open_bytes, with_spending};
 ghost use Rattle.cip_module.specs.Code.Ready.{CanSpend, IsAsked};
 ghost use Rattle.cip_module.specs.Code.Does.{Handles};
 ghost use Rattle.cip_module.specs.Code.Node.{state_of_node};
@@ -143,7 +143,7 @@ impl Node {
         requires ticks { 2 ≤ view.now.fields.timing.ticks }
         requires pending { refusal self.old.pendings ≡ None }
         requires room { hops.refusal self.old.hops view.now.fields.triad (ids_on (opener up view.now.fields.to_id)) ≡ None }
-        ensures { Handles self.old self.new (with_spending up (open_answered (state_of_node self.old) up (open_of view.now) (GoesOn port address rest.entry.bytes.now))) result }
+        ensures { Handles self.old self.new (with_spending up (open_effects (state_of_node self.old) up (open_of view.now) (Forwarded port address rest.entry.bytes.now))) result }
     {
         let bytes = open_on(self.alloc, view, self.hops.last() + 1, rest)?;
         let path = view.path.to_path(self.alloc)?;
@@ -182,8 +182,8 @@ impl Node {
         requires multiplier { view.now.fields.multiplier < 8 }
         requires link { up_is_link (opener up view.now.fields.to_id) ≡ true }
         requires room { hops.refusal self.old.hops view.now.fields.triad 1 ≡ None }
-        requires fits { row_at self.old.target (open_of view.now) ≡ Fits link }
-        ensures { Handles self.old self.new (with_spending up (open_answered (state_of_node self.old) up (open_of view.now) (EndsHere link))) result }
+        requires fits { row_at self.old.target (open_of view.now) ≡ Ok link }
+        ensures { Handles self.old self.new (with_spending up (open_effects (state_of_node self.old) up (open_of view.now) (Accepted link))) result }
     {
         let bytes = accepted(self.alloc, &view.fields, self.hops.last() + 1)?;
         let path = view.path.to_path(self.alloc)?;
@@ -204,9 +204,9 @@ impl Node {
     {
         let asker = opener(&up, view.fields.to_id);
         match self.open_row(&asker, view) {
-            OpenDecision::Refuses(status) => {
+            OpenDecision::Refuses(refusal) => {
                 let words = view.path.words();
-                let bytes = open_failed(self.alloc, status, view.fields.triad, words)?;
+                let bytes = open_failed(self.alloc, refusal.status(), view.fields.triad, words)?;
                 self.spend_for(&up);
                 Ok(reply_to(up, bytes))
             }

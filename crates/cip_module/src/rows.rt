@@ -3,6 +3,7 @@ ghost use Rattle.std.specs.Prelude.{◌≡◌};
 ghost use Rattle.cip_module.specs.Statuses.{key_status, link_status, request_status, unconnected_status, open_status, close_status};
 
 use cip_base::Status;
+use cip_target::EndRefusal;
 
 /// The rows of any request that answer with a failure.
 #[derive(Clone, Copy, Debug, PartialEq, Eq)]
@@ -49,11 +50,7 @@ pub enum OpenRefusal {
     KeyMismatch(KeyPart),
     NotSentOn(LinkRefusal),
     NoRoomToPassOn,
-    NotAnApplicationPath,
-    NoSuchInstanceOrConfiguration,
-    TransportClassNotSupported,
-    SizeMismatch,
-    OutputOwned,
+    NotAccepted(EndRefusal),
     NoRoomToEndHere,
 }
 
@@ -182,11 +179,7 @@ impl OpenRefusal {
             OpenRefusal::KeyMismatch(part) => part.status(),
             OpenRefusal::NotSentOn(refusal) => refusal.status(),
             OpenRefusal::NoRoomToPassOn => extended_status(0x0113),
-            OpenRefusal::NotAnApplicationPath => extended_status(0x0315),
-            OpenRefusal::NoSuchInstanceOrConfiguration => extended_status(0x0117),
-            OpenRefusal::TransportClassNotSupported => extended_status(0x0103),
-            OpenRefusal::SizeMismatch => extended_status(0x0109),
-            OpenRefusal::OutputOwned => extended_status(0x0106),
+            OpenRefusal::NotAccepted(refusal) => refusal.status(),
             OpenRefusal::NoRoomToEndHere => extended_status(0x0113),
         }
     }

@@ -1,12 +1,12 @@
 -- What a borrowed application path says, and the assemblies that it names.
-use Rattle.std.specs.Prelude.{◌≡◌, ◌≤◌, ℕ, Bool, List, [], ◌∷◌, Option, Some, None}
+use Rattle.std.specs.Prelude.{◌≡◌, ◌≤◌, ℕ, Bool, List, [], ◌∷◌, Option, Some, None, Err}
 use Rattle.cip_segment.specs.declared.segment.Segment.{Segment}
 use Rattle.cip_target.specs.declared.application.ApplicationView.{ApplicationView}
 use Rattle.cip_target.specs.declared.ends.Joined.{Joined}
 use Rattle.cip_open.specs.declared.request.OpenFields.{OpenFields}
 use Rattle.cip_target.specs.Assemblies.{AssemblyMap, config_in}
 use Rattle.cip_target.specs.declared.ends.EndRefusal.TheVariants.{NoSuchInstanceOrConfiguration}
-use Rattle.cip_target.specs.Ends.{application_row}
+use Rattle.cip_target.specs.Ends.{EndRow, sized_row, application_row}
 use Rattle.cip_target.specs.ApplicationPath.{Application, without_inhibits, point_of}
 
 abbrev pub application_seen : ApplicationView → Application
@@ -37,4 +37,10 @@ pub record IsJoined (m : AssemblyMap) (a : Application) (j : Joined) : Type 0 wh
 
 -- one of the assemblies is missing
 abbrev pub Misses : AssemblyMap → Application → Type 0
-Misses m a = (owned : ℕ → Bool) (f : OpenFields) → application_row m owned f (Some a) ≡ NoSuchInstanceOrConfiguration
+Misses m a = (owned : ℕ → Bool) (f : OpenFields) → application_row m owned f (Some a) ≡ Err NoSuchInstanceOrConfiguration
+
+-- the row of an open whose assemblies are found
+abbrev pub joined_row : Joined → OpenFields → Bool → EndRow
+joined_row j f owned =
+    sized_row (λ _. owned) f (application_joined j) (Some j.config.size) (Some j.consume.size)
+    (Some j.produce.size)

@@ -15,6 +15,7 @@ mod rows;
 mod target;
 
 pub use config::AssemblyConfig;
+pub use ends::EndRefusal;
 pub use identity::{Identity, IdentityFields};
 pub use link::EndLink;
 pub use object::{ObjectPath, object_path};

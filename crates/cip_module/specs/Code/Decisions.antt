@@ -1,5 +1,5 @@
 -- What a decision of the code says: a row or an answer, and of a request that goes on that it can.
-use Rattle.std.specs.Prelude.{◌≡◌, ℕ, ◌%◌, ◌≤◌, ◌<◌, true, List, length, None}
+use Rattle.std.specs.Prelude.{◌≡◌, ℕ, ◌%◌, ◌≤◌, ◌<◌, true, List, length, None, Ok}
 use Rattle.cip_base.specs.declared.timing.Timing.{Timing}
 use Rattle.cip_message.specs.Reading.{request_of}
 use Rattle.cip_pending.specs.declared.entry.Kind.{Kind}
@@ -9,7 +9,7 @@ use Rattle.cip_hops.specs.declared.opening.HopUp.{HopUp}
 use Rattle.cip_hops.specs.Sides.{up_is_link}
 use Rattle.cip_hops.specs.Hops as hops
 use Rattle.cip_open.specs.Open.{Open}
-use Rattle.cip_target.specs.Ends.{row_at, Fits}
+use Rattle.cip_target.specs.Ends.{row_at}
 use Rattle.cip_module.specs.declared.decisions.Decision.{Decision}
 use Rattle.cip_module.specs.declared.decisions.Decision.TheVariants as decisions
 use Rattle.cip_module.specs.declared.open_rows.OpenDecision.{OpenDecision}
@@ -20,18 +20,18 @@ use Rattle.cip_module.specs.declared.reply_rows.ReplyDecision.{ReplyDecision}
 use Rattle.cip_module.specs.declared.reply_rows.ReplyDecision.TheVariants as reply_decisions
 use Rattle.cip_module.specs.declared.node.Node.{Node}
 use Rattle.cip_module.specs.UnconnectedRows.{UnconnectedRow, Refuses, AnsweredHere, Forwarded}
-use Rattle.cip_module.specs.OpenRows.{OpenAnswer, ids_on}
+use Rattle.cip_module.specs.OpenRows.{OpenRow, ids_on}
 use Rattle.cip_module.specs.OpenRows as opens
-use Rattle.cip_module.specs.CloseRows.{CloseAnswer}
+use Rattle.cip_module.specs.CloseRows.{CloseRow}
 use Rattle.cip_module.specs.CloseRows as closes
 use Rattle.cip_module.specs.ReplyRows.{ReplyRow}
 use Rattle.cip_module.specs.ReplyRows as replies
 use Rattle.cip_open.specs.Reading.{success_of}
 
-abbrev pub row_of : Decision → UnconnectedRow
-row_of (decisions.Refuses refusal) = Refuses refusal
-row_of (decisions.AnsweredHere request) = AnsweredHere (request_of request)
-row_of (decisions.Forwarded port address rest) = Forwarded port address rest.bytes.now
+abbrev pub unconnected_row_of : Decision → UnconnectedRow
+unconnected_row_of (decisions.Refuses refusal) = Refuses refusal
+unconnected_row_of (decisions.AnsweredHere request) = AnsweredHere (request_of request)
+unconnected_row_of (decisions.Forwarded port address rest) = Forwarded port address rest.bytes.now
 
 -- a request that is answered here is one; a request that goes on has ticks for it, a place among the pendings, and a path that is no longer than the route
 abbrev pub Leads : Pendings → Timing → List ℕ → Decision → Type 0
@@ -39,33 +39,33 @@ Leads p timing route (decisions.Refuses fault) = Unit {0}
 Leads p timing route (decisions.AnsweredHere request) = request.service < 128
 Leads p timing route (decisions.Forwarded port address rest) = (2 ≤ timing.ticks) × (refusal p ≡ None) × (length rest.bytes.now ≤ length route)
 
-abbrev pub open_told : OpenDecision → OpenAnswer
-open_told (open_decisions.Refuses status) = opens.Fails status
-open_told (open_decisions.Forwarded port address rest) = opens.GoesOn port address rest.bytes.now
-open_told (open_decisions.Accepted link) = opens.EndsHere link
+abbrev pub open_row_of : OpenDecision → OpenRow
+open_row_of (open_decisions.Refuses refusal) = opens.Refuses refusal
+open_row_of (open_decisions.Forwarded port address rest) = opens.Forwarded port address rest.bytes.now
+open_row_of (open_decisions.Accepted link) = opens.Accepted link
 
 -- a connection that goes on has ticks for it, a place among the pendings and room among the hops; one that ends here fits the target and has room
 abbrev pub OpenLeads : Node → HopUp → Open → OpenDecision → Type 0
-OpenLeads m up o (open_decisions.Refuses status) = Unit {0}
+OpenLeads m up o (open_decisions.Refuses refusal) = Unit {0}
 OpenLeads m up o (open_decisions.Forwarded port address rest) =
     (2 ≤ o.fields.timing.ticks) × (refusal m.pendings ≡ None) × (hops.refusal m.hops o.fields.triad (ids_on up) ≡ None)
 OpenLeads m up o (open_decisions.Accepted link) =
-    (up_is_link up ≡ true) × (hops.refusal m.hops o.fields.triad 1 ≡ None) × (row_at m.target o ≡ Fits link)
+    (up_is_link up ≡ true) × (hops.refusal m.hops o.fields.triad 1 ≡ None) × (row_at m.target o ≡ Ok link)
 
-abbrev pub close_told : CloseDecision → CloseAnswer
-close_told (close_decisions.Refuses status) = closes.Fails status
-close_told (close_decisions.Forwarded port address rest) = closes.GoesOn port address rest.bytes.now
-close_told close_decisions.ClosedAtTheEnd = closes.EndsHere
+abbrev pub close_row_of : CloseDecision → CloseRow
+close_row_of (close_decisions.Refuses refusal) = closes.Refuses refusal
+close_row_of (close_decisions.Forwarded port address rest) = closes.Forwarded port address rest.bytes.now
+close_row_of close_decisions.ClosedAtTheEnd = closes.ClosedAtTheEnd
 
 abbrev pub CloseLeads : Pendings → Timing → CloseDecision → Type 0
-CloseLeads p timing (close_decisions.Refuses status) = Unit {0}
+CloseLeads p timing (close_decisions.Refuses refusal) = Unit {0}
 CloseLeads p timing (close_decisions.Forwarded port address rest) = (2 ≤ timing.ticks) × (refusal p ≡ None)
 CloseLeads p timing close_decisions.ClosedAtTheEnd = Unit {0}
 
-abbrev pub reply_told : ReplyDecision → ReplyRow
-reply_told reply_decisions.Malformed = replies.MalformedForItsKind
-reply_told (reply_decisions.OpenSucceeded triad success) = replies.OpenSucceeded triad (success_of success)
-reply_told reply_decisions.PassedUp = replies.PassedUp
+abbrev pub reply_row_of : ReplyDecision → ReplyRow
+reply_row_of reply_decisions.Malformed = replies.MalformedForItsKind
+reply_row_of (reply_decisions.OpenSucceeded triad success) = replies.OpenSucceeded triad (success_of success)
+reply_row_of reply_decisions.PassedUp = replies.PassedUp
 
 -- a success opens what was asked for, and can be written once more
 abbrev pub ReplyLeads : Kind → ReplyDecision → Type 0
