@@ -14,8 +14,8 @@ use Rattle.cip_hops.specs.Hops.{Hops, IsOpFree, refusal}
 use Rattle.cip_segment.specs.Reading.{segments_of}
 use Rattle.cip_module.specs.declared.config.ModuleSettings.{ModuleSettings}
 use Rattle.cip_module.specs.declared.node.Node.{Node}
-use Rattle.cip_module.specs.declared.rows.OpenRefusal.{OpenRefusal}
-use Rattle.cip_module.specs.declared.rows.OpenRefusal.TheVariants.{ConnectionTypeNotSupported, RpiOfZero, TriadInUse}
+use Rattle.cip_module.specs.declared.refusals.OpenRefusal.{OpenRefusal}
+use Rattle.cip_module.specs.declared.refusals.OpenRefusal.TheVariants.{ConnectionTypeNotSupported, RpiOfZero, TriadInUse}
 use Rattle.cip_module.specs.Effects.{applied}
 use Rattle.cip_module.specs.Keys.{leading_mismatch}
 use Rattle.cip_module.specs.Code.Node.{state_of_node}
@@ -26,8 +26,10 @@ use Rattle.cip_module.specs.Table.{opener, with_spending}
 use Rattle.cip_module.proofs.Kept.{spent_now}
 use Rattle.cip_module.proofs.Spending.{new_op, no_op}
 
-ready_by : (old new : Node) (up : UpSide) (id port : ℕ) (address : List ℕ) (o : Open) → state_of_node new ≡ applied old.config (state_of_node old) (with_spending up []) → CanSpend old up
-    → o.fields.multiplier < 8 → refusal old.hops o.fields.triad (ids_on (opener up id)) ≡ None → IsReady new (opening_with (opener up id) (DownLink port address) o)
+ready_by : (old new : Node) (up : UpSide) (id port : ℕ) (address : List ℕ) (o : Open)
+    → state_of_node new ≡ applied old.config (state_of_node old) (with_spending up []) → CanSpend old up
+    → o.fields.multiplier < 8 → refusal old.hops o.fields.triad (ids_on (opener up id)) ≡ None
+    → IsReady new (opening_with (opener up id) (DownLink port address) o)
 ready_by old new (Link by to number) id port address o e can multiplier room = record {
   multiplier = multiplier;
   free = no_op new.hops;
@@ -45,8 +47,10 @@ ready_by old new (Local op) id port address o e can multiplier room =
     }
 
 -- an opening that goes on by a link, after its op is spent
-pub ready : (old new : Node) (up : UpSide) (id port : ℕ) (address : List ℕ) (o : Open) (opening : Opening) → state_of_node new ≡ applied old.config (state_of_node old) (with_spending up []) → CanSpend old up
-    → opening ≡ opening_with (opener up id) (DownLink port address) o → o.fields.multiplier < 8 → refusal old.hops o.fields.triad (ids_on (opener up id)) ≡ None → IsReady new opening
+pub ready : (old new : Node) (up : UpSide) (id port : ℕ) (address : List ℕ) (o : Open) (opening : Opening)
+    → state_of_node new ≡ applied old.config (state_of_node old) (with_spending up []) → CanSpend old up
+    → opening ≡ opening_with (opener up id) (DownLink port address) o → o.fields.multiplier < 8 → refusal old.hops o.fields.triad (ids_on (opener up id)) ≡ None
+    → IsReady new opening
 ready old new up id port address o opening e can is multiplier room = subst (IsReady new) (sym is) (ready_by old new up id port address o e can multiplier room)
 
 both_last : (a b c : Bool) → a && (b && c) ≡ true → c ≡ true
@@ -58,7 +62,8 @@ at_most : (n : ℕ) → leb n 7 ≡ true → n < 8
 at_most n e = grind (arith, nat_tests)
 
 pub supported_below : (o : Open) → is_supported o ≡ true → o.fields.multiplier < 8
-supported_below o e = at_most o.fields.multiplier (both_last (is_direction (params_of o.fields.ot_params)) (is_direction (params_of o.fields.to_params)) (leb o.fields.multiplier 7) e)
+supported_below o e = at_most o.fields.multiplier (both_last (is_direction (params_of o.fields.ot_params)) (is_direction (params_of o.fields.to_params))
+    (leb o.fields.multiplier 7) e)
 
 unless_refused : (b : Bool) (row other : OpenRow) → row ≡ cond (not b) (Refuses ConnectionTypeNotSupported) other
     → ((refusal : OpenRefusal) → row ≡ Refuses refusal → ⊥) → b ≡ true

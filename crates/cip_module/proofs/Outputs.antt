@@ -25,7 +25,7 @@ use Rattle.cip_target.specs.declared.ends.EndRefusal.TheVariants.{NotAnApplicati
 use Rattle.cip_target.specs.Ends.{EndRow, sized_row, application_row, end_row, is_configuration, are_sizes, class_of, link_of}
 use Rattle.cip_target.specs.declared.link.EndLink.{EndLink}
 use Rattle.cip_module.specs.OpenRows.{Refuses, Accepted, writes_to, is_consumed, accepted_row, here_row}
-use Rattle.cip_module.specs.declared.rows.OpenRefusal.TheVariants.{NotAccepted, NoRoomToEndHere}
+use Rattle.cip_module.specs.declared.refusals.OpenRefusal.TheVariants.{NotAccepted, NoRoomToEndHere}
 use Rattle.cip_module.specs.State.{State}
 use Rattle.cip_hops.specs.declared.opening.HopUp.{HopUp}
 use Rattle.cip_hops.specs.Sides.{up_is_link}
@@ -35,7 +35,8 @@ abbrev pub writes_it : ℕ → Hop → Bool
 writes_it i hop = writes_to i hop.opening.down
 
 -- what passes stands somewhere in the list, so the search does not fail
-no_miss : (p : Held → Bool) (q : Triad) (x : Held) (es : List (Triad × Held)) → entries.find triad_cmp q es ≡ Some x → p x ≡ true → find (λ e. p e.1) es ≡ None → ⊥
+no_miss : (p : Held → Bool) (q : Triad) (x : Held) (es : List (Triad × Held)) → entries.find triad_cmp q es ≡ Some x → p x ≡ true → find (λ e. p e.1) es ≡ None
+    → ⊥
 no_miss p q x [] at pass none = absurd (cc)
 no_miss p q x (e ∷ es) at pass none =
     elim (p e.1) as (λ b. p e.1 ≡ b → cond b (Some e) (find (λ e. p e.1) es) ≡ None → ⊥) [
@@ -57,7 +58,9 @@ found_some test (Open hop) e = refl
 
 stands_writes : (h : Hops) (i : ℕ) (t : Triad) (x : Held) → map.get h.held t ≡ Some x → is_hop (writes_it i) x ≡ true → is_consumed h i ≡ true
 stands_writes h i t x at pass =
-    elim (find (λ (e : Triad × Held). is_hop (writes_it i) e.1) (map.entries h.held)) as (λ f. find (λ (e : Triad × Held). is_hop (writes_it i) e.1) (map.entries h.held) ≡ f → is_some (option_and_then (λ (e : Triad × Held). as_hop e.1) f) ≡ true) [
+    elim (find (λ (e : Triad × Held). is_hop (writes_it i) e.1) (map.entries h.held)) as
+    (λ f. find (λ (e : Triad × Held). is_hop (writes_it i) e.1) (map.entries h.held) ≡ f
+    → is_some (option_and_then (λ (e : Triad × Held). as_hop e.1) f) ≡ true) [
       | None ↦ λ none. absurd (no_miss (is_hop (writes_it i)) t x (map.entries h.held) (sym (map.get-entries h.held t) ∙ at) pass none)
       | Some e ↦ λ f. found_some (writes_it i) e.1 (found-gives triad_cmp triads_total triads_apart h.held (λ e. is_hop (writes_it i) e.1) e f).1
     ] refl
@@ -73,7 +76,9 @@ writes_consumed h i t e =
 -- and the other way round
 pub consumed_writes : (h : Hops) (i : ℕ) → is_consumed h i ≡ true → (t : Triad) × (writes_of (map.get h.held t) i ≡ true)
 consumed_writes h i e =
-    elim (find (λ (e : Triad × Held). is_hop (writes_it i) e.1) (map.entries h.held)) as (λ f. find (λ (e : Triad × Held). is_hop (writes_it i) e.1) (map.entries h.held) ≡ f → is_some (option_and_then (λ (e : Triad × Held). as_hop e.1) f) ≡ true → (t : Triad) × (writes_of (map.get h.held t) i ≡ true)) [
+    elim (find (λ (e : Triad × Held). is_hop (writes_it i) e.1) (map.entries h.held)) as
+    (λ f. find (λ (e : Triad × Held). is_hop (writes_it i) e.1) (map.entries h.held) ≡ f
+    → is_some (option_and_then (λ (e : Triad × Held). as_hop e.1) f) ≡ true → (t : Triad) × (writes_of (map.get h.held t) i ≡ true)) [
       | None ↦ λ f s. absurd (cc)
       | Some e ↦ λ f s.
           let g = found-gives triad_cmp triads_total triads_apart h.held (λ e. is_hop (writes_it i) e.1) e f in
@@ -91,7 +96,8 @@ owned_same h m owners i size o e =
             | None ↦ λ at.
                 elim (is_consumed h i) as (λ c. is_consumed h i ≡ c → false ≡ c) [
                   | false ↦ λ c. refl
-                  | true ↦ λ c. let w = consumed_writes h i c in let no : None ≡ Some w.0 = sym at ∙ o.writer w.0 i size w.1 e (ltb-true 0 size t) in absurd (cc)
+                  | true ↦ λ c. let w = consumed_writes h i c in let no : None ≡ Some w.0 =
+                      sym at ∙ o.writer w.0 i size w.1 e (ltb-true 0 size t) in absurd (cc)
                 ] refl
           ] refl
     ] refl
@@ -102,17 +108,20 @@ sized_same a b f x None d p e = refl
 sized_same a b f x (Some c) None p e = refl
 sized_same a b f x (Some c) (Some d) None e = refl
 sized_same a b f x (Some c) (Some d) (Some p) e =
-    ap (λ o. cond (not (is_configuration c x.bytes)) (Err NoSuchInstanceOrConfiguration) (cond (nat_lt 1 (class_of f.transport)) (Err TransportClassNotSupported)
+    ap (λ o. cond (not (is_configuration c x.bytes)) (Err NoSuchInstanceOrConfiguration)
+    (cond (nat_lt 1 (class_of f.transport)) (Err TransportClassNotSupported)
     (cond (not (are_sizes f d p)) (Err SizeMismatch) (cond o (Err OutputOwned) (Ok (link_of f x)))))) (e d refl)
 
 application_same : (h : Hops) (m : AssemblyMap) (owners : Owners) (f : OpenFields) (x : Option Application) → AreOwned h m owners
     → application_row m (λ i. is_some (map.get owners i)) f x ≡ application_row m (is_consumed h) f x
 application_same h m owners f None o = refl
 application_same h m owners f (Some x) o =
-    sized_same (λ i. is_some (map.get owners i)) (is_consumed h) f x (size_in m x.config) (size_in m x.consume) (size_in m x.produce) (λ size e. owned_same h m owners x.consume size o e)
+    sized_same (λ i. is_some (map.get owners i)) (is_consumed h) f x (size_in m x.config) (size_in m x.consume) (size_in m x.produce)
+    (λ size e. owned_same h m owners x.consume size o e)
 
 -- an open meets the same row by the target's own record and by the connections
-pub rows_agree : (h : Hops) (m : AssemblyMap) (owners : Owners) (o : OpenRecord) → AreOwned h m owners → end_row m (λ i. is_some (map.get owners i)) o ≡ end_row m (is_consumed h) o
+pub rows_agree : (h : Hops) (m : AssemblyMap) (owners : Owners) (o : OpenRecord) → AreOwned h m owners
+    → end_row m (λ i. is_some (map.get owners i)) o ≡ end_row m (is_consumed h) o
 unfolding end_row
 rows_agree h m owners o w = application_same h m owners o.fields (application_of (segments_of o.path)) w
 

@@ -9,7 +9,7 @@ use Rattle.cip_hops.specs.declared.hop.Hop.{Hop}
 use Rattle.cip_hops.specs.Hops.{hop_at}
 use Rattle.cip_module.specs.declared.config.ModuleSettings.{ModuleSettings}
 use Rattle.cip_module.specs.declared.event.Output.{Output}
-use Rattle.cip_module.specs.declared.rows.CommandRow.TheVariants.{OpUsed, WrongSize, Taken}
+use Rattle.cip_module.specs.declared.command_rows.CommandRow.TheVariants.{OpUsed, WrongSize, Taken}
 use Rattle.cip_module.specs.OpenRows.{open_row}
 use Rattle.cip_module.specs.Effects.{Effect, Passes, datum_by, passed}
 use Rattle.cip_module.specs.Table.{with_spending, refused_effects, open_effects, open_command_effects, enter_effects}
@@ -17,10 +17,12 @@ use Rattle.cip_module.specs.Code.Does.{Does, DoesOrNot, one_output}
 use Rattle.cip_module.specs.State.{State, is_spent}
 
 -- a datum of the connection that was found
-pub enters : (config : ModuleSettings) (s : State) (hop : Hop) (bytes : List ℕ) (out : Output) → length bytes ≡ hop.opening.ot_size → hop_at s.hops hop.opening.triad ≡ Some hop
+pub enters : (config : ModuleSettings) (s : State) (hop : Hop) (bytes : List ℕ) (out : Output) → length bytes ≡ hop.opening.ot_size
+    → hop_at s.hops hop.opening.triad ≡ Some hop
     → out ≡ datum_by Down hop bytes → Does config s (enter_effects bytes (Some hop)) s (out ∷ [])
 enters config s hop bytes out sized at e =
-    subst (λ b. Does config s (refused_effects (cond b Taken WrongSize) (Passes hop.opening.triad Down bytes ∷ [])) s (out ∷ [])) (sym (eq-eqb (length bytes) hop.opening.ot_size sized))
+    subst (λ b. Does config s (refused_effects (cond b Taken WrongSize) (Passes hop.opening.triad Down bytes ∷ [])) s (out ∷ []))
+    (sym (eq-eqb (length bytes) hop.opening.ot_size sized))
     (record { state = refl; out = ap (λ x. passed Down x bytes ++ []) at ∙ ap (λ (o : Output). o ∷ []) (sym e) })
 
 abbrev opened_effects : ModuleSettings → State → ℕ → Open → List Effect

@@ -26,11 +26,13 @@ pub open_asker : (config : ModuleSettings) (s : State) (event : Event) (up : UpS
 open_asker config s event up o (inl h) = came_asker config event up _ h.came
 open_asker config s event up o (inr h) = ap asker h.event_is ∙ ap (λ (u : UpSide). Some u) (sym h.up_is)
 
-pub close_asker : (config : ModuleSettings) (s : State) (event : Event) (up sender : UpSide) (c : Close) → AsksClose config s event up sender c → asker event ≡ Some up
+pub close_asker : (config : ModuleSettings) (s : State) (event : Event) (up sender : UpSide) (c : Close) → AsksClose config s event up sender c
+    → asker event ≡ Some up
 close_asker config s event up sender c (inl h) = came_asker config event up _ h.came
 close_asker config s event up sender c (inr h) = ap asker h.event_is ∙ ap (λ (u : UpSide). Some u) (sym h.up_is)
 
-pub replies_asker : (config : ModuleSettings) (s : State) (event : Event) (up : UpSide) (bytes : List ℕ) → RepliesAs config s event up bytes → asker event ≡ Some up
+pub replies_asker : (config : ModuleSettings) (s : State) (event : Event) (up : UpSide) (bytes : List ℕ) → RepliesAs config s event up bytes
+    → asker event ≡ Some up
 replies_asker config s event up bytes (RequestFails service refusal came e) = came_asker config event up _ came
 replies_asker config s event up bytes (SendUnread asked fault came read e) = came_asker config event up _ came
 replies_asker config s event up bytes (SendFails u refusal asks meets e) = send_asker config s event up u asks
@@ -41,7 +43,8 @@ replies_asker config s event up bytes (CloseUnread asked fault came read e) = ca
 replies_asker config s event up bytes (CloseFails sender c refusal asks meets e) = close_asker config s event up sender c asks
 replies_asker config s event up bytes (CloseEnds sender c asks meets e) = close_asker config s event up sender c asks
 
-pub answers_asker : (config : ModuleSettings) (s : State) (event : Event) (up : UpSide) (asked : Request) → AnswersAs config s event up asked → asker event ≡ Some up
+pub answers_asker : (config : ModuleSettings) (s : State) (event : Event) (up : UpSide) (asked : Request) → AnswersAs config s event up asked
+    → asker event ≡ Some up
 answers_asker config s event up asked (Itself came) = came_asker config event up _ came
 answers_asker config s event up asked (Embedded u asks whole read) = send_asker config s event up u asks
 

@@ -39,7 +39,8 @@ pub applied_more : (config : ModuleSettings) (s : State) (es fs : List Effect) �
 applied_more config s [] fs = refl
 applied_more config s (e ∷ es) fs = applied_more config (apply config s e) es fs
 
-outputs_more : (config : ModuleSettings) (s : State) (es fs : List Effect) → outputs_of config s (es ++ fs) ≡ outputs_of config s es ++ outputs_of config (applied config s es) fs
+outputs_more : (config : ModuleSettings) (s : State) (es fs : List Effect)
+    → outputs_of config s (es ++ fs) ≡ outputs_of config s es ++ outputs_of config (applied config s es) fs
 outputs_more config s [] fs = refl
 outputs_more config s (e ∷ es) fs =
     ap (λ (z : List Output). output_of config s e ++ z) (outputs_more config (apply config s e) es fs)
@@ -61,21 +62,27 @@ pub stands : (t : ℕ) (p : Pendings) (x : ℕ × Entry) → first_due t p ≡ S
 stands t p x e = (found-gives nat_cmp nat_cmp_total nat_cmp-IsAntisymmetric p.entries (is_due t) x e).0
 
 -- its number alone tells what goes
-pub pending_time_out_is : (config : ModuleSettings) (t : ℕ) (s : State) (p : Pendings) (h : Hops) (x : ℕ × Entry) → Some x ≡ first_due t s.pendings → p ≡ without s.pendings x.0 → h ≡ given_up_of x.1.kind s.hops
+pub pending_time_out_is : (config : ModuleSettings) (t : ℕ) (s : State) (p : Pendings) (h : Hops) (x : ℕ × Entry) → Some x ≡ first_due t s.pendings
+    → p ≡ without s.pendings x.0 → h ≡ given_up_of x.1.kind s.hops
     → record s { pendings = p; hops = h } ≡ applied config s (pending_time_out (first_due t s.pendings))
 pending_time_out_is config t s p h x e gone given =
     ap (λ (q : Pendings). record s { pendings = q; hops = h }) gone
-    ∙ ap (λ (q : Hops). record s { pendings = without s.pendings x.0; hops = q }) (given ∙ ap (λ (o : Option Entry). given_up o s.hops) (sym (stands t s.pendings x (sym e))))
+    ∙ ap (λ (q : Hops). record s { pendings = without s.pendings x.0; hops = q })
+    (given ∙ ap (λ (o : Option Entry). given_up o s.hops) (sym (stands t s.pendings x (sym e))))
     ∙ ap (λ (o : Option (ℕ × Entry)). applied config s (pending_time_out o)) e
 
 -- what the others do stays the same
-pub pending_time_out_goes : (config : ModuleSettings) (t : ℕ) (o : Option (ℕ × Entry)) (s new : State) → due t s.pendings ≡ option_to_list o ++ due t new.pendings → new ≡ applied config s (pending_time_out o)
+pub pending_time_out_goes : (config : ModuleSettings) (t : ℕ) (o : Option (ℕ × Entry)) (s new : State)
+    → due t s.pendings ≡ option_to_list o ++ due t new.pendings → new ≡ applied config s (pending_time_out o)
     → applied config s (pending_time_outs t s.pendings) ≡ applied config new (pending_time_outs t new.pendings)
-pending_time_out_goes config t None s new d e = ap (λ (ds : List (ℕ × Entry)). applied config s (map pending_times_out ds)) d ∙ ap (λ (z : State). applied config z (pending_time_outs t new.pendings)) (sym e)
-pending_time_out_goes config t (Some x) s new d e = ap (λ (ds : List (ℕ × Entry)). applied config s (map pending_times_out ds)) d ∙ ap (λ (z : State). applied config z (pending_time_outs t new.pendings)) (sym e)
+pending_time_out_goes config t None s new d e = ap (λ (ds : List (ℕ × Entry)). applied config s (map pending_times_out ds)) d
+    ∙ ap (λ (z : State). applied config z (pending_time_outs t new.pendings)) (sym e)
+pending_time_out_goes config t (Some x) s new d e = ap (λ (ds : List (ℕ × Entry)). applied config s (map pending_times_out ds)) d
+    ∙ ap (λ (z : State). applied config z (pending_time_outs t new.pendings)) (sym e)
 
 -- where none is due, nothing pending_times_out
-pub pending_time_outs_end : (config : ModuleSettings) (t : ℕ) (s new : State) → is_some (first_due t s.pendings) ≡ false → new ≡ applied config s (pending_time_out (first_due t s.pendings)) → applied config s (pending_time_outs t s.pendings) ≡ new
+pub pending_time_outs_end : (config : ModuleSettings) (t : ℕ) (s new : State) → is_some (first_due t s.pendings) ≡ false
+    → new ≡ applied config s (pending_time_out (first_due t s.pendings)) → applied config s (pending_time_outs t s.pendings) ≡ new
 pending_time_outs_end config t s new none e =
     let is = none_is (first_due t s.pendings) none in
     ap (λ (ds : List (ℕ × Entry)). applied config s (map pending_times_out ds)) (none_due t (finite.entries s.pendings.entries) is).0
@@ -94,12 +101,14 @@ tail_is : {X : Type 0} (x y : X) (xs ys : List X) → x ∷ xs ≡ y ∷ ys → 
 tail_is x y xs ys e = cc
 
 -- the outputs of all that expire
-all_pendings_timed_out : (config : ModuleSettings) (t : ℕ) (s : State) (ds : List (ℕ × Entry)) → due t s.pendings ≡ ds → outputs_of config s (map pending_times_out ds) ≡ map shown ds
+all_pendings_timed_out : (config : ModuleSettings) (t : ℕ) (s : State) (ds : List (ℕ × Entry)) → due t s.pendings ≡ ds
+    → outputs_of config s (map pending_times_out ds) ≡ map shown ds
 all_pendings_timed_out config t s [] e = refl
 all_pendings_timed_out config t s (x ∷ ds) e =
     let found = first_is (is_due t) (finite.entries s.pendings.entries) x ds e in
     let left : due t (without s.pendings x.0) ≡ ds = tail_is x x _ _ (sym (due_goes t s.pendings x found).chosen ∙ e) in
-    ap (λ (o : Option Entry). timed_out_reply o ++ outputs_of config (apply config s (PendingTimesOut x.0)) (map pending_times_out ds)) (stands t s.pendings x found)
+    ap (λ (o : Option Entry). timed_out_reply o ++ outputs_of config (apply config s (PendingTimesOut x.0)) (map pending_times_out ds))
+    (stands t s.pendings x found)
     ∙ ap (λ (z : List Output). shown x ∷ z) (all_pendings_timed_out config t (apply config s (PendingTimesOut x.0)) ds left)
 
 -- ---- what was opening is given up, which is not due
@@ -114,7 +123,8 @@ left_out p (e ∷ es) (suc i) d lt fails =
     ]
 
 module _ {K X : Type 0} {R : K → K → Ordering} (o : IsTotalOrder R) (same : IsAntisymmetric R) where
-  entries_gone : (m : FinMap R X) (i : ℕ) (d : K × X) → i < length (finite.entries m) → finite.entries (finite.remove m (get_or (finite.entries m) i d).0) ≡ remove (finite.entries m) i
+  entries_gone : (m : FinMap R X) (i : ℕ) (d : K × X) → i < length (finite.entries m)
+      → finite.entries (finite.remove m (get_or (finite.entries m) i d).0) ≡ remove (finite.entries m) i
   entries_gone m i d lt =
       let es = finite.entries m in
       let sorted = finite.entries_sorted m in
@@ -123,7 +133,8 @@ module _ {K X : Type 0} {R : K → K → Ordering} (o : IsTotalOrder R) (same : 
       ∙ finite.entries-from_sorted R _ (sorted_remove R o es i d sorted lt)
 
   -- an entry goes that does not pass
-  gone_unpassed : (m : FinMap R X) (p : K × X → Bool) (q : K) (x : X) → finite.get m q ≡ Some x → p (q, x) ≡ false → filter p (finite.entries (finite.remove m q)) ≡ filter p (finite.entries m)
+  gone_unpassed : (m : FinMap R X) (p : K × X → Bool) (q : K) (x : X) → finite.get m q ≡ Some x → p (q, x) ≡ false
+      → filter p (finite.entries (finite.remove m q)) ≡ filter p (finite.entries m)
   gone_unpassed m p q x at fails =
       let g = first_goes (λ (e : K × X). eq_by_cmp R q e.0) (finite.entries m) (q, x)
       (find-only R o same m (λ (e : K × X). eq_by_cmp R q e.0) q x at (ap is_eq (tied_itself o q)) (λ r y _ t. sym (tied_name same q r t))) in
@@ -131,38 +142,46 @@ module _ {K X : Type 0} {R : K → K → Ordering} (o : IsTotalOrder R) (same : 
       ∙ ap (filter p) (entries_gone m g.place (q, x) g.within)
       ∙ left_out p (finite.entries m) g.place (q, x) g.within (ap p g.stands ∙ fails)
 
-due_held : (t : ℕ) (h : Hops) (triad : Triad) (x : Held) → finite.get h.held triad ≡ Some x → hops.due t (cond (is_some (as_opening x)) (hops.without h triad) h) ≡ hops.due t h
+due_held : (t : ℕ) (h : Hops) (triad : Triad) (x : Held) → finite.get h.held triad ≡ Some x
+    → hops.due t (cond (is_some (as_opening x)) (hops.without h triad) h) ≡ hops.due t h
 due_held t h triad (IsOpening o ids) at =
-    ap (filter_map (λ (e : Triad × Held). as_hop e.1)) (gone_unpassed triads_total triads_apart h.held (λ (e : Triad × Held). is_hop_due t e.1) triad (IsOpening o ids) at refl)
+    ap (filter_map (λ (e : Triad × Held). as_hop e.1)) (gone_unpassed triads_total triads_apart h.held (λ (e : Triad × Held). is_hop_due t e.1) triad
+    (IsOpening o ids) at refl)
 due_held t h triad (Open hop) at = refl
 
 pub due_given_up : (t : ℕ) (kind : Kind) (h : Hops) → hops.due t (given_up_of kind h) ≡ hops.due t h
 due_given_up t Unconnected h = refl
 due_given_up t (ClosingOf triad) h = refl
 due_given_up t (OpeningOf triad) h =
-    elim (finite.get h.held triad) as (λ x. finite.get h.held triad ≡ x → hops.due t (cond (is_some (option_and_then as_opening x)) (hops.without h triad) h) ≡ hops.due t h) [
+    elim (finite.get h.held triad) as (λ x. finite.get h.held triad ≡ x
+    → hops.due t (cond (is_some (option_and_then as_opening x)) (hops.without h triad) h) ≡ hops.due t h) [
       | None ↦ λ at. refl
       | Some x ↦ λ at. due_held t h triad x at
     ] refl
 
 -- ---- the connections
 
-pub hop_time_out_is : (config : ModuleSettings) (t : ℕ) (s : State) (h : Hops) (hop : Hop) → IsWithin s.hops → Some hop ≡ hops.first_due t s.hops → h ≡ hops.without s.hops hop.opening.triad
+pub hop_time_out_is : (config : ModuleSettings) (t : ℕ) (s : State) (h : Hops) (hop : Hop) → IsWithin s.hops → Some hop ≡ hops.first_due t s.hops
+    → h ≡ hops.without s.hops hop.opening.triad
     → record s { hops = h } ≡ applied config s (hop_time_out (hops.first_due t s.hops))
 hop_time_out_is config t s h hop w e gone =
     ap (λ (q : Hops). record s { hops = q }) (gone
     ∙ sym (ap (λ (o : Option Hop). cond (is_some o) (hops.without s.hops hop.opening.triad) s.hops) (found_held (is_late t) s.hops hop (sym e) w)))
     ∙ ap (λ (o : Option Hop). applied config s (hop_time_out o)) e
 
-pub hop_time_out_goes : (config : ModuleSettings) (t : ℕ) (o : Option Hop) (s new : State) → hops.due t s.hops ≡ option_to_list o ++ hops.due t new.hops → new ≡ applied config s (hop_time_out o)
+pub hop_time_out_goes : (config : ModuleSettings) (t : ℕ) (o : Option Hop) (s new : State) → hops.due t s.hops ≡ option_to_list o ++ hops.due t new.hops
+    → new ≡ applied config s (hop_time_out o)
     → applied config s (hop_time_outs t s.hops) ≡ applied config new (hop_time_outs t new.hops)
-hop_time_out_goes config t None s new d e = ap (λ (hs : List Hop). applied config s (map hop_times_out hs)) d ∙ ap (λ (z : State). applied config z (hop_time_outs t new.hops)) (sym e)
-hop_time_out_goes config t (Some hop) s new d e = ap (λ (hs : List Hop). applied config s (map hop_times_out hs)) d ∙ ap (λ (z : State). applied config z (hop_time_outs t new.hops)) (sym e)
+hop_time_out_goes config t None s new d e = ap (λ (hs : List Hop). applied config s (map hop_times_out hs)) d
+    ∙ ap (λ (z : State). applied config z (hop_time_outs t new.hops)) (sym e)
+hop_time_out_goes config t (Some hop) s new d e = ap (λ (hs : List Hop). applied config s (map hop_times_out hs)) d
+    ∙ ap (λ (z : State). applied config z (hop_time_outs t new.hops)) (sym e)
 
 none_late : (t : ℕ) (h : Hops) → hops.first_due t h ≡ None → hops.due t h ≡ []
 none_late t h none = due_open t h ∙ none_left (is_late t) (opens h) (sym (first_open (is_late t) (finite.entries h.held)) ∙ none)
 
-pub hop_time_outs_end : (config : ModuleSettings) (t : ℕ) (s new : State) → is_some (hops.first_due t s.hops) ≡ false → new ≡ applied config s (hop_time_out (hops.first_due t s.hops)) → applied config s (hop_time_outs t s.hops) ≡ new
+pub hop_time_outs_end : (config : ModuleSettings) (t : ℕ) (s new : State) → is_some (hops.first_due t s.hops) ≡ false
+    → new ≡ applied config s (hop_time_out (hops.first_due t s.hops)) → applied config s (hop_time_outs t s.hops) ≡ new
 hop_time_outs_end config t s new none e =
     let is = none_is (hops.first_due t s.hops) none in
     ap (λ (hs : List Hop). applied config s (map hop_times_out hs)) (none_late t s.hops is)
@@ -170,18 +189,22 @@ hop_time_outs_end config t s new none e =
 
 all_hops_timed_out : (config : ModuleSettings) (s : State) (hs : List Hop) → outputs_of config s (map hop_times_out hs) ≡ map hop_timed_out hs
 all_hops_timed_out config s [] = refl
-all_hops_timed_out config s (hop ∷ hs) = ap (λ (z : List Output). hop_timed_out hop ∷ z) (all_hops_timed_out config (apply config s (HopTimesOut hop.opening.triad)) hs)
+all_hops_timed_out config s (hop ∷ hs) = ap (λ (z : List Output). hop_timed_out hop ∷ z)
+    (all_hops_timed_out config (apply config s (HopTimesOut hop.opening.triad)) hs)
 
 -- ---- the whole of a tick
 
 pub ticked : (config : ModuleSettings) (s new : State) (us t : ℕ) (outs : List Output) → t ≡ s.now + us
-    → new ≡ applied config (record s { now = t }) (pending_time_outs t s.pendings ++ hop_time_outs t s.hops) → outs ≡ pendings_timed_out t s.pendings ++ hops_timed_out t s.hops
+    → new ≡ applied config (record s { now = t }) (pending_time_outs t s.pendings ++ hop_time_outs t s.hops)
+    → outs ≡ pendings_timed_out t s.pendings ++ hops_timed_out t s.hops
     → Does config s (tick_effects s us) new outs
 ticked config s new us t outs e after out = record {
   state = ap (λ k. applied config (record s { now = k }) (pending_time_outs k s.pendings ++ hop_time_outs k s.hops)) (sym e) ∙ sym after;
   out = let at : State = record s { now = s.now + us } in
       outputs_more config at (pending_time_outs (s.now + us) s.pendings) (hop_time_outs (s.now + us) s.hops)
-      ∙ ap (λ (z : List Output). z ++ outputs_of config (applied config at (pending_time_outs (s.now + us) s.pendings)) (hop_time_outs (s.now + us) s.hops)) (all_pendings_timed_out config (s.now + us) at (due (s.now + us) s.pendings) refl)
-      ∙ ap (λ (z : List Output). pendings_timed_out (s.now + us) s.pendings ++ z) (all_hops_timed_out config (applied config at (pending_time_outs (s.now + us) s.pendings)) (hops.due (s.now + us) s.hops))
+      ∙ ap (λ (z : List Output). z ++ outputs_of config (applied config at (pending_time_outs (s.now + us) s.pendings)) (hop_time_outs (s.now + us) s.hops))
+      (all_pendings_timed_out config (s.now + us) at (due (s.now + us) s.pendings) refl)
+      ∙ ap (λ (z : List Output). pendings_timed_out (s.now + us) s.pendings ++ z)
+      (all_hops_timed_out config (applied config at (pending_time_outs (s.now + us) s.pendings)) (hops.due (s.now + us) s.hops))
       ∙ ap (λ k. pendings_timed_out k s.pendings ++ hops_timed_out k s.hops) (sym e) ∙ sym out;
 }

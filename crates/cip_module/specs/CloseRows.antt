@@ -14,9 +14,9 @@ use Rattle.cip_hops.specs.declared.opening.HopDown.TheVariants.{Link as DownLink
 use Rattle.cip_hops.specs.declared.hop.Hop.{Hop}
 use Rattle.cip_hops.specs.Sides.{up_is, op_of}
 use Rattle.cip_hops.specs.Hops.{hop_at, is_id}
-use Rattle.cip_module.specs.declared.rows.LinkRefusal.{LinkRefusal}
-use Rattle.cip_module.specs.declared.rows.CloseRefusal.{CloseRefusal}
-use Rattle.cip_module.specs.declared.rows.CloseRefusal.TheVariants.{CutInTheFixedPart, CutInThePath, BytesAfterThePath, PathUnreadable, NotThisSendersOpenTriad, PathDiffersFromTheHops, NotSentOn}
+use Rattle.cip_module.specs.declared.refusals.LinkRefusal.{LinkRefusal}
+use Rattle.cip_module.specs.declared.refusals.CloseRefusal.{CloseRefusal}
+use Rattle.cip_module.specs.declared.refusals.CloseRefusal.TheVariants.{CutInTheFixedPart, CutInThePath, BytesAfterThePath, PathUnreadable, NotThisSendersOpenTriad, PathDiffersFromTheHops, NotSentOn}
 use Rattle.cip_module.specs.Links.{wait_refusal}
 use Rattle.cip_module.specs.State.{State}
 
@@ -25,7 +25,8 @@ pub data CloseRow : Type 0 where
   Forwarded : (port : ℕ) → (address : List ℕ) → (rest : List ℕ) → CloseRow
   ClosedAtTheEnd : CloseRow
 
--- whether a request from there is from the connection's up side: by port and address, or by the op that opened it
+-- whether a request from there is from the connection's up side: by port and address, or by the op
+-- that opened it
 abbrev pub is_sender : UpSide → HopUp → Bool
 is_sender (Link port address number) up = up_is port address up
 is_sender (Local of) up = is_id of (op_of up)
@@ -44,12 +45,14 @@ below_row p c port address (Some hop) =
 -- an end: the path leads nowhere
 abbrev pub down_row : Pendings → Close → HopDown → CloseRow
 down_row p c (DownLink port address) = below_row p c port address (hop_of c.path)
-down_row p c (End config consume produce) = if is_some (hop_of c.path) then Refuses PathDiffersFromTheHops else ClosedAtTheEnd
+down_row p c (End config consume produce) =
+    if is_some (hop_of c.path) then Refuses PathDiffersFromTheHops else ClosedAtTheEnd
 
 abbrev pub triad_row : Pendings → UpSide → Close → Option Hop → CloseRow
 triad_row p sender c None = Refuses NotThisSendersOpenTriad
 triad_row p sender c (Some hop) =
-    if not (is_sender sender hop.opening.up) then Refuses NotThisSendersOpenTriad else down_row p c hop.opening.down
+    if not (is_sender sender hop.opening.up) then Refuses NotThisSendersOpenTriad
+    else down_row p c hop.opening.down
 
 -- the row of a Forward_Close that was read
 unfoldable pub close_row : State → UpSide → Close → CloseRow

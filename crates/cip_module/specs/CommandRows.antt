@@ -3,8 +3,8 @@ use Rattle.std.specs.Prelude.{◌≡◌, ℕ, ◌≤◌, ◌==◌, false, not, n
 use Rattle.cip_unconnected.specs.Unconnected.{Unconnected, unconnected_bytes}
 use Rattle.cip_hops.specs.declared.hop.Hop.{Hop}
 use Rattle.cip_hops.specs.Hops.{hop_by_op}
-use Rattle.cip_module.specs.declared.rows.CommandRow.{CommandRow}
-use Rattle.cip_module.specs.declared.rows.CommandRow.TheVariants.{OpUsed, NotOpen, ReservedService, WrongSize, NoInstance, Taken}
+use Rattle.cip_module.specs.declared.command_rows.CommandRow.{CommandRow}
+use Rattle.cip_module.specs.declared.command_rows.CommandRow.TheVariants.{OpUsed, NotOpen, ReservedService, WrongSize, NoInstance, Taken}
 use Rattle.cip_module.specs.State.{State, is_spent}
 
 -- the row of an Open
@@ -26,7 +26,8 @@ send_row s op u =
     else if nat_lt 1400 (length (unconnected_bytes u)) then WrongSize
     else Taken
 
--- what a Send that is taken may rely on: its op is new, and its message is no longer than a message may be
+-- what a Send that is taken may rely on: its op is new, and its message is no longer than a message
+-- may be
 abbrev pub CanSend : State → ℕ → Unconnected → CommandRow → Type 0
 CanSend s op u OpUsed = Unit {0}
 CanSend s op u NotOpen = Unit {0}

@@ -47,12 +47,14 @@ above_row hop (UpLocal op) = Arrived hop.opening.triad
 
 -- from the node above
 abbrev pub from_up_row : List ℕ → Hop → DataRow
-from_up_row bytes hop = if not (length bytes == hop.opening.ot_size) then WrongSize else below_row hop bytes hop.opening.down
+from_up_row bytes hop = if not (length bytes == hop.opening.ot_size) then WrongSize
+    else below_row hop bytes hop.opening.down
 
 -- from the node below
 abbrev pub from_down_row : List ℕ → Option Hop → DataRow
 from_down_row bytes None = UnknownId
-from_down_row bytes (Some hop) = if not (length bytes == hop.opening.to_size) then WrongSize else above_row hop hop.opening.up
+from_down_row bytes (Some hop) = if not (length bytes == hop.opening.to_size) then WrongSize
+    else above_row hop hop.opening.up
 
 abbrev pub id_row : List ℕ → Option Hop → Option Hop → DataRow
 id_row bytes (Some hop) below = from_up_row bytes hop

@@ -1,4 +1,5 @@
--- What a row does: a list of effects. An effect carries keys and bytes, and looks records up in the state where it is applied.
+-- What a row does: a list of effects. An effect carries keys and bytes, and looks records up in the
+-- state where it is applied.
 use Rattle.std.specs.Prelude.{ℕ, ◌+◌, ◌==◌, not, false, if◌then◌else◌, List, [], ◌∷◌, ◌++◌, Bool, Option, Some, None, is_some, length}
 use Rattle.std.specs.Option.{option_map_or}
 use Rattle.std.specs.FinMap as map
@@ -37,12 +38,13 @@ use Rattle.cip_module.specs.declared.event.Output.{Output}
 use Rattle.cip_module.specs.declared.event.Output.TheVariants as outputs
 use Rattle.cip_module.specs.declared.event.Refused.{Refused}
 use Rattle.cip_module.specs.declared.event.Dropped.{Dropped}
-use Rattle.cip_module.specs.declared.rows.LinkRefusal.TheVariants.{TicksSpent}
+use Rattle.cip_module.specs.declared.refusals.LinkRefusal.TheVariants.{TicksSpent}
 use Rattle.cip_module.specs.Statuses.{link_status}
 use Rattle.cip_module.specs.Answers.{unconnected_failed, open_failed, close_failed}
 use Rattle.cip_module.specs.State.{State, spent_with}
 
--- what goes on by a link, and what waits for its reply: whom the reply goes to, the port and the address below, the bytes,
+-- what goes on by a link, and what waits for its reply: whom the reply goes to, the port and the
+-- address below, the bytes,
 -- how long the reply may take, and the words of the path as received
 pub record Sending : Type 0 where
   pub up : UpSide
@@ -128,42 +130,63 @@ given_up (Some entry) h = given_up_of entry.kind h
 
 -- a side that is no link is not watched
 abbrev pub renewed : Hops → Triad → Side → ℕ → Hops
-renewed h triad side now = if option_map_or (is_link side) (hop_at h triad) false then changed h triad (touched side now) else h
+renewed h triad side now = if option_map_or (is_link side) (hop_at h triad) false then
+    changed h triad (touched side now) else h
 
 -- an end alone counts
 abbrev pub ends_here : Hop → Bool
 ends_here hop = not (down_is_link hop.opening.down)
 
 abbrev pub recounted : Hops → Triad → Side → ℕ → Hops
-recounted h triad side count = if option_map_or ends_here (hop_at h triad) false then changed h triad (counted side count) else h
+recounted h triad side count = if option_map_or ends_here (hop_at h triad) false then
+    changed h triad (counted side count) else h
 
 -- an assembly keeps its size
 abbrev pub overwritten : AssemblyMap → ℕ → List ℕ → AssemblyMap
-overwritten m i b = if option_map_or (λ size. size == length b) (size_in m i) false then map.insert m i b else m
+overwritten m i b = if option_map_or (λ size. size == length b) (size_in m i) false then
+    map.insert m i b else m
 
 abbrev pub apply : ModuleSettings → State → Effect → State
 apply config s (Spends op) = record s { ops = spent_with op s.ops }
 apply config s (Replies up bytes) = s
-apply config s (Answers up request) = record s { assemblies = (target_after (objects_of config s) request).assemblies }
+apply config s (Answers up request) =
+    record s { assemblies = (target_after (objects_of config s) request).assemblies }
 apply config s (Forwards sending kind) = record s { pendings = waiting_with s sending kind }
 apply config s (Begins sending opening) = record s {
   pendings = waiting_with s sending (OpeningOf opening.triad);
   hops = begun s.hops opening;
 }
 apply config s (Accepts opening open_ link) =
-    record s { hops = finished (begun s.hops opening) opening.triad 0 s.now; assemblies = configured s.assemblies open_ link }
+    record s {
+      hops = finished (begun s.hops opening) opening.triad 0 s.now;
+      assemblies =
+          configured s.assemblies open_ link;
+    }
 apply config s (Finishes number triad bytes success) =
-    record s { pendings = without s.pendings number; hops = finished s.hops triad success.ot_id s.now }
+    record s {
+      pendings = without s.pendings number;
+      hops =
+          finished s.hops triad success.ot_id s.now;
+    }
 apply config s (Takes number bytes) =
-    record s { pendings = without s.pendings number; hops = given_up (map.get s.pendings.entries number) s.hops }
+    record s {
+      pendings = without s.pendings number;
+      hops =
+          given_up (map.get s.pendings.entries number) s.hops;
+    }
 apply config s (PendingTimesOut number) =
-    record s { pendings = without s.pendings number; hops = given_up (map.get s.pendings.entries number) s.hops }
+    record s {
+      pendings = without s.pendings number;
+      hops =
+          given_up (map.get s.pendings.entries number) s.hops;
+    }
 apply config s (Removes triad) = record s { hops = removed s.hops triad }
 apply config s (HopTimesOut triad) = record s { hops = removed s.hops triad }
 apply config s (Renews triad side) = record s { hops = renewed s.hops triad side s.now }
 apply config s (Passes triad side bytes) = s
 apply config s (Counts triad side count) = record s { hops = recounted s.hops triad side count }
-apply config s (Writes instance bytes) = record s { assemblies = overwritten s.assemblies instance bytes }
+apply config s (Writes instance bytes) =
+    record s { assemblies = overwritten s.assemblies instance bytes }
 apply config s (RefusesCommand fault) = s
 apply config s (Drops reason) = s
 apply config s (Advances by) = record s { now = s.now + by }
@@ -175,15 +198,18 @@ abbrev pub request_below : State → Sending → Output
 request_below s sending =
     outputs.Send sending.port sending.address (bodies.Request s.pendings.next sending.bytes)
 
--- a reply to whom the request came from: by a link with the number that it had there, or to this module's own command
+-- a reply to whom the request came from: by a link with the number that it had there, or to this
+-- module's own command
 abbrev pub reply_up : UpSide → List ℕ → Output
 reply_up (Link port address number) bytes = outputs.Send port address (bodies.Reply number bytes)
 reply_up (Local op) bytes = outputs.Done op bytes
 
--- a success as it goes up: with the own up id, and the T→O id of the node above; a command gets the bytes as received
+-- a success as it goes up: with the own up id, and the T→O id of the node above; a command gets the
+-- bytes as received
 abbrev pub success_up : HopUp → OwnIds → List ℕ → OpenSuccess → List ℕ
 success_up (UpLink port address their_id) ids bytes success =
-    open_reply_bytes (record success { ot_id = option_map_or (λ id. id) ids.up 0; to_id = their_id })
+    open_reply_bytes
+    (record success { ot_id = option_map_or (λ id. id) ids.up 0; to_id = their_id })
 success_up (UpLocal op) ids bytes success = bytes
 
 abbrev pub succeeded : Option Held → List ℕ → OpenSuccess → List ℕ
@@ -206,12 +232,14 @@ timed_out_reply (Some entry) = reply_up entry.up (late_bytes entry.kind entry.wo
 
 -- a datum by the up side: to the node above under its id, or to the command that opened
 abbrev pub datum_up : HopUp → List ℕ → Output
-datum_up (UpLink port address their_id) bytes = outputs.Send port address (bodies.Data their_id bytes)
+datum_up (UpLink port address their_id) bytes =
+    outputs.Send port address (bodies.Data their_id bytes)
 datum_up (UpLocal op) bytes = outputs.Arrived op bytes
 
 -- a datum by the down side: to the node below under its id, or to an assembly here
 abbrev pub datum_down : Hop → HopDown → List ℕ → Output
-datum_down hop (DownLink port address) bytes = outputs.Send port address (bodies.Data (option_map_or (λ id. id) hop.their_id 0) bytes)
+datum_down hop (DownLink port address) bytes =
+    outputs.Send port address (bodies.Data (option_map_or (λ id. id) hop.their_id 0) bytes)
 datum_down hop (End config consume produce) bytes = outputs.Consumed hop.opening.triad consume bytes
 
 abbrev pub datum_by : Side → Hop → List ℕ → Output
@@ -225,12 +253,14 @@ passed side (Some hop) bytes = datum_by side hop bytes ∷ []
 abbrev pub output_of : ModuleSettings → State → Effect → List Output
 output_of config s (Spends op) = []
 output_of config s (Replies up bytes) = reply_up up bytes ∷ []
-output_of config s (Answers up request) = reply_up up (reply_bytes (target_answer (objects_of config s) request)) ∷ []
+output_of config s (Answers up request) =
+    reply_up up (reply_bytes (target_answer (objects_of config s) request)) ∷ []
 output_of config s (Forwards sending kind) = request_below s sending ∷ []
 output_of config s (Begins sending opening) = request_below s sending ∷ []
 output_of config s (Accepts opening open_ link) = []
 output_of config s (Finishes number triad bytes success) =
-    replied (map.get s.pendings.entries number) (succeeded (map.get s.hops.held triad) bytes success)
+    replied (map.get s.pendings.entries number)
+    (succeeded (map.get s.hops.held triad) bytes success)
 output_of config s (Takes number bytes) = replied (map.get s.pendings.entries number) bytes
 output_of config s (PendingTimesOut number) = timed_out_reply (map.get s.pendings.entries number)
 output_of config s (Removes triad) = []

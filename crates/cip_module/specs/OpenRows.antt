@@ -19,10 +19,10 @@ use Rattle.cip_target.specs.declared.link.EndLink.{EndLink}
 use Rattle.cip_target.specs.Ends.{EndRow, end_row, class_of}
 use Rattle.cip_target.specs.declared.ends.EndRefusal.TheVariants.{NotAnApplicationPath}
 use Rattle.cip_module.specs.declared.config.ModuleSettings.{ModuleSettings}
-use Rattle.cip_module.specs.declared.rows.KeyPart.{KeyPart}
-use Rattle.cip_module.specs.declared.rows.LinkRefusal.{LinkRefusal}
-use Rattle.cip_module.specs.declared.rows.OpenRefusal.{OpenRefusal}
-use Rattle.cip_module.specs.declared.rows.OpenRefusal.TheVariants.{CutInTheFixedPart, CutInThePath, BytesAfterThePath, PathUnreadable, ConnectionTypeNotSupported, RpiOfZero, TriadInUse, KeyMismatch, NotSentOn, NoRoomToPassOn, NotAccepted, NoRoomToEndHere}
+use Rattle.cip_module.specs.declared.refusals.KeyPart.{KeyPart}
+use Rattle.cip_module.specs.declared.refusals.LinkRefusal.{LinkRefusal}
+use Rattle.cip_module.specs.declared.refusals.OpenRefusal.{OpenRefusal}
+use Rattle.cip_module.specs.declared.refusals.OpenRefusal.TheVariants.{CutInTheFixedPart, CutInThePath, BytesAfterThePath, PathUnreadable, ConnectionTypeNotSupported, RpiOfZero, TriadInUse, KeyMismatch, NotSentOn, NoRoomToPassOn, NotAccepted, NoRoomToEndHere}
 use Rattle.cip_module.specs.Links.{link_refusal}
 use Rattle.cip_module.specs.Keys.{leading_mismatch}
 use Rattle.cip_module.specs.State.{State}
@@ -43,7 +43,8 @@ abbrev pub is_consumed : Hops → ℕ → Bool
 is_consumed h instance = is_some (first_hop (λ hop. writes_to instance hop.opening.down) h)
 
 abbrev pub room_row : Hops → Open → EndLink → OpenRow
-room_row h o link = if is_some (refusal h o.fields.triad 1) then Refuses NoRoomToEndHere else Accepted link
+room_row h o link = if is_some (refusal h o.fields.triad 1) then Refuses NoRoomToEndHere
+    else Accepted link
 
 abbrev pub accepted_row : Hops → Open → EndRow → OpenRow
 accepted_row h o (Err refusal) = Refuses (NotAccepted refusal)
@@ -64,11 +65,13 @@ ids_on up = if up_is_link up then 2 else 1
 abbrev pub on_row : State → HopUp → Open → HopAt → Option LinkRefusal → OpenRow
 on_row s up o hop (Some fault) = Refuses (NotSentOn fault)
 on_row s up o hop None =
-    if is_some (refusal s.hops o.fields.triad (ids_on up)) then Refuses NoRoomToPassOn else Forwarded hop.port hop.address hop.rest
+    if is_some (refusal s.hops o.fields.triad (ids_on up)) then Refuses NoRoomToPassOn
+    else Forwarded hop.port hop.address hop.rest
 
 abbrev pub hop_row : ModuleSettings → State → HopUp → Open → Option HopAt → OpenRow
 hop_row config s up o None = here_row s up o
-hop_row config s up o (Some hop) = on_row s up o hop (link_refusal config s.pendings o.fields.timing hop.port hop.address)
+hop_row config s up o (Some hop) = on_row s up o hop
+    (link_refusal config s.pendings o.fields.timing hop.port hop.address)
 
 -- ---- what every open has to be
 
@@ -87,7 +90,8 @@ abbrev pub is_direction : Params → Bool
 is_direction p = is_point_to_point p.kind && not p.redundant
 
 abbrev pub is_supported : Open → Bool
-is_supported o = is_direction (params_of o.fields.ot_params) && (is_direction (params_of o.fields.to_params) && nat_le o.fields.multiplier 7)
+is_supported o = is_direction (params_of o.fields.ot_params)
+    && (is_direction (params_of o.fields.to_params) && nat_le o.fields.multiplier 7)
 
 -- the row of a Forward_Open that was read
 unfoldable pub open_row : ModuleSettings → State → HopUp → Open → OpenRow

@@ -18,7 +18,8 @@ pub record IsAwaited (p : Pendings) (triad : Triad) (number : ℕ) : Type 0 wher
 pub record IsPaired (p : Pendings) (h : Hops) : Type 0 where
   pub each : (triad : Triad) (number : ℕ) → IsAwaited p triad number → IsSome (opening_at h triad)
   pub one : (triad : Triad) (m n : ℕ) → IsAwaited p triad m → IsAwaited p triad n → m ≡ n
-  pub only : (triad : Triad) → IsSome (opening_at h triad) → ((number : ℕ) → IsAwaited p triad number → ⊥) → ⊥
+  pub only : (triad : Triad) → IsSome (opening_at h triad)
+      → ((number : ℕ) → IsAwaited p triad number → ⊥) → ⊥
 
 -- a request that opens no connection
 abbrev pub IsOther : Kind → Type 0

@@ -1,4 +1,5 @@
--- What an end sends of an assembly: a datum by each connection that takes its data from it, in rising triad.
+-- What an end sends of an assembly: a datum by each connection that takes its data from it, in
+-- rising triad.
 use Rattle.std.specs.Prelude.{ℕ, ◌+◌, ◌%◌, ◌==◌, Bool, false, if◌then◌else◌, List, [], ◌∷◌, ◌++◌, map, filter, filter_map, Option, Some, None}
 use Rattle.std.specs.Option.{option_map_or}
 use Rattle.std.specs.FinMap as finite
@@ -27,20 +28,24 @@ next_count last = option_map_or (λ n. (n + 1) % 65536) last 1
 abbrev pub made_effects : List ℕ → Hop → List Effect
 made_effects held hop =
     if hop.opening.class == 1
-    then Counts hop.opening.triad Down (next_count hop.produced) ∷ Passes hop.opening.triad Up (word (next_count hop.produced) ++ held) ∷ []
+    then Counts hop.opening.triad Down (next_count hop.produced)
+    ∷ Passes hop.opening.triad Up (word (next_count hop.produced) ++ held) ∷ []
     else Passes hop.opening.triad Up held ∷ []
 
 abbrev pub held_effects : ℕ → List ℕ → Held → List Effect
 held_effects instance held (IsOpening o ids) = []
-held_effects instance held (Open hop) = if reads_from instance hop.opening.down then made_effects held hop else []
+held_effects instance held (Open hop) =
+    if reads_from instance hop.opening.down then made_effects held hop else []
 
 abbrev pub each_effects : ℕ → List ℕ → List (Triad × Held) → List Effect
 each_effects instance held [] = []
-each_effects instance held (e ∷ es) = held_effects instance held e.1 ++ each_effects instance held es
+each_effects instance held (e ∷ es) =
+    held_effects instance held e.1 ++ each_effects instance held es
 
 abbrev pub produced_effects : ℕ → List ℕ → Hops → List Effect
 produced_effects instance held h = each_effects instance held (finite.entries h.held)
 
 -- the bytes of one datum
 abbrev pub datum_bytes : List ℕ → Hop → List ℕ
-datum_bytes held hop = if hop.opening.class == 1 then word (next_count hop.produced) ++ held else held
+datum_bytes held hop = if hop.opening.class == 1 then word (next_count hop.produced) ++ held
+    else held

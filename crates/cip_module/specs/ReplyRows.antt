@@ -36,25 +36,30 @@ is_own triad (Some told) = triad_eq told triad
 
 abbrev pub failure_row : Triad → Result ConnectionFailure DataFault → ReplyRow
 failure_row triad (Err fault) = MalformedForItsKind
-failure_row triad (Ok failure) = if is_own triad failure.triad then PassedUp else MalformedForItsKind
+failure_row triad (Ok failure) = if is_own triad failure.triad then PassedUp
+    else MalformedForItsKind
 
 abbrev pub opened_row : Triad → Result OpenSuccess DataFault → ReplyRow
 opened_row triad (Err fault) = MalformedForItsKind
-opened_row triad (Ok success) = if triad_eq success.triad triad then OpenSucceeded triad success else MalformedForItsKind
+opened_row triad (Ok success) = if triad_eq success.triad triad then OpenSucceeded triad success
+    else MalformedForItsKind
 
 abbrev pub closed_row : Triad → Result CloseSuccess DataFault → ReplyRow
 closed_row triad (Err fault) = MalformedForItsKind
-closed_row triad (Ok success) = if triad_eq success.triad triad then PassedUp else MalformedForItsKind
+closed_row triad (Ok success) = if triad_eq success.triad triad then PassedUp
+    else MalformedForItsKind
 
 -- a success has no additional status and exactly its layout
 abbrev pub opening_row : Triad → Reply → ReplyRow
 opening_row triad r =
-    if r.general == 0 then (if is_some (slice_get r.extra 0) then MalformedForItsKind else opened_row triad (open_reply_at r.data_))
+    if r.general == 0 then (if is_some (slice_get r.extra 0) then MalformedForItsKind
+    else opened_row triad (open_reply_at r.data_))
     else failure_row triad (failure_at r.data_)
 
 abbrev pub closing_row : Triad → Reply → ReplyRow
 closing_row triad r =
-    if r.general == 0 then (if is_some (slice_get r.extra 0) then MalformedForItsKind else closed_row triad (close_reply_at r.data_))
+    if r.general == 0 then (if is_some (slice_get r.extra 0) then MalformedForItsKind
+    else closed_row triad (close_reply_at r.data_))
     else failure_row triad (failure_at r.data_)
 
 -- to an Unconnected_Send any reply that can be read; to an open or a close one of its service
@@ -71,7 +76,9 @@ abbrev pub waiting_row : List ℕ → Option Entry → ReplyRow
 waiting_row bytes None = Late
 waiting_row bytes (Some entry) = read_row entry.kind (reply_at bytes)
 
--- the row of a reply that came in by a port from an address: its number has to wait for a reply from there
+-- the row of a reply that came in by a port from an address: its number has to wait for a reply
+-- from there
 unfoldable pub reply_row : ModuleSettings → State → ℕ → List ℕ → ℕ → List ℕ → ReplyRow
 reply_row config s port from number bytes =
-    if is_malformed config port bytes then UnknownPortOrTooLong else waiting_row bytes (waiting_at s.pendings number port from)
+    if is_malformed config port bytes then UnknownPortOrTooLong
+    else waiting_row bytes (waiting_at s.pendings number port from)

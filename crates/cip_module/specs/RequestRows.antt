@@ -1,4 +1,5 @@
--- The request group: which row answers a request (Volume 1, chapter 2 for the Message Router, chapter 3 for the Connection Manager).
+-- The request group: which row answers a request (Volume 1, chapter 2 for the Message Router,
+-- chapter 3 for the Connection Manager).
 use Rattle.std.specs.Prelude.{ℕ, ◌==◌, ◌||◌, nat_lt, not, if◌then◌else◌, Option, Some, None, Result, Ok, Err, List, length, slice_index, is_some, Bool}
 use Rattle.cip_segment.specs.Reading.{segments_of}
 use Rattle.cip_message.specs.Request.{Request}
@@ -7,8 +8,8 @@ use Rattle.cip_message.specs.declared.fault.RequestFault.{RequestFault}
 use Rattle.cip_message.specs.declared.fault.RequestFault.TheVariants.{TooShort, PathSize, Path, NotRequest}
 use Rattle.cip_module.specs.declared.config.ModuleSettings.{ModuleSettings}
 use Rattle.cip_target.specs.declared.object.ObjectPath.{ObjectPath}
-use Rattle.cip_module.specs.declared.rows.RequestRefusal.{RequestRefusal}
-use Rattle.cip_module.specs.declared.rows.RequestRefusal.TheVariants.{PathPastTheEnd, PathUnreadable, PathFormNotSupported, NoSuchManagerInstance, ServiceNotSupported}
+use Rattle.cip_module.specs.declared.refusals.RequestRefusal.{RequestRefusal}
+use Rattle.cip_module.specs.declared.refusals.RequestRefusal.TheVariants.{PathPastTheEnd, PathUnreadable, PathFormNotSupported, NoSuchManagerInstance, ServiceNotSupported}
 use Rattle.cip_module.specs.Config.{port_of}
 use Rattle.cip_target.specs.Object.{object_of}
 
@@ -51,4 +52,5 @@ is_malformed config port bytes = not (is_some (port_of config port)) || nat_lt 1
 
 -- the row of a request that came in by a port
 unfoldable pub request_row : ModuleSettings → ℕ → List ℕ → RequestRow
-request_row config port bytes = if is_malformed config port bytes then UnknownPortOrTooLong else read_row bytes (request_at bytes)
+request_row config port bytes = if is_malformed config port bytes then UnknownPortOrTooLong
+    else read_row bytes (request_at bytes)

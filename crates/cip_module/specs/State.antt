@@ -34,4 +34,5 @@ is_spent op ops = list_any (λ spent. spent == op) ops
 -- with op at its place
 abbrev pub spent_with : ℕ → List ℕ → List ℕ
 spent_with op [] = op ∷ []
-spent_with op (spent ∷ ops) = if nat_lt op spent then op ∷ spent ∷ ops else spent ∷ spent_with op ops
+spent_with op (spent ∷ ops) = if nat_lt op spent then op ∷ spent ∷ ops
+    else spent ∷ spent_with op ops

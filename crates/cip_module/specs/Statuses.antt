@@ -1,19 +1,20 @@
--- Which status each row of the routing table answers (Volume 1, Appendix B; the additional status is the Connection Manager's, chapter 3).
+-- Which status each row of the routing table answers (Volume 1, Appendix B; the additional status
+-- is the Connection Manager's, chapter 3).
 use Rattle.std.specs.Prelude.{ℕ, Some, None}
 use Rattle.cip_base.specs.declared.timing.Status.{Status}
 use Rattle.cip_target.specs.Ends.{end_status}
-use Rattle.cip_module.specs.declared.rows.RequestRefusal.{RequestRefusal}
-use Rattle.cip_module.specs.declared.rows.RequestRefusal.TheVariants as request
-use Rattle.cip_module.specs.declared.rows.LinkRefusal.{LinkRefusal}
-use Rattle.cip_module.specs.declared.rows.LinkRefusal.TheVariants.{NoSuchPort, LinkAddressNotLegal, TicksSpent, NoPendingLeft}
-use Rattle.cip_module.specs.declared.rows.UnconnectedRefusal.{UnconnectedRefusal}
-use Rattle.cip_module.specs.declared.rows.UnconnectedRefusal.TheVariants as unconnected
-use Rattle.cip_module.specs.declared.rows.OpenRefusal.{OpenRefusal}
-use Rattle.cip_module.specs.declared.rows.OpenRefusal.TheVariants as opens
-use Rattle.cip_module.specs.declared.rows.CloseRefusal.{CloseRefusal}
-use Rattle.cip_module.specs.declared.rows.CloseRefusal.TheVariants as closes
-use Rattle.cip_module.specs.declared.rows.KeyPart.{KeyPart}
-use Rattle.cip_module.specs.declared.rows.KeyPart.TheVariants.{VendorOrProduct, DeviceType, Revision}
+use Rattle.cip_module.specs.declared.refusals.RequestRefusal.{RequestRefusal}
+use Rattle.cip_module.specs.declared.refusals.RequestRefusal.TheVariants as request
+use Rattle.cip_module.specs.declared.refusals.LinkRefusal.{LinkRefusal}
+use Rattle.cip_module.specs.declared.refusals.LinkRefusal.TheVariants.{NoSuchPort, LinkAddressNotLegal, TicksSpent, NoPendingLeft}
+use Rattle.cip_module.specs.declared.refusals.UnconnectedRefusal.{UnconnectedRefusal}
+use Rattle.cip_module.specs.declared.refusals.UnconnectedRefusal.TheVariants as unconnected
+use Rattle.cip_module.specs.declared.refusals.OpenRefusal.{OpenRefusal}
+use Rattle.cip_module.specs.declared.refusals.OpenRefusal.TheVariants as opens
+use Rattle.cip_module.specs.declared.refusals.CloseRefusal.{CloseRefusal}
+use Rattle.cip_module.specs.declared.refusals.CloseRefusal.TheVariants as closes
+use Rattle.cip_module.specs.declared.refusals.KeyPart.{KeyPart}
+use Rattle.cip_module.specs.declared.refusals.KeyPart.TheVariants.{VendorOrProduct, DeviceType, Revision}
 
 -- a general status alone
 abbrev pub plain : ℕ → Status

@@ -1,4 +1,5 @@
--- The routing table read backwards: what each effect of an event tells of the event, and of the state before it.
+-- The routing table read backwards: what each effect of an event tells of the event, and of the
+-- state before it.
 use Rattle.std.specs.Prelude.{◌≡◌, ℕ, ◌+◌, ◌*◌, ◌^◌, ◌≤◌, ◌<◌, ◌==◌, ◌⊎◌, true, false, if◌then◌else◌, Option, Some, None, Ok, Err, List, [], ◌∷◌, drop, length}
 use Rattle.std.specs.FinMap as map
 use Rattle.cip_base.specs.declared.timing.Timing.{Timing}
@@ -44,10 +45,10 @@ use Rattle.cip_module.specs.declared.event.Command.{Command}
 use Rattle.cip_module.specs.declared.event.Command.TheVariants as commands
 use Rattle.cip_module.specs.declared.event.Body.{Body}
 use Rattle.cip_module.specs.declared.event.Body.TheVariants as bodies
-use Rattle.cip_module.specs.declared.rows.RequestRefusal.{RequestRefusal}
-use Rattle.cip_module.specs.declared.rows.UnconnectedRefusal.{UnconnectedRefusal}
-use Rattle.cip_module.specs.declared.rows.OpenRefusal.{OpenRefusal}
-use Rattle.cip_module.specs.declared.rows.CloseRefusal.{CloseRefusal}
+use Rattle.cip_module.specs.declared.refusals.RequestRefusal.{RequestRefusal}
+use Rattle.cip_module.specs.declared.refusals.UnconnectedRefusal.{UnconnectedRefusal}
+use Rattle.cip_module.specs.declared.refusals.OpenRefusal.{OpenRefusal}
+use Rattle.cip_module.specs.declared.refusals.CloseRefusal.{CloseRefusal}
 use Rattle.cip_module.specs.Answers.{failure_bytes, unconnected_failure, open_failed, close_failed}
 use Rattle.cip_module.specs.Statuses.{request_status, open_status, close_status}
 use Rattle.cip_module.specs.Links.{link_refusal}
@@ -68,7 +69,8 @@ use Rattle.cip_module.specs.State.{State, is_spent}
 
 -- ---- what an event asks, and whom the reply goes to
 
--- whom a reply goes to: where the request in a frame came from, under its number, or the op of a command
+-- whom a reply goes to: where the request in a frame came from, under its number, or the op of a
+-- command
 abbrev pub command_asker : Command → Option UpSide
 command_asker (commands.Open op timing path params) = Some (Local op)
 command_asker (commands.Close op of timing) = Some (Local op)
@@ -87,18 +89,21 @@ asker (events.Command command) = command_asker command
 asker (events.Frame port from body) = body_asker port from body
 asker (events.Tick ms) = None
 
--- a frame holds a request that meets this row; the reply goes to where it came from, under its number
-pub record Came (config : ModuleSettings) (event : Event) (up : UpSide) (row : RequestRow) : Type 0 where
-  pub port : ℕ
-  pub from : List ℕ
-  pub number : ℕ
-  pub bytes : List ℕ
-  pub event_is : event ≡ events.Frame port from (bodies.Request number bytes)
-  pub up_is : up ≡ Link port from number
-  pub meets : request_row config port bytes ≡ row
+-- a frame holds a request that meets this row; the reply goes to where it came from, under its
+-- number
+pub record Came (config : ModuleSettings) (event : Event) (up : UpSide) (row : RequestRow) : Type 0
+  where
+    pub port : ℕ
+    pub from : List ℕ
+    pub number : ℕ
+    pub bytes : List ℕ
+    pub event_is : event ≡ events.Frame port from (bodies.Request number bytes)
+    pub up_is : up ≡ Link port from number
+    pub meets : request_row config port bytes ≡ row
 
 -- an Unconnected_Send, in a frame or spelled by a command
-pub record SendCame (config : ModuleSettings) (event : Event) (up : UpSide) (u : Unconnected) : Type 0 where
+pub record SendCame (config : ModuleSettings) (event : Event) (up : UpSide) (u : Unconnected) : Type
+    0 where
   pub asked : List ℕ
   pub came : Came config event up (request.UnconnectedSend asked)
   pub read : unconnected_at asked ≡ Ok u
@@ -117,12 +122,14 @@ abbrev pub AsksSend : ModuleSettings → State → Event → UpSide → Unconnec
 AsksSend config s event up u = SendCame config event up u ⊎ SendSpelled s event up u
 
 -- a Forward_Open, in a frame or spelled by a command
-pub record OpenCame (config : ModuleSettings) (event : Event) (up : UpSide) (o : Open) : Type 0 where
-  pub asked : List ℕ
-  pub came : Came config event up (request.ForwardOpen asked)
-  pub read : open_at asked ≡ Ok o
+pub record OpenCame (config : ModuleSettings) (event : Event) (up : UpSide) (o : Open) : Type 0
+  where
+    pub asked : List ℕ
+    pub came : Came config event up (request.ForwardOpen asked)
+    pub read : open_at asked ≡ Ok o
 
-pub record OpenSpelled (config : ModuleSettings) (s : State) (event : Event) (up : UpSide) (o : Open) : Type 0 where
+pub record OpenSpelled (config : ModuleSettings) (s : State) (event : Event) (up : UpSide)
+    (o : Open) : Type 0 where
   pub op : ℕ
   pub timing : Timing
   pub path : List ℕ
@@ -135,8 +142,10 @@ pub record OpenSpelled (config : ModuleSettings) (s : State) (event : Event) (up
 abbrev pub AsksOpen : ModuleSettings → State → Event → UpSide → Open → Type 0
 AsksOpen config s event up o = OpenCame config event up o ⊎ OpenSpelled config s event up o
 
--- a Forward_Close, in a frame or spelled by a command, and its sender: who asked, or the op that opened
-pub record CloseCame (config : ModuleSettings) (event : Event) (up sender : UpSide) (c : Close) : Type 0 where
+-- a Forward_Close, in a frame or spelled by a command, and its sender: who asked, or the op that
+-- opened
+pub record CloseCame (config : ModuleSettings) (event : Event) (up sender : UpSide) (c : Close) :
+    Type 0 where
   pub asked : List ℕ
   pub came : Came config event up (request.ForwardClose asked)
   pub read : close_at asked ≡ Ok c
@@ -155,10 +164,13 @@ pub record CloseSpelled (s : State) (event : Event) (up sender : UpSide) (c : Cl
   pub unused : is_spent op s.ops ≡ false
 
 abbrev pub AsksClose : ModuleSettings → State → Event → UpSide → UpSide → Close → Type 0
-AsksClose config s event up sender c = CloseCame config event up sender c ⊎ CloseSpelled s event up sender c
+AsksClose config s event up sender c =
+    CloseCame config event up sender c ⊎ CloseSpelled s event up sender c
 
--- the first hop of a path, which leads on by this link: the module may send there, and ticks are left
-pub record LeadsOn (config : ModuleSettings) (s : State) (timing : Timing) (path : List ℕ) (port : ℕ) (address rest : List ℕ) : Type 0 where
+-- the first hop of a path, which leads on by this link: the module may send there, and ticks are
+-- left
+pub record LeadsOn (config : ModuleSettings) (s : State) (timing : Timing) (path : List ℕ)
+    (port : ℕ) (address rest : List ℕ) : Type 0 where
   pub hop : HopAt
   pub first : hop_of path ≡ Some hop
   pub port_is : port ≡ hop.port
@@ -175,38 +187,58 @@ pub record SpendsAs (s : State) (event : Event) (op : ℕ) : Type 0 where
   pub unused : is_spent op s.ops ≡ false
 
 -- a reply at once: a request that fails, or an open or a close that ends here
-pub data RepliesAs (config : ModuleSettings) (s : State) (event : Event) (up : UpSide) (bytes : List ℕ) : Type 0 where
-  RequestFails : (service : ℕ) (refusal : RequestRefusal) → Came config event up (request.Refuses service refusal)
+pub data RepliesAs (config : ModuleSettings) (s : State) (event : Event) (up : UpSide)
+    (bytes : List ℕ) : Type 0 where
+  RequestFails : (service : ℕ) (refusal : RequestRefusal)
+      → Came config event up (request.Refuses service refusal)
       → bytes ≡ failure_bytes service (request_status refusal) → RepliesAs config s event up bytes
-  SendUnread : (asked : List ℕ) (fault : UnconnectedFault) → Came config event up (request.UnconnectedSend asked) → unconnected_at asked ≡ Err fault
-      → bytes ≡ unconnected_failure (unconnected.unread_row asked fault) (route_words_of asked) → RepliesAs config s event up bytes
-  SendFails : (u : Unconnected) (refusal : UnconnectedRefusal) → AsksSend config s event up u → unconnected_row config s.pendings u ≡ unconnected.Refuses refusal
-      → bytes ≡ unconnected_failure refusal (Some (words_of u.route)) → RepliesAs config s event up bytes
-  OpenUnread : (asked : List ℕ) (fault : DataFault) → Came config event up (request.ForwardOpen asked) → open_at asked ≡ Err fault
+  SendUnread : (asked : List ℕ) (fault : UnconnectedFault)
+      → Came config event up (request.UnconnectedSend asked) → unconnected_at asked ≡ Err fault
+      → bytes ≡ unconnected_failure (unconnected.unread_row asked fault) (route_words_of asked)
+      → RepliesAs config s event up bytes
+  SendFails : (u : Unconnected) (refusal : UnconnectedRefusal) → AsksSend config s event up u
+      → unconnected_row config s.pendings u ≡ unconnected.Refuses refusal
+      → bytes ≡ unconnected_failure refusal (Some (words_of u.route))
+      → RepliesAs config s event up bytes
+  OpenUnread : (asked : List ℕ) (fault : DataFault)
+      → Came config event up (request.ForwardOpen asked) → open_at asked ≡ Err fault
       → bytes ≡ unread_open_bytes asked fault → RepliesAs config s event up bytes
-  OpenFails : (o : Open) (refusal : OpenRefusal) → AsksOpen config s event up o → open_row config s (opener up o.fields.to_id) o ≡ opens.Refuses refusal
-      → bytes ≡ open_failed (open_status refusal) o.fields.triad (words_of o.path) → RepliesAs config s event up bytes
-  OpenEnds : (o : Open) (link : EndLink) → AsksOpen config s event up o → open_row config s (opener up o.fields.to_id) o ≡ opens.Accepted link
+  OpenFails : (o : Open) (refusal : OpenRefusal) → AsksOpen config s event up o
+      → open_row config s (opener up o.fields.to_id) o ≡ opens.Refuses refusal
+      → bytes ≡ open_failed (open_status refusal) o.fields.triad (words_of o.path)
+      → RepliesAs config s event up bytes
+  OpenEnds : (o : Open) (link : EndLink) → AsksOpen config s event up o
+      → open_row config s (opener up o.fields.to_id) o ≡ opens.Accepted link
       → bytes ≡ accepted_bytes o s.hops.next → RepliesAs config s event up bytes
-  CloseUnread : (asked : List ℕ) (fault : DataFault) → Came config event up (request.ForwardClose asked) → close_at asked ≡ Err fault
+  CloseUnread : (asked : List ℕ) (fault : DataFault)
+      → Came config event up (request.ForwardClose asked) → close_at asked ≡ Err fault
       → bytes ≡ unread_close_bytes asked fault → RepliesAs config s event up bytes
-  CloseFails : (sender : UpSide) (c : Close) (refusal : CloseRefusal) → AsksClose config s event up sender c → close_row s sender c ≡ closes.Refuses refusal
-      → bytes ≡ close_failed (close_status refusal) c.fields.triad (words_of c.path) → RepliesAs config s event up bytes
-  CloseEnds : (sender : UpSide) (c : Close) → AsksClose config s event up sender c → close_row s sender c ≡ closes.ClosedAtTheEnd
-      → bytes ≡ close_reply_bytes (record { triad = c.fields.triad; reply = [] }) → RepliesAs config s event up bytes
+  CloseFails : (sender : UpSide) (c : Close) (refusal : CloseRefusal)
+      → AsksClose config s event up sender c → close_row s sender c ≡ closes.Refuses refusal
+      → bytes ≡ close_failed (close_status refusal) c.fields.triad (words_of c.path)
+      → RepliesAs config s event up bytes
+  CloseEnds : (sender : UpSide) (c : Close) → AsksClose config s event up sender c
+      → close_row s sender c ≡ closes.ClosedAtTheEnd
+      → bytes ≡ close_reply_bytes (record { triad = c.fields.triad; reply = [] })
+      → RepliesAs config s event up bytes
 
--- the target answers the request itself, or the one that an Unconnected_Send with no route left holds
-pub data AnswersAs (config : ModuleSettings) (s : State) (event : Event) (up : UpSide) (asked : Request) : Type 0 where
+-- the target answers the request itself, or the one that an Unconnected_Send with no route left
+-- holds
+pub data AnswersAs (config : ModuleSettings) (s : State) (event : Event) (up : UpSide)
+    (asked : Request) : Type 0 where
   Itself : Came config event up (request.Target asked) → AnswersAs config s event up asked
-  Embedded : (u : Unconnected) → AsksSend config s event up u → u.route ≡ [] → request_at u.request ≡ Ok asked → AnswersAs config s event up asked
+  Embedded : (u : Unconnected) → AsksSend config s event up u → u.route ≡ []
+      → request_at u.request ≡ Ok asked → AnswersAs config s event up asked
 
 -- an Unconnected_Send goes on
-pub record SendsOn (config : ModuleSettings) (s : State) (event : Event) (sending : Sending) : Type 0 where
+pub record SendsOn (config : ModuleSettings) (s : State) (event : Event) (sending : Sending) : Type
+    0 where
   pub u : Unconnected
   pub rest : List ℕ
   pub embedded : Request
   pub asks : AsksSend config s event sending.up u
-  pub meets : unconnected_row config s.pendings u ≡ unconnected.Forwarded sending.port sending.address rest
+  pub meets : unconnected_row config s.pendings u
+      ≡ unconnected.Forwarded sending.port sending.address rest
   pub read : request_at u.request ≡ Ok embedded
   pub leads : LeadsOn config s u.timing u.route sending.port sending.address rest
   pub bytes_are : sending.bytes ≡ message_on u rest
@@ -214,14 +246,16 @@ pub record SendsOn (config : ModuleSettings) (s : State) (event : Event) (sendin
   pub words_are : sending.words ≡ words_of u.route
 
 -- an open connection is asked to close, by its up side
-pub record Closes (config : ModuleSettings) (s : State) (event : Event) (up : UpSide) (c : Close) (hop : Hop) : Type 0 where
+pub record Closes (config : ModuleSettings) (s : State) (event : Event) (up : UpSide) (c : Close)
+    (hop : Hop) : Type 0 where
   pub sender : UpSide
   pub asks : AsksClose config s event up sender c
   pub stands : hop_at s.hops c.fields.triad ≡ Some hop
   pub own : is_sender sender hop.opening.up ≡ true
 
 -- a Forward_Close goes on by the link below, to which its path leads
-pub record ClosesOn (config : ModuleSettings) (s : State) (event : Event) (sending : Sending) (triad : Triad) : Type 0 where
+pub record ClosesOn (config : ModuleSettings) (s : State) (event : Event) (sending : Sending)
+    (triad : Triad) : Type 0 where
   pub c : Close
   pub hop : Hop
   pub next : HopAt
@@ -242,21 +276,25 @@ ForwardsAs config s event sending (OpeningKind triad) = ⊥
 ForwardsAs config s event sending (ClosingKind triad) = ClosesOn config s event sending triad
 
 -- a Forward_Open goes on: its triad is free, and there is room and an id for it
-pub record BeginsAs (config : ModuleSettings) (s : State) (event : Event) (sending : Sending) (opening : Opening) : Type 0 where
+pub record BeginsAs (config : ModuleSettings) (s : State) (event : Event) (sending : Sending)
+    (opening : Opening) : Type 0 where
   pub o : Open
   pub rest : List ℕ
   pub asks : AsksOpen config s event sending.up o
-  pub meets : open_row config s (opener sending.up o.fields.to_id) o ≡ opens.Forwarded sending.port sending.address rest
+  pub meets : open_row config s (opener sending.up o.fields.to_id) o
+      ≡ opens.Forwarded sending.port sending.address rest
   pub leads : LeadsOn config s o.fields.timing o.path sending.port sending.address rest
   pub free : map.get s.hops.held o.fields.triad ≡ None
   pub room : refusal s.hops o.fields.triad (ids_on (opener sending.up o.fields.to_id)) ≡ None
   pub bytes_are : sending.bytes ≡ open_on o s.hops.next rest
   pub wait_is : sending.wait ≡ wait_of o.fields.timing
   pub words_are : sending.words ≡ words_of o.path
-  pub opening_is : opening ≡ opening_with (opener sending.up o.fields.to_id) (DownLink sending.port sending.address) o
+  pub opening_is : opening ≡ opening_with (opener sending.up o.fields.to_id)
+      (DownLink sending.port sending.address) o
 
 -- a Forward_Open ends here: it came in a frame, its path names no hop, and it fits the target
-pub record AcceptsAs (config : ModuleSettings) (s : State) (event : Event) (opening : Opening) (o : Open) (link : EndLink) : Type 0 where
+pub record AcceptsAs (config : ModuleSettings) (s : State) (event : Event) (opening : Opening)
+    (o : Open) (link : EndLink) : Type 0 where
   pub up : UpSide
   pub asks : AsksOpen config s event up o
   pub meets : open_row config s (opener up o.fields.to_id) o ≡ opens.Accepted link
@@ -267,24 +305,27 @@ pub record AcceptsAs (config : ModuleSettings) (s : State) (event : Event) (open
   pub room : refusal s.hops o.fields.triad 1 ≡ None
   pub opening_is : opening ≡ opening_with (opener up o.fields.to_id) (end_down link) o
 
-pub record RemovesAs (config : ModuleSettings) (s : State) (event : Event) (triad : Triad) : Type 0 where
-  pub up : UpSide
-  pub c : Close
-  pub hop : Hop
-  pub closes : Closes config s event up c hop
-  pub triad_is : triad ≡ c.fields.triad
+pub record RemovesAs (config : ModuleSettings) (s : State) (event : Event) (triad : Triad) : Type 0
+  where
+    pub up : UpSide
+    pub c : Close
+    pub hop : Hop
+    pub closes : Closes config s event up c hop
+    pub triad_is : triad ≡ c.fields.triad
 
 -- ---- replies
 
 -- the reply to a request that waits under this number for one from there
-pub record ReplyCame (s : State) (event : Event) (number : ℕ) (bytes : List ℕ) (entry : Entry) (reply : Reply) : Type 0 where
+pub record ReplyCame (s : State) (event : Event) (number : ℕ) (bytes : List ℕ) (entry : Entry)
+    (reply : Reply) : Type 0 where
   pub port : ℕ
   pub from : List ℕ
   pub event_is : event ≡ events.Frame port from (bodies.Reply number bytes)
   pub waits : waiting_at s.pendings number port from ≡ Some entry
   pub read : reply_at bytes ≡ Ok reply
 
-pub record FinishesAs (s : State) (event : Event) (number : ℕ) (triad : Triad) (bytes : List ℕ) (success : OpenSuccess) : Type 0 where
+pub record FinishesAs (s : State) (event : Event) (number : ℕ) (triad : Triad) (bytes : List ℕ)
+    (success : OpenSuccess) : Type 0 where
   pub entry : Entry
   pub reply : Reply
   pub came : ReplyCame s event number bytes entry reply
@@ -338,16 +379,19 @@ size_by Up hop = hop.opening.ot_size
 size_by Down hop = hop.opening.to_size
 
 -- a datum of the connection came by that side, with the size of its direction
-pub record DatumCame (s : State) (event : Event) (side : Side) (hop : Hop) (bytes : List ℕ) : Type 0 where
-  pub port : ℕ
-  pub from : List ℕ
-  pub id : ℕ
-  pub event_is : event ≡ events.Frame port from (bodies.Data id bytes)
-  pub found : hop_by side s.hops id port from ≡ Some hop
-  pub sized : length bytes ≡ size_by side hop
+pub record DatumCame (s : State) (event : Event) (side : Side) (hop : Hop) (bytes : List ℕ) : Type 0
+  where
+    pub port : ℕ
+    pub from : List ℕ
+    pub id : ℕ
+    pub event_is : event ≡ events.Frame port from (bodies.Data id bytes)
+    pub found : hop_by side s.hops id port from ≡ Some hop
+    pub sized : length bytes ≡ size_by side hop
 
--- a datum came to the end of the connection, and is written; in class 1 it is not the last one again
-pub record DatumWritten (s : State) (event : Event) (hop : Hop) (instance : ℕ) (datum : List ℕ) : Type 0 where
+-- a datum came to the end of the connection, and is written; in class 1 it is not the last one
+-- again
+pub record DatumWritten (s : State) (event : Event) (hop : Hop) (instance : ℕ) (datum : List ℕ) :
+    Type 0 where
   pub config : ℕ
   pub produce : ℕ
   pub came : DatumCame s event Up hop datum
@@ -369,27 +413,38 @@ pub record RenewsAs (s : State) (event : Event) (triad : Triad) (side : Side) : 
   pub came : DatumCame s event side hop bytes
   pub triad_is : triad ≡ hop.opening.triad
 
--- a datum that came by the other side, that the op that opened enters, or that is made of an assembly
-pub data PassesAs (s : State) (event : Event) (triad : Triad) (side : Side) (bytes : List ℕ) : Type 0 where
-  PassedOn : (hop : Hop) → triad ≡ hop.opening.triad → DatumCame s event (other side) hop bytes → PassesAs s event triad side bytes
-  Entered : (of : ℕ) (hop : Hop) → triad ≡ hop.opening.triad → side ≡ Down → event ≡ events.Command (commands.Enter of bytes)
-      → hop_by_op s.hops of ≡ Some hop → length bytes ≡ hop.opening.ot_size → PassesAs s event triad side bytes
-  Made : (held : List ℕ) (hop : Hop) → triad ≡ hop.opening.triad → side ≡ Up → bytes ≡ datum_bytes held hop → Produced s event hop held → PassesAs s event triad side bytes
+-- a datum that came by the other side, that the op that opened enters, or that is made of an
+-- assembly
+pub data PassesAs (s : State) (event : Event) (triad : Triad) (side : Side) (bytes : List ℕ) : Type
+    0 where
+  PassedOn : (hop : Hop) → triad ≡ hop.opening.triad → DatumCame s event (other side) hop bytes
+      → PassesAs s event triad side bytes
+  Entered : (of : ℕ) (hop : Hop) → triad ≡ hop.opening.triad → side ≡ Down
+      → event ≡ events.Command (commands.Enter of bytes)
+      → hop_by_op s.hops of ≡ Some hop → length bytes ≡ hop.opening.ot_size
+      → PassesAs s event triad side bytes
+  Made : (held : List ℕ) (hop : Hop) → triad ≡ hop.opening.triad → side ≡ Up
+      → bytes ≡ datum_bytes held hop → Produced s event hop held → PassesAs s event triad side bytes
 
 -- in class 1: the count of a datum that is written, or of one that is made
-pub data CountsAs (s : State) (event : Event) (triad : Triad) (side : Side) (count : ℕ) : Type 0 where
-  CountedUp : (hop : Hop) (instance : ℕ) (datum : List ℕ) → triad ≡ hop.opening.triad → side ≡ Up → hop.opening.class ≡ 1 → count ≡ word_in datum 0
-      → DatumWritten s event hop instance datum → CountsAs s event triad side count
-  CountedDown : (hop : Hop) (held : List ℕ) → triad ≡ hop.opening.triad → side ≡ Down → hop.opening.class ≡ 1 → count ≡ next_count hop.produced
-      → Produced s event hop held → CountsAs s event triad side count
+pub data CountsAs (s : State) (event : Event) (triad : Triad) (side : Side) (count : ℕ) : Type 0
+  where
+    CountedUp : (hop : Hop) (instance : ℕ) (datum : List ℕ) → triad ≡ hop.opening.triad → side ≡ Up
+        → hop.opening.class ≡ 1 → count ≡ word_in datum 0
+        → DatumWritten s event hop instance datum → CountsAs s event triad side count
+    CountedDown : (hop : Hop) (held : List ℕ) → triad ≡ hop.opening.triad → side ≡ Down
+        → hop.opening.class ≡ 1 → count ≡ next_count hop.produced
+        → Produced s event hop held → CountsAs s event triad side count
 
 -- what stands behind the sequence count, if there is one
 abbrev pub behind_count : Hop → List ℕ → List ℕ
 behind_count hop datum = if hop.opening.class == 1 then drop 2 datum else datum
 
 pub data WritesAs (s : State) (event : Event) (instance : ℕ) (bytes : List ℕ) : Type 0 where
-  Taken : (hop : Hop) (datum : List ℕ) → bytes ≡ behind_count hop datum → DatumWritten s event hop instance datum → WritesAs s event instance bytes
-  Set : event ≡ events.Command (commands.Set instance bytes) → size_in s.assemblies instance ≡ Some (length bytes) → WritesAs s event instance bytes
+  Taken : (hop : Hop) (datum : List ℕ) → bytes ≡ behind_count hop datum
+      → DatumWritten s event hop instance datum → WritesAs s event instance bytes
+  Set : event ≡ events.Command (commands.Set instance bytes)
+      → size_in s.assemblies instance ≡ Some (length bytes) → WritesAs s event instance bytes
 
 -- ---- any effect
 
@@ -410,7 +465,8 @@ Tells config s event (Answers up asked) = AnswersAs config s event up asked
 Tells config s event (Forwards sending kind) = ForwardsAs config s event sending kind
 Tells config s event (Begins sending opening) = BeginsAs config s event sending opening
 Tells config s event (Accepts opening o link) = AcceptsAs config s event opening o link
-Tells config s event (Finishes number triad bytes success) = FinishesAs s event number triad bytes success
+Tells config s event (Finishes number triad bytes success) =
+    FinishesAs s event number triad bytes success
 Tells config s event (Takes number bytes) = TakesAs s event number bytes
 Tells config s event (PendingTimesOut number) = PendingTimesOutAs s event number
 Tells config s event (Removes triad) = RemovesAs config s event triad

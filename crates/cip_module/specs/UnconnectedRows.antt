@@ -1,4 +1,5 @@
--- The unconnected send group: which row answers an Unconnected_Send (Volume 1, chapter 3, Unconnected_Send).
+-- The unconnected send group: which row answers an Unconnected_Send (Volume 1, chapter 3,
+-- Unconnected_Send).
 use Rattle.std.specs.Prelude.{ℕ, ◌==◌, if◌then◌else◌, Option, Some, None, Result, Ok, Err, List, length}
 use Rattle.cip_segment.specs.Reading.{HopAt, hop_of, segments_of}
 use Rattle.cip_message.specs.Request.{Request}
@@ -10,10 +11,10 @@ use Rattle.cip_unconnected.specs.declared.fault.UnconnectedFault.{UnconnectedFau
 use Rattle.cip_unconnected.specs.declared.fault.UnconnectedFault.TheVariants.{Short, Long, Route}
 use Rattle.cip_pending.specs.Pendings.{Pendings}
 use Rattle.cip_module.specs.declared.config.ModuleSettings.{ModuleSettings}
-use Rattle.cip_module.specs.declared.rows.KeyPart.{KeyPart}
-use Rattle.cip_module.specs.declared.rows.LinkRefusal.{LinkRefusal}
-use Rattle.cip_module.specs.declared.rows.UnconnectedRefusal.{UnconnectedRefusal}
-use Rattle.cip_module.specs.declared.rows.UnconnectedRefusal.TheVariants.{CutBeforeTheRouteSize, CutInTheRoute, BytesAfterTheRoute, RouteUnreadable, EmbeddedRequestNotAllowed, KeyMismatch, NoPortSegment, NotSentOn}
+use Rattle.cip_module.specs.declared.refusals.KeyPart.{KeyPart}
+use Rattle.cip_module.specs.declared.refusals.LinkRefusal.{LinkRefusal}
+use Rattle.cip_module.specs.declared.refusals.UnconnectedRefusal.{UnconnectedRefusal}
+use Rattle.cip_module.specs.declared.refusals.UnconnectedRefusal.TheVariants.{CutBeforeTheRouteSize, CutInTheRoute, BytesAfterTheRoute, RouteUnreadable, EmbeddedRequestNotAllowed, KeyMismatch, NoPortSegment, NotSentOn}
 use Rattle.cip_module.specs.Links.{link_refusal}
 use Rattle.cip_module.specs.Keys.{leading_mismatch}
 use Rattle.cip_module.specs.Object.{begins_with_manager}
@@ -36,13 +37,15 @@ abbrev pub key_row : ModuleSettings → Pendings → Unconnected → Option KeyP
 key_row config p u (Some part) = Refuses (KeyMismatch part)
 key_row config p u None = hop_row config p u (hop_of u.route)
 
--- with no route left the module answers; else the key that the route begins with is looked at, and then the hop
+-- with no route left the module answers; else the key that the route begins with is looked at, and
+-- then the hop
 abbrev pub route_row : ModuleSettings → Pendings → Unconnected → Request → UnconnectedRow
 route_row config p u embedded =
     if length u.route == 0 then AnsweredHere embedded
     else key_row config p u (leading_mismatch config (segments_of u.route))
 
-abbrev pub embedded_row : ModuleSettings → Pendings → Unconnected → Result Request RequestFault → UnconnectedRow
+abbrev pub embedded_row : ModuleSettings → Pendings → Unconnected → Result Request RequestFault
+    → UnconnectedRow
 embedded_row config p u (Err fault) = Refuses EmbeddedRequestNotAllowed
 embedded_row config p u (Ok embedded) =
     if begins_with_manager (segments_of embedded.path) then Refuses EmbeddedRequestNotAllowed

@@ -10,7 +10,7 @@ ghost use Rattle.cip_module.specs.Code.Node.{state_of_node};
 
 use crate::links::wait_refusal;
 use crate::node::Node;
-use crate::rows::CloseRefusal;
+use crate::refusals::CloseRefusal;
 use cip_base::{Address, PortNumber};
 use cip_close::CloseView;
 use cip_hops::{Hop, HopDown, HopUp};
@@ -72,7 +72,8 @@ fn below<'a>(
     port: PortNumber,
     address: &Address,
 ) -> CloseDecision<'a>
-    ensures row { close_row_of result ≡ below_row pendings.now (close_of view.now) port address.now (hop_of view.now.path.bytes.now) }
+    ensures row { close_row_of result ≡ below_row pendings.now (close_of view.now) port address.now
+        (hop_of view.now.path.bytes.now) }
     ensures leads { CloseLeads pendings.now view.now.fields.timing result }
 {
     match first_hop(view.path) {
@@ -108,9 +109,7 @@ fn by_down<'a>(pendings: &PendingTable, view: &CloseView<'a>, down: &HopDown) ->
         HopDown::Link { port, address } => below(pendings, view, *port, address),
         HopDown::End { .. } => match first_hop(view.path) {
             FirstHop::End => CloseDecision::ClosedAtTheEnd,
-            FirstHop::Hop { .. } => {
-                CloseDecision::Refuses(CloseRefusal::PathDiffersFromTheHops)
-            }
+            FirstHop::Hop { .. } => { CloseDecision::Refuses(CloseRefusal::PathDiffersFromTheHops) }
         },
     }
 }
@@ -121,7 +120,8 @@ fn by_hop<'a>(
     view: &CloseView<'a>,
     hop: Option<&Hop>,
 ) -> CloseDecision<'a>
-    ensures row { close_row_of result ≡ triad_row pendings.now sender.now (close_of view.now) (option_copied hop.entry) }
+    ensures row { close_row_of result ≡ triad_row pendings.now sender.now (close_of view.now)
+        (option_copied hop.entry) }
     ensures leads { CloseLeads pendings.now view.now.fields.timing result }
 {
     let Some(hop) = hop else {

@@ -41,7 +41,8 @@ pub(crate) fn close_failed(
     write_close_failure(alloc, status, &failure)
 }
 
-// The failure of a Forward_Close that cannot be read: nothing where its fixed part is cut, else its triad and its path size.
+// The failure of a Forward_Close that cannot be read: nothing where its fixed part is cut, else its
+// triad and its path size.
 fn unread_close(alloc: Global, data_: &[u8], fault: DataFault) -> Result<Bytes, NoMemory>
     ensures { IfOk result (λ b. b ≡ unread_close_bytes data_.now fault) }
 {
@@ -83,7 +84,9 @@ impl Node {
         requires spend { CanSpend self.old up }
         requires ticks { 2 ≤ view.now.fields.timing.ticks }
         requires pending { refusal self.old.pendings ≡ None }
-        ensures { Handles self.old self.new (with_spending up (close_effects up (close_of view.now) (Forwarded port address rest.entry.bytes.now))) result }
+        ensures { Handles self.old self.new (with_spending up
+            (close_effects up (close_of view.now)
+            (Forwarded port address rest.entry.bytes.now))) result }
     {
         let bytes = close_on(self.alloc, view, rest)?;
         let timing = view.fields.timing;
@@ -109,7 +112,9 @@ impl Node {
     // The connection ends here, and is removed.
     fn close_at_end(&mut self, up: UpSide, triad: Triad) -> Result<Output, NoMemory>
         requires spend { CanSpend self.old up }
-        ensures { (c : Close) → c.fields.triad ≡ triad → Handles self.old self.new (with_spending up (close_effects up c ClosedAtTheEnd)) result }
+        ensures { (c : Close) → c.fields.triad ≡ triad
+            → Handles self.old self.new (with_spending up (close_effects up c ClosedAtTheEnd))
+            result }
     {
         let reply = CloseReply { triad, reply: &[] };
         let bytes = write_close_reply(self.alloc, &reply)?;
@@ -118,7 +123,8 @@ impl Node {
         Ok(reply_to(up, bytes))
     }
 
-    /// A Forward_Close that was read. `sender` is whom it has to come from: a node, or the op of the Open.
+    /// A Forward_Close that was read. `sender` is whom it has to come from: a node, or the op of
+    /// the Open.
     pub(crate) fn close(
         &mut self,
         up: UpSide,
@@ -126,7 +132,9 @@ impl Node {
         view: &CloseView<'_>,
     ) -> Result<Output, NoMemory>
         requires spend { CanSpend self.old up }
-        ensures { Handles self.old self.new (with_spending up (close_effects up (close_of view.now) (close_row (state_of_node self.old) sender.now (close_of view.now)))) result }
+        ensures { Handles self.old self.new (with_spending up
+            (close_effects up (close_of view.now)
+            (close_row (state_of_node self.old) sender.now (close_of view.now)))) result }
     {
         match self.close_row(sender, view) {
             CloseDecision::Refuses(refusal) => {
@@ -147,7 +155,8 @@ impl Node {
     /// A Forward_Close, by its data.
     pub(crate) fn forward_close(&mut self, up: UpSide, data_: &[u8]) -> Result<Output, NoMemory>
         requires { IsAsked up }
-        ensures { Handles self.old self.new (close_data_effects (state_of_node self.old) up data_.now (close_at data_.now)) result }
+        ensures { Handles self.old self.new (close_data_effects (state_of_node self.old) up data_.now
+            (close_at data_.now)) result }
     {
         match read_close(data_) {
             Ok(view) => {

@@ -13,7 +13,7 @@ ghost use Rattle.cip_module.specs.Code.Node.{state_of_node};
 use crate::keys::leading_mismatch;
 use crate::links::link_refusal;
 use crate::node::Node;
-use crate::rows::OpenRefusal;
+use crate::refusals::OpenRefusal;
 use cip_base::{Address, PortNumber};
 use cip_hops::HopUp;
 use cip_message::DataFault;
@@ -75,7 +75,8 @@ pub(crate) fn unread_row(data_: &[u8], fault: DataFault) -> OpenRefusal
 impl Node {
     // What the target says to an open, by the connections that end here.
     fn end_row(&self, view: &OpenView<'_>) -> Result<EndLink, EndRefusal>
-        ensures row { result ≡ end_row self.now.target.objects.assemblies (is_consumed self.now.hops) (open_of view.now) }
+        ensures row { result ≡ end_row self.now.target.objects.assemblies (is_consumed self.now.hops)
+            (open_of view.now) }
         ensures fits { result ≡ row_at self.now.target (open_of view.now) }
     {
         self.target.end_row(view)
@@ -102,7 +103,8 @@ impl Node {
 
     // A connection that ends here, or goes on.
     fn open_by_hop<'a>(&self, up: &HopUp, view: &OpenView<'a>) -> OpenDecision<'a>
-        ensures row { open_row_of result ≡ hop_row self.now.config (state_of_node self.now) up.now (open_of view.now) (hop_of view.now.path.bytes.now) }
+        ensures row { open_row_of result ≡ hop_row self.now.config (state_of_node self.now) up.now
+            (open_of view.now) (hop_of view.now.path.bytes.now) }
         ensures leads { OpenLeads self.now up.now (open_of view.now) result }
     {
         match first_hop(view.path) {
@@ -142,7 +144,9 @@ impl Node {
     }
 
     fn open_by_key<'a>(&self, up: &HopUp, view: &OpenView<'a>) -> OpenDecision<'a>
-        ensures row { open_row_of result ≡ key_row self.now.config (state_of_node self.now) up.now (open_of view.now) (leading_mismatch self.now.config (segments_of view.now.path.bytes.now)) }
+        ensures row { open_row_of result ≡ key_row self.now.config (state_of_node self.now) up.now
+            (open_of view.now) (leading_mismatch self.now.config
+            (segments_of view.now.path.bytes.now)) }
         ensures leads { OpenLeads self.now up.now (open_of view.now) result }
     {
         match leading_mismatch(self.config.settings(), view.path) {
@@ -154,7 +158,8 @@ impl Node {
     /// The row that answers a Forward_Open which was read (Volume 1, chapter 3, Forward_Open).
     #[tactic(auto, unfolding(crate::specs::OpenRows::open_row))]
     pub(crate) fn open_row<'a>(&self, up: &HopUp, view: &OpenView<'a>) -> OpenDecision<'a>
-        ensures row { open_row_of result ≡ open_row self.now.config (state_of_node self.now) up.now (open_of view.now) }
+        ensures row { open_row_of result ≡ open_row self.now.config (state_of_node self.now) up.now
+            (open_of view.now) }
         ensures leads { OpenLeads self.now up.now (open_of view.now) result }
     {
         if !is_supported(view) {

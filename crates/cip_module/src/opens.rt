@@ -78,7 +78,8 @@ pub(crate) fn open_failed(
     write_open_failure(alloc, status, &failure)
 }
 
-// The failure of a Forward_Open that cannot be read: nothing where its fixed part is cut, else its triad and its path size.
+// The failure of a Forward_Open that cannot be read: nothing where its fixed part is cut, else its
+// triad and its path size.
 fn unread_open(alloc: Global, data_: &[u8], fault: DataFault) -> Result<Bytes, NoMemory>
     ensures { IfOk result (λ b. b ≡ unread_open_bytes data_.now fault) }
 {
@@ -142,8 +143,11 @@ impl Node {
         requires multiplier { view.now.fields.multiplier < 8 }
         requires ticks { 2 ≤ view.now.fields.timing.ticks }
         requires pending { refusal self.old.pendings ≡ None }
-        requires room { hops.refusal self.old.hops view.now.fields.triad (ids_on (opener up view.now.fields.to_id)) ≡ None }
-        ensures { Handles self.old self.new (with_spending up (open_effects (state_of_node self.old) up (open_of view.now) (Forwarded port address rest.entry.bytes.now))) result }
+        requires room { hops.refusal self.old.hops view.now.fields.triad
+            (ids_on (opener up view.now.fields.to_id)) ≡ None }
+        ensures { Handles self.old self.new (with_spending up
+            (open_effects (state_of_node self.old) up (open_of view.now)
+            (Forwarded port address rest.entry.bytes.now))) result }
     {
         let bytes = open_on(self.alloc, view, self.hops.last() + 1, rest)?;
         let path = view.path.to_path(self.alloc)?;
@@ -183,7 +187,9 @@ impl Node {
         requires link { up_is_link (opener up view.now.fields.to_id) ≡ true }
         requires room { hops.refusal self.old.hops view.now.fields.triad 1 ≡ None }
         requires fits { row_at self.old.target (open_of view.now) ≡ Ok link }
-        ensures { Handles self.old self.new (with_spending up (open_effects (state_of_node self.old) up (open_of view.now) (Accepted link))) result }
+        ensures { Handles self.old self.new (with_spending up
+            (open_effects (state_of_node self.old) up (open_of view.now) (Accepted link)))
+            result }
     {
         let bytes = accepted(self.alloc, &view.fields, self.hops.last() + 1)?;
         let path = view.path.to_path(self.alloc)?;
@@ -200,7 +206,10 @@ impl Node {
     /// A Forward_Open that was read.
     pub(crate) fn open(&mut self, up: UpSide, view: &OpenView<'_>) -> Result<Output, NoMemory>
         requires spend { CanSpend self.old up }
-        ensures { Handles self.old self.new (with_spending up (open_effects (state_of_node self.old) up (open_of view.now) (open_row self.old.config (state_of_node self.old) (opener up view.now.fields.to_id) (open_of view.now)))) result }
+        ensures { Handles self.old self.new (with_spending up
+            (open_effects (state_of_node self.old) up (open_of view.now)
+            (open_row self.old.config (state_of_node self.old) (opener up view.now.fields.to_id)
+            (open_of view.now)))) result }
     {
         let asker = opener(&up, view.fields.to_id);
         match self.open_row(&asker, view) {
@@ -222,7 +231,8 @@ impl Node {
     /// A Forward_Open, by its data.
     pub(crate) fn forward_open(&mut self, up: UpSide, data_: &[u8]) -> Result<Output, NoMemory>
         requires { IsAsked up }
-        ensures { Handles self.old self.new (open_data_effects self.old.config (state_of_node self.old) up data_.now (open_at data_.now)) result }
+        ensures { Handles self.old self.new (open_data_effects self.old.config (state_of_node self.old) up
+            data_.now (open_at data_.now)) result }
     {
         match read_open(data_) {
             Ok(view) => self.open(up, &view),

@@ -1,4 +1,5 @@
-//! A module that originates, routes and answers. It decodes each message and writes what goes on anew.
+//! A module that originates, routes and answers. It decodes each message and writes what goes on
+//! anew.
 ghost use Rattle.std.specs.Prelude.{◌≡◌, IfOk};
 ghost use Rattle.cip_module.specs.declared.config.ModuleKind.{ModuleKind as Kind};
 ghost use Rattle.cip_module.specs.State.{initial_state};
@@ -12,7 +13,8 @@ use crate::tables::Tables;
 use cip_base::NoMemory;
 use std::alloc::Global;
 
-/// A module that originates, routes and answers. It decodes each message and writes what goes on anew.
+/// A module that originates, routes and answers. It decodes each message and writes what goes on
+/// anew.
 #[derive(Drop)]
 pub struct PlainModule {
     pub(crate) node: Node,

@@ -1,4 +1,5 @@
-//! What an end sends of an assembly: a datum by each connection that takes its data from it, in rising triad.
+//! What an end sends of an assembly: a datum by each connection that takes its data from it, in
+//! rising triad.
 ghost use Rattle.std.specs.Prelude.{◌≡◌, ◌≤◌, length, IfOk, OnErr};
 ghost use Rattle.std.specs.FinMap as map;
 ghost use Rattle.cip_module.specs.Code.Does.{HandlesAs};
@@ -7,7 +8,7 @@ ghost use Rattle.cip_module.specs.Produced.{reads_from, next_count, datum_bytes}
 ghost use Rattle.cip_module.specs.Code.Made.{made_all, count_for, counted_all, open_hops};
 ghost use Rattle.cip_module.specs.Table.{produce_effects};
 
-use crate::datum::datum_up;
+use crate::datum_rows::datum_up;
 use crate::event::{Output, Refused};
 use crate::node::Node;
 use cip_base::{Bytes, NoMemory};
@@ -65,7 +66,8 @@ impl Node {
     // The data that go up, in rising triad.
     fn data_of(&self, instance: u32, held: &[u8]) -> Result<Vec<Output>, NoMemory>
         requires { length held.now ≤ 511 }
-        ensures { IfOk result (λ outputs. outputs.items ≡ made_all instance held.now (open_hops self.now.hops)) }
+        ensures { IfOk result (λ outputs. outputs.items
+            ≡ made_all instance held.now (open_hops self.now.hops)) }
     {
         let _last = self.hops.last();
         let mut outputs = Vec::new(self.alloc);
@@ -82,7 +84,8 @@ impl Node {
 
     // Each of these connections counts one more.
     fn count_data(&mut self, instance: u32)
-        ensures after { state_of_node self.new ≡ record (state_of_node self.old) { hops = counted_all instance (open_hops self.old.hops) self.old.hops } }
+        ensures after { state_of_node self.new ≡ record (state_of_node self.old)
+            { hops = counted_all instance (open_hops self.old.hops) self.old.hops } }
         ensures config { self.new.config ≡ self.old.config }
     {
         let mut after = None;
@@ -98,7 +101,9 @@ impl Node {
 
     /// A Produce of an assembly.
     pub(crate) fn produce(&mut self, instance: u32) -> Result<Vec<Output>, NoMemory>
-        ensures { HandlesAs (λ v. v.items) self.old self.new (produce_effects (state_of_node self.old) instance (map.get self.old.target.objects.assemblies instance)) result }
+        ensures { HandlesAs (λ v. v.items) self.old self.new
+            (produce_effects (state_of_node self.old) instance
+            (map.get self.old.target.objects.assemblies instance)) result }
     {
         let Some(assembly) = self.target.assembly(instance) else {
             let mut outputs = Vec::with_capacity(self.alloc, 1)?;

@@ -52,7 +52,8 @@ fn hop_row(alloc: Global, hop: &Hop) -> Result<HopRow, NoMemory>
 
 // The connections that are open, in rising triad.
 fn hop_rows(alloc: Global, hops: &HopTable) -> Result<Vec<HopRow>, NoMemory>
-    ensures { IfOk result (λ rows. rows.items ≡ map hop_row_of (filter_map (λ e. as_hop e.1) (finite.entries hops.now.held))) }
+    ensures { IfOk result (λ rows. rows.items ≡ map hop_row_of
+        (filter_map (λ e. as_hop e.1) (finite.entries hops.now.held))) }
 {
     let _last = hops.last();
     let mut rows = Vec::new(alloc);
@@ -66,7 +67,8 @@ fn hop_rows(alloc: Global, hops: &HopTable) -> Result<Vec<HopRow>, NoMemory>
 
 // The assemblies, in rising instance.
 fn assembly_rows(alloc: Global, target: &Target) -> Result<Vec<AssemblyRow>, NoMemory>
-    ensures { IfOk result (λ rows. rows.items ≡ map assembly_row_of (finite.entries target.now.objects.assemblies)) }
+    ensures { IfOk result (λ rows. rows.items ≡ map assembly_row_of
+        (finite.entries target.now.objects.assemblies)) }
 {
     let mut rows = Vec::new(alloc);
     let mut after = None;

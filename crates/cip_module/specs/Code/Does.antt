@@ -1,4 +1,5 @@
--- Effects carried out: the state after them, and their outputs; and what a function that carries them out promises.
+-- Effects carried out: the state after them, and their outputs; and what a function that carries
+-- them out promises.
 use Rattle.std.specs.Prelude.{◌≡◌, List, [], ◌∷◌, Option, Result, Ok, Err}
 use Rattle.std.specs.Option.{option_to_list}
 use Rattle.cip_module.specs.declared.config.ModuleSettings.{ModuleSettings}

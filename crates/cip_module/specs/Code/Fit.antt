@@ -19,29 +19,37 @@ use Rattle.cip_module.specs.State.{is_spent}
 
 -- whether a connection that is open writes this assembly
 abbrev pub writes_of : Option Held → ℕ → Bool
-writes_of x instance = option_map_or (λ hop. writes_to instance hop.opening.down) (option_and_then as_hop x) false
+writes_of x instance = option_map_or (λ hop. writes_to instance hop.opening.down)
+    (option_and_then as_hop x) false
 
 -- the op of each connection that a command opens or opened is spent
 abbrev pub AreSpent : Hops → List ℕ → Type 0
-AreSpent h ops = (triad : Triad) (x : Held) (op : ℕ) → map.get h.held triad ≡ Some x → held_op_of x ≡ Some op → is_spent op ops ≡ true
+AreSpent h ops = (triad : Triad) (x : Held) (op : ℕ) → map.get h.held triad ≡ Some x
+    → held_op_of x ≡ Some op → is_spent op ops ≡ true
 
 -- what is opening goes on by a link
 abbrev pub AreLinks : Hops → Type 0
-AreLinks h = (triad : Triad) (o : Opening) → opening_at h triad ≡ Some o → down_is_link o.down ≡ true
+AreLinks h = (triad : Triad) (o : Opening) → opening_at h triad ≡ Some o
+    → down_is_link o.down ≡ true
 
--- of the assemblies that there are: who owns one writes it, and who writes one that has bytes owns it
+-- of the assemblies that there are: who owns one writes it, and who writes one that has bytes owns
+-- it
 pub record AreOwned (h : Hops) (m : AssemblyMap) (owners : Owners) : Type 0 where
-  pub owner : (triad : Triad) (instance size : ℕ) → map.get owners instance ≡ Some triad → size_in m instance ≡ Some size
+  pub owner : (triad : Triad) (instance size : ℕ) → map.get owners instance ≡ Some triad
+      → size_in m instance ≡ Some size
       → writes_of (map.get h.held triad) instance ≡ true
-  pub writer : (triad : Triad) (instance size : ℕ) → writes_of (map.get h.held triad) instance ≡ true → size_in m instance ≡ Some size → 0 < size
+  pub writer : (triad : Triad) (instance size : ℕ)
+      → writes_of (map.get h.held triad) instance ≡ true → size_in m instance ≡ Some size → 0 < size
       → map.get owners instance ≡ Some triad
 
 -- what a connection owned that is gone is given back
 abbrev pub given_back : HopDown → Ends → Ends
 given_back (DownLink port address) t = t
-given_back (End config consume produce) t = if is_some (map.get t.objects.assemblies consume) then released t consume else t
+given_back (End config consume produce) t =
+    if is_some (map.get t.objects.assemblies consume) then released t consume else t
 
-pub record Fit (config : ModuleSettings) (p : Pendings) (h : Hops) (t : Ends) (ops : List ℕ) : Type 0 where
+pub record Fit (config : ModuleSettings) (p : Pendings) (h : Hops) (t : Ends) (ops : List ℕ) : Type
+    0 where
   pub identity : t.objects.identity ≡ config.identity
   pub paired : IsPaired p h
   pub spent : AreSpent h ops

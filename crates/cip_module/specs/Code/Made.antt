@@ -27,7 +27,8 @@ made_all instance held hops = map (made_of held) (filter (takes_from instance) h
 
 -- the count that a datum of this connection begins with, if it sends one and counts
 abbrev pub count_for : ℕ → Hop → Option ℕ
-count_for instance hop = if reads_from instance hop.opening.down then (if hop.opening.class == 1 then Some (next_count hop.produced) else None) else None
+count_for instance hop = if reads_from instance hop.opening.down then
+    (if hop.opening.class == 1 then Some (next_count hop.produced) else None) else None
 
 abbrev pub counted_by : Hops → Triad → Option ℕ → Hops
 counted_by h triad None = h
@@ -35,7 +36,8 @@ counted_by h triad (Some count) = recounted h triad Down count
 
 abbrev pub counted_all : ℕ → List Hop → Hops → Hops
 counted_all instance [] h = h
-counted_all instance (hop ∷ hops) h = counted_all instance hops (counted_by h hop.opening.triad (count_for instance hop))
+counted_all instance (hop ∷ hops) h =
+    counted_all instance hops (counted_by h hop.opening.triad (count_for instance hop))
 
 -- those that are open, in rising triad
 abbrev pub open_hops : Hops → List Hop

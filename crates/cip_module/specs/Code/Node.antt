@@ -9,7 +9,14 @@ abbrev pub config_of_node : Node → ModuleSettings
 config_of_node m = m.config
 
 abbrev pub state_of_node : Node → State
-state_of_node m = record { now = m.clock; pendings = m.pendings; hops = m.hops; assemblies = m.target.objects.assemblies; ops = m.ops.ops.items }
+state_of_node m = record {
+  now = m.clock;
+  pendings = m.pendings;
+  hops = m.hops;
+  assemblies =
+      m.target.objects.assemblies;
+  ops = m.ops.ops.items;
+}
 
 abbrev pub config_of_plain : PlainModule → ModuleSettings
 config_of_plain m = config_of_node m.node

@@ -3,9 +3,9 @@ use Rattle.std.specs.Prelude.{◌≡◌, ℕ, List, [], ◌∷◌, drop, Option,
 use Rattle.cip_base.specs.declared.triad.Triad.{Triad}
 use Rattle.cip_hops.specs.declared.hop.Hop.{Hop}
 use Rattle.cip_hops.specs.Hops.{Hops, hop_at}
-use Rattle.cip_module.specs.declared.datum.Writing.{Writing}
-use Rattle.cip_module.specs.declared.datum.DatumPlan.{DatumPlan}
-use Rattle.cip_module.specs.declared.datum.DatumPlan.TheVariants as plans
+use Rattle.cip_module.specs.declared.datum_rows.Writing.{Writing}
+use Rattle.cip_module.specs.declared.datum_rows.DatumPlan.{DatumPlan}
+use Rattle.cip_module.specs.declared.datum_rows.DatumPlan.TheVariants as plans
 use Rattle.cip_module.specs.DataRows.{DataRow, Consumed, Repeated}
 use Rattle.cip_module.specs.Effects.{Effect, Drops, Passes, Renews, Writes, datum_by, passed}
 use Rattle.cip_module.specs.Table.{other, counts}
@@ -22,18 +22,22 @@ writing_row triad bytes (Some w) = Consumed triad w.instance w.count (behind byt
 
 abbrev pub written_effects : Triad → List ℕ → Option Writing → List Effect
 written_effects triad bytes None = []
-written_effects triad bytes (Some w) = Writes w.instance (behind bytes w.count) ∷ counts triad w.count
+written_effects triad bytes (Some w) =
+    Writes w.instance (behind bytes w.count) ∷ counts triad w.count
 
 abbrev pub plan_effects : List ℕ → DatumPlan → List Effect
 plan_effects bytes (plans.Drops reason) = Drops reason ∷ []
-plan_effects bytes (plans.Passes output triad side writing) = Passes triad (other side) bytes ∷ Renews triad side ∷ written_effects triad bytes writing
+plan_effects bytes (plans.Passes output triad side writing) =
+    Passes triad (other side) bytes ∷ Renews triad side ∷ written_effects triad bytes writing
 
 -- what goes on, goes on by the other side of this connection
 abbrev pub PassesBy : Hop → List ℕ → DatumPlan → Type 0
 PassesBy hop bytes (plans.Drops reason) = Unit {0}
-PassesBy hop bytes (plans.Passes output triad side writing) = (triad ≡ hop.opening.triad) × (output ≡ datum_by (other side) hop bytes)
+PassesBy hop bytes (plans.Passes output triad side writing) =
+    (triad ≡ hop.opening.triad) × (output ≡ datum_by (other side) hop bytes)
 
 -- the same of the connection that stands under the triad
 abbrev pub PassesOn : Hops → List ℕ → DatumPlan → Type 0
 PassesOn h bytes (plans.Drops reason) = Unit {0}
-PassesOn h bytes (plans.Passes output triad side writing) = passed (other side) (hop_at h triad) bytes ≡ output ∷ []
+PassesOn h bytes (plans.Passes output triad side writing) =
+    passed (other side) (hop_at h triad) bytes ≡ output ∷ []

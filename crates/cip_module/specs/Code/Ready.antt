@@ -9,7 +9,8 @@ use Rattle.cip_hops.specs.Hops.{IsOpFree, refusal}
 use Rattle.cip_module.specs.declared.node.Node.{Node}
 use Rattle.cip_module.specs.State.{is_spent}
 
--- its op, if it has one, is spent, and that of no other connection; there is room, and there are ids for it
+-- its op, if it has one, is spent, and that of no other connection; there is room, and there are
+-- ids for it
 pub record IsReady (m : Node) (o : Opening) : Type 0 where
   pub multiplier : o.multiplier < 8
   pub free : IsOpFree m.hops (op_of o.up)
@@ -19,7 +20,8 @@ pub record IsReady (m : Node) (o : Opening) : Type 0 where
 -- an op that a command uses up is new, and there is room for it
 abbrev pub CanSpend : Node → UpSide → Type 0
 CanSpend m (Link port address number) = Unit {0}
-CanSpend m (Local op) = (is_spent op m.ops.ops.items ≡ false) × (vec_len m.ops.ops < vec_capacity m.ops.ops)
+CanSpend m (Local op) = (is_spent op m.ops.ops.items ≡ false)
+    × (vec_len m.ops.ops < vec_capacity m.ops.ops)
 
 -- a request that came in by a link
 abbrev pub IsAsked : UpSide → Type 0

@@ -13,8 +13,8 @@ use Rattle.cip_module.specs.declared.event.Command.TheVariants as commands
 use Rattle.cip_module.specs.declared.event.Output.{Output}
 use Rattle.cip_module.specs.declared.event.Output.TheVariants as outputs
 use Rattle.cip_module.specs.declared.config.ModuleSettings.{ModuleSettings}
-use Rattle.cip_module.specs.declared.step.TickFault.{TickFault}
-use Rattle.cip_module.specs.declared.step.TickFault.TheVariants.{OutOfMemory, Full}
+use Rattle.cip_module.specs.declared.ticks.TickFault.{TickFault}
+use Rattle.cip_module.specs.declared.ticks.TickFault.TheVariants.{OutOfMemory, Full}
 use Rattle.cip_module.specs.Code.Does.{Does}
 use Rattle.cip_module.specs.Effects.{Effect, reply_up, late_bytes}
 use Rattle.cip_module.specs.State.{State}
@@ -42,9 +42,13 @@ pending_time_out waiting = map pending_times_out (option_to_list waiting)
 abbrev pub hop_time_out : Option Hop → List Effect
 hop_time_out hop = map hop_times_out (option_to_list hop)
 
--- what a call that ticks answers: the clock is full exactly where the time would pass its last value, looked at first
-abbrev pub TickGives : {V : Type 0} → (V → List Output) → ModuleSettings → State → State → ℕ → Result V TickFault → Type 0
-TickGives view config old new ms (Ok outputs) = (old.now + 1000 * ms < 2 ^ 63) × Does config old (tick_effects old (1000 * ms)) new (view outputs)
+-- what a call that ticks answers: the clock is full exactly where the time would pass its last
+-- value, looked at first
+abbrev pub TickGives : {V : Type 0} → (V → List Output) → ModuleSettings → State → State → ℕ
+    → Result V TickFault → Type 0
+TickGives view config old new ms (Ok outputs) =
+    (old.now + 1000 * ms < 2 ^ 63) × Does config old (tick_effects old (1000 * ms)) new
+    (view outputs)
 TickGives view config old new ms (Err OutOfMemory) = (old.now + 1000 * ms < 2 ^ 63) × (new ≡ old)
 TickGives view config old new ms (Err Full) = (2 ^ 63 ≤ old.now + 1000 * ms) × (new ≡ old)
 

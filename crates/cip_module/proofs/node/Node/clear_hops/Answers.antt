@@ -11,5 +11,6 @@ pub returns-clause-after : goal.returns-clause-after
 returns-clause-after c =
     let m = c.loop.self in
     sym (c.loop.invariant.1
-    ∙ hop_time_outs_end c.args.self.now.config c.args.now (state_of_node m) (state_of_node c.time_out_hop.new.self) (sym c.time_out_hop.ensures.value ∙ c.loop-test.false)
+    ∙ hop_time_outs_end c.args.self.now.config c.args.now (state_of_node m) (state_of_node c.time_out_hop.new.self)
+    (sym c.time_out_hop.ensures.value ∙ c.loop-test.false)
     (c.time_out_hop.ensures.after ∙ ap (λ (z : ModuleSettings). applied z (state_of_node m) (hop_time_out (first_due c.args.now m.hops))) c.loop.invariant.0))

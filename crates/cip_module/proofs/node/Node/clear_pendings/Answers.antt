@@ -11,5 +11,7 @@ pub returns-clause-after : goal.returns-clause-after
 returns-clause-after c =
     let m = c.loop.self in
     sym (c.loop.invariant.2
-    ∙ pending_time_outs_end c.args.self.now.config c.args.now (state_of_node m) (state_of_node c.time_out_pending.new.self) (sym c.time_out_pending.ensures.value ∙ c.loop-test.false)
-    (c.time_out_pending.ensures.after ∙ ap (λ (z : ModuleSettings). applied z (state_of_node m) (pending_time_out (first_due c.args.now m.pendings))) c.loop.invariant.0))
+    ∙ pending_time_outs_end c.args.self.now.config c.args.now (state_of_node m) (state_of_node c.time_out_pending.new.self)
+    (sym c.time_out_pending.ensures.value ∙ c.loop-test.false)
+    (c.time_out_pending.ensures.after ∙ ap (λ (z : ModuleSettings). applied z (state_of_node m) (pending_time_out (first_due c.args.now m.pendings)))
+    c.loop.invariant.0))

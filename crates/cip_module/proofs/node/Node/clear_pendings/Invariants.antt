@@ -10,7 +10,8 @@ abbrev pub invariant-loop : goal.invariant-loop
 invariant-loop l =
     (l.self.config ≡ l.fn.self.config)
     × (hops.due l.now l.self.hops ≡ hops.due l.now l.fn.self.hops)
-    × (applied l.fn.self.config (state_of_node l.fn.self) (pending_time_outs l.now l.fn.self.pendings) ≡ applied l.fn.self.config (state_of_node l.self) (pending_time_outs l.now l.self.pendings))
+    × (applied l.fn.self.config (state_of_node l.fn.self) (pending_time_outs l.now l.fn.self.pendings)
+    ≡ applied l.fn.self.config (state_of_node l.self) (pending_time_outs l.now l.self.pendings))
 
 abbrev pub decreases-loop : goal.decreases-loop
 decreases-loop l = length (due l.now l.self.pendings)

@@ -10,5 +10,6 @@ use Rattle.cip_module.proofs.node.Node.close.Goals as goal
 pub returns-in-ClosedAtTheEnd : goal.returns-in-ClosedAtTheEnd
 returns-in-ClosedAtTheEnd c =
     let m = c.args.self.now in
-    subst (λ (row : CloseRow). Handles m c.close_at_end.new.self (with_spending c.args.up (close_effects c.args.up (close_of c.args.view.now) row)) c.close_at_end.result)
+    subst (λ (row : CloseRow). Handles m c.close_at_end.new.self (with_spending c.args.up (close_effects c.args.up (close_of c.args.view.now) row))
+    c.close_at_end.result)
     c.in-ClosedAtTheEnd.ensures.row (c.close_at_end.ensures (close_of c.args.view.now) refl)

@@ -14,11 +14,14 @@ returns c =
     let m = c.args.self.now in
     let hop = c.in-Some.hop.now in
     let found = sym c.in-Some.ensures in
-    let sized : length c.args.bytes.now ≡ hop.opening.ot_size = ap (λ (b : List ℕ). length b) (sym c.as_slice.ensures) ∙ c.if-as_slice-from.false ∙ c.from.ensures in
+    let sized : length c.args.bytes.now ≡ hop.opening.ot_size =
+    ap (λ (b : List ℕ). length b) (sym c.as_slice.ensures) ∙ c.if-as_slice-from.false ∙ c.from.ensures in
     let bytes : c.of-copied.result ≡ c.args.bytes.now = c.of-copied.ensures ∙ c.in_ok-from_slice.ensures.items ∙ c.as_slice-2.ensures in
     record {
-      does = subst (λ (x : Option Hop). Does m.config (state_of_node m) (enter_effects c.args.bytes.now x) (state_of_node m) (c.datum_down.result ∷ [])) c.in-Some.ensures
-          (enters m.config (state_of_node m) hop c.args.bytes.now c.datum_down.result sized (found_held (is_hop_by_op c.args.of) m.hops hop found c.last-last.ensures.within)
+      does = subst (λ (x : Option Hop). Does m.config (state_of_node m) (enter_effects c.args.bytes.now x) (state_of_node m) (c.datum_down.result ∷ []))
+          c.in-Some.ensures
+          (enters m.config (state_of_node m) hop c.args.bytes.now c.datum_down.result sized
+          (found_held (is_hop_by_op c.args.of) m.hops hop found c.last-last.ensures.within)
           (c.datum_down.ensures ∙ ap (λ (b : List ℕ). datum_down hop hop.opening.down b) bytes));
       same_config = refl;
     }

@@ -14,6 +14,7 @@ returns-clause-gives c =
       ticked m.config s (state_of_node c.clear_due.new.self) (1000 * c.args.by) c.advance.new.self c.in-Ok-timed_out_all.outputs.items
           c.in-Ok.ensures.ok
           (c.clear_due.ensures.after
-          ∙ ap (λ (t : ℕ). applied m.config (record s { now = c.advance.new.self }) (pending_time_outs t m.pendings ++ hop_time_outs t m.hops)) c.now-now.ensures.value)
+          ∙ ap (λ (t : ℕ). applied m.config (record s { now = c.advance.new.self }) (pending_time_outs t m.pendings ++ hop_time_outs t m.hops))
+          c.now-now.ensures.value)
           (c.in-Ok-timed_out_all.ensures ∙ ap (λ (t : ℕ). pendings_timed_out t m.pendings ++ hops_timed_out t m.hops) c.now-now.ensures.value),
     )

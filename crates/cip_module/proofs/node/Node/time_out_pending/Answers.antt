@@ -16,7 +16,8 @@ invariant_of-self c =
 pub returns-in-Some-clause-after : goal.returns-in-Some-clause-after
 returns-in-Some-clause-after c =
     let m = c.args.self.now in
-    pending_time_out_is m.config c.args.now (state_of_node m) c.expire.new.self c.give_up.new.hops (c.in-Some.field-0-0, c.in-Some.entry) c.in-Some.ensures.value c.in-Some.ensures.after c.give_up.ensures
+    pending_time_out_is m.config c.args.now (state_of_node m) c.expire.new.self c.give_up.new.hops (c.in-Some.field-0-0, c.in-Some.entry)
+    c.in-Some.ensures.value c.in-Some.ensures.after c.give_up.ensures
 
 pub returns-in-Some-clause-hops : goal.returns-in-Some-clause-hops
 returns-in-Some-clause-hops c = ap (hops.due c.args.now) c.give_up.ensures ∙ due_given_up c.args.now c.in-Some.entry.kind c.args.self.now.hops

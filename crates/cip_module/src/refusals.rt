@@ -24,7 +24,8 @@ pub enum LinkRefusal {
     NoPendingLeft,
 }
 
-/// The rows of an Unconnected_Send that answer with a failure. A key mismatch says which part of the key differs.
+/// The rows of an Unconnected_Send that answer with a failure. A key mismatch says which part of
+/// the key differs.
 #[derive(Clone, Copy, Debug, PartialEq, Eq)]
 pub enum UnconnectedRefusal {
     CutBeforeTheRouteSize,
@@ -64,17 +65,6 @@ pub enum CloseRefusal {
     NotThisSendersOpenTriad,
     PathDiffersFromTheHops,
     NotSentOn(LinkRefusal),
-}
-
-/// The rows of a command. The others than `Taken` refuse it.
-#[derive(Clone, Copy, Debug, PartialEq, Eq)]
-pub enum CommandRow {
-    OpUsed,
-    NotOpen,
-    ReservedService,
-    WrongSize,
-    NoInstance,
-    Taken,
 }
 
 /// What of an electronic key differs from the module, in the order in which it is looked at.
@@ -146,7 +136,8 @@ impl LinkRefusal {
 }
 
 impl UnconnectedRefusal {
-    /// The status that the row answers (Volume 1, Appendix B, and chapter 3 for the additional status).
+    /// The status that the row answers (Volume 1, Appendix B, and chapter 3 for the additional
+    /// status).
     pub fn status(self) -> Status
         ensures { result ≡ unconnected_status self }
     {
@@ -164,7 +155,8 @@ impl UnconnectedRefusal {
 }
 
 impl OpenRefusal {
-    /// The status that the row answers (Volume 1, Appendix B, and chapter 3 for the additional status).
+    /// The status that the row answers (Volume 1, Appendix B, and chapter 3 for the additional
+    /// status).
     pub fn status(self) -> Status
         ensures { result ≡ open_status self }
     {
@@ -186,7 +178,8 @@ impl OpenRefusal {
 }
 
 impl CloseRefusal {
-    /// The status that the row answers (Volume 1, Appendix B, and chapter 3 for the additional status).
+    /// The status that the row answers (Volume 1, Appendix B, and chapter 3 for the additional
+    /// status).
     pub fn status(self) -> Status
         ensures { result ≡ close_status self }
     {

@@ -5,23 +5,23 @@ ghost use Rattle.cip_message.specs.RequestAt.{request_at};
 ghost use Rattle.cip_message.specs.Reading.{request_of};
 ghost use Rattle.cip_unconnected.specs.Reading.{unconnected_of};
 ghost use Rattle.cip_module.specs.Keys.{leading_mismatch};
-ghost use Rattle.cip_module.specs.UnconnectedRows.{hop_row, key_row, unconnected_row};
+ghost use Rattle.cip_module.specs.UnconnectedRows.{hop_row, key_row, unconnected_row, unread_row};
 ghost use Rattle.cip_module.specs.Code.Decisions.{unconnected_row_of, Leads};
 
 use crate::config::ModuleSettings;
 use crate::keys::leading_mismatch;
 use crate::links::link_refusal;
-use crate::object::begins_with_manager;
-use crate::rows::UnconnectedRefusal;
+use crate::refusals::UnconnectedRefusal;
+use crate::request_rows::begins_with_manager;
 use cip_base::{Address, PortNumber};
 use cip_message::{RequestView, read_request};
 use cip_pending::PendingTable;
 use cip_segment::{FirstHop, PathView, first_hop, rest};
-use cip_unconnected::UnconnectedView;
+use cip_unconnected::{UnconnectedFault, UnconnectedView, route_words};
 
 /// The row that answers an Unconnected_Send.
 #[derive(Drop)]
-pub(crate) enum Decision<'a> {
+pub(crate) enum UnconnectedDecision<'a> {
     Refuses(UnconnectedRefusal),
     AnsweredHere(RequestView<'a>),
     Forwarded {
@@ -35,12 +35,13 @@ fn by_hop<'a>(
     settings: &ModuleSettings,
     pendings: &PendingTable,
     view: UnconnectedView<'a>,
-) -> Decision<'a>
+) -> UnconnectedDecision<'a>
     ensures leads { Leads pendings.now view.entry.timing view.entry.route.bytes.now result }
-    ensures row { unconnected_row_of result ≡ hop_row settings.now pendings.now (unconnected_of view.entry) (hop_of view.entry.route.bytes.now) }
+    ensures row { unconnected_row_of result ≡ hop_row settings.now pendings.now (unconnected_of view.entry)
+        (hop_of view.entry.route.bytes.now) }
 {
     match first_hop(view.route) {
-        FirstHop::End => Decision::Refuses(UnconnectedRefusal::NoPortSegment),
+        FirstHop::End => UnconnectedDecision::Refuses(UnconnectedRefusal::NoPortSegment),
         FirstHop::Hop {
             key: _,
             port,
@@ -49,8 +50,10 @@ fn by_hop<'a>(
         } => {
             let behind = rest(view.route);
             match link_refusal(settings, pendings, view.timing, port, &address) {
-                Some(refusal) => Decision::Refuses(UnconnectedRefusal::NotSentOn(refusal)),
-                None => Decision::Forwarded {
+                Some(refusal) => UnconnectedDecision::Refuses(UnconnectedRefusal::NotSentOn(
+                    refusal,
+                )),
+                None => UnconnectedDecision::Forwarded {
                     port,
                     address,
                     rest: behind,
@@ -64,12 +67,13 @@ fn by_key<'a>(
     settings: &ModuleSettings,
     pendings: &PendingTable,
     view: UnconnectedView<'a>,
-) -> Decision<'a>
+) -> UnconnectedDecision<'a>
     ensures leads { Leads pendings.now view.entry.timing view.entry.route.bytes.now result }
-    ensures row { unconnected_row_of result ≡ key_row settings.now pendings.now (unconnected_of view.entry) (leading_mismatch settings.now (segments_of view.entry.route.bytes.now)) }
+    ensures row { unconnected_row_of result ≡ key_row settings.now pendings.now (unconnected_of view.entry)
+        (leading_mismatch settings.now (segments_of view.entry.route.bytes.now)) }
 {
     match leading_mismatch(settings, view.route) {
-        Some(part) => Decision::Refuses(UnconnectedRefusal::KeyMismatch(part)),
+        Some(part) => UnconnectedDecision::Refuses(UnconnectedRefusal::KeyMismatch(part)),
         None => by_hop(settings, pendings, view),
     }
 }
@@ -80,19 +84,36 @@ pub(crate) fn unconnected_row<'a>(
     settings: &ModuleSettings,
     pendings: &PendingTable,
     view: UnconnectedView<'a>,
-) -> Decision<'a>
+) -> UnconnectedDecision<'a>
     ensures leads { Leads pendings.now view.entry.timing view.entry.route.bytes.now result }
-    ensures row { unconnected_row_of result ≡ unconnected_row settings.now pendings.now (unconnected_of view.entry) }
+    ensures row { unconnected_row_of result ≡ unconnected_row settings.now pendings.now
+        (unconnected_of view.entry) }
 {
     let embedded = match read_request(view.request) {
         Ok(embedded) => embedded,
-        Err(_) => return Decision::Refuses(UnconnectedRefusal::EmbeddedRequestNotAllowed),
+        Err(_) => return UnconnectedDecision::Refuses(
+            UnconnectedRefusal::EmbeddedRequestNotAllowed,
+        ),
     };
     if begins_with_manager(embedded.path) {
-        return Decision::Refuses(UnconnectedRefusal::EmbeddedRequestNotAllowed);
+        return UnconnectedDecision::Refuses(UnconnectedRefusal::EmbeddedRequestNotAllowed);
     }
     if view.route.bytes.is_empty() {
-        return Decision::AnsweredHere(embedded);
+        return UnconnectedDecision::AnsweredHere(embedded);
     }
     by_key(settings, pendings, view)
+}
+
+/// The row of data that cannot be read as an Unconnected_Send.
+pub(crate) fn unread_row(data_: &[u8], fault: UnconnectedFault) -> UnconnectedRefusal
+    ensures { result ≡ unread_row data_.now fault }
+{
+    match fault {
+        UnconnectedFault::Short => match route_words(data_) {
+            None => UnconnectedRefusal::CutBeforeTheRouteSize,
+            Some(_) => UnconnectedRefusal::CutInTheRoute,
+        },
+        UnconnectedFault::Long => UnconnectedRefusal::BytesAfterTheRoute,
+        UnconnectedFault::Route(_) => UnconnectedRefusal::RouteUnreadable,
+    }
 }
