@@ -1,5 +1,5 @@
 -- Number fields of a message: little-endian words and double words, and bytes that pad.
-use Rattle.std.specs.Prelude.{◌≡◌, ℕ, ◌+◌, ◌*◌, ◌/◌, ◌%◌, ◌<◌, ◌==◌, if◌then◌else◌, List, [], ◌∷◌, ◌++◌, slice_index}
+use Rattle.std.specs.Prelude.{◌≡◌, ℕ, ◌+◌, ◌*◌, ◌/◌, ◌%◌, ◌<◌, ◌==◌, if◌then◌else◌, [], ◌∷◌, ◌++◌, slice_index}
 use Rattle.cip_base.specs.Words.{Octets}
 
 -- each element is a byte

@@ -43,7 +43,8 @@ lays b fits len =
       omega (arith, len, length-drop 12 b),
       fronts 12 b (omega (arith, len))
           ∙ ap (λ (z : List ℕ). at 0 ∷ at 1 ∷ z ++ (at 10 ∷ at 11 ∷ drop 12 b))
-          (sym (triad_back (at 2) (at 3) (at 4) (at 5) (at 6) (at 7) (at 8) (at 9) (fits 2) (fits 3) (fits 4) (fits 5) (fits 6) (fits 7) (fits 8) (fits 9))),
+          (sym (triad_back (at 2) (at 3) (at 4) (at 5) (at 6) (at 7) (at 8) (at 9) (fits 2) (fits 3) (fits 4) (fits 5) (fits 6) (fits 7) (fits 8)
+          (fits 9))),
     )
 
 has_layout : (b : List ℕ) → IsBytes b → length b ≡ whole_length 10 12 b → HasCloseLayout b

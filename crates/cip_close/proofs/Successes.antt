@@ -39,7 +39,8 @@ reads b fits len =
       omega (arith, len, length-drop 10 b),
       fronts 10 b (omega (arith, len))
           ∙ ap (λ (z : List ℕ). z ++ (at 8 ∷ at 9 ∷ drop 10 b))
-          (sym (triad_back (at 0) (at 1) (at 2) (at 3) (at 4) (at 5) (at 6) (at 7) (fits 0) (fits 1) (fits 2) (fits 3) (fits 4) (fits 5) (fits 6) (fits 7))),
+          (sym (triad_back (at 0) (at 1) (at 2) (at 3) (at 4) (at 5) (at 6) (at 7) (fits 0) (fits 1) (fits 2) (fits 3) (fits 4) (fits 5) (fits 6)
+          (fits 7))),
     )
 
 has_layout : (b : List ℕ) → IsBytes b → length b ≡ whole_length 8 10 b → HasCloseReplyLayout b

@@ -31,20 +31,24 @@ pub record PutBack (t : Inside) (triad : Triad) (key : ℕ) (x y : Held) (mid s 
   pub more : slab_len s ≡ slab_len mid + 1
   pub kept_room : s.capacity ≡ mid.capacity
 
-module _ (t : Inside) (h : IsKept t) (triad : Triad) (key : ℕ) (x y : Held) (mid s : Slab Held) (again : ℕ) (b : PutBack t triad key x y mid s again) (alike : SameNames x y) where
-  pub kept_put : IsHeld t.next y → IsKept (record { room = t.room; next = t.next; triads = t.triads; ups = t.ups; downs = t.downs; ops = t.ops; records = s })
+module _ (t : Inside) (h : IsKept t) (triad : Triad) (key : ℕ) (x y : Held) (mid s : Slab Held) (again : ℕ) (b : PutBack t triad key x y mid s again)
+    (alike : SameNames x y) where
+  pub kept_put : IsHeld t.next y
+      → IsKept (record { room = t.room; next = t.next; triads = t.triads; ups = t.ups; downs = t.downs; ops = t.ops; records = s })
   kept_put sound =
       let there = put_back t.records mid s key again y b.out b.vacant b.again_is b.back in
       kept_changed t h triad key x y s b.at b.found there.0 there.1 alike (b.more ∙ b.fewer) (b.kept_room ∙ b.same_room) sound
 
-  pub view_put : hops (record { room = t.room; next = t.next; triads = t.triads; ups = t.ups; downs = t.downs; ops = t.ops; records = s }) ≡ record { room = t.room; next = t.next; held = map.insert (hops t).held triad y }
+  pub view_put : hops (record { room = t.room; next = t.next; triads = t.triads; ups = t.ups; downs = t.downs; ops = t.ops; records = s })
+      ≡ record { room = t.room; next = t.next; held = map.insert (hops t).held triad y }
   view_put =
       let there = put_back t.records mid s key again y b.out b.vacant b.again_is b.back in
       view_changed t h triad key x y s b.at b.found there.0 there.1 alike
 
 -- ---- an opening becomes a hop
 
-pub opened_sound : (next : ℕ) (o : Opening) (ids : OwnIds) (their_id now : ℕ) → IsHeld next (IsOpening o ids) → IsHeld next (Open (opened o ids their_id now))
+pub opened_sound : (next : ℕ) (o : Opening) (ids : OwnIds) (their_id now : ℕ) → IsHeld next (IsOpening o ids)
+    → IsHeld next (Open (opened o ids their_id now))
 opened_sound next o ids their_id now h = record {
   multiplier = h.multiplier;
   up = h.up;
@@ -63,12 +67,14 @@ opened_sound next o ids their_id now h = record {
 pub opened_alike : (o : Opening) (ids : OwnIds) (their_id now : ℕ) → SameNames (IsOpening o ids) (Open (opened o ids their_id now))
 opened_alike o ids their_id now = record { triad = refl; up = refl; down = refl; op = refl }
 
-pub finished_is : (p : Hops) (triad : Triad) (their_id now : ℕ) (o : Opening) (ids : OwnIds) → map.get p.held triad ≡ Some (IsOpening o ids) → finished p triad their_id now ≡ with_hop p triad (opened o ids their_id now)
+pub finished_is : (p : Hops) (triad : Triad) (their_id now : ℕ) (o : Opening) (ids : OwnIds) → map.get p.held triad ≡ Some (IsOpening o ids)
+    → finished p triad their_id now ≡ with_hop p triad (opened o ids their_id now)
 finished_is p triad their_id now o ids e = ap (open_in p triad their_id now) e
 
 -- ---- a hop changes
 
-pub changed_is : (p : Hops) (triad : Triad) (change : Hop → Hop) (hop : Hop) → map.get p.held triad ≡ Some (Open hop) → changed p triad change ≡ with_hop p triad (change hop)
+pub changed_is : (p : Hops) (triad : Triad) (change : Hop → Hop) (hop : Hop) → map.get p.held triad ≡ Some (Open hop)
+    → changed p triad change ≡ with_hop p triad (change hop)
 changed_is p triad change hop e = ap (λ o. change_in p triad change (option_and_then as_hop o)) e
 
 pub touched_alike : (side : Side) (now : ℕ) (hop : Hop) → SameNames (Open hop) (Open (touched side now hop))
@@ -89,25 +95,55 @@ with_open next hop new same ids h is = record {
   open_ = λ other e. let one : new ≡ other = cc in subst IsHop one is;
 }
 
-pub touched_sound : (next : ℕ) (side : Side) (now : ℕ) (hop : Hop) → IsTrue (is_link side hop) → IsHeld next (Open hop) → IsHeld next (Open (touched side now hop))
+pub touched_sound : (next : ℕ) (side : Side) (now : ℕ) (hop : Hop) → IsTrue (is_link side hop) → IsHeld next (Open hop)
+    → IsHeld next (Open (touched side now hop))
 touched_sound next Up now hop link h =
     let is = h.open_ hop refl in
-    with_open next hop _ refl refl h record { their_id = is.their_id; up_deadline = sym link; down_deadline = is.down_deadline; consumed = is.consumed; produced = is.produced }
+    with_open next hop _ refl refl h record {
+      their_id = is.their_id;
+      up_deadline = sym link;
+      down_deadline = is.down_deadline;
+      consumed =
+          is.consumed;
+      produced = is.produced;
+    }
 touched_sound next Down now hop link h =
     let is = h.open_ hop refl in
-    with_open next hop _ refl refl h record { their_id = is.their_id; up_deadline = is.up_deadline; down_deadline = sym link; consumed = is.consumed; produced = is.produced }
+    with_open next hop _ refl refl h record {
+      their_id = is.their_id;
+      up_deadline = is.up_deadline;
+      down_deadline = sym link;
+      consumed =
+          is.consumed;
+      produced = is.produced;
+    }
 
 no_link : (b : Bool) → IsTrue (not b) → b ≡ true → ⊥
 no_link true e f = cc
 no_link false e f = cc
 
-pub counted_sound : (next : ℕ) (side : Side) (count : ℕ) (hop : Hop) → IsTrue (not (down_is_link hop.opening.down)) → IsHeld next (Open hop) → IsHeld next (Open (counted side count hop))
+pub counted_sound : (next : ℕ) (side : Side) (count : ℕ) (hop : Hop) → IsTrue (not (down_is_link hop.opening.down)) → IsHeld next (Open hop)
+    → IsHeld next (Open (counted side count hop))
 counted_sound next Up count hop end h =
     let is = h.open_ hop refl in
-    with_open next hop _ refl refl h record { their_id = is.their_id; up_deadline = is.up_deadline; down_deadline = is.down_deadline; consumed = λ e. absurd (no_link (down_is_link hop.opening.down) end e); produced = is.produced }
+    with_open next hop _ refl refl h record {
+      their_id = is.their_id;
+      up_deadline = is.up_deadline;
+      down_deadline = is.down_deadline;
+      consumed =
+          λ e. absurd (no_link (down_is_link hop.opening.down) end e);
+      produced = is.produced;
+    }
 counted_sound next Down count hop end h =
     let is = h.open_ hop refl in
-    with_open next hop _ refl refl h record { their_id = is.their_id; up_deadline = is.up_deadline; down_deadline = is.down_deadline; consumed = is.consumed; produced = λ e. absurd (no_link (down_is_link hop.opening.down) end e) }
+    with_open next hop _ refl refl h record {
+      their_id = is.their_id;
+      up_deadline = is.up_deadline;
+      down_deadline = is.down_deadline;
+      consumed =
+          is.consumed;
+      produced = λ e. absurd (no_link (down_is_link hop.opening.down) end e);
+    }
 
 -- ---- what a condition on a hop says where a record was found
 
@@ -120,7 +156,8 @@ not_open p triad hop some is = let never : IsSome {T = Opening} None = subst (λ
 pub no_hop : (P : Hop → Type 0) (p : Hops) (triad : Triad) → IsSomeAnd (hop_at p triad) P → map.get p.held triad ≡ None → ⊥
 no_hop P p triad some none = subst (λ (o : Option Held). IsSomeAnd (option_and_then as_hop o) P) none some
 
-pub not_opening : (P : Hop → Type 0) (p : Hops) (triad : Triad) (o : Opening) (ids : OwnIds) → IsSomeAnd (hop_at p triad) P → map.get p.held triad ≡ Some (IsOpening o ids) → ⊥
+pub not_opening : (P : Hop → Type 0) (p : Hops) (triad : Triad) (o : Opening) (ids : OwnIds) → IsSomeAnd (hop_at p triad) P
+    → map.get p.held triad ≡ Some (IsOpening o ids) → ⊥
 not_opening P p triad o ids some is = subst (λ (o : Option Held). IsSomeAnd (option_and_then as_hop o) P) is some
 
 pub its_hop : (P : Hop → Type 0) (p : Hops) (triad : Triad) (hop : Hop) → IsSomeAnd (hop_at p triad) P → map.get p.held triad ≡ Some (Open hop) → P hop

@@ -7,7 +7,7 @@ use Rattle.cip_base.specs.Triads.{triad_cmp}
 use Rattle.cip_hops.specs.declared.hop.Held.{Held}
 use Rattle.cip_hops.specs.declared.table.HopTable.TheInside.{Inside}
 use Rattle.cip_hops.specs.Hops.{Hops, triad_of, up_id_of, down_id_of, held_op_of, IsHeld}
-use Rattle.cip_hops.specs.Joined.{joined}
+use Rattle.cip_base.specs.Joined.{joined}
 
 -- the record under a key has this name
 pub record HasName {K : Type 0} (name_of : Held → Option K) (found : ℕ → Option Held) (key : ℕ) (name : K) : Type 0 where

@@ -2,5 +2,4 @@ pub mod Sides
 pub mod Hops
 pub mod Index
 pub mod Numbers
-pub mod Joined
 pub mod Kept

@@ -2,7 +2,8 @@
 ghost use Rattle.std.specs.Prelude.{◌≡◌, ◌<◌, None, IfOk, IfSome, IsSome, MatchResult};
 ghost use Rattle.std.specs.Ordering.{nat_cmp};
 ghost use Rattle.std.specs.FinMap as map;
-ghost use Rattle.cip_hops.specs.Index.{noted, forgot, IsRising, StandsAt, FitsAt};
+ghost use Rattle.cip_base.specs.Rising.{IsRising, StandsAt, FitsAt};
+ghost use Rattle.cip_hops.specs.Index.{noted, forgot};
 
 use std::alloc::{AllocError, Global};
 use std::marker::Model;

@@ -4,7 +4,7 @@ ghost use Rattle.std.specs.List.{position};
 ghost use Rattle.std.specs.Option.{option_copied, option_to_list, option_map_or};
 ghost use Rattle.std.specs.FinMap as map;
 ghost use Rattle.slab.specs.Slab.{get as get_record};
-ghost use Rattle.cip_hops.specs.Joined.{passes};
+ghost use Rattle.cip_base.specs.Joined.{passes};
 ghost use Rattle.cip_hops.specs.Sides.{op_of, down_is_link};
 ghost use Rattle.cip_hops.specs.Hops.{refusal, begin_gives, begun, IsOpFree, opening_at, hop_at, without, finished, changed, is_link, touched, counted, hop_by_up, hop_by_down, hop_by_op, first_due, due, rest, first_after, as_hop, is_hop_due, IsWithin};
 

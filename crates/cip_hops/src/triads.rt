@@ -5,7 +5,7 @@ ghost use Rattle.std.specs.Option.{option_copied};
 ghost use Rattle.std.specs.FinMap as map;
 ghost use Rattle.cip_base.specs.Triads.{triad_cmp};
 ghost use Rattle.cip_hops.specs.Hops.{is_after};
-ghost use Rattle.cip_hops.specs.Index.{IsRising, StandsAt, FitsAt};
+ghost use Rattle.cip_base.specs.Rising.{IsRising, StandsAt, FitsAt};
 
 use cip_base::Triad;
 use std::alloc::{AllocError, Global};

@@ -64,7 +64,8 @@ parts t s ot_id to_id triad m x y z ot_rpi ot_params to_rpi to_params w n path =
     t ∷ s ∷ ot_id ++ (to_id ++ (triad ++ (m ∷ x ∷ y ∷ z ∷ ot_rpi ++ (ot_params ++ (to_rpi ++ (to_params ++ (w ∷ n ∷ path)))))))
 
 same_parts : (t s : ℕ) (a a' b b' c c' : List ℕ) (m x y z : ℕ) (d d' e e' f f' g g' : List ℕ) (w n : ℕ) (path : List ℕ)
-    → a ≡ a' → b ≡ b' → c ≡ c' → d ≡ d' → e ≡ e' → f ≡ f' → g ≡ g' → parts t s a b c m x y z d e f g w n path ≡ parts t s a' b' c' m x y z d' e' f' g' w n path
+    → a ≡ a' → b ≡ b' → c ≡ c' → d ≡ d' → e ≡ e' → f ≡ f' → g ≡ g'
+    → parts t s a b c m x y z d e f g w n path ≡ parts t s a' b' c' m x y z d' e' f' g' w n path
 same_parts t s a a' b b' c c' m x y z d d' e e' f f' g g' w n path ea eb ec ed ee ef eg = rw (ea, eb, ec, ed, ee, ef, eg) refl
 
 lays : (b : List ℕ) → IsBytes b → length b ≡ whole_length 35 36 b → LaysOpen b (record { fields = open_fields_in b; path = drop 36 b })
@@ -78,10 +79,12 @@ lays b fits len =
       fronts 36 b (omega (arith, len))
           ∙ sym (same_parts (at 0) (at 1) _ (at 2 ∷ at 3 ∷ at 4 ∷ at 5 ∷ []) _ (at 6 ∷ at 7 ∷ at 8 ∷ at 9 ∷ [])
           _ (at 10 ∷ at 11 ∷ at 12 ∷ at 13 ∷ at 14 ∷ at 15 ∷ at 16 ∷ at 17 ∷ []) (at 18) (at 19) (at 20) (at 21)
-          _ (at 22 ∷ at 23 ∷ at 24 ∷ at 25 ∷ []) _ (at 26 ∷ at 27 ∷ []) _ (at 28 ∷ at 29 ∷ at 30 ∷ at 31 ∷ []) _ (at 32 ∷ at 33 ∷ []) (at 34) (at 35) (drop 36 b)
+          _ (at 22 ∷ at 23 ∷ at 24 ∷ at 25 ∷ []) _ (at 26 ∷ at 27 ∷ []) _ (at 28 ∷ at 29 ∷ at 30 ∷ at 31 ∷ []) _ (at 32 ∷ at 33 ∷ []) (at 34) (at 35)
+          (drop 36 b)
           (double_back (at 2) (at 3) (at 4) (at 5) (fits 2) (fits 3) (fits 4) (fits 5))
           (double_back (at 6) (at 7) (at 8) (at 9) (fits 6) (fits 7) (fits 8) (fits 9))
-          (triad_back (at 10) (at 11) (at 12) (at 13) (at 14) (at 15) (at 16) (at 17) (fits 10) (fits 11) (fits 12) (fits 13) (fits 14) (fits 15) (fits 16) (fits 17))
+          (triad_back (at 10) (at 11) (at 12) (at 13) (at 14) (at 15) (at 16) (at 17) (fits 10) (fits 11) (fits 12) (fits 13) (fits 14) (fits 15) (fits 16)
+          (fits 17))
           (double_back (at 22) (at 23) (at 24) (at 25) (fits 22) (fits 23) (fits 24) (fits 25))
           (word_back (at 26) (at 27) (fits 26))
           (double_back (at 28) (at 29) (at 30) (at 31) (fits 28) (fits 29) (fits 30) (fits 31))

@@ -19,11 +19,13 @@ use Rattle.cip_open.specs.SuccessAt.{open_success_in, with_open_reply, open_repl
 abbrev made : ℕ → ℕ → Triad → ℕ → ℕ → List ℕ → OpenSuccess
 made ot_id to_id triad ot_api to_api reply = record { ot_id = ot_id; to_id = to_id; triad = triad; ot_api = ot_api; to_api = to_api; reply = reply }
 
-same_fields : (a a' b b' : ℕ) (x x' : Triad) (c c' d d' : ℕ) (reply : List ℕ) → a ≡ a' → b ≡ b' → x ≡ x' → c ≡ c' → d ≡ d' → made a b x c d reply ≡ made a' b' x' c' d' reply
+same_fields : (a a' b b' : ℕ) (x x' : Triad) (c c' d d' : ℕ) (reply : List ℕ) → a ≡ a' → b ≡ b' → x ≡ x' → c ≡ c' → d ≡ d'
+    → made a b x c d reply ≡ made a' b' x' c' d' reply
 same_fields a a' b b' x x' c c' d d' reply ea eb ex ec ed = rw (ea, eb, ex, ec, ed) refl
 
 layout_fields : (n x : ℕ) (s : OpenSuccess) → open_success_in (open_reply_layout n x s) s.reply ≡ s
-layout_fields n x s = same_fields _ _ _ _ _ _ _ _ _ _ _ (double_again s.ot_id) (double_again s.to_id) (triad_again s.triad []) (double_again s.ot_api) (double_again s.to_api)
+layout_fields n x s =
+    same_fields _ _ _ _ _ _ _ _ _ _ _ (double_again s.ot_id) (double_again s.to_id) (triad_again s.triad []) (double_again s.ot_api) (double_again s.to_api)
 
 abbrev succeeded : OpenSuccess → Result OpenSuccess DataFault
 succeeded s = Ok s
@@ -42,7 +44,8 @@ open_reply_read b s (n, x, len, e) = subst (λ (c : List ℕ). open_reply_at c �
 abbrev parts : List ℕ → List ℕ → List ℕ → List ℕ → List ℕ → ℕ → ℕ → List ℕ → List ℕ
 parts ot_id to_id triad ot_api to_api n x reply = ot_id ++ (to_id ++ (triad ++ (ot_api ++ (to_api ++ (n ∷ x ∷ reply)))))
 
-same_parts : (a a' b b' c c' d d' e e' : List ℕ) (n x : ℕ) (reply : List ℕ) → a ≡ a' → b ≡ b' → c ≡ c' → d ≡ d' → e ≡ e' → parts a b c d e n x reply ≡ parts a' b' c' d' e' n x reply
+same_parts : (a a' b b' c c' d d' e e' : List ℕ) (n x : ℕ) (reply : List ℕ) → a ≡ a' → b ≡ b' → c ≡ c' → d ≡ d' → e ≡ e'
+    → parts a b c d e n x reply ≡ parts a' b' c' d' e' n x reply
 same_parts a a' b b' c c' d d' e e' n x reply ea eb ec ed ee = rw (ea, eb, ec, ed, ee) refl
 
 reads : (b : List ℕ) → IsBytes b → length b ≡ whole_length 24 26 b → ReadsOpenReply b (open_success_in b (drop 26 b))
@@ -53,10 +56,12 @@ reads b fits len =
       omega (arith, len, length-drop 26 b),
       fronts 26 b (omega (arith, len))
           ∙ sym (same_parts _ (at 0 ∷ at 1 ∷ at 2 ∷ at 3 ∷ []) _ (at 4 ∷ at 5 ∷ at 6 ∷ at 7 ∷ [])
-          _ (at 8 ∷ at 9 ∷ at 10 ∷ at 11 ∷ at 12 ∷ at 13 ∷ at 14 ∷ at 15 ∷ []) _ (at 16 ∷ at 17 ∷ at 18 ∷ at 19 ∷ []) _ (at 20 ∷ at 21 ∷ at 22 ∷ at 23 ∷ []) (at 24) (at 25) (drop 26 b)
+          _ (at 8 ∷ at 9 ∷ at 10 ∷ at 11 ∷ at 12 ∷ at 13 ∷ at 14 ∷ at 15 ∷ []) _ (at 16 ∷ at 17 ∷ at 18 ∷ at 19 ∷ []) _
+          (at 20 ∷ at 21 ∷ at 22 ∷ at 23 ∷ []) (at 24) (at 25) (drop 26 b)
           (double_back (at 0) (at 1) (at 2) (at 3) (fits 0) (fits 1) (fits 2) (fits 3))
           (double_back (at 4) (at 5) (at 6) (at 7) (fits 4) (fits 5) (fits 6) (fits 7))
-          (triad_back (at 8) (at 9) (at 10) (at 11) (at 12) (at 13) (at 14) (at 15) (fits 8) (fits 9) (fits 10) (fits 11) (fits 12) (fits 13) (fits 14) (fits 15))
+          (triad_back (at 8) (at 9) (at 10) (at 11) (at 12) (at 13) (at 14) (at 15) (fits 8) (fits 9) (fits 10) (fits 11) (fits 12) (fits 13) (fits 14)
+          (fits 15))
           (double_back (at 16) (at 17) (at 18) (at 19) (fits 16) (fits 17) (fits 18) (fits 19))
           (double_back (at 20) (at 21) (at 22) (at 23) (fits 20) (fits 21) (fits 22) (fits 23))),
     )

@@ -6,7 +6,7 @@ use Rattle.std.specs.FinMap as map
 use Rattle.slab.specs.Slab.{get, slab_len}
 use Rattle.cip_pending.specs.declared.table.PendingTable.TheInside.{Inside}
 use Rattle.cip_pending.specs.Pendings.{Pendings}
-use Rattle.cip_pending.specs.Joined.{joined, IsPresent}
+use Rattle.cip_base.specs.Joined.{joined, IsPresent}
 
 -- the numbers of an index rise
 abbrev pub IsRising : List (ℕ × ℕ) → Type 0

@@ -6,7 +6,7 @@ ghost use Rattle.std.specs.Option.{option_copied, option_to_list};
 ghost use Rattle.std.specs.FinMap as map;
 ghost use Rattle.slab.specs.Slab.{get as get_record};
 ghost use Rattle.cip_pending.specs.Pendings.{refusal, add_gives, added, waiting_at, without, is_due, first_due, due, rest, first_after, is_after, IsWithin};
-ghost use Rattle.cip_pending.specs.Joined.{passes};
+ghost use Rattle.cip_base.specs.Joined.{passes};
 ghost use Rattle.cip_pending.specs.Kept.{IsRising};
 
 use crate::entry::{AddFault, AddReason, Entry};

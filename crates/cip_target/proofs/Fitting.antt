@@ -29,7 +29,9 @@ size_at : (m : AssemblyMap) (i : ℕ) (c : AssemblyConfig) → config_in m i ≡
 size_at m i c e = sym (size_is m i) ∙ ap (option_map (λ (c : AssemblyConfig). c.size)) e
 
 -- the row of an open whose assemblies are found
-pub joined_is : (m : AssemblyMap) (owned : ℕ → Bool) (f : OpenFields) (a : Application) (j : Joined) (b : Bool) → IsJoined m a j → b ≡ owned j.consume.instance → sized_row (λ _. b) f (application_joined j) (Some j.config.size) (Some j.consume.size) (Some j.produce.size) ≡ application_row m owned f (Some a)
+pub joined_is : (m : AssemblyMap) (owned : ℕ → Bool) (f : OpenFields) (a : Application) (j : Joined) (b : Bool) → IsJoined m a j
+    → b ≡ owned j.consume.instance → sized_row (λ _. b) f (application_joined j) (Some j.config.size) (Some j.consume.size) (Some j.produce.size)
+    ≡ application_row m owned f (Some a)
 joined_is m owned f a j b h e =
     ap (λ (b : Bool). sized_row (λ _. b) f (application_joined j) (Some j.config.size) (Some j.consume.size) (Some j.produce.size)) e
     ∙ ap (λ (a : Application). sized_row owned f a (Some j.config.size) (Some j.consume.size) (Some j.produce.size)) h.same
@@ -67,7 +69,8 @@ record Sized (f : OpenFields) (a : Application) (config : Option ℕ) (link : En
   fits : is_configuration size a.bytes ≡ true
   same : link_of f a ≡ link
 
-sized_fits : (owned : ℕ → Bool) (f : OpenFields) (a : Application) (x y z : Option ℕ) (link : EndLink) → sized_row owned f a x y z ≡ Fits link → Sized f a x link
+sized_fits : (owned : ℕ → Bool) (f : OpenFields) (a : Application) (x y z : Option ℕ) (link : EndLink) → sized_row owned f a x y z ≡ Fits link
+    → Sized f a x link
 sized_fits owned f a None y z link e = absurd (let no : NoSuchInstanceOrConfiguration ≡ Fits link = e in cc)
 sized_fits owned f a (Some config) None z link e = absurd (let no : NoSuchInstanceOrConfiguration ≡ Fits link = e in cc)
 sized_fits owned f a (Some config) (Some consume) None link e = absurd (let no : NoSuchInstanceOrConfiguration ≡ Fits link = e in cc)
@@ -82,7 +85,8 @@ sized_fits owned f a (Some config) (Some consume) (Some produce) link e =
 long_enough : (size : ℕ) (b : List ℕ) → is_configuration size b ≡ true → size ≤ length b
 long_enough size b e = grind (arith, nat_tests)
 
-held_fits : (m : AssemblyMap) (f : OpenFields) (a : Application) (link : EndLink) → Sized f a (size_in m a.config) link → IsSomeAnd (map.get m link.config) (λ held. length held ≤ length a.bytes)
+held_fits : (m : AssemblyMap) (f : OpenFields) (a : Application) (link : EndLink) → Sized f a (size_in m a.config) link
+    → IsSomeAnd (map.get m link.config) (λ held. length held ≤ length a.bytes)
 held_fits m f a link s =
     let here : IsSomeAnd (map.get m a.config) (λ held. length held ≤ length a.bytes) =
     elim (map.get m a.config) as (λ (o : Option (List ℕ)). option_map length o ≡ Some s.size → IsSomeAnd o (λ held. length held ≤ length a.bytes)) [
@@ -99,17 +103,23 @@ FitsWith m link (Some a) = IsSomeAnd (map.get m link.config) (λ held. length he
 pub fitting : (t : Ends) (o : Open) (link : EndLink) → row_at t o ≡ Fits link → FitsWith t.objects.assemblies link (application_of (segments_of o.path))
 unfolding end_row
 fitting t o link e =
-    elim (application_of (segments_of o.path)) as (λ (p : Option Application). application_row t.objects.assemblies (λ i. is_some (map.get t.owners i)) o.fields p ≡ Fits link → FitsWith t.objects.assemblies link p) [
+    elim (application_of (segments_of o.path)) as (λ (p : Option Application). application_row t.objects.assemblies
+    (λ i. is_some (map.get t.owners i)) o.fields p ≡ Fits link → FitsWith t.objects.assemblies link p) [
       | None ↦ λ e. cc
-      | Some a ↦ λ e. held_fits t.objects.assemblies o.fields a link (sized_fits (λ i. is_some (map.get t.owners i)) o.fields a (size_in t.objects.assemblies a.config) (size_in t.objects.assemblies a.consume) (size_in t.objects.assemblies a.produce) link e)
+      | Some a ↦ λ e. held_fits t.objects.assemblies o.fields a link
+          (sized_fits (λ i. is_some (map.get t.owners i)) o.fields a (size_in t.objects.assemblies a.config) (size_in t.objects.assemblies a.consume)
+          (size_in t.objects.assemblies a.produce) link e)
     ] e
 
 -- ---- as `accept` does it
 
-pub accept_asks : (t : Ends) (o : Open) (link : EndLink) (a : Application) (m : AssemblyMap) (i : ℕ) → row_at t o ≡ Fits link → Some a ≡ application_of (segments_of o.path) → m ≡ t.objects.assemblies → i ≡ link.config → IsSomeAnd (map.get m i) (λ held. length held ≤ length a.bytes)
+pub accept_asks : (t : Ends) (o : Open) (link : EndLink) (a : Application) (m : AssemblyMap) (i : ℕ) → row_at t o ≡ Fits link
+    → Some a ≡ application_of (segments_of o.path) → m ≡ t.objects.assemblies → i ≡ link.config
+    → IsSomeAnd (map.get m i) (λ held. length held ≤ length a.bytes)
 accept_asks t o link a m i e path same at =
     let there : FitsWith t.objects.assemblies link (Some a) = subst (FitsWith t.objects.assemblies link) (sym path) (fitting t o link e) in
-    let here : IsSomeAnd (map.get m link.config) (λ held. length held ≤ length a.bytes) = subst (λ (m : AssemblyMap). IsSomeAnd (map.get m link.config) (λ held. length held ≤ length a.bytes)) (sym same) there in
+    let here : IsSomeAnd (map.get m link.config) (λ held. length held ≤ length a.bytes) =
+    subst (λ (m : AssemblyMap). IsSomeAnd (map.get m link.config) (λ held. length held ≤ length a.bytes)) (sym same) there in
     subst (λ (i : ℕ). IsSomeAnd (map.get m i) (λ held. length held ≤ length a.bytes)) (sym at) here
 
 abbrev target_of : IdentityFields → Holdings → Ends
@@ -143,20 +153,24 @@ owned_alike size x y same =
       | false ↦ λ e. refl
     ] refl
 
-sized_alike : (owned other : ℕ → Bool) (f : OpenFields) (a : Application) (x y z : Option ℕ) → ((size : ℕ) → y ≡ Some size → 0 < size → owned a.consume ≡ other a.consume) → sized_row owned f a x y z ≡ sized_row other f a x y z
+sized_alike : (owned other : ℕ → Bool) (f : OpenFields) (a : Application) (x y z : Option ℕ)
+    → ((size : ℕ) → y ≡ Some size → 0 < size → owned a.consume ≡ other a.consume) → sized_row owned f a x y z ≡ sized_row other f a x y z
 sized_alike owned other f a None y z same = refl
 sized_alike owned other f a (Some config) None z same = refl
 sized_alike owned other f a (Some config) (Some consume) None same = refl
 sized_alike owned other f a (Some config) (Some consume) (Some produce) same =
     ap (λ (b : Bool). cond (not (is_configuration config a.bytes)) NoSuchInstanceOrConfiguration
-    (cond (nat_lt 1 (class_of f.transport)) ClassNotSupported (cond (not (are_sizes f consume produce)) SizeMismatch (cond b OutputOwned (Fits (link_of f a))))))
+    (cond (nat_lt 1 (class_of f.transport)) ClassNotSupported
+    (cond (not (are_sizes f consume produce)) SizeMismatch (cond b OutputOwned (Fits (link_of f a))))))
     (owned_alike consume (owned a.consume) (other a.consume) (same consume refl))
 
 -- the row of an open looks at the owners of instances that have bytes alone
-pub row_alike : (m : AssemblyMap) (owned other : ℕ → Bool) (o : Open) → ((i size : ℕ) → size_in m i ≡ Some size → 0 < size → owned i ≡ other i) → end_row m owned o ≡ end_row m other o
+pub row_alike : (m : AssemblyMap) (owned other : ℕ → Bool) (o : Open) → ((i size : ℕ) → size_in m i ≡ Some size → 0 < size → owned i ≡ other i)
+    → end_row m owned o ≡ end_row m other o
 unfolding end_row
 row_alike m owned other o same =
     elim (application_of (segments_of o.path)) as (λ (p : Option Application). application_row m owned o.fields p ≡ application_row m other o.fields p) [
       | None ↦ refl
-      | Some a ↦ sized_alike owned other o.fields a (size_in m a.config) (size_in m a.consume) (size_in m a.produce) (λ size is some. same a.consume size is some)
+      | Some a ↦ sized_alike owned other o.fields a (size_in m a.config) (size_in m a.consume) (size_in m a.produce)
+          (λ size is some. same a.consume size is some)
     ]

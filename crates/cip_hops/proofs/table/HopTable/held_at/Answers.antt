@@ -8,8 +8,10 @@ use Rattle.cip_hops.proofs.table.HopTable.held_at.Goals as goal
 
 pub returns-in_err-key : goal.returns-in_err-key
 returns-in_err-key c =
-    ap option_copied c.from_residual.ensures ∙ sym (held_none c.self.inside c.self.invariant c.args.triad.now (sym c.in_err-key.ensures)) ∙ ap (λ (p : Hops). map.get p.held c.args.triad.now) c.self.view_is
+    ap option_copied c.from_residual.ensures ∙ sym (held_none c.self.inside c.self.invariant c.args.triad.now (sym c.in_err-key.ensures))
+    ∙ ap (λ (p : Hops). map.get p.held c.args.triad.now) c.self.view_is
 
 pub returns : goal.returns
 returns c =
-    c.get.ensures ∙ ap (option_and_then (get c.self.inside.records)) c.in_ok-key.ensures ∙ sym (held_is c.self.inside c.self.invariant c.args.triad.now) ∙ ap (λ (p : Hops). map.get p.held c.args.triad.now) c.self.view_is
+    c.get.ensures ∙ ap (option_and_then (get c.self.inside.records)) c.in_ok-key.ensures ∙ sym (held_is c.self.inside c.self.invariant c.args.triad.now)
+    ∙ ap (λ (p : Hops). map.get p.held c.args.triad.now) c.self.view_is

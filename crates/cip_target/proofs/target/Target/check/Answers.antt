@@ -17,8 +17,11 @@ returns-in-Some-joined-clause-gives c =
     c.is_owned-owned.ensures ∙ ap (λ (i : ℕ). is_some (map.get c.self.inside.assemblies.owners i)) c.from.ensures
     ∙ ap (λ (t : Ends). is_some (map.get t.owners c.in-Some-joined.joined.consume.instance)) c.self.view_is in
     c.joined_row.ensures
-    ∙ ap end_gives (joined_is t.objects.assemblies owned c.args.asked.now.fields (application_seen c.in-Some.application) c.in-Some-joined.joined c.is_owned-owned.result c.in-Some-joined.ensures is
+    ∙ ap end_gives
+    (joined_is t.objects.assemblies owned c.args.asked.now.fields
+    (application_seen c.in-Some.application) c.in-Some-joined.joined c.is_owned-owned.result c.in-Some-joined.ensures is
     ∙ ap (λ (p : Option Application). application_row t.objects.assemblies owned c.args.asked.now.fields p) c.in-Some.ensures)
 
 pub returns-in-Some-joined-clause-fits : goal.returns-in-Some-joined-clause-fits
-returns-in-Some-joined-clause-fits c = gives_fits c.joined_row.result (row_at c.args.self.now (open_of c.args.asked.now)) (returns-in-Some-joined-clause-gives c)
+returns-in-Some-joined-clause-fits c =
+    gives_fits c.joined_row.result (row_at c.args.self.now (open_of c.args.asked.now)) (returns-in-Some-joined-clause-gives c)
