@@ -39,7 +39,8 @@ note-requires-in-None-clause-free c =
     subst (λ (ids : OwnIds). Updates c.self.inside.records c.insert_reserved-key.new.self c.insert_reserved-key.result
     (Some (IsOpening c.args.opening ids))) c.own_ids-ids.ensures c.insert_reserved-key.ensures.updates in
     if_some _ _
-    (λ n e. up_free c.self.inside c.self.invariant c.args.opening c.insert_reserved-key.result c.insert_reserved-key.new.self c.insert_reserved-key.ensures.was_vacant updates acc.0 n (sym (ap (λ (d : OwnIds). d.up) c.own_ids-ids.ensures) ∙ e))
+    (λ n e. up_free c.self.inside c.self.invariant c.args.opening c.insert_reserved-key.result c.insert_reserved-key.new.self
+    c.insert_reserved-key.ensures.was_vacant updates acc.0 n (sym (ap (λ (d : OwnIds). d.up) c.own_ids-ids.ensures) ∙ e))
 
 pub note-requires-in-None-clause-room : goal.note-requires-in-None-clause-room
 note-requires-in-None-clause-room c =
@@ -57,7 +58,8 @@ note-requires-in-None-2-clause-free c =
     subst (λ (ids : OwnIds). Updates c.self.inside.records c.insert_reserved-key.new.self c.insert_reserved-key.result
     (Some (IsOpening c.args.opening ids))) c.own_ids-ids.ensures c.insert_reserved-key.ensures.updates in
     if_some _ _
-    (λ n e. down_free c.self.inside c.self.invariant c.args.opening c.insert_reserved-key.result c.insert_reserved-key.new.self c.insert_reserved-key.ensures.was_vacant updates acc.0 n (sym (ap (λ (d : OwnIds). d.down) c.own_ids-ids.ensures) ∙ e))
+    (λ n e. down_free c.self.inside c.self.invariant c.args.opening c.insert_reserved-key.result c.insert_reserved-key.new.self
+    c.insert_reserved-key.ensures.was_vacant updates acc.0 n (sym (ap (λ (d : OwnIds). d.down) c.own_ids-ids.ensures) ∙ e))
 
 pub note-requires-in-None-2-clause-room : goal.note-requires-in-None-2-clause-room
 note-requires-in-None-2-clause-room c =
@@ -76,7 +78,8 @@ note-requires-in-None-3-clause-free c =
     (Some (IsOpening c.args.opening ids))) c.own_ids-ids.ensures c.insert_reserved-key.ensures.updates in
     let free = subst (λ p. IsOpFree p (op_of c.args.opening.up)) (sym c.self.view_is) c.requires.op in
     if_some _ _
-    (λ n e. op_unused c.self.inside c.self.invariant c.args.opening c.insert_reserved-key.result c.insert_reserved-key.new.self c.insert_reserved-key.ensures.was_vacant updates acc.0 free n (sym c.op-op.ensures ∙ e))
+    (λ n e. op_unused c.self.inside c.self.invariant c.args.opening c.insert_reserved-key.result c.insert_reserved-key.new.self
+    c.insert_reserved-key.ensures.was_vacant updates acc.0 free n (sym c.op-op.ensures ∙ e))
 
 pub note-requires-in-None-3-clause-room : goal.note-requires-in-None-3-clause-room
 note-requires-in-None-3-clause-room c =
@@ -98,7 +101,17 @@ invariant_of-self c =
     let o = c.args.opening in
     let ids = c.own_ids-ids.ensures in
     let key = c.insert_reserved-key.result in
-    let made : after_begin c.self.inside c.self.invariant c.args.opening c.insert_reserved-key.result c.insert_reserved-key.new.self c.insert_reserved-key.ensures.was_vacant updates acc.0 ≡ record { room = t.room; next = t.next + c.from.result; triads = c.note.new.self; ups = c.note-in-None.new.self; downs = c.note-in-None-2.new.self; ops = c.note-in-None-3.new.self; records = c.insert_reserved-key.new.self } =
+    let made : after_begin c.self.inside c.self.invariant c.args.opening c.insert_reserved-key.result c.insert_reserved-key.new.self
+    c.insert_reserved-key.ensures.was_vacant updates acc.0 ≡ record {
+      room = t.room;
+      next = t.next + c.from.result;
+      triads = c.note.new.self;
+      ups =
+          c.note-in-None.new.self;
+      downs = c.note-in-None-2.new.self;
+      ops = c.note-in-None-3.new.self;
+      records = c.insert_reserved-key.new.self;
+    } =
     λ i. record {
       room = t.room;
       next = t.next + sym (c.from.ensures ∙ c.ids_drawn-in-None.ensures.value) i;
@@ -110,7 +123,9 @@ invariant_of-self c =
     } in
     let drawn : t.next + ids_drawn o ≤ 4294967296 = subst (λ n. t.next + n ≤ 4294967296) c.ids_drawn.ensures.value acc.2 in
     subst IsKept made
-    (kept_begun c.self.inside c.self.invariant c.args.opening c.insert_reserved-key.result c.insert_reserved-key.new.self c.insert_reserved-key.ensures.was_vacant updates acc.0 free c.requires.multiplier acc.1 drawn c.insert_reserved-key.ensures.len c.insert_reserved-key.ensures.capacity)
+    (kept_begun c.self.inside c.self.invariant c.args.opening c.insert_reserved-key.result c.insert_reserved-key.new.self
+    c.insert_reserved-key.ensures.was_vacant updates acc.0 free c.requires.multiplier acc.1 drawn c.insert_reserved-key.ensures.len
+    c.insert_reserved-key.ensures.capacity)
 
 pub returns-in-None-clause-after : goal.returns-in-None-clause-after
 returns-in-None-clause-after c =
@@ -124,7 +139,17 @@ returns-in-None-clause-after c =
     let o = c.args.opening in
     let ids = c.own_ids-ids.ensures in
     let key = c.insert_reserved-key.result in
-    let made : after_begin c.self.inside c.self.invariant c.args.opening c.insert_reserved-key.result c.insert_reserved-key.new.self c.insert_reserved-key.ensures.was_vacant updates acc.0 ≡ record { room = t.room; next = t.next + c.from.result; triads = c.note.new.self; ups = c.note-in-None.new.self; downs = c.note-in-None-2.new.self; ops = c.note-in-None-3.new.self; records = c.insert_reserved-key.new.self } =
+    let made : after_begin c.self.inside c.self.invariant c.args.opening c.insert_reserved-key.result c.insert_reserved-key.new.self
+    c.insert_reserved-key.ensures.was_vacant updates acc.0 ≡ record {
+      room = t.room;
+      next = t.next + c.from.result;
+      triads = c.note.new.self;
+      ups =
+          c.note-in-None.new.self;
+      downs = c.note-in-None-2.new.self;
+      ops = c.note-in-None-3.new.self;
+      records = c.insert_reserved-key.new.self;
+    } =
     λ i. record {
       room = t.room;
       next = t.next + sym (c.from.ensures ∙ c.ids_drawn-in-None.ensures.value) i;
@@ -135,4 +160,5 @@ returns-in-None-clause-after c =
       records = c.insert_reserved-key.new.self;
     } in
     ap hops (sym made)
-    ∙ view_begun c.self.inside c.self.invariant c.args.opening c.insert_reserved-key.result c.insert_reserved-key.new.self c.insert_reserved-key.ensures.was_vacant updates acc.0 ∙ ap (λ p. begun p o) c.self.view_is
+    ∙ view_begun c.self.inside c.self.invariant c.args.opening c.insert_reserved-key.result c.insert_reserved-key.new.self
+    c.insert_reserved-key.ensures.was_vacant updates acc.0 ∙ ap (λ p. begun p o) c.self.view_is

@@ -24,10 +24,12 @@ returns-in_err-hop c =
 
 pub returns-then-is_at : goal.returns-then-is_at
 returns-then-is_at c =
-    sym (down_gives c.self.inside c.self.invariant c.args.id c.args.port c.args.address.now c.in_ok-key.key c.in_ok-get.field-0.now c.in_ok-hop.hop.now true (sym c.in_ok-key.ensures) (sym c.in_ok-get.ensures) (sym c.in_ok-hop.ensures) (sym c.if-is_at.ensures))
+    sym (down_gives c.self.inside c.self.invariant c.args.id c.args.port c.args.address.now c.in_ok-key.key c.in_ok-get.field-0.now
+    c.in_ok-hop.hop.now true (sym c.in_ok-key.ensures) (sym c.in_ok-get.ensures) (sym c.in_ok-hop.ensures) (sym c.if-is_at.ensures))
     ∙ ap (λ p. hop_by_down p c.args.id c.args.port c.args.address.now) c.self.view_is
 
 pub returns-else-is_at : goal.returns-else-is_at
 returns-else-is_at c =
-    sym (down_gives c.self.inside c.self.invariant c.args.id c.args.port c.args.address.now c.in_ok-key.key c.in_ok-get.field-0.now c.in_ok-hop.hop.now false (sym c.in_ok-key.ensures) (sym c.in_ok-get.ensures) (sym c.in_ok-hop.ensures) (sym c.if-is_at.ensures))
+    sym (down_gives c.self.inside c.self.invariant c.args.id c.args.port c.args.address.now c.in_ok-key.key c.in_ok-get.field-0.now
+    c.in_ok-hop.hop.now false (sym c.in_ok-key.ensures) (sym c.in_ok-get.ensures) (sym c.in_ok-hop.ensures) (sym c.if-is_at.ensures))
     ∙ ap (λ p. hop_by_down p c.args.id c.args.port c.args.address.now) c.self.view_is

@@ -33,7 +33,8 @@ invariant_of-self c =
     subst (λ hop. Updates c.remove.new.self c.insert_reserved.new.self c.insert_reserved.result
     (Some (Open hop))) c.opened-hop.ensures c.insert_reserved.ensures.updates in
     let back : PutBack c.self.inside c.args.triad.now c.in-Some.key (IsOpening c.in-Opening.opening c.in-Opening.ids)
-    (Open (opened c.in-Opening.opening c.in-Opening.ids c.args.their_id c.args.now)) c.remove.new.self c.insert_reserved.new.self c.insert_reserved.result = record {
+    (Open (opened c.in-Opening.opening c.in-Opening.ids c.args.their_id c.args.now)) c.remove.new.self c.insert_reserved.new.self
+    c.insert_reserved.result = record {
       at = sym c.in-Some.ensures;
       found = c.in-Opening.ensures.value;
       out = c.in-Opening.ensures.updates;
@@ -46,7 +47,10 @@ invariant_of-self c =
       kept_room = c.insert_reserved.ensures.capacity;
     } in
     kept_put c.self.inside c.self.invariant c.args.triad.now c.in-Some.key (IsOpening c.in-Opening.opening c.in-Opening.ids)
-    (Open (opened c.in-Opening.opening c.in-Opening.ids c.args.their_id c.args.now)) c.remove.new.self c.insert_reserved.new.self c.insert_reserved.result back (opened_alike c.in-Opening.opening c.in-Opening.ids c.args.their_id c.args.now) (opened_sound c.self.inside.next c.in-Opening.opening c.in-Opening.ids c.args.their_id c.args.now (c.self.invariant.each c.in-Some.key (IsOpening c.in-Opening.opening c.in-Opening.ids) c.in-Opening.ensures.value))
+    (Open (opened c.in-Opening.opening c.in-Opening.ids c.args.their_id c.args.now)) c.remove.new.self c.insert_reserved.new.self
+    c.insert_reserved.result back (opened_alike c.in-Opening.opening c.in-Opening.ids c.args.their_id c.args.now)
+    (opened_sound c.self.inside.next c.in-Opening.opening c.in-Opening.ids c.args.their_id c.args.now
+    (c.self.invariant.each c.in-Some.key (IsOpening c.in-Opening.opening c.in-Opening.ids) c.in-Opening.ensures.value))
 
 pub returns : goal.returns
 returns c =
@@ -54,7 +58,8 @@ returns c =
     subst (λ hop. Updates c.remove.new.self c.insert_reserved.new.self c.insert_reserved.result
     (Some (Open hop))) c.opened-hop.ensures c.insert_reserved.ensures.updates in
     let back : PutBack c.self.inside c.args.triad.now c.in-Some.key (IsOpening c.in-Opening.opening c.in-Opening.ids)
-    (Open (opened c.in-Opening.opening c.in-Opening.ids c.args.their_id c.args.now)) c.remove.new.self c.insert_reserved.new.self c.insert_reserved.result = record {
+    (Open (opened c.in-Opening.opening c.in-Opening.ids c.args.their_id c.args.now)) c.remove.new.self c.insert_reserved.new.self
+    c.insert_reserved.result = record {
       at = sym c.in-Some.ensures;
       found = c.in-Opening.ensures.value;
       out = c.in-Opening.ensures.updates;
@@ -67,7 +72,8 @@ returns c =
       kept_room = c.insert_reserved.ensures.capacity;
     } in
     view_put c.self.inside c.self.invariant c.args.triad.now c.in-Some.key (IsOpening c.in-Opening.opening c.in-Opening.ids)
-    (Open (opened c.in-Opening.opening c.in-Opening.ids c.args.their_id c.args.now)) c.remove.new.self c.insert_reserved.new.self c.insert_reserved.result back (opened_alike c.in-Opening.opening c.in-Opening.ids c.args.their_id c.args.now)
+    (Open (opened c.in-Opening.opening c.in-Opening.ids c.args.their_id c.args.now)) c.remove.new.self c.insert_reserved.new.self
+    c.insert_reserved.result back (opened_alike c.in-Opening.opening c.in-Opening.ids c.args.their_id c.args.now)
     ∙ sym (finished_is (hops c.self.inside) c.args.triad.now c.args.their_id c.args.now c.in-Opening.opening c.in-Opening.ids
     (held_at c.self.inside c.self.invariant c.args.triad.now c.in-Some.key (IsOpening c.in-Opening.opening c.in-Opening.ids)
     (sym c.in-Some.ensures) c.in-Opening.ensures.value))

@@ -27,7 +27,8 @@ invariant_of-result c =
       records = c.in_ok-records.records;
     } in
     subst IsKept made
-    (kept_fresh c.args.room c.args.first c.in_ok-records.records c.in_ok-records.ensures.empty c.in_ok-records.ensures.capacity c.requires c.ranges.first.fits)
+    (kept_fresh c.args.room c.args.first c.in_ok-records.records c.in_ok-records.ensures.empty c.in_ok-records.ensures.capacity c.requires
+    c.ranges.first.fits)
 
 pub returns : goal.returns
 returns c =

@@ -27,7 +27,8 @@ pub returns-clause-value : goal.returns-clause-value
 returns-clause-value c =
     let at : position (passes (is_due c.args.now) (get c.self.inside.records)) c.self.inside.order.items ≡ Some c.in_ok-at.at =
     ap (position (passes (is_due c.args.now) (get c.self.inside.records))) (sym c.deref.ensures.value) ∙ sym c.in_ok-at.ensures in
-    sym (due_is c.self.inside c.self.invariant c.args.now c.in_ok-at.at c.remove-number.result c.remove.result at c.remove-number.ensures.value c.remove.ensures.value) ∙ ap (first_due c.args.now) c.self.view_is
+    sym (due_is c.self.inside c.self.invariant c.args.now c.in_ok-at.at c.remove-number.result c.remove.result at c.remove-number.ensures.value
+    c.remove.ensures.value) ∙ ap (first_due c.args.now) c.self.view_is
 
 pub returns-clause-after : goal.returns-clause-after
 returns-clause-after c =

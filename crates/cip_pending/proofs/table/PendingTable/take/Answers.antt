@@ -37,7 +37,8 @@ invariant_of-self c =
     let here = position-Some (λ (e : ℕ × ℕ). e.0 == c.args.number) c.self.inside.order.items c.in_ok-at.at c.index.result.now at in
     let number : c.index.result.now.0 ≡ c.args.number = ap (λ (p : ℕ × ℕ). p.0) c.index.ensures ∙ eqb-true _ _ here.1 in
     kept_remove c.self.inside c.self.invariant c.remove.new.self c.remove-2.new.self c.in_ok-at.at c.index.result.now
-    c.remove.ensures.items c.remove.ensures.len c.remove.ensures.capacity here.0 c.index.ensures c.remove-2.ensures.updates c.remove-2.ensures.len c.remove-2.ensures.capacity
+    c.remove.ensures.items c.remove.ensures.len c.remove.ensures.capacity here.0 c.index.ensures c.remove-2.ensures.updates c.remove-2.ensures.len
+    c.remove-2.ensures.capacity
 
 pub returns-clause-value : goal.returns-clause-value
 returns-clause-value c =

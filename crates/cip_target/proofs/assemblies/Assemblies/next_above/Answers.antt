@@ -18,4 +18,5 @@ returns c =
     let at : position (λ e. is_above c.args.after e.0) c.self.inside.held.items ≡ Some c.in_ok-at.at =
     ap (position (λ (e : Entry). is_above c.args.after e.0)) (sym c.deref.ensures.value) ∙ sym c.in_ok-at.ensures in
     ap (λ (d : List ℕ). Some (c.index-found.result.now.0, d)) c.as_slice.ensures
-    ∙ sym (first_found c.self.inside.held.items c.args.after c.in_ok-at.at c.index-found.result.now c.args.self.now c.self.invariant at c.index-found.ensures c.self.view_is)
+    ∙ sym (first_found c.self.inside.held.items c.args.after c.in_ok-at.at c.index-found.result.now c.args.self.now c.self.invariant at
+    c.index-found.ensures c.self.view_is)

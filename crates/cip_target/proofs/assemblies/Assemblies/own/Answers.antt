@@ -32,7 +32,8 @@ returns-else-not-is_empty c =
     let at : position (λ e. e.0 == c.args.instance) c.self.inside.held.items ≡ Some c.in-Some.at =
     ap (position (λ (e : Entry). e.0 == c.args.instance)) (sym c.deref.ensures.value) ∙ sym c.in-Some.ensures in
     own_nothing c.self.inside.held.items c.args.instance c.in-Some.at c.index.result.now c.args.triad c.args.self.now c.self.invariant (at, c.index.ensures)
-    (is_empty c.is_empty.result c.as_slice.result.now c.index.result.now.1.bytes c.if-not-is_empty.false c.is_empty.ensures c.as_slice.ensures) c.self.view_is
+    (is_empty c.is_empty.result c.as_slice.result.now c.index.result.now.1.bytes c.if-not-is_empty.false c.is_empty.ensures c.as_slice.ensures)
+    c.self.view_is
 
 pub returns-in_default : goal.returns-in_default
 returns-in_default c =

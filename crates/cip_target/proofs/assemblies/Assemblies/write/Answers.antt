@@ -31,7 +31,8 @@ pub returns-in-Some : goal.returns-in-Some
 returns-in-Some c =
     let at : position (λ e. e.0 == c.args.instance) c.self.inside.held.items ≡ Some c.in-Some.at =
     ap (position (λ (e : Entry). e.0 == c.args.instance)) (sym c.deref.ensures.value) ∙ sym c.in-Some.ensures in
-    write_over c.self.inside.held.items c.args.instance c.in-Some.at c.index_mut.result.now c.overwrite.new.self c.args.bytes.now c.args.self.now c.self.invariant (at, c.index_mut.ensures.value) c.overwrite.ensures c.self.view_is
+    write_over c.self.inside.held.items c.args.instance c.in-Some.at c.index_mut.result.now c.overwrite.new.self c.args.bytes.now c.args.self.now
+    c.self.invariant (at, c.index_mut.ensures.value) c.overwrite.ensures c.self.view_is
 
 pub returns-in_default : goal.returns-in_default
 returns-in_default c =
