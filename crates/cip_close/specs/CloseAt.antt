@@ -1,5 +1,6 @@
--- What reading data as that of Forward_Close gives: each field at its place. Definitions above, which go by cases on what
--- was read, use these functions; the relation of `Close` says what they have to be, and the laws of this crate tie the two.
+-- What reading data as that of Forward_Close gives: each field at its place. Definitions above,
+-- which go by cases on what was read, use these functions; the relation of `Close` says what they
+-- have to be, and the laws of this crate tie the two.
 use Rattle.std.specs.Prelude.{ℕ, List, slice_index, slice_get, Option, Result, Ok, Err}
 use Rattle.cip_base.specs.declared.triad.Triad.{Triad}
 use Rattle.cip_message.specs.declared.fault.DataFault.{DataFault}
@@ -16,7 +17,8 @@ abbrev pub with_close_path : List ℕ → Result (List ℕ) DataFault → Result
 with_close_path b (Ok path) = Ok (record { fields = close_fields_in b; path = path })
 with_close_path b (Err f) = Err f
 
--- the record, or the first fault that fits: the path size is byte 10, and the path begins at byte 12
+-- the record, or the first fault that fits: the path size is byte 10, and the path begins at byte
+-- 12
 unfoldable pub close_at : List ℕ → Result Close DataFault
 close_at b = with_close_path b (counted_path_at 10 12 b)
 

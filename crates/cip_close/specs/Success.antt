@@ -1,4 +1,5 @@
--- The data of a successful Forward_Close's reply (Volume 1, chapter 3, Forward_Close, successful response).
+-- The data of a successful Forward_Close's reply (Volume 1, chapter 3, Forward_Close, successful
+-- response).
 use Rattle.std.specs.Prelude.{◌≡◌, ℕ, ◌*◌, ◌/◌, List, ◌∷◌, ◌++◌, length}
 use Rattle.cip_base.specs.declared.triad.Triad.{Triad}
 use Rattle.cip_message.specs.declared.fault.DataFault.{DataFault}

@@ -52,8 +52,8 @@ fn view(data_: &[u8]) -> Result<CloseView<'_>, DataFault>
 /// The Forward_Close that the data is, all of it; the data is what follows the path of the request
 /// (Volume 1, chapter 3, Forward_Close). The reserved byte has any value. It takes no memory.
 ///
-/// Otherwise the first that fits: Short where bytes are missing, Long where bytes stand after the path, Path of the path's
-/// fault.
+/// Otherwise the first that fits: Short where bytes are missing, Long where bytes stand after the
+/// path, Path of the path's fault.
 pub fn read_close(data_: &[u8]) -> Result<CloseView<'_>, DataFault>
     ensures found { IfOk result (λ view. ReadsClose data_.now (close_of view)) }
     ensures only { (o : Close) → ReadsClose data_.now o → IsOkAnd result (λ view. close_of view ≡ o) }
@@ -63,16 +63,16 @@ pub fn read_close(data_: &[u8]) -> Result<CloseView<'_>, DataFault>
     view(data_)
 }
 
-/// The connection triad in the data of a Forward_Close; None exactly where one of its bytes is missing. The data may be cut
-/// after it.
+/// The connection triad in the data of a Forward_Close; None exactly where one of its bytes is
+/// missing. The data may be cut after it.
 pub fn close_triad_at(data_: &[u8]) -> Option<Triad>
     ensures { result ≡ close_triad_of data_.now }
 {
     triad_within(data_, 2)
 }
 
-/// The path size in the data of a Forward_Close, in words; None exactly where that byte is missing. The data may be cut
-/// after it.
+/// The path size in the data of a Forward_Close, in words; None exactly where that byte is missing.
+/// The data may be cut after it.
 pub fn close_words_at(data_: &[u8]) -> Option<u8>
     ensures { result ≡ close_words_of data_.now }
 {
@@ -91,8 +91,9 @@ fn joined(alloc: Global, fields: &CloseFields, path: PathView<'_>) -> Result<Vec
     Ok(bytes)
 }
 
-/// The whole message of a Forward_Close to the Connection Manager: header, priority/time tick, time-out ticks, connection
-/// triad, path size in words, a reserved 00, path (Volume 1, chapter 3, Forward_Close).
+/// The whole message of a Forward_Close to the Connection Manager: header, priority/time tick,
+/// time-out ticks, connection triad, path size in words, a reserved 00, path (Volume 1, chapter 3,
+/// Forward_Close).
 pub fn write_close(
     alloc: Global,
     fields: &CloseFields,

@@ -398,13 +398,6 @@ module _ (t : Inside) (h : IsKept t) (triad : Triad) (key : ℕ) (x y : Held) (s
       apart = λ j k z w id e f a b. let c = before j z e in let d = before k w f in h.apart c.0 d.0 c.1 d.1 id c.2 d.2 (sym c.3 ∙ a) (sym d.4 ∙ b);
     }
 
--- a record that was taken out of a slab and put back changed
-pub put_back : (a b c : Slab Held) (key again : ℕ) (y : Held) → Updates a b key None → b.vacant_key ≡ key → again ≡ b.vacant_key
-    → Updates b c again (Some y) → (get c key ≡ Some y) × Others (get a) (get c) key
-put_back a b c key again y out vacant is back =
-    let same : again ≡ key = is ∙ vacant in
-    (ap (get c) (sym same) ∙ back.changed, λ k ne. back.others k (λ e. ne (e ∙ same)) ∙ out.others k ne)
-
 -- ---- what every table keeps
 
 pub within : (t : Inside) → IsKept t → IsWithin (hops t)

@@ -1,4 +1,5 @@
--- What stands at the end of the data of a Connection Manager service, counted in words by a byte before it.
+-- What stands at the end of the data of a Connection Manager service, counted in words by a byte
+-- before it.
 use Rattle.std.specs.Prelude.{ℕ, ◌+◌, ◌*◌, nat_lt, if◌then◌else◌, List, length, drop, slice_index, Result, Ok, Err}
 use Rattle.cip_segment.specs.declared.segment.Segment.{Segment}
 use Rattle.cip_segment.specs.declared.fault.PathFault.{PathFault}
@@ -6,7 +7,8 @@ use Rattle.cip_segment.specs.Reading.{path_at}
 use Rattle.cip_message.specs.declared.fault.DataFault.{DataFault}
 use Rattle.cip_message.specs.declared.fault.DataFault.TheVariants.{Short, Long, Path}
 
--- how long data is whose last part begins at `start` and has as many words as the byte at `size` says
+-- how long data is whose last part begins at `start` and has as many words as the byte at `size`
+-- says
 abbrev pub whole_length : ℕ → ℕ → List ℕ → ℕ
 whole_length size start b = start + 2 * slice_index b size
 

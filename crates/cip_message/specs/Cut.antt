@@ -1,4 +1,5 @@
--- Bytes that end too early or too late for a layout. `HasLayout` says that bytes have it, whatever their paths spell.
+-- Bytes that end too early or too late for a layout. `HasLayout` says that bytes have it, whatever
+-- their paths spell.
 use Rattle.std.specs.Prelude.{◌≡◌, ℕ, ◌<◌, List, ◌++◌, length}
 
 -- bytes are missing: with some more behind them they have the layout

@@ -1,5 +1,6 @@
--- The data of a failed Forward_Open or Forward_Close (Volume 1, chapter 3): the connection triad, the words of path that
--- were left, and a reserved byte. It may end before the words or be missing whole; what follows the words is not kept.
+-- The data of a failed Forward_Open or Forward_Close (Volume 1, chapter 3): the connection triad,
+-- the words of path that were left, and a reserved byte. It may end before the words or be missing
+-- whole; what follows the words is not kept.
 use Rattle.std.specs.Prelude.{◌≡◌, ℕ, ◌<◌, ◌==◌, nat_lt, if◌then◌else◌, List, [], ◌∷◌, ◌++◌, length, slice_get, Option, Some, None, Result, Ok, Err}
 use Rattle.cip_base.specs.declared.triad.Triad.{Triad}
 use Rattle.cip_message.specs.declared.fault.DataFault.{DataFault}

@@ -1,4 +1,5 @@
--- Requests to the Connection Manager: class 6, instance 1 (Volume 1, chapter 3, Connection Manager).
+-- Requests to the Connection Manager: class 6, instance 1 (Volume 1, chapter 3, Connection
+-- Manager).
 use Rattle.std.specs.Prelude.{ℕ, List, [], ◌∷◌}
 use Rattle.cip_message.specs.Request.{Request, request_with, request_bytes}
 

@@ -11,7 +11,8 @@ word_in b i = slice_index b i + 256 * slice_index b (i + 1)
 abbrev pub double_in : List ℕ → ℕ → ℕ
 double_in b i = word_in b i + 65536 * word_in b (i + 2)
 
--- the connection triad in the eight bytes from place i: connection serial number, originator vendor, originator serial number
+-- the connection triad in the eight bytes from place i: connection serial number, originator
+-- vendor, originator serial number
 abbrev pub triad_in : List ℕ → ℕ → Triad
 triad_in b i = record { serial = word_in b i; vendor = word_in b (i + 2); originator = double_in b (i + 4) }
 

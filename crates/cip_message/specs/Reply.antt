@@ -12,7 +12,8 @@ pub record Reply : Type 0 where
   pub extra : List ℕ
   pub data_ : List ℕ
 
--- service with bit 7 set, a reserved byte, general status, size of the additional status in words, additional status, data
+-- service with bit 7 set, a reserved byte, general status, size of the additional status in words,
+-- additional status, data
 abbrev pub reply_layout : ℕ → Reply → List ℕ
 reply_layout reserved r = r.service ∷ reserved ∷ r.general ∷ length r.extra ∷ words_bytes r.extra ++ r.data_
 

@@ -1,5 +1,6 @@
--- What reading bytes as a request gives. Definitions above, which go by cases on what was read, use this function; the
--- relation of `Request` says what it has to be, and the laws of this crate tie the two together.
+-- What reading bytes as a request gives. Definitions above, which go by cases on what was read, use
+-- this function; the relation of `Request` says what it has to be, and the laws of this crate tie
+-- the two together.
 use Rattle.std.specs.Prelude.{ℕ, ◌*◌, nat_le, nat_lt, if◌then◌else◌, List, [], ◌∷◌, length, take, drop, Result, Ok, Err}
 use Rattle.cip_segment.specs.declared.segment.Segment.{Segment}
 use Rattle.cip_segment.specs.declared.fault.PathFault.{PathFault}

@@ -9,8 +9,9 @@ use crate::numbers::{put_triad, triad_within};
 use cip_base::Triad;
 use std::alloc::AllocError;
 
-/// What the data of a failed Forward_Open or Forward_Close says (Volume 1, chapter 3): the connection that was asked for,
-/// and how many 16-bit words of path were left where the fault was found. Each is None where its bytes are missing.
+/// What the data of a failed Forward_Open or Forward_Close says (Volume 1, chapter 3): the
+/// connection that was asked for, and how many 16-bit words of path were left where the fault was
+/// found. Each is None where its bytes are missing.
 #[derive(Clone, Copy, Debug, PartialEq, Eq)]
 pub struct ConnectionFailure {
     pub triad: Option<Triad>,
@@ -36,9 +37,9 @@ fn failure(data_: &[u8]) -> Result<ConnectionFailure, DataFault>
     })
 }
 
-/// The failure that the data of a failed Forward_Open or Forward_Close says: no data, or the eight bytes of the triad and
-/// then perhaps the words; what follows the words is not kept (Volume 1, chapter 3). Short from 1 to 7 bytes. It takes no
-/// memory.
+/// The failure that the data of a failed Forward_Open or Forward_Close says: no data, or the eight
+/// bytes of the triad and then perhaps the words; what follows the words is not kept (Volume 1,
+/// chapter 3). Short from 1 to 7 bytes. It takes no memory.
 pub fn read_failure(data_: &[u8]) -> Result<ConnectionFailure, DataFault>
     ensures found { IfOk result (λ f. ReadsFailure data_.now f) }
     ensures only { (f : Failure) → ReadsFailure data_.now f → IsOkAnd result (λ found. found ≡ f) }
@@ -48,8 +49,8 @@ pub fn read_failure(data_: &[u8]) -> Result<ConnectionFailure, DataFault>
     failure(data_)
 }
 
-/// Appends the data of a failure: the triad if there is one, then the words and a reserved 00 if there are words. There are
-/// no words without a triad.
+/// Appends the data of a failure: the triad if there is one, then the words and a reserved 00 if
+/// there are words. There are no words without a triad.
 pub fn put_failure(out: &mut Vec<u8>, failure: &ConnectionFailure) -> Result<(), AllocError>
     requires { HasTriadForWords failure.now }
     ensures { OnOk result (out.new.items ≡ out.old.items ++ failure_data failure.now) }

@@ -1,4 +1,5 @@
-//! What holds of every message: reading gives exactly what has the layout, and what is written is read back.
+//! What holds of every message: reading gives exactly what has the layout, and what is written is
+//! read back.
 ghost use Rattle.std.specs.Prelude.{◌≡◌, ◌<◌, ◌≤◌, ℕ, List, Ok, Err, MatchResult};
 ghost use Rattle.cip_base.specs.Fields.{IsBytes};
 ghost use Rattle.cip_segment.specs.Spelling.{IsReadable};

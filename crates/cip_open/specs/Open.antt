@@ -18,8 +18,9 @@ pub record Open : Type 0 where
 abbrev pub open_with : OpenFields → List ℕ → Open
 open_with fields path = record { fields = fields; path = path }
 
--- priority/time tick, time-out ticks, O→T and T→O connection id, connection triad, connection timeout multiplier, three
--- reserved bytes, O→T RPI and parameters, T→O RPI and parameters, transport, path size in words, path
+-- priority/time tick, time-out ticks, O→T and T→O connection id, connection triad, connection
+-- timeout multiplier, three reserved bytes, O→T RPI and parameters, T→O RPI and parameters,
+-- transport, path size in words, path
 abbrev pub open_layout : ℕ → ℕ → ℕ → ℕ → Open → List ℕ
 open_layout x y z words o =
     o.fields.timing.tick ∷ o.fields.timing.ticks ∷ double o.fields.ot_id ++ (double o.fields.to_id ++ (triad_bytes o.fields.triad

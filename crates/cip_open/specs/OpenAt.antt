@@ -1,5 +1,6 @@
--- What reading data as that of Forward_Open gives: each field at its place. Definitions above, which go by cases on what
--- was read, use these functions; the relation of `Open` says what they have to be, and the laws of this crate tie the two.
+-- What reading data as that of Forward_Open gives: each field at its place. Definitions above,
+-- which go by cases on what was read, use these functions; the relation of `Open` says what they
+-- have to be, and the laws of this crate tie the two.
 use Rattle.std.specs.Prelude.{ℕ, List, slice_index, slice_get, Option, Result, Ok, Err}
 use Rattle.cip_base.specs.declared.triad.Triad.{Triad}
 use Rattle.cip_message.specs.declared.fault.DataFault.{DataFault}
@@ -27,7 +28,8 @@ abbrev pub with_open_path : List ℕ → Result (List ℕ) DataFault → Result 
 with_open_path b (Ok path) = Ok (record { fields = open_fields_in b; path = path })
 with_open_path b (Err f) = Err f
 
--- the record, or the first fault that fits: the path size is byte 35, and the path begins at byte 36
+-- the record, or the first fault that fits: the path size is byte 35, and the path begins at byte
+-- 36
 unfoldable pub open_at : List ℕ → Result Open DataFault
 open_at b = with_open_path b (counted_path_at 35 36 b)
 

@@ -1,4 +1,5 @@
--- The data of a successful Forward_Open's reply (Volume 1, chapter 3, Forward_Open, successful response).
+-- The data of a successful Forward_Open's reply (Volume 1, chapter 3, Forward_Open, successful
+-- response).
 use Rattle.std.specs.Prelude.{◌≡◌, ℕ, ◌*◌, ◌/◌, List, ◌∷◌, ◌++◌, length}
 use Rattle.cip_base.specs.Fields.{double}
 use Rattle.cip_base.specs.declared.triad.Triad.{Triad}
@@ -16,8 +17,8 @@ pub record OpenSuccess : Type 0 where
   pub to_api : ℕ
   pub reply : List ℕ
 
--- O→T and T→O connection id, connection triad, O→T and T→O API, size of the application reply in words, a reserved byte,
--- the application reply
+-- O→T and T→O connection id, connection triad, O→T and T→O API, size of the application reply in
+-- words, a reserved byte, the application reply
 abbrev pub open_reply_layout : ℕ → ℕ → OpenSuccess → List ℕ
 open_reply_layout words x s =
     double s.ot_id ++ (double s.to_id ++ (triad_bytes s.triad ++ (double s.ot_api ++ (double s.to_api ++ (words ∷ x ∷ s.reply)))))

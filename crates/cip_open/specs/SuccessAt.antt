@@ -19,6 +19,7 @@ abbrev pub with_open_reply : List ℕ → Result (List ℕ) DataFault → Result
 with_open_reply b (Ok reply) = Ok (open_success_in b reply)
 with_open_reply b (Err f) = Err f
 
--- the record, or the first fault that fits: the size of the application reply is byte 24, and it begins at byte 26
+-- the record, or the first fault that fits: the size of the application reply is byte 24, and it
+-- begins at byte 26
 unfoldable pub open_reply_at : List ℕ → Result OpenSuccess DataFault
 open_reply_at b = with_open_reply b (counted_at 24 26 b)

@@ -13,9 +13,10 @@ use std::alloc::{AllocError, Global};
 /// What the data of a failed Forward_Open says.
 pub type OpenFailure = ConnectionFailure;
 
-/// The failure that the data of a failed Forward_Open says; the data is what follows the reply's status: none, or the
-/// connection triad and then perhaps the words of path that were left; what follows the words is not kept
-/// (Volume 1, chapter 3, Forward_Open, unsuccessful response). It takes no memory.
+/// The failure that the data of a failed Forward_Open says; the data is what follows the reply's
+/// status: none, or the connection triad and then perhaps the words of path that were left; what
+/// follows the words is not kept (Volume 1, chapter 3, Forward_Open, unsuccessful response). It
+/// takes no memory.
 ///
 /// Short from 1 to 7 bytes.
 pub fn read_open_failure(data_: &[u8]) -> Result<OpenFailure, DataFault>
@@ -37,9 +38,10 @@ fn joined(alloc: Global, status: Status, failure: &OpenFailure) -> Result<Vec<u8
     Ok(bytes)
 }
 
-/// The whole message of a failed Forward_Open: the reply's header with at most one word of additional status, the connection
-/// triad if there is one, then the words and a reserved 00 if there are words. There are no words without a triad
-/// (Volume 1, chapter 3, Forward_Open, unsuccessful response).
+/// The whole message of a failed Forward_Open: the reply's header with at most one word of
+/// additional status, the connection triad if there is one, then the words and a reserved 00 if
+/// there are words. There are no words without a triad (Volume 1, chapter 3, Forward_Open,
+/// unsuccessful response).
 pub fn write_open_failure(
     alloc: Global,
     status: Status,

@@ -18,7 +18,8 @@ const FORWARD_OPEN: u8 = 0x54;
 /// The service of its reply.
 pub(crate) const FORWARD_OPEN_REPLY: u8 = 0xD4;
 
-/// The fixed fields of Forward_Open (Volume 1, chapter 3, Forward_Open). Reserved bits stay as they are.
+/// The fixed fields of Forward_Open (Volume 1, chapter 3, Forward_Open). Reserved bits stay as they
+/// are.
 #[derive(Clone, Copy, Debug, PartialEq, Eq)]
 pub struct OpenFields {
     /// Priority/time tick and time-out ticks.
@@ -87,8 +88,8 @@ fn view(data_: &[u8]) -> Result<OpenView<'_>, DataFault>
 /// The Forward_Open that the data is, all of it; the data is what follows the path of the request
 /// (Volume 1, chapter 3, Forward_Open). The reserved bytes have any value. It takes no memory.
 ///
-/// Otherwise the first that fits: Short where bytes are missing, Long where bytes stand after the path, Path of the path's
-/// fault.
+/// Otherwise the first that fits: Short where bytes are missing, Long where bytes stand after the
+/// path, Path of the path's fault.
 pub fn read_open(data_: &[u8]) -> Result<OpenView<'_>, DataFault>
     ensures found { IfOk result (λ view. ReadsOpen data_.now (open_of view)) }
     ensures only { (o : Open) → ReadsOpen data_.now o → IsOkAnd result (λ view. open_of view ≡ o) }
@@ -98,16 +99,16 @@ pub fn read_open(data_: &[u8]) -> Result<OpenView<'_>, DataFault>
     view(data_)
 }
 
-/// The connection triad in the data of a Forward_Open; None exactly where one of its bytes is missing. The data may be cut
-/// after it.
+/// The connection triad in the data of a Forward_Open; None exactly where one of its bytes is
+/// missing. The data may be cut after it.
 pub fn triad_at(data_: &[u8]) -> Option<Triad>
     ensures { result ≡ open_triad_of data_.now }
 {
     triad_within(data_, 10)
 }
 
-/// The path size in the data of a Forward_Open, in words; None exactly where that byte is missing. The data may be cut
-/// after it.
+/// The path size in the data of a Forward_Open, in words; None exactly where that byte is missing.
+/// The data may be cut after it.
 pub fn words_at(data_: &[u8]) -> Option<u8>
     ensures { result ≡ open_words_of data_.now }
 {
@@ -133,8 +134,8 @@ fn joined(alloc: Global, fields: &OpenFields, path: PathView<'_>) -> Result<Vec<
     Ok(bytes)
 }
 
-/// The whole message of a Forward_Open to the Connection Manager: header, the fixed fields with the reserved bytes 00, path
-/// size in words, path (Volume 1, chapter 3, Forward_Open).
+/// The whole message of a Forward_Open to the Connection Manager: header, the fixed fields with the
+/// reserved bytes 00, path size in words, path (Volume 1, chapter 3, Forward_Open).
 pub fn write_open(alloc: Global, fields: &OpenFields, path: PathView<'_>) -> Result<Bytes, NoMemory>
     ensures { IfOk result (λ b. b ≡ open_bytes (open_with fields.now path.entry.bytes.now)) }
 {

@@ -72,7 +72,8 @@ is_after (Some n) number = nat_lt n number
 abbrev pub first_after : Option ℕ → Pendings → Option (ℕ × Entry)
 first_after after p = find (λ e. is_after after e.0) (map.entries p.entries)
 
--- what every table keeps: a number of 32 bits, or one past the last; each number in use was given; no more entries than room
+-- what every table keeps: a number of 32 bits, or one past the last; each number in use was given;
+-- no more entries than room
 pub record IsWithin (p : Pendings) : Type 0 where
   pub some : 0 < p.next
   pub spent : p.next ≤ 2 ^ 32

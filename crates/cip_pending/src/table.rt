@@ -15,8 +15,8 @@ use slab::Slab;
 use std::alloc::Global;
 use std::marker::Model;
 
-/// The requests that wait for their replies, each under its number. Numbers rise and never come back.
-/// All memory is taken by `with_room`.
+/// The requests that wait for their replies, each under its number. Numbers rise and never come
+/// back. All memory is taken by `with_room`.
 #[derive(Drop)]
 pub struct PendingTable {
     room: usize,
@@ -46,8 +46,8 @@ impl Model for PendingTable {
 }
 
 impl PendingTable {
-    /// An empty table with room for `room` requests, whose first number is `first`, above 0. NoMemory where the room is
-    /// refused.
+    /// An empty table with room for `room` requests, whose first number is `first`, above 0.
+    /// NoMemory where the room is refused.
     pub fn with_room(alloc: Global, room: usize, first: u32) -> Result<PendingTable, NoMemory>
         requires { 0 < first }
         ensures { IfOk result (λ t. t ≡ record { room = room; next = first; entries = map.empty }) }
@@ -75,8 +75,9 @@ impl PendingTable {
         }
     }
 
-    /// Keeps a request under the next number, and gives that number. Full where the room is used up, and else
-    /// NumbersSpent where 0xFFFF_FFFF was given: the entry then comes back, and nothing changes.
+    /// Keeps a request under the next number, and gives that number. Full where the room is used
+    /// up, and else NumbersSpent where 0xFFFF_FFFF was given: the entry then comes back, and
+    /// nothing changes.
     pub fn add(&mut self, entry: Entry) -> Result<u32, AddFault>
         ensures value { result ≡ add_gives self.old entry }
         ensures after { self.new ≡ (if is_ok result then added self.old entry else self.old) }

@@ -1,5 +1,6 @@
--- What an end says to an open: the rows from an application path on, in their order; the first that fits answers
--- (Volume 1, chapter 3, Forward_Open). And what the target is while connections end here.
+-- What an end says to an open: the rows from an application path on, in their order; the first that
+-- fits answers (Volume 1, chapter 3, Forward_Open). And what the target is while connections end
+-- here.
 use Rattle.std.specs.Prelude.{ℕ, Bool, not, ◌+◌, ◌%◌, ◌==◌, ◌&&◌, ◌||◌, nat_lt, if◌then◌else◌, List, [], length, slice_index, is_some, Option, Some, None, Result, Ok, Err}
 use Rattle.std.specs.Option.{option_map_or}
 use Rattle.std.specs.FinMap as map

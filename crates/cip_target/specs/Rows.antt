@@ -1,4 +1,5 @@
--- What the target answers: the first row that fits (Volume 1, chapter 5, Identity and Assembly objects; Appendix B, general status).
+-- What the target answers: the first row that fits (Volume 1, chapter 5, Identity and Assembly
+-- objects; Appendix B, general status).
 use Rattle.std.specs.Prelude.{ℕ, ◌+◌, ◌==◌, nat_lt, if◌then◌else◌, List, [], length, Option, Some, None}
 use Rattle.std.specs.FinMap as map
 use Rattle.cip_segment.specs.Reading.{segments_of}

@@ -10,8 +10,8 @@ use cip_segment::{PathView, SegmentView, split_first};
 /// The Assembly class.
 const ASSEMBLY: u16 = 4;
 
-/// What an application path names (Volume 1, chapter 3, Forward_Open, connection path): the instances for configuration,
-/// O→T and T→O, and the configuration bytes, borrowed.
+/// What an application path names (Volume 1, chapter 3, Forward_Open, connection path): the
+/// instances for configuration, O→T and T→O, and the configuration bytes, borrowed.
 #[derive(Clone, Copy)]
 pub(crate) struct ApplicationView<'a> {
     pub(crate) config: u32,
@@ -47,7 +47,8 @@ fn split(path: PathView<'_>) -> Option<(SegmentView<'_>, PathView<'_>)>
     None
 }
 
-// The point that stands first, if it is an instance or a connection point, and what stands behind it.
+// The point that stands first, if it is an instance or a connection point, and what stands behind
+// it.
 fn split_point(path: PathView<'_>) -> Option<(Option<u32>, PathView<'_>)>
     ensures { IsFirstPoint (without_inhibits (segments_of path.entry.bytes.now)) (option_map (λ found. (found.0, segments_of found.1.bytes.now)) result) }
 {
@@ -109,8 +110,9 @@ fn points_in(path: PathView<'_>) -> Option<ApplicationView<'_>>
     application_with(config, consume, produce, bytes_in(rest))
 }
 
-/// What a path names, if it is an application path: after a leading key, class 4, three points, each an instance or a
-/// connection point, and perhaps one simple data segment. Production inhibit segments are skipped wherever they stand.
+/// What a path names, if it is an application path: after a leading key, class 4, three points,
+/// each an instance or a connection point, and perhaps one simple data segment. Production inhibit
+/// segments are skipped wherever they stand.
 pub(crate) fn application(path: PathView<'_>) -> Option<ApplicationView<'_>>
     ensures { option_map application_seen result ≡ application_of (segments_of path.entry.bytes.now) }
 {

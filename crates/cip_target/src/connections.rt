@@ -46,11 +46,12 @@ impl Target {
         self.assemblies.config(instance)
     }
 
-    /// Whether an open can end here (Volume 1, chapter 3, Forward_Open): what it joins, or the status of the first row that
-    /// fits. General status 01, and as extended status, in this order: 0315 where the path is no application path, 0117 where
-    /// one of the three instances does not exist or the configuration bytes do not fit, 0103 for a transport class other
-    /// than 0 and 1, 0109 where a size is not that of its assembly, with 2 more in class 1, 0106 where the O→T instance has
-    /// an owner. It takes no memory.
+    /// Whether an open can end here (Volume 1, chapter 3, Forward_Open): what it joins, or the
+    /// status of the first row that fits. General status 01, and as extended status, in this order:
+    /// 0315 where the path is no application path, 0117 where one of the three instances does not
+    /// exist or the configuration bytes do not fit, 0103 for a transport class other than 0 and 1,
+    /// 0109 where a size is not that of its assembly, with 2 more in class 1, 0106 where the O→T
+    /// instance has an owner. It takes no memory.
     #[tactic(auto, unfolding(crate::specs::Ends::end_row))]
     pub fn check(&self, asked: &OpenView<'_>) -> Result<EndLink, Status>
         ensures gives { result ≡ end_gives (row_at self.now (open_of asked.now)) }
@@ -68,8 +69,9 @@ impl Target {
         }
     }
 
-    /// Takes an open that `check` gave this link: enters the connection as the owner of the O→T instance if that has bytes, and
-    /// writes the configuration bytes, without a pad. It takes no memory.
+    /// Takes an open that `check` gave this link: enters the connection as the owner of the O→T
+    /// instance if that has bytes, and writes the configuration bytes, without a pad. It takes no
+    /// memory.
     pub fn accept(&mut self, link: &EndLink, asked: &OpenView<'_>)
         requires { row_at self.old (open_of asked.now) ≡ Fits link.now }
         ensures { self.new ≡ accepted self.old link.now (open_of asked.now) }
@@ -83,7 +85,8 @@ impl Target {
             .configure(u32::from(link.config), application.bytes);
     }
 
-    /// Writes a datum, without its sequence count, to an assembly of as many bytes. It takes no memory.
+    /// Writes a datum, without its sequence count, to an assembly of as many bytes. It takes no
+    /// memory.
     pub fn consume(&mut self, instance: u16, data_: &[u8])
         requires { IsSomeAnd (map.get self.old.objects.assemblies instance) (λ held. length data_.now ≡ length held) }
         ensures { self.new ≡ consumed self.old instance data_.now }

@@ -1,5 +1,5 @@
-//! The rows of an open that is to end here, from an application path on, in the order of the routing table
-//! (Volume 1, chapter 3, Forward_Open).
+//! The rows of an open that is to end here, from an application path on, in the order of the
+//! routing table (Volume 1, chapter 3, Forward_Open).
 ghost use Rattle.std.specs.Prelude.{◌≡◌, ◌≤◌, Some};
 ghost use Rattle.cip_target.specs.Ends.{is_configuration, datum_size, are_sizes, sized_row, end_gives};
 ghost use Rattle.cip_target.specs.Viewed.{application_joined};
@@ -67,7 +67,8 @@ fn are_sizes(fields: &OpenFields, consume: u16, produce: u16) -> bool
         && params(fields.to_params).size == datum_size(class, produce)
 }
 
-/// The row of an open whose three assemblies exist; `owned` says whether the O→T instance has an owner.
+/// The row of an open whose three assemblies exist; `owned` says whether the O→T instance has an
+/// owner.
 pub(crate) fn joined_row(
     fields: &OpenFields,
     joined: &Joined<'_>,

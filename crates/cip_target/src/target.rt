@@ -22,9 +22,10 @@ use cip_message::{RequestView, WriteFault, write_reply};
 use std::alloc::Global;
 use std::marker::Model;
 
-/// The Identity object and the Assembly objects of a module, which answer requests to classes 1 and 4, and are the end of
-/// connections (Volume 1, chapters 3 and 5). A contract sees the fields of the identity, and the finite maps from instances
-/// to bytes and to the triads of the connections that own them as outputs.
+/// The Identity object and the Assembly objects of a module, which answer requests to classes 1 and
+/// 4, and are the end of connections (Volume 1, chapters 3 and 5). A contract sees the fields of
+/// the identity, and the finite maps from instances to bytes and to the triads of the connections
+/// that own them as outputs.
 #[derive(Drop)]
 pub struct Target {
     identity: Identity,
@@ -141,8 +142,8 @@ fn assembly_service<'a>(
 }
 
 impl Target {
-    /// A target of this identity, with these assemblies, all of whose bytes are 00. Where an instance stands twice, the last
-    /// size counts.
+    /// A target of this identity, with these assemblies, all of whose bytes are 00. Where an
+    /// instance stands twice, the last size counts.
     pub fn new(
         alloc: Global,
         identity: Identity,
@@ -224,12 +225,14 @@ impl Target {
         }
     }
 
-    /// The whole reply to a request (Volume 1, chapter 2, Message Router; chapter 5, Identity and Assembly objects). The
-    /// request's path names a class, an instance and perhaps an attribute, in any spelling.
+    /// The whole reply to a request (Volume 1, chapter 2, Message Router; chapter 5, Identity and
+    /// Assembly objects). The request's path names a class, an instance and perhaps an attribute,
+    /// in any spelling.
     ///
-    /// Identity, class 1, instance 1: Get_Attributes_All 01, Get_Attribute_Single 0E of attributes 1 to 7, none of which
-    /// can be set. Assembly, class 4: Get_Attribute_Single 0E and Set_Attribute_Single 10 of attribute 3, its data, set
-    /// whole. Otherwise the reply has the general status of the first `TargetRefusal` that fits. NoMemory changes nothing.
+    /// Identity, class 1, instance 1: Get_Attributes_All 01, Get_Attribute_Single 0E of attributes
+    /// 1 to 7, none of which can be set. Assembly, class 4: Get_Attribute_Single 0E and
+    /// Set_Attribute_Single 10 of attribute 3, its data, set whole. Otherwise the reply has the
+    /// general status of the first `TargetRefusal` that fits. NoMemory changes nothing.
     pub fn answer(&mut self, alloc: Global, request: RequestView<'_>) -> Result<Bytes, NoMemory>
         ensures ok { IfOk result (λ reply. reply ≡ reply_bytes (target_answer self.old.objects (request_of request.entry))) }
         ensures after { self.new ≡ (if is_ok result then ends_after self.old (request_of request.entry) else self.old) }

@@ -18,8 +18,8 @@ pub record Unconnected : Type 0 where
 abbrev pub unconnected_with : Timing → List ℕ → List ℕ → Unconnected
 unconnected_with timing request route = record { timing = timing; request = request; route = route }
 
--- priority/time tick, time-out ticks, size of the embedded request in bytes, the embedded request, a pad if that size is
--- odd, route size in words, a reserved byte, the route
+-- priority/time tick, time-out ticks, size of the embedded request in bytes, the embedded request,
+-- a pad if that size is odd, route size in words, a reserved byte, the route
 abbrev pub unconnected_layout : List ℕ → ℕ → ℕ → Unconnected → List ℕ
 unconnected_layout padding words reserved u =
     u.timing.tick ∷ u.timing.ticks ∷ word (length u.request) ++ (u.request ++ (padding ++ (words ∷ reserved ∷ u.route)))

@@ -1,5 +1,6 @@
--- What reading data as that of Unconnected_Send gives. Definitions above, which go by cases on what was read, use these
--- functions; the relation of `Unconnected` says what they have to be, and the laws of this crate tie the two together.
+-- What reading data as that of Unconnected_Send gives. Definitions above, which go by cases on what
+-- was read, use these functions; the relation of `Unconnected` says what they have to be, and the
+-- laws of this crate tie the two together.
 use Rattle.std.specs.Prelude.{ℕ, ◌+◌, ◌%◌, List, take, drop, slice_index, slice_get, Option, Result, Ok, Err}
 use Rattle.cip_message.specs.declared.fault.DataFault.{DataFault}
 use Rattle.cip_message.specs.declared.fault.DataFault.TheVariants as data_faults

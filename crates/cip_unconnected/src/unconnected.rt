@@ -71,11 +71,12 @@ fn unconnected(data_: &[u8]) -> Result<UnconnectedView<'_>, UnconnectedFault>
     }
 }
 
-/// The Unconnected_Send that the data is, all of it; the data is what follows the path of the request
-/// (Volume 1, chapter 3, Unconnected_Send). The pad and the reserved byte have any value. It takes no memory.
+/// The Unconnected_Send that the data is, all of it; the data is what follows the path of the
+/// request (Volume 1, chapter 3, Unconnected_Send). The pad and the reserved byte have any value.
+/// It takes no memory.
 ///
-/// Otherwise the first that fits: Short where bytes are missing, Long where bytes stand after the route, Route of the
-/// route's fault.
+/// Otherwise the first that fits: Short where bytes are missing, Long where bytes stand after the
+/// route, Route of the route's fault.
 pub fn read_unconnected(data_: &[u8]) -> Result<UnconnectedView<'_>, UnconnectedFault>
     ensures found { IfOk result (λ view. ReadsUnconnected data_.now (unconnected_of view)) }
     ensures only { (u : Send) → ReadsUnconnected data_.now u → IsOkAnd result (λ view. unconnected_of view ≡ u) }
@@ -92,8 +93,8 @@ pub fn inner<'a>(view: &UnconnectedView<'a>) -> &'a [u8]
     view.request
 }
 
-/// The route size of the data of an Unconnected_Send, in words; None exactly where that byte is missing. The data may be cut
-/// after it.
+/// The route size of the data of an Unconnected_Send, in words; None exactly where that byte is
+/// missing. The data may be cut after it.
 pub fn route_words(data_: &[u8]) -> Option<u8>
     ensures { result ≡ route_words_of data_.now }
 {
@@ -128,9 +129,9 @@ fn joined(
     Ok(bytes)
 }
 
-/// The whole message of an Unconnected_Send to the Connection Manager: header, priority/time tick, time-out ticks, size of
-/// the embedded request in bytes, that request, a pad 00 where its size is odd, route size in 16-bit words, a reserved 00,
-/// route (Volume 1, chapter 3, Unconnected_Send).
+/// The whole message of an Unconnected_Send to the Connection Manager: header, priority/time tick,
+/// time-out ticks, size of the embedded request in bytes, that request, a pad 00 where its size is
+/// odd, route size in 16-bit words, a reserved 00, route (Volume 1, chapter 3, Unconnected_Send).
 ///
 /// TooLong past 1,400 bytes in all, NoMemory where a growth is refused.
 pub fn write_unconnected(

@@ -106,8 +106,7 @@ invariant_of-self c =
       room = t.room;
       next = t.next + c.from.result;
       triads = c.note.new.self;
-      ups =
-          c.note-in-None.new.self;
+      ups = c.note-in-None.new.self;
       downs = c.note-in-None-2.new.self;
       ops = c.note-in-None-3.new.self;
       records = c.insert_reserved-key.new.self;
@@ -144,8 +143,7 @@ returns-in-None-clause-after c =
       room = t.room;
       next = t.next + c.from.result;
       triads = c.note.new.self;
-      ups =
-          c.note-in-None.new.self;
+      ups = c.note-in-None.new.self;
       downs = c.note-in-None-2.new.self;
       ops = c.note-in-None-3.new.self;
       records = c.insert_reserved-key.new.self;

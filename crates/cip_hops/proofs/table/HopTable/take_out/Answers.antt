@@ -26,8 +26,7 @@ invariant_of-self c =
     (sym c.in-Some.ensures) c.remove-held.ensures.value c.remove-held.ensures.updates ≡ record {
       room = t.room;
       next = t.next;
-      triads =
-          c.forget.new.self;
+      triads = c.forget.new.self;
       ups = c.forget-2.new.self;
       downs = c.forget-3.new.self;
       ops = c.forget-4.new.self;
@@ -58,8 +57,7 @@ returns-clause-after c =
     (sym c.in-Some.ensures) c.remove-held.ensures.value c.remove-held.ensures.updates ≡ record {
       room = t.room;
       next = t.next;
-      triads =
-          c.forget.new.self;
+      triads = c.forget.new.self;
       ups = c.forget-2.new.self;
       downs = c.forget-3.new.self;
       ops = c.forget-4.new.self;

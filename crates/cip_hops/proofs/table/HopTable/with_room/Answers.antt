@@ -12,8 +12,7 @@ invariant_of-result c =
       triads = c.in_ok-triads.triads;
       ups = c.in_ok-ups.ups;
       downs = c.in_ok-downs.downs;
-      ops =
-          c.in_ok-ops.ops;
+      ops = c.in_ok-ops.ops;
       records = c.in_ok-records.records;
     } =
     λ i. record {
@@ -21,8 +20,7 @@ invariant_of-result c =
       next = sym c.from.ensures i;
       triads = sym c.in_ok-triads.ensures i;
       ups = sym c.in_ok-ups.ensures i;
-      downs =
-          sym c.in_ok-downs.ensures i;
+      downs = sym c.in_ok-downs.ensures i;
       ops = sym c.in_ok-ops.ensures i;
       records = c.in_ok-records.records;
     } in
@@ -39,8 +37,7 @@ returns c =
       triads = c.in_ok-triads.triads;
       ups = c.in_ok-ups.ups;
       downs = c.in_ok-downs.downs;
-      ops =
-          c.in_ok-ops.ops;
+      ops = c.in_ok-ops.ops;
       records = c.in_ok-records.records;
     } =
     λ i. record {
@@ -48,8 +45,7 @@ returns c =
       next = sym c.from.ensures i;
       triads = sym c.in_ok-triads.ensures i;
       ups = sym c.in_ok-ups.ensures i;
-      downs =
-          sym c.in_ok-downs.ensures i;
+      downs = sym c.in_ok-downs.ensures i;
       ops = sym c.in_ok-ops.ensures i;
       records = c.in_ok-records.records;
     } in

@@ -4,7 +4,7 @@ use Rattle.std.specs.FinMap as map
 use Rattle.slab.specs.Slab.{get}
 use Rattle.cip_hops.specs.Hops.{Hops}
 use Rattle.cip_hops.proofs.Steps.{held_none, held_is}
-use Rattle.cip_hops.proofs.table.HopTable.held_at.Goals as goal
+use Rattle.cip_hops.proofs.table.HopTable.held.Goals as goal
 
 pub returns-in_err-key : goal.returns-in_err-key
 returns-in_err-key c =
