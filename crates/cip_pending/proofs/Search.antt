@@ -1,5 +1,5 @@
 -- Where a binary search by number ends in a list whose numbers strictly rise.
-use Rattle.std.proofs.Common.{◌≡◌, ℕ, zero, suc, ◌+◌, ◌<◌, ◌≤◌, Bool, true, false, cond, T, List, [], ◌∷◌, length, get_or, refl, sym, ap, ◌∙◌, arith, Option, Some, None, Result, Ok, Err, ◌==◌, nat_lt, nat_le, not, ◌⊎◌, inl, inr}
+use Rattle.std.proofs.Common.{◌≡◌, ℕ, ◌<◌, ◌≤◌, Bool, true, false, T, List, [], ◌∷◌, length, get_or, sym, ap, ◌∙◌, arith, Option, Some, Result, Ok, Err, ◌==◌, nat_lt, nat_le, not, inl, inr}
 use Rattle.std.specs.Result.{result_ok}
 use Rattle.std.specs.List.{position}
 use Rattle.std.specs.List.Sorted.{IsSearchInRange, IsBinarySearchResult, IsPartitionedBy, IsPartitionPoint}
