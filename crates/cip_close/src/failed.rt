@@ -1,14 +1,14 @@
 //! The reply of a failed Forward_Close.
-ghost use Rattle.std.specs.Prelude.{◌≡◌, ◌++◌, IfOk, IfErr, IsOkAnd};
+ghost use Rattle.std.specs.Prelude.{◌≡◌, IfOk, IfErr};
 ghost use Rattle.cip_message.specs.Gives.{Gives};
+ghost use Rattle.cip_message.specs.Exact.{GivesOnly};
 ghost use Rattle.cip_message.specs.Failure.{ReadsFailure, IsFailureFault, failure_at, HasTriadForWords};
-ghost use Rattle.cip_message.specs.declared.failure.ConnectionFailure.{ConnectionFailure as Failure};
 ghost use Rattle.cip_close.specs.Failed.{close_failure_bytes};
 
 use crate::request::FORWARD_CLOSE_REPLY;
 use cip_base::{Bytes, NoMemory, Status};
-use cip_message::{ConnectionFailure, DataFault, put_failure, put_reply_header, read_failure};
-use std::alloc::{AllocError, Global};
+use cip_message::{ConnectionFailure, DataFault, read_failure, write_failure};
+use std::alloc::Global;
 
 /// What the data of a failed Forward_Close says.
 pub type CloseFailure = ConnectionFailure;
@@ -21,21 +21,11 @@ pub type CloseFailure = ConnectionFailure;
 /// Short from 1 to 7 bytes.
 pub fn read_close_failure(data_: &[u8]) -> Result<CloseFailure, DataFault>
     ensures found { IfOk result (λ f. ReadsFailure data_.now f) }
-    ensures only { (f : Failure) → ReadsFailure data_.now f → IsOkAnd result (λ found. found ≡ f) }
+    ensures only { GivesOnly (λ f. f) result (ReadsFailure data_.now) }
     ensures fault { IfErr result (IsFailureFault data_.now) }
     ensures gives { Gives (λ f. f) result (failure_at data_.now) }
 {
     read_failure(data_)
-}
-
-fn joined(alloc: Global, status: Status, failure: &CloseFailure) -> Result<Vec<u8>, AllocError>
-    requires { HasTriadForWords failure.now }
-    ensures { IfOk result (λ v. v.items ≡ close_failure_bytes status failure.now) }
-{
-    let mut bytes = Vec::new(alloc);
-    put_reply_header(&mut bytes, FORWARD_CLOSE_REPLY, status)?;
-    put_failure(&mut bytes, failure)?;
-    Ok(bytes)
 }
 
 /// The whole message of a failed Forward_Close: the reply's header with at most one word of
@@ -50,5 +40,5 @@ pub fn write_close_failure(
     requires { HasTriadForWords failure.now }
     ensures { IfOk result (λ b. b ≡ close_failure_bytes status failure.now) }
 {
-    Ok(Bytes::of(joined(alloc, status, failure)?))
+    write_failure(alloc, FORWARD_CLOSE_REPLY, status, failure)
 }

@@ -1,9 +1,10 @@
 //! The request Forward_Close.
-ghost use Rattle.std.specs.Prelude.{◌≡◌, ◌≤◌, ◌++◌, length, IfOk, IfErr, IsOkAnd};
+ghost use Rattle.std.specs.Prelude.{◌≡◌, ◌≤◌, ◌++◌, length, IfOk, IfErr};
 ghost use Rattle.cip_message.specs.Gives.{Gives};
-ghost use Rattle.cip_close.specs.Close.{Close, ReadsClose, IsCloseFault, close_with, close_bytes};
+ghost use Rattle.cip_message.specs.Exact.{GivesOnly};
+ghost use Rattle.cip_close.specs.Close.{ReadsClose, IsCloseFault, close_bytes};
 ghost use Rattle.cip_close.specs.CloseAt.{close_at, close_triad_of, close_words_of};
-ghost use Rattle.cip_close.specs.Reading.{close_of};
+ghost use Rattle.cip_close.specs.Reading.{close_of, close_along};
 
 use cip_base::{Bytes, NoMemory, Timing, Triad};
 use cip_message::{DataFault, counted_path, put_manager_header, put_triad, triad_at, triad_within};
@@ -56,7 +57,7 @@ fn view(data_: &[u8]) -> Result<CloseView<'_>, DataFault>
 /// path, Path of the path's fault.
 pub fn read_close(data_: &[u8]) -> Result<CloseView<'_>, DataFault>
     ensures found { IfOk result (λ view. ReadsClose data_.now (close_of view)) }
-    ensures only { (o : Close) → ReadsClose data_.now o → IsOkAnd result (λ view. close_of view ≡ o) }
+    ensures only { GivesOnly close_of result (ReadsClose data_.now) }
     ensures fault { IfErr result (IsCloseFault data_.now) }
     ensures gives { Gives close_of result (close_at data_.now) }
 {
@@ -80,7 +81,7 @@ pub fn close_words_at(data_: &[u8]) -> Option<u8>
 }
 
 fn joined(alloc: Global, fields: &CloseFields, path: PathView<'_>) -> Result<Vec<u8>, AllocError>
-    ensures { IfOk result (λ v. v.items ≡ close_bytes (close_with fields.now path.entry.bytes.now)) }
+    ensures { IfOk result (λ v. v.items ≡ close_bytes (close_along fields.now path.entry)) }
 {
     let mut bytes = Vec::new(alloc);
     put_manager_header(&mut bytes, FORWARD_CLOSE)?;
@@ -99,7 +100,7 @@ pub fn write_close(
     fields: &CloseFields,
     path: PathView<'_>,
 ) -> Result<Bytes, NoMemory>
-    ensures { IfOk result (λ b. b ≡ close_bytes (close_with fields.now path.entry.bytes.now)) }
+    ensures { IfOk result (λ b. b ≡ close_bytes (close_along fields.now path.entry)) }
 {
     Ok(Bytes::of(joined(alloc, fields, path)?))
 }

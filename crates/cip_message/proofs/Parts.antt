@@ -48,12 +48,15 @@ module _ {O : Type 0} (size start : ℕ) (before : size < start) (make : List �
 
   -- ---- a path
 
-  module _ (path_of : O → List ℕ) (made : (b p : List ℕ) → path_of (make b p) ≡ p) (behind : (b : List ℕ) (o : O) → Lays b o → drop start b ≡ path_of o) where
+  module _ (path_of : O → List ℕ) (made : (b p : List ℕ) → path_of (make b p) ≡ p)
+      (behind : (b : List ℕ) (o : O) → Lays b o → drop start b ≡ path_of o) where
     pub path_verdict : (b : List ℕ) → IsBytes b
-        → MatchResult (with_part (make b) (counted_path_at size start b)) (λ o. IsReadable (path_of o) × Lays b o) (IsPartFault HasLayout (IsPathFault Lays path_of) b)
+        → MatchResult (with_part (make b) (counted_path_at size start b)) (λ o. IsReadable (path_of o) × Lays b o)
+        (IsPartFault HasLayout (IsPathFault Lays path_of) b)
     path_verdict b fits =
         counted_path_verdict
-        (λ r. MatchResult (with_part (make b) r) (λ o. IsReadable (path_of o) × Lays b o) (IsPartFault HasLayout (IsPathFault Lays path_of) b)) size start b fits
+        (λ r. MatchResult (with_part (make b) r) (λ o. IsReadable (path_of o) × Lays b o)
+        (IsPartFault HasLayout (IsPathFault Lays path_of) b)) size start b fits
         (λ lt. short b fits lt) (λ lt. long b fits lt)
         (λ e readable. (subst IsReadable (sym (made b (drop start b))) readable, lays b fits e))
         (λ e f fault. (make b (drop start b), lays b fits e, subst (λ (p : List ℕ). IsFault p f) (sym (made b (drop start b))) fault))

@@ -1,9 +1,10 @@
 //! The request Forward_Open.
-ghost use Rattle.std.specs.Prelude.{◌≡◌, ◌≤◌, ◌++◌, length, IfOk, IfErr, IsOkAnd};
+ghost use Rattle.std.specs.Prelude.{◌≡◌, ◌≤◌, ◌++◌, length, IfOk, IfErr};
 ghost use Rattle.cip_message.specs.Gives.{Gives};
-ghost use Rattle.cip_open.specs.Open.{Open, ReadsOpen, IsOpenFault, open_with, open_bytes};
+ghost use Rattle.cip_message.specs.Exact.{GivesOnly};
+ghost use Rattle.cip_open.specs.Open.{ReadsOpen, IsOpenFault, open_bytes};
 ghost use Rattle.cip_open.specs.OpenAt.{open_fields_in, open_at, open_triad_of, open_words_of};
-ghost use Rattle.cip_open.specs.Reading.{open_of};
+ghost use Rattle.cip_open.specs.Reading.{open_of, open_along};
 
 use cip_base::{Bytes, NoMemory, Timing, Triad};
 use cip_message::{
@@ -92,7 +93,7 @@ fn view(data_: &[u8]) -> Result<OpenView<'_>, DataFault>
 /// path, Path of the path's fault.
 pub fn read_open(data_: &[u8]) -> Result<OpenView<'_>, DataFault>
     ensures found { IfOk result (λ view. ReadsOpen data_.now (open_of view)) }
-    ensures only { (o : Open) → ReadsOpen data_.now o → IsOkAnd result (λ view. open_of view ≡ o) }
+    ensures only { GivesOnly open_of result (ReadsOpen data_.now) }
     ensures fault { IfErr result (IsOpenFault data_.now) }
     ensures gives { Gives open_of result (open_at data_.now) }
 {
@@ -116,7 +117,7 @@ pub fn words_at(data_: &[u8]) -> Option<u8>
 }
 
 fn joined(alloc: Global, fields: &OpenFields, path: PathView<'_>) -> Result<Vec<u8>, AllocError>
-    ensures { IfOk result (λ v. v.items ≡ open_bytes (open_with fields.now path.entry.bytes.now)) }
+    ensures { IfOk result (λ v. v.items ≡ open_bytes (open_along fields.now path.entry)) }
 {
     let mut bytes = Vec::new(alloc);
     put_manager_header(&mut bytes, FORWARD_OPEN)?;
@@ -137,7 +138,7 @@ fn joined(alloc: Global, fields: &OpenFields, path: PathView<'_>) -> Result<Vec<
 /// The whole message of a Forward_Open to the Connection Manager: header, the fixed fields with the
 /// reserved bytes 00, path size in words, path (Volume 1, chapter 3, Forward_Open).
 pub fn write_open(alloc: Global, fields: &OpenFields, path: PathView<'_>) -> Result<Bytes, NoMemory>
-    ensures { IfOk result (λ b. b ≡ open_bytes (open_with fields.now path.entry.bytes.now)) }
+    ensures { IfOk result (λ b. b ≡ open_bytes (open_along fields.now path.entry)) }
 {
     Ok(Bytes::of(joined(alloc, fields, path)?))
 }

@@ -1,7 +1,8 @@
 //! The reply of a successful Forward_Open.
-ghost use Rattle.std.specs.Prelude.{◌≡◌, ◌≤◌, ◌%◌, ◌++◌, length, IfOk, IfErr, IsOkAnd};
+ghost use Rattle.std.specs.Prelude.{◌≡◌, ◌≤◌, ◌%◌, ◌++◌, length, IfOk, IfErr};
 ghost use Rattle.cip_message.specs.Gives.{Gives};
-ghost use Rattle.cip_open.specs.Success.{OpenSuccess, ReadsOpenReply, IsOpenReplyFault, open_reply_bytes};
+ghost use Rattle.cip_message.specs.Exact.{GivesOnly};
+ghost use Rattle.cip_open.specs.Success.{ReadsOpenReply, IsOpenReplyFault, open_reply_bytes};
 ghost use Rattle.cip_open.specs.SuccessAt.{open_reply_at};
 ghost use Rattle.cip_open.specs.Reading.{success_of};
 
@@ -52,7 +53,7 @@ fn success(data_: &[u8]) -> Result<OpenReply<'_>, DataFault>
 /// application reply.
 pub fn read_open_reply(data_: &[u8]) -> Result<OpenReply<'_>, DataFault>
     ensures found { IfOk result (λ reply. ReadsOpenReply data_.now (success_of reply)) }
-    ensures only { (s : OpenSuccess) → ReadsOpenReply data_.now s → IsOkAnd result (λ reply. success_of reply ≡ s) }
+    ensures only { GivesOnly success_of result (ReadsOpenReply data_.now) }
     ensures fault { IfErr result (IsOpenReplyFault data_.now) }
     ensures gives { Gives success_of result (open_reply_at data_.now) }
 {

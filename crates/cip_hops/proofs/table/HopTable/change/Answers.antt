@@ -24,7 +24,9 @@ unreachable-requires-in_default-get_mut c =
 pub replace_with-requires : goal.replace_with-requires
 replace_with-requires c =
     let found = sym c.in-Some-get_mut.ensures.value in (
-      subst (λ (o : Option Held). IsSomeAnd o (Suits c.args.change)) (stands c.self.inside c.args.self.now c.self.invariant c.self.view_is c.args.triad.now c.in-Some.key c.in-Some-get_mut.held.now (sym c.in-Some.ensures) found) c.requires,
+      subst (λ (o : Option Held). IsSomeAnd o (Suits c.args.change))
+          (stands c.self.inside c.args.self.now c.self.invariant c.self.view_is c.args.triad.now c.in-Some.key c.in-Some-get_mut.held.now
+          (sym c.in-Some.ensures) found) c.requires,
       (c.self.invariant.each c.in-Some.key c.in-Some-get_mut.held.now found).multiplier,
     )
 
@@ -42,7 +44,9 @@ returns c =
     let found = sym c.in-Some-get_mut.ensures.value in
     let x = c.in-Some-get_mut.held.now in
     let held = stands c.self.inside c.args.self.now c.self.invariant c.self.view_is c.args.triad.now c.in-Some.key x (sym c.in-Some.ensures) found in
-    subst (λ (o : Option Held). IsSomeAnd o (λ x. hops (written c.self.inside c.in-Some.key c.replace_with.new.dest) ≡ with_held c.args.self.now c.args.triad.now (change_of c.args.change x))) (sym held)
+    subst (λ (o : Option Held). IsSomeAnd o
+    (λ x. hops (written c.self.inside c.in-Some.key c.replace_with.new.dest) ≡ with_held c.args.self.now c.args.triad.now (change_of c.args.change x)))
+    (sym held)
     (ap (λ (y : Held). hops (written c.self.inside c.in-Some.key y)) c.replace_with.ensures
     ∙ view_in_place c.self.inside c.self.invariant c.args.triad.now c.in-Some.key x c.args.change (sym c.in-Some.ensures) found
     ∙ ap (λ p. with_held p c.args.triad.now (change_of c.args.change x)) c.self.view_is)
