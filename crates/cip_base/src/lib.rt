@@ -1,5 +1,5 @@
-//! The small values that every layer shares: link addresses, port numbers, connection triads, times, statuses,
-//! electronic keys, lists of bytes, and the limits of a chassis.
+//! The small values that every layer shares: link addresses, port numbers, connection triads,
+//! times, statuses, electronic keys, lists of bytes, and the limits of a chassis.
 #![tactic(auto)]
 
 ghost use Rattle.std.specs.Borrow.{ffalse};

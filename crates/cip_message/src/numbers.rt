@@ -35,8 +35,8 @@ pub fn triad_at(bytes: &[u8], at: usize) -> Triad
     }
 }
 
-/// The connection triad in the eight bytes from place `at`; None exactly where one of them is missing
-/// (Volume 1, chapter 3, connection triad).
+/// The connection triad in the eight bytes from place `at`; None exactly where one of them is
+/// missing (Volume 1, chapter 3, connection triad).
 pub fn triad_within(bytes: &[u8], at: usize) -> Option<Triad>
     requires { at < 1000 }
     ensures { result ≡ triad_within bytes.now at }

@@ -15,7 +15,8 @@ use Rattle.cip_pending.specs.declared.entry.Kind.{Kind}
 use Rattle.cip_pending.specs.declared.entry.Kind.TheVariants.{Unconnected, Opening as OpeningOf, Closing as ClosingOf}
 use Rattle.cip_pending.specs.declared.entry.Entry.{Entry}
 use Rattle.cip_pending.specs.Pendings.{Pendings, is_due, due, first_due, without}
-use Rattle.cip_pending.proofs.Ticks.{first_goes, due_goes, none_due}
+use Rattle.cip_base.proofs.Going.{first_goes}
+use Rattle.cip_pending.proofs.Ticks.{due_goes, none_due}
 use Rattle.cip_hops.specs.declared.hop.Hop.{Hop}
 use Rattle.cip_hops.specs.declared.hop.Held.{Held}
 use Rattle.cip_hops.specs.declared.hop.Held.TheVariants.{Opening as IsOpening, Open}

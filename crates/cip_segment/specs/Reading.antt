@@ -1,5 +1,6 @@
--- What reading a text as a path gives: its segments, or its fault. The relation of `Spelling` says what that has to be;
--- the laws of this crate tie the two together. Definitions above, which go by cases on what was read, use these functions.
+-- What reading a text as a path gives: its segments, or its fault. The relation of `Spelling` says
+-- what that has to be; the laws of this crate tie the two together. Definitions above, which go by
+-- cases on what was read, use these functions.
 use Rattle.std.specs.Prelude.{◌≡◌, ℕ, zero, suc, ◌/◌, nat_lt, if◌then◌else◌, List, [], ◌∷◌, length, Option, Some, None, Result, Ok, Err}
 use Rattle.cip_base.specs.declared.key.KeyFields.{KeyFields}
 use Rattle.cip_segment.specs.declared.segment.Segment.{Segment}
@@ -41,7 +42,8 @@ pub record IsSplit (b : List ℕ) (g : Segment) (rest : List ℕ) : Type 0 where
   pub segments : segments_of b ≡ g ∷ segments_of rest
   pub rest_is : rest ≡ behind b
 
--- a path's first hop: perhaps a key, the port and the link address that it goes to next, and the path that is left
+-- a path's first hop: perhaps a key, the port and the link address that it goes to next, and the
+-- path that is left
 pub record HopAt : Type 0 where
   pub key : Option KeyFields
   pub port : ℕ

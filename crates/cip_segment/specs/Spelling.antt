@@ -19,11 +19,13 @@ IsWide h n x = (w : List ℕ) × IsWord n w × (x ≡ (h + 1) ∷ 0 ∷ w)
 abbrev pub IsLong : ℕ → ℕ → List ℕ → Type 0
 IsLong h n x = (w : List ℕ) × IsDouble n w × (x ≡ (h + 2) ∷ 0 ∷ w)
 
--- The port q: in the low bits of the segment byte, with nothing after it; or 15 stands there, and two bytes follow.
+-- The port q: in the low bits of the segment byte, with nothing after it; or 15 stands there, and
+-- two bytes follow.
 abbrev pub IsPortNumber : ℕ → ℕ → List ℕ → Type 0
 IsPortNumber q low w = (0 < q) × (((q < 15) × (low ≡ q) × (w ≡ [])) ⊎ ((low ≡ 15) × IsWord q w))
 
--- The address a: one byte as it is; or with bit 4 of the segment byte, its size before it, and a pad after it.
+-- The address a: one byte as it is; or with bit 4 of the segment byte, its size before it, and a
+-- pad after it.
 abbrev pub IsPort : ℕ → List ℕ → List ℕ → Type 0
 IsPort q a x = (low : ℕ) × (w : List ℕ) × IsPortNumber q low w
     × (((length a ≡ 1) × (x ≡ low ∷ w ++ a))
@@ -46,7 +48,8 @@ IsForm x (Words d) = (n : ℕ) × (n < 256) × (length d ≡ 2 * n) × (x ≡ 0x
 IsForm x (Symbol d) = (length d < 256) × (x ≡ 0x91 ∷ length d ∷ d ++ pad (length d))
 IsForm x (Inhibit n) = IsNarrow 0x43 n x
 
--- the bytes b spell the segments: no bytes spell none, and a form of the first and a spelling of the others spell both
+-- the bytes b spell the segments: no bytes spell none, and a form of the first and a spelling of
+-- the others spell both
 abbrev pub Spells : List ℕ → List Segment → Type 0
 Spells b [] = b ≡ []
 Spells b (g ∷ t) = (x : List ℕ) × (y : List ℕ) × (b ≡ x ++ y) × IsForm x g × Spells y t

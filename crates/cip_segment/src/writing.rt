@@ -127,7 +127,8 @@ fn put(out: &mut Vec<u8>, segment: &Segment) -> Result<(), AllocError>
     }
 }
 
-/// Whether the segment can be written: simple data of whole words and at most 510 bytes, a symbol of at most 255 bytes.
+/// Whether the segment can be written: simple data of whole words and at most 510 bytes, a symbol
+/// of at most 255 bytes.
 pub fn segment_ok(segment: &Segment) -> bool
     ensures { IsTrue result ↔ IsWritable segment.now }
 {
@@ -159,8 +160,9 @@ fn short_bytes(alloc: Global, segments: &[Segment]) -> Result<Vec<u8>, AllocErro
     Ok(bytes)
 }
 
-/// The path that spells the segments, each in its shortest form (Volume 1, Appendix C): numbers in the fewest bits, an
-/// address of one byte without its size. TooLong where that passes 510 bytes. The condition is `segment_ok` of each.
+/// The path that spells the segments, each in its shortest form (Volume 1, Appendix C): numbers in
+/// the fewest bits, an address of one byte without its size. TooLong where that passes 510 bytes.
+/// The condition is `segment_ok` of each.
 pub fn write_path(alloc: Global, segments: &[Segment]) -> Result<Path, PathFault>
     requires { All IsWritable segments.now }
     ensures ok { IfOk result (λ path. path ≡ short segments.now) }

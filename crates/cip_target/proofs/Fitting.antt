@@ -30,7 +30,8 @@ size_at : (m : AssemblyMap) (i : ℕ) (c : AssemblyConfig) → config_in m i ≡
 size_at m i c e = sym (size_is m i) ∙ ap (option_map (λ (c : AssemblyConfig). c.size)) e
 
 -- the row of an open whose assemblies are found
-pub joined_is : (m : AssemblyMap) (owned : ℕ → Bool) (f : OpenFields) (a : Application) (j : Joined) (b : Bool) → IsJoined m a j → b ≡ owned j.consume.instance → joined_row j f b ≡ application_row m owned f (Some a)
+pub joined_is : (m : AssemblyMap) (owned : ℕ → Bool) (f : OpenFields) (a : Application) (j : Joined) (b : Bool) → IsJoined m a j → b ≡ owned j.consume.instance
+    → joined_row j f b ≡ application_row m owned f (Some a)
 joined_is m owned f a j b h e =
     ap (λ (b : Bool). sized_row (λ _. b) f (application_joined j) (Some j.config.size) (Some j.consume.size) (Some j.produce.size)) e
     ∙ ap (λ (a : Application). sized_row owned f a (Some j.config.size) (Some j.consume.size) (Some j.produce.size)) h.same
@@ -76,7 +77,8 @@ sized_fits owned f a (Some config) (Some consume) (Some produce) link e =
 long_enough : (size : ℕ) (b : List ℕ) → is_configuration size b ≡ true → size ≤ length b
 long_enough size b e = grind (arith, nat_tests)
 
-held_fits : (m : AssemblyMap) (f : OpenFields) (a : Application) (link : EndLink) → Sized f a (size_in m a.config) link → IsSomeAnd (map.get m link.config) (λ held. length held ≤ length a.bytes)
+held_fits : (m : AssemblyMap) (f : OpenFields) (a : Application) (link : EndLink) → Sized f a (size_in m a.config) link
+    → IsSomeAnd (map.get m link.config) (λ held. length held ≤ length a.bytes)
 held_fits m f a link s =
     let here : IsSomeAnd (map.get m a.config) (λ held. length held ≤ length a.bytes) =
     elim (map.get m a.config) as (λ (o : Option (List ℕ)). option_map length o ≡ Some s.size → IsSomeAnd o (λ held. length held ≤ length a.bytes)) [
@@ -93,17 +95,22 @@ FitsWith m link (Some a) = IsSomeAnd (map.get m link.config) (λ held. length he
 pub fitting : (t : Ends) (o : Open) (link : EndLink) → row_at t o ≡ Ok link → FitsWith t.objects.assemblies link (application_of (segments_of o.path))
 unfolding end_row
 fitting t o link e =
-    elim (application_of (segments_of o.path)) as (λ (p : Option Application). application_row t.objects.assemblies (λ i. is_some (map.get t.owners i)) o.fields p ≡ Ok link → FitsWith t.objects.assemblies link p) [
+    elim (application_of (segments_of o.path)) as (λ (p : Option Application). application_row t.objects.assemblies (λ i. is_some (map.get t.owners i)) o.fields
+        p ≡ Ok link → FitsWith t.objects.assemblies link p) [
       | None ↦ λ e. cc
-      | Some a ↦ λ e. held_fits t.objects.assemblies o.fields a link (sized_fits (λ i. is_some (map.get t.owners i)) o.fields a (size_in t.objects.assemblies a.config) (size_in t.objects.assemblies a.consume) (size_in t.objects.assemblies a.produce) link e)
+      | Some a ↦ λ e. held_fits t.objects.assemblies o.fields a link
+          (sized_fits (λ i. is_some (map.get t.owners i)) o.fields a (size_in t.objects.assemblies a.config) (size_in t.objects.assemblies a.consume)
+          (size_in t.objects.assemblies a.produce) link e)
     ] e
 
 -- ---- as `accept` does it
 
-pub accept_asks : (t : Ends) (o : Open) (link : EndLink) (a : Application) (m : AssemblyMap) (i : ℕ) → row_at t o ≡ Ok link → Some a ≡ application_of (segments_of o.path) → m ≡ t.objects.assemblies → i ≡ link.config → IsSomeAnd (map.get m i) (λ held. length held ≤ length a.bytes)
+pub accept_asks : (t : Ends) (o : Open) (link : EndLink) (a : Application) (m : AssemblyMap) (i : ℕ) → row_at t o ≡ Ok link
+    → Some a ≡ application_of (segments_of o.path) → m ≡ t.objects.assemblies → i ≡ link.config → IsSomeAnd (map.get m i) (λ held. length held ≤ length a.bytes)
 accept_asks t o link a m i e path same at =
     let there : FitsWith t.objects.assemblies link (Some a) = subst (FitsWith t.objects.assemblies link) (sym path) (fitting t o link e) in
-    let here : IsSomeAnd (map.get m link.config) (λ held. length held ≤ length a.bytes) = subst (λ (m : AssemblyMap). IsSomeAnd (map.get m link.config) (λ held. length held ≤ length a.bytes)) (sym same) there in
+    let here : IsSomeAnd (map.get m link.config) (λ held. length held ≤ length a.bytes) =
+    subst (λ (m : AssemblyMap). IsSomeAnd (map.get m link.config) (λ held. length held ≤ length a.bytes)) (sym same) there in
     subst (λ (i : ℕ). IsSomeAnd (map.get m i) (λ held. length held ≤ length a.bytes)) (sym at) here
 
 abbrev target_of : IdentityFields → Holdings → Ends
@@ -137,20 +144,24 @@ owned_alike size x y same =
       | false ↦ λ e. refl
     ] refl
 
-sized_alike : (owned other : ℕ → Bool) (f : OpenFields) (a : Application) (x y z : Option ℕ) → ((size : ℕ) → y ≡ Some size → 0 < size → owned a.consume ≡ other a.consume) → sized_row owned f a x y z ≡ sized_row other f a x y z
+sized_alike : (owned other : ℕ → Bool) (f : OpenFields) (a : Application) (x y z : Option ℕ)
+    → ((size : ℕ) → y ≡ Some size → 0 < size → owned a.consume ≡ other a.consume) → sized_row owned f a x y z ≡ sized_row other f a x y z
 sized_alike owned other f a None y z same = refl
 sized_alike owned other f a (Some config) None z same = refl
 sized_alike owned other f a (Some config) (Some consume) None same = refl
 sized_alike owned other f a (Some config) (Some consume) (Some produce) same =
     ap (λ (b : Bool). cond (not (is_configuration config a.bytes)) (Err NoSuchInstanceOrConfiguration)
-    (cond (nat_lt 1 (class_of f.transport)) (Err TransportClassNotSupported) (cond (not (are_sizes f consume produce)) (Err SizeMismatch) (cond b (Err OutputOwned) (Ok (link_of f a))))))
+    (cond (nat_lt 1 (class_of f.transport)) (Err TransportClassNotSupported)
+        (cond (not (are_sizes f consume produce)) (Err SizeMismatch) (cond b (Err OutputOwned) (Ok (link_of f a))))))
     (owned_alike consume (owned a.consume) (other a.consume) (same consume refl))
 
 -- the row of an open looks at the owners of instances that have bytes alone
-pub row_alike : (m : AssemblyMap) (owned other : ℕ → Bool) (o : Open) → ((i size : ℕ) → size_in m i ≡ Some size → 0 < size → owned i ≡ other i) → end_row m owned o ≡ end_row m other o
+pub row_alike : (m : AssemblyMap) (owned other : ℕ → Bool) (o : Open) → ((i size : ℕ) → size_in m i ≡ Some size → 0 < size → owned i ≡ other i)
+    → end_row m owned o ≡ end_row m other o
 unfolding end_row
 row_alike m owned other o same =
     elim (application_of (segments_of o.path)) as (λ (p : Option Application). application_row m owned o.fields p ≡ application_row m other o.fields p) [
       | None ↦ refl
-      | Some a ↦ sized_alike owned other o.fields a (size_in m a.config) (size_in m a.consume) (size_in m a.produce) (λ size is some. same a.consume size is some)
+      | Some a ↦ sized_alike owned other o.fields a (size_in m a.config) (size_in m a.consume) (size_in m a.produce)
+          (λ size is some. same a.consume size is some)
     ]

@@ -1,4 +1,5 @@
--- The application path of an open (Volume 1, chapter 3, Forward_Open, connection path): what it names at the end.
+-- The application path of an open (Volume 1, chapter 3, Forward_Open, connection path): what it
+-- names at the end.
 use Rattle.std.specs.Prelude.{ℕ, ◌==◌, if◌then◌else◌, List, [], ◌∷◌, Option, Some, None}
 use Rattle.cip_segment.specs.declared.segment.Segment.{Segment}
 use Rattle.cip_segment.specs.declared.segment.Segment.TheVariants.{Class, Instance, Point, Key, Words, Inhibit}

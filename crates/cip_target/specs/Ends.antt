@@ -1,5 +1,6 @@
--- What an end says to an open: the rows from an application path on, in their order; the first that fits answers
--- (Volume 1, chapter 3, Forward_Open). And what the target is while connections end here.
+-- What an end says to an open: the rows from an application path on, in their order; the first that
+-- fits answers (Volume 1, chapter 3, Forward_Open). And what the target is while connections end
+-- here.
 use Rattle.std.specs.Prelude.{ℕ, Bool, not, ◌+◌, ◌%◌, ◌==◌, ◌&&◌, ◌||◌, nat_lt, if◌then◌else◌, List, [], length, slice_index, is_some, Option, Some, None, Result, Ok, Err}
 use Rattle.std.specs.Option.{option_map_or}
 use Rattle.std.specs.FinMap as map
@@ -42,10 +43,12 @@ are_sizes f consume produce =
     && (params_of f.to_params).size == datum_size (class_of f.transport) produce
 
 abbrev pub link_of : OpenFields → Application → EndLink
-link_of f a = record { config = a.config; consume = a.consume; produce = a.produce; class = class_of f.transport }
+link_of f a = record { config = a.config; consume = a.consume; produce = a.produce; class =
+    class_of f.transport }
 
 -- with the sizes of the three assemblies, each where it exists
-abbrev pub sized_row : (ℕ → Bool) → OpenFields → Application → Option ℕ → Option ℕ → Option ℕ → EndRow
+abbrev pub sized_row : (ℕ → Bool) → OpenFields → Application → Option ℕ → Option ℕ → Option ℕ
+    → EndRow
 sized_row owned f a (Some config) (Some consume) (Some produce) =
     if not (is_configuration config a.bytes) then Err NoSuchInstanceOrConfiguration
     else if nat_lt 1 (class_of f.transport) then Err TransportClassNotSupported
@@ -56,7 +59,8 @@ sized_row owned f a config consume produce = Err NoSuchInstanceOrConfiguration
 
 abbrev pub application_row : AssemblyMap → (ℕ → Bool) → OpenFields → Option Application → EndRow
 application_row m owned f None = Err NotAnApplicationPath
-application_row m owned f (Some a) = sized_row owned f a (size_in m a.config) (size_in m a.consume) (size_in m a.produce)
+application_row m owned f (Some a) =
+    sized_row owned f a (size_in m a.config) (size_in m a.consume) (size_in m a.produce)
 
 -- the row of an open, where these instances are owned as outputs
 unfoldable pub end_row : AssemblyMap → (ℕ → Bool) → Open → EndRow
@@ -90,7 +94,8 @@ with_assemblies t m = record { identity = t.identity; assemblies = m }
 
 -- as a target begins
 abbrev pub fresh : IdentityFields → List AssemblyConfig → Ends
-fresh identity configs = record { objects = record { identity = identity; assemblies = zeroed configs }; owners = map.empty }
+fresh identity configs = record { objects =
+    record { identity = identity; assemblies = zeroed configs }; owners = map.empty }
 
 -- after a request
 abbrev pub ends_after : Ends → Request → Ends
@@ -112,12 +117,14 @@ configured m o link = written_over m link.config (configuration_of o) (map.get m
 abbrev pub accepted : Ends → EndLink → Open → Ends
 accepted t link o = record {
   objects = with_assemblies t.objects (configured t.objects.assemblies o link);
-  owners = owned_with t.owners link.consume o.fields.triad (size_in t.objects.assemblies link.consume);
+  owners = owned_with t.owners link.consume o.fields.triad
+      (size_in t.objects.assemblies link.consume);
 }
 
 -- after a datum is written to an assembly
 abbrev pub consumed : Ends → ℕ → List ℕ → Ends
-consumed t i d = record { objects = with_assemblies t.objects (map.insert t.objects.assemblies i d); owners = t.owners }
+consumed t i d = record { objects =
+    with_assemblies t.objects (map.insert t.objects.assemblies i d); owners = t.owners }
 
 -- after an instance is given back
 abbrev pub released : Ends → ℕ → Ends

@@ -14,7 +14,8 @@ is_identity f = nat_le f.major 127 && (nat_le (length f.name) 32 && list_all is_
 
 -- the attributes that are numbers
 abbrev pub number_bytes : IdentityFields → List ℕ
-number_bytes f = word f.vendor ++ (word f.device_type ++ (word f.product ++ (f.major ∷ f.minor ∷ (word f.status ++ double f.serial))))
+number_bytes f = word f.vendor ++ (word f.device_type
+    ++ (word f.product ++ (f.major ∷ f.minor ∷ (word f.status ++ double f.serial))))
 
 -- the product name: its length, and its characters
 abbrev pub name_bytes : IdentityFields → List ℕ

@@ -1,4 +1,5 @@
--- The object that a request names: a class, an instance and perhaps an attribute (Volume 1, Appendix C, logical segments).
+-- The object that a request names: a class, an instance and perhaps an attribute (Volume 1,
+-- Appendix C, logical segments).
 use Rattle.std.specs.Prelude.{ℕ, Option, Some, None, List, [], ◌∷◌}
 use Rattle.cip_segment.specs.declared.segment.Segment.{Segment}
 use Rattle.cip_segment.specs.declared.segment.Segment.TheVariants.{Class, Instance, Attribute}

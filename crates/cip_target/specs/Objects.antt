@@ -15,4 +15,5 @@ target_answer t r = answer_of r.service (target_row t.identity t.assemblies r)
 
 -- the target after a request
 abbrev pub target_after : Objects → Request → Objects
-target_after t r = record { identity = t.identity; assemblies = assemblies_after t.assemblies (target_row t.identity t.assemblies r) }
+target_after t r = record { identity = t.identity; assemblies =
+    assemblies_after t.assemblies (target_row t.identity t.assemblies r) }

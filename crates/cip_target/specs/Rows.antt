@@ -1,4 +1,5 @@
--- What the target answers: the first row that fits (Volume 1, chapter 5, Identity and Assembly objects; Appendix B, general status).
+-- What the target answers: the first row that fits (Volume 1, chapter 5, Identity and Assembly
+-- objects; Appendix B, general status).
 use Rattle.std.specs.Prelude.{ℕ, ◌+◌, ◌==◌, nat_lt, if◌then◌else◌, List, [], length, Option, Some, None}
 use Rattle.std.specs.FinMap as map
 use Rattle.cip_segment.specs.Reading.{segments_of}
@@ -69,7 +70,8 @@ assembly_row i (Some held) service a d =
 -- the Identity has instance 1 alone
 abbrev pub object_row : IdentityFields → AssemblyMap → ObjectPath → ℕ → List ℕ → TargetRow
 object_row f m o service d =
-    if o.class_ == 1 then (if o.instance == 1 then identity_row f service o.attribute d else Refused NoSuchInstance)
+    if o.class_ == 1 then (if o.instance == 1 then identity_row f service o.attribute d
+        else Refused NoSuchInstance)
     else if o.class_ == 4 then assembly_row o.instance (map.get m o.instance) service o.attribute d
     else Refused ClassNotSupported
 
@@ -109,7 +111,8 @@ reply_service s = if nat_lt s 128 then 128 + s else s
 
 -- the reply of a row
 abbrev pub answer_of : ℕ → TargetRow → Reply
-answer_of service row = record { service = reply_service service; general = status_of row; extra = []; data_ = data_of row }
+answer_of service row = record { service = reply_service service; general = status_of row; extra =
+    []; data_ = data_of row }
 
 -- the assemblies after a row
 abbrev pub assemblies_after : AssemblyMap → TargetRow → AssemblyMap

@@ -10,7 +10,8 @@ use Rattle.cip_target.specs.Ends.{EndRow, sized_row, application_row}
 use Rattle.cip_target.specs.ApplicationPath.{Application, without_inhibits, point_of}
 
 abbrev pub application_seen : ApplicationView → Application
-application_seen v = record { config = v.config; consume = v.consume; produce = v.produce; bytes = v.bytes.now }
+application_seen v = record { config = v.config; consume = v.consume; produce = v.produce; bytes =
+    v.bytes.now }
 
 -- what stands first of the segments, and what stands behind it with its inhibits
 abbrev pub IsFirst : List Segment → Option (Segment × List Segment) → Type 0
@@ -20,10 +21,12 @@ IsFirst s (Some found) = s ≡ found.0 ∷ without_inhibits found.1
 -- the same of the first as a point
 abbrev pub IsFirstPoint : List Segment → Option (Option ℕ × List Segment) → Type 0
 IsFirstPoint s None = s ≡ []
-IsFirstPoint s (Some found) = (first : Segment) × (s ≡ first ∷ without_inhibits found.1) × (found.0 ≡ point_of first)
+IsFirstPoint s (Some found) = (first : Segment) × (s ≡ first ∷ without_inhibits found.1)
+    × (found.0 ≡ point_of first)
 
 abbrev pub application_joined : Joined → Application
-application_joined j = record { config = j.config.instance; consume = j.consume.instance; produce = j.produce.instance; bytes = j.bytes.now }
+application_joined j = record { config = j.config.instance; consume = j.consume.instance; produce =
+    j.produce.instance; bytes = j.bytes.now }
 
 -- the assemblies exist, and are those that the path names
 pub record IsJoined (m : AssemblyMap) (a : Application) (j : Joined) : Type 0 where
@@ -37,7 +40,8 @@ pub record IsJoined (m : AssemblyMap) (a : Application) (j : Joined) : Type 0 wh
 
 -- one of the assemblies is missing
 abbrev pub Misses : AssemblyMap → Application → Type 0
-Misses m a = (owned : ℕ → Bool) (f : OpenFields) → application_row m owned f (Some a) ≡ Err NoSuchInstanceOrConfiguration
+Misses m a = (owned : ℕ → Bool) (f : OpenFields)
+    → application_row m owned f (Some a) ≡ Err NoSuchInstanceOrConfiguration
 
 -- the row of an open whose assemblies are found
 abbrev pub joined_row : Joined → OpenFields → Bool → EndRow

@@ -10,8 +10,8 @@ use cip_segment::{PathView, SegmentView, split_first};
 /// The Assembly class.
 const ASSEMBLY: u16 = 4;
 
-/// What an application path names (Volume 1, chapter 3, Forward_Open, connection path): the instances for configuration,
-/// O→T and T→O, and the configuration bytes, borrowed.
+/// What an application path names (Volume 1, chapter 3, Forward_Open, connection path): the
+/// instances for configuration, O→T and T→O, and the configuration bytes, borrowed.
 #[derive(Clone, Copy)]
 pub(crate) struct ApplicationView<'a> {
     pub(crate) config: u32,
@@ -35,7 +35,10 @@ fn behind_key(path: PathView<'_>) -> PathView<'_>
 
 // The first segment that is no production inhibit, and what stands behind it.
 fn split(path: PathView<'_>) -> Option<(SegmentView<'_>, PathView<'_>)>
-    ensures { IsFirst (without_inhibits (segments_of path.entry.bytes.now)) (option_map (λ found. (segment_of found.0, segments_of found.1.bytes.now)) result) }
+    ensures {
+        IsFirst (without_inhibits (segments_of path.entry.bytes.now))
+            (option_map (λ found. (segment_of found.0, segments_of found.1.bytes.now)) result)
+    }
 {
     let mut left = path;
     while let Some((first, rest)) = split_first(left) {
@@ -47,9 +50,13 @@ fn split(path: PathView<'_>) -> Option<(SegmentView<'_>, PathView<'_>)>
     None
 }
 
-// The point that stands first, if it is an instance or a connection point, and what stands behind it.
+// The point that stands first, if it is an instance or a connection point, and what stands behind
+// it.
 fn split_point(path: PathView<'_>) -> Option<(Option<u32>, PathView<'_>)>
-    ensures { IsFirstPoint (without_inhibits (segments_of path.entry.bytes.now)) (option_map (λ found. (found.0, segments_of found.1.bytes.now)) result) }
+    ensures {
+        IsFirstPoint (without_inhibits (segments_of path.entry.bytes.now))
+            (option_map (λ found. (found.0, segments_of found.1.bytes.now)) result)
+    }
 {
     match split(path) {
         None => None,
@@ -63,7 +70,10 @@ fn split_point(path: PathView<'_>) -> Option<(Option<u32>, PathView<'_>)>
 
 // What stands behind the three points: nothing, or one simple data segment.
 fn bytes_in(path: PathView<'_>) -> Option<&[u8]>
-    ensures { option_map (λ d. d.now) result ≡ bytes_in (without_inhibits (segments_of path.entry.bytes.now)) }
+    ensures {
+        option_map (λ d. d.now) result ≡ bytes_in
+            (without_inhibits (segments_of path.entry.bytes.now))
+    }
 {
     match split(path) {
         None => Some(&[]),
@@ -83,7 +93,10 @@ fn application_with(
     produce: Option<u32>,
     bytes: Option<&[u8]>,
 ) -> Option<ApplicationView<'_>>
-    ensures { option_map application_seen result ≡ application_with config consume produce (option_map (λ d. d.now) bytes.entry) }
+    ensures {
+        option_map application_seen result
+            ≡ application_with config consume produce (option_map (λ d. d.now) bytes.entry)
+    }
 {
     Some(ApplicationView {
         config: config?,
@@ -95,7 +108,10 @@ fn application_with(
 
 // Behind the class: the three points, and what stands behind them.
 fn points_in(path: PathView<'_>) -> Option<ApplicationView<'_>>
-    ensures { option_map application_seen result ≡ points_in (without_inhibits (segments_of path.entry.bytes.now)) }
+    ensures {
+        option_map application_seen result
+            ≡ points_in (without_inhibits (segments_of path.entry.bytes.now))
+    }
 {
     let Some((config, rest)) = split_point(path) else {
         return None;
@@ -109,10 +125,13 @@ fn points_in(path: PathView<'_>) -> Option<ApplicationView<'_>>
     application_with(config, consume, produce, bytes_in(rest))
 }
 
-/// What a path names, if it is an application path: after a leading key, class 4, three points, each an instance or a
-/// connection point, and perhaps one simple data segment. Production inhibit segments are skipped wherever they stand.
+/// What a path names, if it is an application path: after a leading key, class 4, three points,
+/// each an instance or a connection point, and perhaps one simple data segment. Production inhibit
+/// segments are skipped wherever they stand.
 pub(crate) fn application(path: PathView<'_>) -> Option<ApplicationView<'_>>
-    ensures { option_map application_seen result ≡ application_of (segments_of path.entry.bytes.now) }
+    ensures {
+        option_map application_seen result ≡ application_of (segments_of path.entry.bytes.now)
+    }
 {
     match split(behind_key(path)) {
         None => None,

@@ -25,7 +25,9 @@ impl Model for Assemblies {
 
     ghost Value = { Holdings };
 
-    ghost coded = { Prim.hlevel (codes, map.code {R = nat_cmp} coded_ℕ (coded_list coded_ℕ), map.code {R = nat_cmp} coded_ℕ coded_triad) };
+    ghost coded =
+        { Prim.hlevel (codes, map.code {R = nat_cmp} coded_ℕ (coded_list coded_ℕ),
+        map.code {R = nat_cmp} coded_ℕ coded_triad) };
 
     ghost view = { λ a. holdings (map.from_sorted a.held.items) };
 
@@ -75,7 +77,11 @@ impl Assemblies {
     /// Keeps an assembly without an owner, in the place of one of the same instance.
     pub(crate) fn hold(&mut self, instance: u16, bytes: Bytes) -> Result<(), NoMemory>
         requires { length bytes ≤ 511 }
-        ensures { self.new ≡ (if is_ok result then record { bytes = map.insert self.old.bytes instance bytes; owners = map.remove self.old.owners instance } else self.old) }
+        ensures {
+            self.new ≡ (if is_ok result then
+                record { bytes = map.insert self.old.bytes instance bytes; owners =
+                map.remove self.old.owners instance } else self.old)
+        }
     {
         let assembly = Assembly { bytes, owner: None };
         match place_from(&self.held, instance) {
@@ -126,7 +132,10 @@ impl Assemblies {
     /// Writes the bytes of an instance that is there.
     pub(crate) fn write(&mut self, instance: u32, bytes: &[u8])
         requires { IsSomeAnd (map.get self.old.bytes instance) (λ d. length bytes.now ≡ length d) }
-        ensures { self.new ≡ record { bytes = map.insert self.old.bytes instance bytes.now; owners = self.old.owners } }
+        ensures {
+            self.new ≡ record { bytes = map.insert self.old.bytes instance bytes.now; owners =
+                self.old.owners }
+        }
     {
         if let Some(at) = place_of(&self.held, instance) {
             self.held[at].1.bytes.overwrite(bytes);
@@ -136,7 +145,10 @@ impl Assemblies {
     /// Writes as much of the bytes as an instance that is there has.
     pub(crate) fn configure(&mut self, instance: u32, bytes: &[u8])
         requires { IsSomeAnd (map.get self.old.bytes instance) (λ d. length d ≤ length bytes.now) }
-        ensures { self.new ≡ record { bytes = written_over self.old.bytes instance bytes.now (map.get self.old.bytes instance); owners = self.old.owners } }
+        ensures {
+            self.new ≡ record { bytes = written_over self.old.bytes instance bytes.now
+                (map.get self.old.bytes instance); owners = self.old.owners }
+        }
     {
         let Some(held) = self.get(instance) else {
             unreachable!()
@@ -147,7 +159,10 @@ impl Assemblies {
 
     /// Enters the owner of an instance that has bytes.
     pub(crate) fn own(&mut self, instance: u32, triad: Triad)
-        ensures { self.new ≡ record { bytes = self.old.bytes; owners = owned_with self.old.owners instance triad (size_in self.old.bytes instance) } }
+        ensures {
+            self.new ≡ record { bytes = self.old.bytes; owners =
+                owned_with self.old.owners instance triad (size_in self.old.bytes instance) }
+        }
     {
         if let Some(at) = place_of(&self.held, instance) {
             if !self.held[at].1.bytes.as_slice().is_empty() {
@@ -158,7 +173,10 @@ impl Assemblies {
 
     /// Takes out the owner of an instance, if it has one.
     pub(crate) fn disown(&mut self, instance: u32)
-        ensures { self.new ≡ record { bytes = self.old.bytes; owners = map.remove self.old.owners instance } }
+        ensures {
+            self.new ≡ record { bytes = self.old.bytes; owners =
+                map.remove self.old.owners instance }
+        }
     {
         if let Some(at) = place_of(&self.held, instance) {
             self.held[at].1.owner = None;

@@ -17,7 +17,11 @@ use cip_open::OpenView;
 impl Target {
     // The assemblies that an application path names, if all three exist.
     fn joined<'a>(&self, application: ApplicationView<'a>) -> Option<Joined<'a>>
-        ensures { MatchOption result (Misses self.now.objects.assemblies (application_seen application.entry)) (λ j. IsJoined self.now.objects.assemblies (application_seen application.entry) j) }
+        ensures {
+            MatchOption result (Misses self.now.objects.assemblies
+                (application_seen application.entry))
+                (λ j. IsJoined self.now.objects.assemblies (application_seen application.entry) j)
+        }
     {
         let Some(config) = self.assemblies.config(application.config) else {
             return None;
@@ -44,7 +48,8 @@ impl Target {
         self.assemblies.config(instance)
     }
 
-    /// Whether an open can end here (Volume 1, chapter 3, Forward_Open): what it joins, or the first row that fits, in the
+    /// Whether an open can end here (Volume 1, chapter 3, Forward_Open): what it joins, or the
+    /// first row that fits, in the
     /// order of `EndRefusal`. It takes no memory.
     #[tactic(auto, unfolding(crate::specs::Ends::end_row))]
     pub fn end_row(&self, asked: &OpenView<'_>) -> Result<EndLink, EndRefusal>
@@ -62,7 +67,8 @@ impl Target {
         }
     }
 
-    /// Whether an open can end here: what it joins, or the status of the first row that fits. It takes no memory.
+    /// Whether an open can end here: what it joins, or the status of the first row that fits. It
+    /// takes no memory.
     pub fn check(&self, asked: &OpenView<'_>) -> Result<EndLink, Status>
         ensures { result ≡ end_gives (row_at self.now (open_of asked.now)) }
     {
@@ -72,7 +78,8 @@ impl Target {
         }
     }
 
-    /// Takes an open that `check` gave this link: enters the connection as the owner of the O→T instance if that has bytes, and
+    /// Takes an open that `check` gave this link: enters the connection as the owner of the O→T
+    /// instance if that has bytes, and
     /// writes the configuration bytes, without a pad. It takes no memory.
     pub fn accept(&mut self, link: &EndLink, asked: &OpenView<'_>)
         requires { row_at self.old (open_of asked.now) ≡ Ok link.now }
@@ -87,9 +94,13 @@ impl Target {
             .configure(u32::from(link.config), application.bytes);
     }
 
-    /// Writes a datum, without its sequence count, to an assembly of as many bytes. It takes no memory.
+    /// Writes a datum, without its sequence count, to an assembly of as many bytes. It takes no
+    /// memory.
     pub fn consume(&mut self, instance: u16, data_: &[u8])
-        requires { IsSomeAnd (map.get self.old.objects.assemblies instance) (λ held. length data_.now ≡ length held) }
+        requires {
+            IsSomeAnd (map.get self.old.objects.assemblies instance)
+                (λ held. length data_.now ≡ length held)
+        }
         ensures { self.new ≡ consumed self.old instance data_.now }
     {
         self.assemblies.write(u32::from(instance), data_);

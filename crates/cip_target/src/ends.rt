@@ -1,4 +1,5 @@
-//! The rows of an open that is to end here, from an application path on, in the order of the routing table
+//! The rows of an open that is to end here, from an application path on, in the order of the
+//! routing table
 //! (Volume 1, chapter 3, Forward_Open).
 ghost use Rattle.std.specs.Prelude.{◌≡◌, ◌≤◌};
 ghost use Rattle.cip_target.specs.Ends.{is_configuration, datum_size, are_sizes, end_status};
@@ -24,7 +25,8 @@ pub enum EndRefusal {
 }
 
 impl EndRefusal {
-    /// The status that the row answers: general status 01 and an extended status (Volume 1, chapter 3, Forward_Open).
+    /// The status that the row answers: general status 01 and an extended status (Volume 1, chapter
+    /// 3, Forward_Open).
     pub fn status(self) -> Status
         ensures { result ≡ end_status self }
     {
@@ -79,7 +81,8 @@ fn are_sizes(fields: &OpenFields, consume: u16, produce: u16) -> bool
         && params(fields.to_params).size == datum_size(class, produce)
 }
 
-/// The row of an open whose three assemblies exist; `owned` says whether the O→T instance has an owner.
+/// The row of an open whose three assemblies exist; `owned` says whether the O→T instance has an
+/// owner.
 pub(crate) fn joined_row(
     fields: &OpenFields,
     joined: &Joined<'_>,

@@ -8,7 +8,8 @@ use cip_message::{put_double, put_word};
 use std::alloc::{AllocError, Global};
 use std::marker::Model;
 
-/// The fields of the Identity object (Volume 1, chapter 5, Identity object, class attributes 1 to 7 of instance 1).
+/// The fields of the Identity object (Volume 1, chapter 5, Identity object, class attributes 1 to 7
+/// of instance 1).
 #[derive(Debug, Drop, PartialEq, Eq)]
 pub struct IdentityFields {
     pub vendor: u16,
@@ -53,8 +54,8 @@ fn are_printable(bytes: &[u8]) -> bool
 }
 
 impl Identity {
-    /// The identity of these fields; None where the major revision passes 127, or the name is longer than 32 characters or
-    /// has one that is not from 20 to 7E.
+    /// The identity of these fields; None where the major revision passes 127, or the name is
+    /// longer than 32 characters or has one that is not from 20 to 7E.
     pub fn new(fields: IdentityFields) -> Option<Identity>
         ensures legal { IsSome result ↔ IsTrue (is_identity fields) }
         ensures value { IfSome result (λ identity. identity ≡ fields) }

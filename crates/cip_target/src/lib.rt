@@ -1,5 +1,5 @@
-//! The target: the Identity object and the Assembly objects that a module has itself, and what they answer
-//! (Volume 1, chapter 5, object library).
+//! The target: the Identity object and the Assembly objects that a module has itself, and what they
+//! answer (Volume 1, chapter 5, object library).
 #![tactic(auto)]
 
 mod application;

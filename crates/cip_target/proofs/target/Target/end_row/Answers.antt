@@ -16,5 +16,6 @@ returns-in-Some-joined c =
     c.is_owned-owned.ensures ∙ ap (λ (i : ℕ). is_some (map.get c.self.inside.assemblies.owners i)) c.from.ensures
     ∙ ap (λ (t : Ends). is_some (map.get t.owners c.in-Some-joined.joined.consume.instance)) c.self.view_is in
     c.joined_row.ensures
-    ∙ joined_is t.objects.assemblies owned c.args.asked.now.fields (application_seen c.in-Some.application) c.in-Some-joined.joined c.is_owned-owned.result c.in-Some-joined.ensures is
+    ∙ joined_is t.objects.assemblies owned c.args.asked.now.fields (application_seen c.in-Some.application) c.in-Some-joined.joined c.is_owned-owned.result
+    c.in-Some-joined.ensures is
     ∙ ap (λ (p : Option Application). application_row t.objects.assemblies owned c.args.asked.now.fields p) c.in-Some.ensures

@@ -13,7 +13,8 @@ joined (p ∷ ps) found = put_before p.0 (found p.1) (joined ps found)
 
 -- each key of the index finds a record
 abbrev pub IsPresent : {K X : Type 0} → List (K × ℕ) → (ℕ → Option X) → Type 0
-IsPresent {K} ps found = (k : ℕ) (d : K × ℕ) → k < length ps → IsSome (found (slice_index_or ps k d).1)
+IsPresent {K} ps found =
+    (k : ℕ) (d : K × ℕ) → k < length ps → IsSome (found (slice_index_or ps k d).1)
 
 -- whether the record that an entry of the index finds passes a test
 abbrev pub passes : {K X : Type 0} → (K × X → Bool) → (ℕ → Option X) → K × ℕ → Bool

@@ -9,7 +9,7 @@ use Rattle.std.specs.FinMap.{IsAntisymmetric}
 use Rattle.std.specs.FinMap.Entries.{is_sorted}
 use Rattle.std.proofs.lemmas.List.Sorted.{searchable_from_sorted}
 use Rattle.cip_base.proofs.Sorted.{first, second, below-at}
-use Rattle.cip_hops.specs.Index.{StandsAt, FitsAt}
+use Rattle.cip_base.specs.Rising.{StandsAt, FitsAt}
 
 pub below_or_same : (a b : ℕ) → a ≤ b → (a < b) ⊎ (a ≡ b)
 below_or_same zero zero le = inr refl
@@ -25,11 +25,14 @@ module _ {K X : Type 0} {R : K → K → Ordering} (o : IsTotalOrder R) where
   rises (e ∷ es) h (suc i) zero d a b = absurd (omega arith)
   rises (e ∷ es) h (suc i) (suc j) d a b = rises es (second _ _ h) i j d (omega arith) (omega arith)
 
-  search_premise : (es : List (K × X)) (name : K) → T (is_sorted R es) → IsNonDecreasingBy (λ y. ordering_index (R y.0 name)) es
-  search_premise es name h = searchable_from_sorted o (λ (y : K × X). y.0) es name (λ k d a b. ap is_lt (o.antisymm _ _ ∙ ap ordering_reverse (rises es h k (k + 1) d (omega arith) b)))
+  pub search_premise : (es : List (K × X)) (name : K) → T (is_sorted R es) → IsNonDecreasingBy (λ y. ordering_index (R y.0 name)) es
+  search_premise es name h =
+      searchable_from_sorted o (λ (y : K × X). y.0) es name
+      (λ k d a b. ap is_lt (o.antisymm _ _ ∙ ap ordering_reverse (rises es h k (k + 1) d (omega arith) b)))
 
 -- a binary search finds the place of the name, or the one where it would stand
-pub searched : {K : Type 0} {R : K → K → Ordering} → IsTotalOrder R → IsAntisymmetric R → (es : List (K × ℕ)) (name : K) (r : Result ℕ ℕ) → T (is_sorted R es)
+pub searched : {K : Type 0} {R : K → K → Ordering} → IsTotalOrder R → IsAntisymmetric R → (es : List (K × ℕ)) (name : K) (r : Result ℕ ℕ)
+    → T (is_sorted R es)
     → IsSearchInRange r (length es) → IsBinarySearchResult (λ y. R y.0 name) es r → MatchResult r (StandsAt es name) (FitsAt R es name)
 searched o same es name (Ok i) h bound at = record { within = bound; key = λ d. same _ _ (at d) }
 searched o same es name (Err i) h bound parted =
@@ -40,7 +43,8 @@ searched o same es name (Err i) h bound parted =
       high = λ d lt. o.antisymm name _ ∙ ap ordering_reverse (parts.1 i d (omega arith) lt);
     }
 
-no_less : {K : Type 0} {R : K → K → Ordering} → IsTotalOrder R → (n a b : K) (r s : Ordering) → R n a ≡ r → R n b ≡ s → R a b ≡ Less → is_ge s ≡ true → is_ge r ≡ true
+no_less : {K : Type 0} {R : K → K → Ordering} → IsTotalOrder R → (n a b : K) (r s : Ordering) → R n a ≡ r → R n b ≡ s → R a b ≡ Less → is_ge s ≡ true
+    → is_ge r ≡ true
 no_less {R = R} o n a b Less s e f less ge = let far : s ≡ Less = sym f ∙ o.trans n a b e less in absurd (cc)
 no_less o n a b Equal s e f less ge = refl
 no_less o n a b Greater s e f less ge = refl

@@ -6,20 +6,23 @@ use Rattle.std.specs.Ordering.{is_lt}
 use Rattle.std.specs.declared.cmp.Ordering.{Ordering}
 use Rattle.std.specs.FinMap.Entries.{below_all, is_sorted}
 use Rattle.cip_base.proofs.Sorted.{both, first, second}
-use Rattle.cip_hops.specs.Joined.{put_before, joined, IsPresent, passes}
+use Rattle.cip_base.specs.Joined.{put_before, joined, IsPresent, passes}
 
 -- what holds at each place, after a push and after a removal
-pub each_push : {X : Type 0} (P : X → Type 0) (es : List X) (x : X) → ((k : ℕ) (d : X) → k < length es → P (get_or es k d)) → P x → (k : ℕ) (d : X) → k < length (es ++ x ∷ []) → P (get_or (es ++ x ∷ []) k d)
+pub each_push : {X : Type 0} (P : X → Type 0) (es : List X) (x : X) → ((k : ℕ) (d : X) → k < length es → P (get_or es k d)) → P x → (k : ℕ) (d : X)
+    → k < length (es ++ x ∷ []) → P (get_or (es ++ x ∷ []) k d)
 each_push P [] x h p zero d lt = p
 each_push P [] x h p (suc k) d lt = absurd (omega arith)
 each_push P (e ∷ es) x h p zero d lt = h 0 d (omega arith)
 each_push P (e ∷ es) x h p (suc k) d lt = each_push P es x (λ j c l. h (suc j) c (omega arith)) p k d (omega arith)
 
-pub each_other : {X : Type 0} (P : X → Type 0) (es : List X) (i : ℕ) → ((k : ℕ) (d : X) → k < length es → k ≢ i → P (get_or es k d)) → i < length es → (k : ℕ) (d : X) → k < length (remove es i) → P (get_or (remove es i) k d)
+pub each_other : {X : Type 0} (P : X → Type 0) (es : List X) (i : ℕ) → ((k : ℕ) (d : X) → k < length es → k ≢ i → P (get_or es k d)) → i < length es
+    → (k : ℕ) (d : X) → k < length (remove es i) → P (get_or (remove es i) k d)
 each_other P [] i h in_range k d lt = absurd (omega arith)
 each_other P (e ∷ es) zero h in_range k d lt = h (suc k) d (omega arith) (λ e. cc)
 each_other P (e ∷ es) (suc i) h in_range zero d lt = h 0 d (omega arith) (λ e. cc)
-each_other P (e ∷ es) (suc i) h in_range (suc k) d lt = each_other P es i (λ j c l ne. h (suc j) c (omega arith) (λ e. ne (omega arith))) (omega arith) k d (omega arith)
+each_other P (e ∷ es) (suc i) h in_range (suc k) d lt =
+    each_other P es i (λ j c l ne. h (suc j) c (omega arith) (λ e. ne (omega arith))) (omega arith) k d (omega arith)
 
 -- which default does not matter within the list
 pub same_at : {X : Type 0} (xs : List X) (i : ℕ) (c d : X) → i < length xs → get_or xs i c ≡ get_or xs i d
@@ -46,7 +49,8 @@ module _ {K X : Type 0} where
   length_joined (p ∷ ps) found h = one_more p.0 (found p.1) _ (h 0 p (omega arith)) ∙ ap (λ n. suc n) (length_joined ps found (rest_present p ps found h))
 
   -- records that are the same under the keys of the index
-  pub joined_same : (ps : List (K × ℕ)) (found new : ℕ → Option X) → ((k : ℕ) (d : K × ℕ) → k < length ps → new (get_or ps k d).1 ≡ found (get_or ps k d).1) → joined ps new ≡ joined ps found
+  pub joined_same : (ps : List (K × ℕ)) (found new : ℕ → Option X)
+      → ((k : ℕ) (d : K × ℕ) → k < length ps → new (get_or ps k d).1 ≡ found (get_or ps k d).1) → joined ps new ≡ joined ps found
   joined_same [] found new h = refl
   joined_same (p ∷ ps) found new h = λ i. put_before p.0 (h 0 p (omega arith) i) (joined_same ps found new (λ k d lt. h (suc k) d (omega arith)) i)
 
@@ -66,12 +70,15 @@ module _ {K X : Type 0} where
   remove_put k None rest i h = absurd (cc)
   remove_put k (Some x) rest i h = refl
 
-  pub joined_remove : (ps : List (K × ℕ)) (found new : ℕ → Option X) (i : ℕ) → IsPresent ps found → i < length ps → ((k : ℕ) (d : K × ℕ) → k < length ps → k ≢ i → new (get_or ps k d).1 ≡ found (get_or ps k d).1) → joined (remove ps i) new ≡ remove (joined ps found) i
+  pub joined_remove : (ps : List (K × ℕ)) (found new : ℕ → Option X) (i : ℕ) → IsPresent ps found → i < length ps
+      → ((k : ℕ) (d : K × ℕ) → k < length ps → k ≢ i → new (get_or ps k d).1 ≡ found (get_or ps k d).1)
+      → joined (remove ps i) new ≡ remove (joined ps found) i
   joined_remove [] found new i h lt same = absurd (omega arith)
   joined_remove (p ∷ ps) found new zero h lt same =
       joined_same ps found new (λ k d l. same (suc k) d (omega arith) (λ e. cc)) ∙ sym (drop_put p.0 (found p.1) (joined ps found) (h 0 p (omega arith)))
   joined_remove (p ∷ ps) found new (suc i) h lt same =
-      (λ j. put_before p.0 (same 0 p (omega arith) (λ e. cc) j) (joined_remove ps found new i (rest_present p ps found h) (omega arith) (λ k d l ne. same (suc k) d (omega arith) (λ e. ne (omega arith))) j))
+      (λ j. put_before p.0 (same 0 p (omega arith) (λ e. cc) j)
+      (joined_remove ps found new i (rest_present p ps found h) (omega arith) (λ k d l ne. same (suc k) d (omega arith) (λ e. ne (omega arith))) j))
       ∙ sym (remove_put p.0 (found p.1) (joined ps found) i (h 0 p (omega arith)))
 
   -- the joined entry at a place of the index
@@ -83,23 +90,29 @@ module _ {K X : Type 0} where
   past_put k None rest d i h = absurd (cc)
   past_put k (Some y) rest d i h = refl
 
-  pub joined_at : (ps : List (K × ℕ)) (found : ℕ → Option X) (i : ℕ) (c : K × ℕ) (d : K × X) (x : X) → IsPresent ps found → i < length ps → found (get_or ps i c).1 ≡ Some x → get_or (joined ps found) i d ≡ ((get_or ps i c).0, x)
+  pub joined_at : (ps : List (K × ℕ)) (found : ℕ → Option X) (i : ℕ) (c : K × ℕ) (d : K × X) (x : X) → IsPresent ps found → i < length ps
+      → found (get_or ps i c).1 ≡ Some x → get_or (joined ps found) i d ≡ ((get_or ps i c).0, x)
   joined_at [] found i c d x h lt is = absurd (omega arith)
   joined_at (p ∷ ps) found zero c d x h lt is = at_put p.0 (found p.1) (joined ps found) d x is
-  joined_at (p ∷ ps) found (suc i) c d x h lt is = past_put p.0 (found p.1) (joined ps found) d i (h 0 p (omega arith)) ∙ joined_at ps found i c d x (rest_present p ps found h) (omega arith) is
+  joined_at (p ∷ ps) found (suc i) c d x h lt is = past_put p.0 (found p.1) (joined ps found) d i (h 0 p (omega arith))
+      ∙ joined_at ps found i c d x (rest_present p ps found h) (omega arith) is
 
   -- a fact about each key of the index holds of each key that is joined
-  each_put : (P : K → Type 0) (q : K) (o : Option X) (rest : List (K × X)) → P q → ((k : ℕ) (d : K × X) → k < length rest → P (get_or rest k d).0) → (k : ℕ) (d : K × X) → k < length (put_before q o rest) → P (get_or (put_before q o rest) k d).0
+  each_put : (P : K → Type 0) (q : K) (o : Option X) (rest : List (K × X)) → P q → ((k : ℕ) (d : K × X) → k < length rest → P (get_or rest k d).0)
+      → (k : ℕ) (d : K × X) → k < length (put_before q o rest) → P (get_or (put_before q o rest) k d).0
   each_put P q None rest p r k d lt = r k d lt
   each_put P q (Some x) rest p r zero d lt = p
   each_put P q (Some x) rest p r (suc k) d lt = r k d (omega arith)
 
-  pub each_joined : (P : K → Type 0) (ps : List (K × ℕ)) (found : ℕ → Option X) → ((k : ℕ) (d : K × ℕ) → k < length ps → P (get_or ps k d).0) → (k : ℕ) (d : K × X) → k < length (joined ps found) → P (get_or (joined ps found) k d).0
+  pub each_joined : (P : K → Type 0) (ps : List (K × ℕ)) (found : ℕ → Option X) → ((k : ℕ) (d : K × ℕ) → k < length ps → P (get_or ps k d).0)
+      → (k : ℕ) (d : K × X) → k < length (joined ps found) → P (get_or (joined ps found) k d).0
   each_joined P [] found h k d lt = absurd (omega arith)
-  each_joined P (p ∷ ps) found h k d lt = each_put P p.0 (found p.1) (joined ps found) (h 0 p (omega arith)) (each_joined P ps found (λ j c l. h (suc j) c (omega arith))) k d lt
+  each_joined P (p ∷ ps) found h k d lt =
+      each_put P p.0 (found p.1) (joined ps found) (h 0 p (omega arith)) (each_joined P ps found (λ j c l. h (suc j) c (omega arith))) k d lt
 
   -- the first joined entry that passes a test, from the first of the index whose record passes
-  find_put : (p : K × X → Bool) (k : K) (o : Option X) (rest : List (K × X)) → find p (put_before k o rest) ≡ cond (option_map_or (λ x. p (k, x)) o false) (option_map (λ x. (k, x)) o) (find p rest)
+  find_put : (p : K × X → Bool) (k : K) (o : Option X) (rest : List (K × X))
+      → find p (put_before k o rest) ≡ cond (option_map_or (λ x. p (k, x)) o false) (option_map (λ x. (k, x)) o) (find p rest)
   find_put p k None rest = refl
   find_put p k (Some x) rest = refl
 
@@ -107,17 +120,21 @@ module _ {K X : Type 0} where
   joined_none p [] found e = refl
   joined_none p (q ∷ ps) found e =
       find_put p q.0 (found q.1) (joined ps found)
-      ∙ elim (passes p found q) as (λ b. cond b (Some q) (find (passes p found) ps) ≡ None → cond b (option_map (λ x. (q.0, x)) (found q.1)) (find p (joined ps found)) ≡ None) [
+      ∙ elim (passes p found q) as (λ b. cond b (Some q) (find (passes p found) ps) ≡ None
+      → cond b (option_map (λ x. (q.0, x)) (found q.1)) (find p (joined ps found)) ≡ None) [
         | true ↦ λ s. absurd (cc)
         | false ↦ λ s. joined_none p ps found s
       ] e
 
-  pub joined_first : (p : K × X → Bool) (ps : List (K × ℕ)) (found : ℕ → Option X) (q : K × ℕ) (x : X) → find (passes p found) ps ≡ Some q → found q.1 ≡ Some x → find p (joined ps found) ≡ Some (q.0, x)
+  pub joined_first : (p : K × X → Bool) (ps : List (K × ℕ)) (found : ℕ → Option X) (q : K × ℕ) (x : X) → find (passes p found) ps ≡ Some q
+      → found q.1 ≡ Some x → find p (joined ps found) ≡ Some (q.0, x)
   joined_first p [] found q x e is = absurd (cc)
   joined_first p (r ∷ ps) found q x e is =
       find_put p r.0 (found r.1) (joined ps found)
-      ∙ elim (passes p found r) as (λ b. cond b (Some r) (find (passes p found) ps) ≡ Some q → cond b (option_map (λ x. (r.0, x)) (found r.1)) (find p (joined ps found)) ≡ Some (q.0, x)) [
-        | true ↦ λ s. let same : r ≡ q = cc in ap (λ (t : K × ℕ). option_map (λ (y : X). (t.0, y)) (found t.1)) same ∙ ap (option_map (λ (y : X). (q.0, y))) is
+      ∙ elim (passes p found r) as (λ b. cond b (Some r) (find (passes p found) ps) ≡ Some q
+      → cond b (option_map (λ x. (r.0, x)) (found r.1)) (find p (joined ps found)) ≡ Some (q.0, x)) [
+        | true ↦ λ s. let same : r ≡ q = cc in ap (λ (t : K × ℕ). option_map (λ (y : X). (t.0, y)) (found t.1)) same
+            ∙ ap (option_map (λ (y : X). (q.0, y))) is
         | false ↦ λ s. joined_first p ps found q x s is
       ] e
 
