@@ -1,5 +1,5 @@
 //! The Identity and Assembly objects behind a module.
-use crate::bench::play;
+use bench::play;
 use std::test::Fail;
 
 #[test]
@@ -8,7 +8,7 @@ fn an_identity_tells_its_attributes(rt: HostRuntime) -> Result<(), Fail> {
         rt.alloc(),
         "
         B request 1 00 1 010220012401
-        > send 1 00 reply 1 8100000001010C000200010300000B0B0000024252
+        > send 1 00 reply 1 81_00_00_00_0101_0C00_0200_0103_0000_0B0B0000_02_4252
         B request 1 00 1 0E03200124013001
         > send 1 00 reply 1 8E0000000101
         B request 1 00 1 0E03200124013002
@@ -20,9 +20,9 @@ fn an_identity_tells_its_attributes(rt: HostRuntime) -> Result<(), Fail> {
         B request 1 00 1 0E03200124013005
         > send 1 00 reply 1 8E0000000000
         B request 1 00 1 0E03200124013006
-        > send 1 00 reply 1 8E0000000B0B0000
+        > send 1 00 reply 1 8E_00_00_00_0B0B0000
         B request 1 00 1 0E03200124013007
-        > send 1 00 reply 1 8E000000024252
+        > send 1 00 reply 1 8E_00_00_00_024252
         B request 1 00 1 0E03200124013008
         > send 1 00 reply 1 8E001400
         B request 1 00 1 01022001240100
@@ -39,18 +39,18 @@ fn an_assembly_is_read_and_written(rt: HostRuntime) -> Result<(), Fail> {
         rt.alloc(),
         "
         E request 2 01 1 0E03200424653003
-        > send 2 01 reply 1 8E00000000000000
-        E request 2 01 1 1003200424653003AABBCCDD
+        > send 2 01 reply 1 8E_00_00_00_00000000
+        E request 2 01 1 10_03200424653003_AABBCCDD
         > send 2 01 reply 1 90000000
         E request 2 01 1 0E03200424653003
-        > send 2 01 reply 1 8E000000AABBCCDD
+        > send 2 01 reply 1 8E_00_00_00_AABBCCDD
         # One byte, five bytes, another instance of the same size.
         E request 2 01 1 1003200424653003AA
         > send 2 01 reply 1 90001300
-        E request 2 01 1 1003200424653003AABBCCDDEE
+        E request 2 01 1 10_03200424653003_AABBCCDDEE
         > send 2 01 reply 1 90001500
         E request 2 01 1 0E03200424673003
-        > send 2 01 reply 1 8E00000000000000
+        > send 2 01 reply 1 8E_00_00_00_00000000
         ",
     )
 }

@@ -1,8 +1,8 @@
-//! What no clause says: whole transcripts, the first fault of a script, and readers and writers that fail or are slow. Each test
+//! The console over readers and writers that fail or are slow: whole transcripts, and the first fault of a script. Each test
 //! passes too where one growth, whichever, is refused.
 ghost use Rattle.std.specs.Prelude.{None};
 
-use crate::{ConsoleFault, Out, Plain, SCRIPT_LIMIT, ScriptFault, Sink, Source, run_fixed};
+use cip_console::{ConsoleFault, Out, Plain, SCRIPT_LIMIT, ScriptFault, Sink, Source, run_fixed};
 use std::alloc::Global;
 use std::io;
 use std::test::Fail;
