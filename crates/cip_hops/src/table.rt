@@ -255,6 +255,14 @@ impl HopTable {
         (self.next - 1) as u32
     }
 
+    /// That each record stands under its own triad, and that ids end: a fact for the proof of a
+    /// caller, and no work.
+    pub fn is_within(&self)
+        ensures { IsWithin self.now }
+    {
+        let _last = self.last();
+    }
+
     /// What stands under a triad, opening or open.
     pub fn held(&self, triad: &Triad) -> Option<&Held>
         ensures { option_copied result ≡ map.get self.now.held triad.now }

@@ -1,6 +1,19 @@
 -- The close group: which row answers a Forward_Close (Volume 1, chapter 3, Forward_Close).
+--
+-- The rows in their order; the first that fits answers.
+--     cut in the fixed part         CutInTheFixedPart (unread_row)
+--     cut in the path               CutInThePath (unread_row)
+--     bytes after the path          BytesAfterThePath (unread_row)
+--     path unreadable               PathUnreadable (unread_row)
+--     not this sender's open triad  Refuses NotThisSendersOpenTriad
+--     path differs from the hop's   Refuses PathDiffersFromTheHops
+--     time-out ticks spent          Refuses (NotSentOn TicksSpent)
+--     no pending left               Refuses (NotSentOn NoPendingLeft)
+--     forwarded                     Forwarded
+--     closed at the end             ClosedAtTheEnd
 use Rattle.std.specs.Prelude.{ℕ, ◌==◌, Bool, not, ◌&&◌, nat_lt, if◌then◌else◌, Option, Some, None, List, length, is_some}
 use Rattle.std.specs.Str.{bytes_eq}
+use Rattle.cip_base.specs.Words.{LinkAddress, Octets, PortIdentifier}
 use Rattle.cip_segment.specs.Reading.{HopAt, hop_of}
 use Rattle.cip_message.specs.declared.fault.DataFault.{DataFault}
 use Rattle.cip_message.specs.declared.fault.DataFault.TheVariants.{Short, Long, Path}
@@ -22,7 +35,7 @@ use Rattle.cip_module.specs.State.{State}
 
 pub data CloseRow : Type 0 where
   Refuses : (refusal : CloseRefusal) → CloseRow
-  Forwarded : (port : ℕ) → (address : List ℕ) → (rest : List ℕ) → CloseRow
+  Forwarded : (port : PortIdentifier) → (address : LinkAddress) → (rest : Octets) → CloseRow
   ClosedAtTheEnd : CloseRow
 
 -- whether a request from there is from the connection's up side: by port and address, or by the op
@@ -31,12 +44,12 @@ abbrev pub is_sender : UpSide → HopUp → Bool
 is_sender (Link port address number) up = up_is port address up
 is_sender (Local of) up = is_id of (op_of up)
 
-abbrev pub wait_row : ℕ → List ℕ → List ℕ → Option LinkRefusal → CloseRow
+abbrev pub wait_row : PortIdentifier → LinkAddress → Octets → Option LinkRefusal → CloseRow
 wait_row port address rest (Some fault) = Refuses (NotSentOn fault)
 wait_row port address rest None = Forwarded port address rest
 
 -- a link below: the path has to lead there
-abbrev pub below_row : Pendings → Close → ℕ → List ℕ → Option HopAt → CloseRow
+abbrev pub below_row : Pendings → Close → PortIdentifier → LinkAddress → Option HopAt → CloseRow
 below_row p c port address None = Refuses PathDiffersFromTheHops
 below_row p c port address (Some hop) =
     if not (hop.port == port && bytes_eq hop.address address) then Refuses PathDiffersFromTheHops
@@ -59,7 +72,7 @@ unfoldable pub close_row : State → UpSide → Close → CloseRow
 close_row s sender c = triad_row s.pendings sender c (hop_at s.hops c.fields.triad)
 
 -- the row of data that cannot be read as a Forward_Close
-abbrev pub unread_row : List ℕ → DataFault → CloseRefusal
+abbrev pub unread_row : Octets → DataFault → CloseRefusal
 unread_row d Short = if nat_lt (length d) 12 then CutInTheFixedPart else CutInThePath
 unread_row d Long = BytesAfterThePath
 unread_row d (Path fault) = PathUnreadable

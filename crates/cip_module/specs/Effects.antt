@@ -3,7 +3,7 @@
 use Rattle.std.specs.Prelude.{ℕ, ◌+◌, ◌==◌, not, false, if◌then◌else◌, List, [], ◌∷◌, ◌++◌, Bool, Option, Some, None, is_some, length}
 use Rattle.std.specs.Option.{option_map_or}
 use Rattle.std.specs.FinMap as map
-use Rattle.cip_base.specs.Words.{Octets, LinkAddress, PortIdentifier, Microseconds, WordCount}
+use Rattle.cip_base.specs.Words.{InstanceNumber, LinkAddress, Microseconds, Octets, OpNumber, PortIdentifier, RequestNumber, WordCount}
 use Rattle.cip_base.specs.declared.triad.Triad.{Triad}
 use Rattle.cip_pending.specs.declared.entry.UpSide.{UpSide}
 use Rattle.cip_pending.specs.declared.entry.UpSide.TheVariants.{Link, Local}
@@ -56,9 +56,9 @@ pub record Sending : Type 0 where
 
 pub data Effect : Type 0 where
   -- an op is used up
-  Spends : (op : ℕ) → Effect
+  Spends : (op : OpNumber) → Effect
   -- a reply goes to whom a request came from
-  Replies : (up : UpSide) → (bytes : List ℕ) → Effect
+  Replies : (up : UpSide) → (bytes : Octets) → Effect
   -- the target answers a request
   Answers : (up : UpSide) → (request : Request) → Effect
   -- a request goes on under the next number, and waits for its reply
@@ -68,11 +68,12 @@ pub data Effect : Type 0 where
   -- a connection ends here: it draws its id, is open, and its configuration bytes are written
   Accepts : (opening : Opening) → (open_ : Open) → (link : EndLink) → Effect
   -- the connection of this triad, which was opening, is open; the reply goes up
-  Finishes : (number : ℕ) → (triad : Triad) → (bytes : List ℕ) → (success : OpenSuccess) → Effect
+  Finishes : (number : RequestNumber) → (triad : Triad) → (bytes : Octets) → (success : OpenSuccess)
+      → Effect
   -- a pending gets this reply; what it was opening is abandoned
-  Takes : (number : ℕ) → (bytes : List ℕ) → Effect
+  Takes : (number : RequestNumber) → (bytes : Octets) → Effect
   -- the time of a pending ran out; what it was opening is abandoned
-  PendingTimesOut : (number : ℕ) → Effect
+  PendingTimesOut : (number : RequestNumber) → Effect
   -- the connection is closed
   Removes : (triad : Triad) → Effect
   -- the connection was silent for too long
@@ -84,13 +85,13 @@ pub data Effect : Type 0 where
   -- the count of the last datum, consumed (up) or produced (down)
   Counts : (triad : Triad) → (counted : Side) → (count : ℕ) → Effect
   -- an assembly gets these bytes
-  Writes : (instance : ℕ) → (bytes : List ℕ) → Effect
+  Writes : (instance : InstanceNumber) → (bytes : Octets) → Effect
   -- a command is refused
   RefusesCommand : (fault : Refused) → Effect
   -- a frame is dropped
   Drops : (reason : Dropped) → Effect
   -- the clock is raised by so many microseconds
-  Advances : (by : ℕ) → Effect
+  Advances : (by : Microseconds) → Effect
 
 -- ---- the state after an effect
 
@@ -129,7 +130,7 @@ given_up None h = h
 given_up (Some entry) h = given_up_of entry.kind h
 
 -- a side that is no link is not watched
-abbrev pub renewed : Hops → Triad → Side → ℕ → Hops
+abbrev pub renewed : Hops → Triad → Side → Microseconds → Hops
 renewed h triad side now = if option_map_or (is_link side) (hop_at h triad) false then
     changed h triad (touched side now) else h
 
@@ -200,28 +201,28 @@ request_below s sending =
 
 -- a reply to whom the request came from: by a link with the number that it had there, or to this
 -- module's own command
-abbrev pub reply_up : UpSide → List ℕ → Output
+abbrev pub reply_up : UpSide → Octets → Output
 reply_up (Link port address number) bytes = outputs.Send port address (bodies.Reply number bytes)
 reply_up (Local op) bytes = outputs.Done op bytes
 
 -- a success as it goes up: with the own up id, and the T→O id of the node above; a command gets the
 -- bytes as received
-abbrev pub success_up : HopUp → OwnIds → List ℕ → OpenSuccess → List ℕ
+abbrev pub success_up : HopUp → OwnIds → Octets → OpenSuccess → Octets
 success_up (UpLink port address their_id) ids bytes success =
     open_reply_bytes
     (record success { ot_id = option_map_or (λ id. id) ids.up 0; to_id = their_id })
 success_up (UpLocal op) ids bytes success = bytes
 
-abbrev pub succeeded : Option Held → List ℕ → OpenSuccess → List ℕ
+abbrev pub succeeded : Option Held → Octets → OpenSuccess → Octets
 succeeded None bytes success = bytes
 succeeded (Some x) bytes success = success_up (opening_of x).up (ids_of x) bytes success
 
-abbrev pub replied : Option Entry → List ℕ → List Output
+abbrev pub replied : Option Entry → Octets → List Output
 replied None bytes = []
 replied (Some entry) bytes = reply_up entry.up bytes ∷ []
 
 -- no answer came in time, with the words of the path as received
-abbrev pub late_bytes : Kind → ℕ → List ℕ
+abbrev pub late_bytes : Kind → WordCount → Octets
 late_bytes Unconnected words = unconnected_failed (link_status TicksSpent) (Some words)
 late_bytes (OpeningOf triad) words = open_failed (link_status TicksSpent) triad words
 late_bytes (ClosingOf triad) words = close_failed (link_status TicksSpent) triad words
@@ -231,22 +232,22 @@ timed_out_reply None = []
 timed_out_reply (Some entry) = reply_up entry.up (late_bytes entry.kind entry.words) ∷ []
 
 -- a datum by the up side: to the node above under its id, or to the command that opened
-abbrev pub datum_up : HopUp → List ℕ → Output
+abbrev pub datum_up : HopUp → Octets → Output
 datum_up (UpLink port address their_id) bytes =
     outputs.Send port address (bodies.Data their_id bytes)
 datum_up (UpLocal op) bytes = outputs.Arrived op bytes
 
 -- a datum by the down side: to the node below under its id, or to an assembly here
-abbrev pub datum_down : Hop → HopDown → List ℕ → Output
+abbrev pub datum_down : Hop → HopDown → Octets → Output
 datum_down hop (DownLink port address) bytes =
     outputs.Send port address (bodies.Data (option_map_or (λ id. id) hop.their_id 0) bytes)
 datum_down hop (End config consume produce) bytes = outputs.Consumed hop.opening.triad consume bytes
 
-abbrev pub datum_by : Side → Hop → List ℕ → Output
+abbrev pub datum_by : Side → Hop → Octets → Output
 datum_by Up hop bytes = datum_up hop.opening.up bytes
 datum_by Down hop bytes = datum_down hop hop.opening.down bytes
 
-abbrev pub passed : Side → Option Hop → List ℕ → List Output
+abbrev pub passed : Side → Option Hop → Octets → List Output
 passed side None bytes = []
 passed side (Some hop) bytes = datum_by side hop bytes ∷ []
 

@@ -1,6 +1,32 @@
 -- The open group: which row answers a Forward_Open (Volume 1, chapter 3, Forward_Open).
+--
+-- The rows in their order; the first that fits answers.
+--     cut in the fixed part              CutInTheFixedPart (unread_row)
+--     cut in the path                    CutInThePath (unread_row)
+--     bytes after the path               BytesAfterThePath (unread_row)
+--     path unreadable                    PathUnreadable (unread_row)
+--     connection type not supported      Refuses ConnectionTypeNotSupported
+--     RPI of zero                        Refuses RpiOfZero
+--     triad in use                       Refuses TriadInUse
+--     key mismatch                       Refuses (KeyMismatch part)
+--   a port segment stands first (after the key):
+--     no such port                       Refuses (NotSentOn NoSuchPort)
+--     link address not legal             Refuses (NotSentOn LinkAddressNotLegal)
+--     time-out ticks spent               Refuses (NotSentOn TicksSpent)
+--     no pending left                    Refuses (NotSentOn NoPendingLeft)
+--     no room or ids left                Refuses NoRoomToPassOn
+--     forwarded                          Forwarded
+--   no port segment stands first:
+--     not an application path            Refuses (NotAccepted NotAnApplicationPath)
+--     no such instance or configuration  Refuses (NotAccepted NoSuchInstanceOrConfiguration)
+--     transport class not supported      Refuses (NotAccepted TransportClassNotSupported)
+--     size mismatch                      Refuses (NotAccepted SizeMismatch)
+--     output owned                       Refuses (NotAccepted OutputOwned)
+--     no room or id left                 Refuses NoRoomToEndHere
+--     accepted                           Accepted
 use Rattle.std.specs.Prelude.{ℕ, ◌==◌, Bool, true, false, not, ◌&&◌, ◌||◌, nat_lt, nat_le, if◌then◌else◌, Option, Some, None, Ok, Err, List, length, is_some}
 use Rattle.std.specs.FinMap as map
+use Rattle.cip_base.specs.Words.{InstanceNumber, LinkAddress, Octets, PortIdentifier}
 use Rattle.cip_segment.specs.Reading.{HopAt, hop_of, segments_of}
 use Rattle.cip_message.specs.declared.fault.DataFault.{DataFault}
 use Rattle.cip_message.specs.declared.fault.DataFault.TheVariants.{Short, Long, Path}
@@ -29,17 +55,17 @@ use Rattle.cip_module.specs.State.{State}
 
 pub data OpenRow : Type 0 where
   Refuses : (refusal : OpenRefusal) → OpenRow
-  Forwarded : (port : ℕ) → (address : List ℕ) → (rest : List ℕ) → OpenRow
+  Forwarded : (port : PortIdentifier) → (address : LinkAddress) → (rest : Octets) → OpenRow
   Accepted : (link : EndLink) → OpenRow
 
 -- ---- no port segment first: a connection that ends here
 
 -- whether a connection writes this assembly
-abbrev pub writes_to : ℕ → HopDown → Bool
+abbrev pub writes_to : InstanceNumber → HopDown → Bool
 writes_to instance (DownLink port address) = false
 writes_to instance (End config consume produce) = consume == instance
 
-abbrev pub is_consumed : Hops → ℕ → Bool
+abbrev pub is_consumed : Hops → InstanceNumber → Bool
 is_consumed h instance = is_some (first_hop (λ hop. writes_to instance hop.opening.down) h)
 
 abbrev pub room_row : Hops → Open → EndLink → OpenRow
@@ -102,7 +128,7 @@ open_row config s up o =
     else key_row config s up o (leading_mismatch config (segments_of o.path))
 
 -- the row of data that cannot be read as a Forward_Open
-abbrev pub unread_row : List ℕ → DataFault → OpenRefusal
+abbrev pub unread_row : Octets → DataFault → OpenRefusal
 unread_row d Short = if nat_lt (length d) 36 then CutInTheFixedPart else CutInThePath
 unread_row d Long = BytesAfterThePath
 unread_row d (Path fault) = PathUnreadable

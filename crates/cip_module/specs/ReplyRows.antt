@@ -1,5 +1,13 @@
 -- The reply group: which row a reply meets.
+--
+-- The rows in their order; the first that fits answers.
+--     unknown port or too long  UnknownPortOrTooLong
+--     late                      Late
+--     malformed for its kind    MalformedForItsKind
+--     open succeeded            OpenSucceeded
+--     passed up                 PassedUp
 use Rattle.std.specs.Prelude.{ℕ, ◌==◌, ◌&&◌, Bool, true, if◌then◌else◌, Option, Some, None, Result, Ok, Err, List, is_some, slice_get}
+use Rattle.cip_base.specs.Words.{LinkAddress, Octets, PortIdentifier, RequestNumber}
 use Rattle.cip_base.specs.declared.triad.Triad.{Triad}
 use Rattle.cip_message.specs.Reply.{Reply}
 use Rattle.cip_message.specs.ReplyAt.{reply_at}
@@ -72,13 +80,14 @@ abbrev pub read_row : Kind → Result Reply ReplyFault → ReplyRow
 read_row kind (Err fault) = MalformedForItsKind
 read_row kind (Ok reply) = kind_row kind reply
 
-abbrev pub waiting_row : List ℕ → Option Entry → ReplyRow
+abbrev pub waiting_row : Octets → Option Entry → ReplyRow
 waiting_row bytes None = Late
 waiting_row bytes (Some entry) = read_row entry.kind (reply_at bytes)
 
 -- the row of a reply that came in by a port from an address: its number has to wait for a reply
 -- from there
-unfoldable pub reply_row : ModuleSettings → State → ℕ → List ℕ → ℕ → List ℕ → ReplyRow
+unfoldable pub reply_row : ModuleSettings → State → PortIdentifier → LinkAddress → RequestNumber
+    → Octets → ReplyRow
 reply_row config s port from number bytes =
     if is_malformed config port bytes then UnknownPortOrTooLong
     else waiting_row bytes (waiting_at s.pendings number port from)

@@ -1,7 +1,7 @@
 -- The routing table: what a module does at each event.
 use Rattle.std.specs.Prelude.{ℕ, ◌+◌, ◌-◌, ◌*◌, ◌/◌, ◌%◌, ◌^◌, ◌==◌, nat_lt, if◌then◌else◌, Option, Some, None, Result, Ok, Err, List, [], ◌∷◌, ◌++◌, map, length}
 use Rattle.std.specs.FinMap as finite
-use Rattle.cip_base.specs.Words.{Octets, LinkAddress, PortIdentifier}
+use Rattle.cip_base.specs.Words.{ConnectionId, InstanceNumber, LinkAddress, Microseconds, Octets, OpNumber, PortIdentifier, RequestNumber}
 use Rattle.cip_base.specs.declared.timing.Timing.{Timing}
 use Rattle.cip_base.specs.declared.triad.Triad.{Triad}
 use Rattle.cip_clock.specs.Times.{ticks_us}
@@ -68,7 +68,7 @@ use Rattle.cip_module.specs.State.{State}
 abbrev pub wait_of : Timing → ℕ
 wait_of timing = ticks_us (timing.tick % 16) timing.ticks
 
-abbrev pub words_of : List ℕ → ℕ
+abbrev pub words_of : Octets → ℕ
 words_of path = length path / 2
 
 -- what goes on has one tick less
@@ -84,7 +84,7 @@ with_spending (Local op) es = Spends op ∷ es
 
 -- What goes on: the embedded request itself where no route is left behind the hop, else an
 -- Unconnected_Send with what is left.
-abbrev pub message_on : Unconnected → List ℕ → List ℕ
+abbrev pub message_on : Unconnected → Octets → Octets
 message_on u rest =
     if length rest == 0 then u.request
     else unconnected_bytes
@@ -109,7 +109,7 @@ unconnected_effects up u (unconnected.Forwarded port address rest) =
 
 -- an Unconnected_Send by its data: where it cannot be read, the words are the route size byte, if
 -- it is there
-abbrev pub unconnected_data_effects : ModuleSettings → State → UpSide → List ℕ
+abbrev pub unconnected_data_effects : ModuleSettings → State → UpSide → Octets
     → Result Unconnected UnconnectedFault → List Effect
 unconnected_data_effects config s up sent (Err fault) =
     Replies up (unconnected_failure (unconnected.unread_row sent fault) (route_words_of sent)) ∷ []
@@ -120,12 +120,12 @@ unconnected_data_effects config s up sent (Ok u) =
 
 -- the up side of a connection: the node that asked, which is sent data under its own T→O id, or the
 -- op of a command
-abbrev pub opener : UpSide → ℕ → HopUp
+abbrev pub opener : UpSide → ConnectionId → HopUp
 opener (Link port address number) to_id = UpLink port address to_id
 opener (Local op) to_id = UpLocal op
 
 -- what goes on: one tick less, the own down id as T→O id, and what is left of the path
-abbrev pub open_on : Open → ℕ → List ℕ → List ℕ
+abbrev pub open_on : Open → ℕ → Octets → Octets
 open_on o down_id rest = open_bytes
     (record {
       fields = record o.fields { timing = one_less o.fields.timing; to_id = down_id };
@@ -134,7 +134,7 @@ open_on o down_id rest = open_bytes
 
 -- the success of an end: its own up id as O→T id, the intervals as they were asked, no application
 -- reply
-abbrev pub accepted_bytes : Open → ℕ → List ℕ
+abbrev pub accepted_bytes : Open → ℕ → Octets
 accepted_bytes o up_id = open_reply_bytes (record {
   ot_id = up_id;
   to_id = o.fields.to_id;
@@ -165,14 +165,14 @@ open_effects s up o (opens.Accepted link) =
     ∷ Replies up (accepted_bytes o s.hops.next) ∷ []
 
 -- where the fixed part is cut, the failure tells nothing; else the triad and the path size byte
-abbrev pub unread_open_bytes : List ℕ → DataFault → List ℕ
+abbrev pub unread_open_bytes : Octets → DataFault → Octets
 unread_open_bytes d fault =
     if nat_lt (length d) 36 then open_failure_bytes (open_status (opens.unread_row d fault))
     failed_unread
     else open_failure_bytes (open_status (opens.unread_row d fault))
     (record { triad = open_triad_of d; words = open_words_of d })
 
-abbrev pub open_data_effects : ModuleSettings → State → UpSide → List ℕ → Result Open DataFault
+abbrev pub open_data_effects : ModuleSettings → State → UpSide → Octets → Result Open DataFault
     → List Effect
 open_data_effects config s up d (Err fault) = Replies up (unread_open_bytes d fault) ∷ []
 open_data_effects config s up d (Ok o) =
@@ -181,7 +181,7 @@ open_data_effects config s up d (Ok o) =
 -- ---- close
 
 -- what goes on: one tick less, and what is left of the path
-abbrev pub close_on : Close → List ℕ → List ℕ
+abbrev pub close_on : Close → Octets → Octets
 close_on c rest = close_bytes (record
     { fields = record c.fields { timing = one_less c.fields.timing }; path = rest })
 
@@ -205,14 +205,14 @@ close_effects up c closes.ClosedAtTheEnd =
     Removes c.fields.triad ∷ Replies up
     (close_reply_bytes (record { triad = c.fields.triad; reply = [] })) ∷ []
 
-abbrev pub unread_close_bytes : List ℕ → DataFault → List ℕ
+abbrev pub unread_close_bytes : Octets → DataFault → Octets
 unread_close_bytes d fault =
     if nat_lt (length d) 12 then close_failure_bytes (close_status (closes.unread_row d fault))
     failed_unread
     else close_failure_bytes (close_status (closes.unread_row d fault))
     (record { triad = close_triad_of d; words = close_words_of d })
 
-abbrev pub close_data_effects : State → UpSide → List ℕ → Result Close DataFault → List Effect
+abbrev pub close_data_effects : State → UpSide → Octets → Result Close DataFault → List Effect
 close_data_effects s up d (Err fault) = Replies up (unread_close_bytes d fault) ∷ []
 close_data_effects s up d (Ok c) = close_effects up c (close_row s up c)
 
@@ -231,7 +231,7 @@ request_effects config s up (request.Target asked) = Answers up asked ∷ []
 
 -- ---- replies
 
-abbrev pub reply_effects : ℕ → List ℕ → ReplyRow → List Effect
+abbrev pub reply_effects : RequestNumber → Octets → ReplyRow → List Effect
 reply_effects number bytes reply.UnknownPortOrTooLong = Drops dropped.Malformed ∷ []
 reply_effects number bytes reply.Late = Drops dropped.Late ∷ []
 reply_effects number bytes reply.MalformedForItsKind = Drops dropped.Malformed ∷ []
@@ -250,7 +250,7 @@ abbrev pub counts : Triad → Option ℕ → List Effect
 counts triad None = []
 counts triad (Some count) = Counts triad Up count ∷ []
 
-abbrev pub datum_effects : List ℕ → DataRow → List Effect
+abbrev pub datum_effects : Octets → DataRow → List Effect
 datum_effects bytes datum.UnknownId = Drops dropped.UnknownId ∷ []
 datum_effects bytes datum.WrongSize = Drops dropped.WrongSize ∷ []
 datum_effects bytes (datum.PassedOn triad side) =
@@ -260,7 +260,8 @@ datum_effects bytes (datum.Consumed triad instance count written) =
 datum_effects bytes (datum.Repeated triad) = Passes triad Down bytes ∷ Renews triad Up ∷ []
 datum_effects bytes (datum.Arrived triad) = Passes triad Up bytes ∷ Renews triad Down ∷ []
 
-abbrev pub frame_effects : ModuleSettings → State → ℕ → List ℕ → Body → List Effect
+abbrev pub frame_effects : ModuleSettings → State → PortIdentifier → LinkAddress → Body
+    → List Effect
 frame_effects config s port from (bodies.Request number bytes) =
     request_effects config s (Link port from number) (request_row config port bytes)
 frame_effects config s port from (bodies.Reply number bytes) =
@@ -280,12 +281,12 @@ refused_effects command.NoInstance es = RefusesCommand refused.NoInstance ∷ []
 refused_effects command.Taken es = es
 
 -- the Unconnected_Send that a Send spells
-abbrev pub sent : Timing → List ℕ → List ℕ → Unconnected
+abbrev pub sent : Timing → Octets → Octets → Unconnected
 sent timing path asked = record { timing = timing; request = asked; route = path }
 
 -- the Forward_Open that an Open spells, with the vendor and the serial number of the module's
 -- identity; the O→T id is the target's to choose
-abbrev pub open_of : IdentityFields → Timing → List ℕ → OpenParams → Open
+abbrev pub open_of : IdentityFields → Timing → Octets → OpenParams → Open
 open_of identity timing path params = record {
   fields = record {
     timing = timing;
@@ -315,44 +316,44 @@ close_of timing hop = record {
   path = hop.opening.path;
 }
 
-abbrev pub send_effects : ModuleSettings → State → ℕ → Unconnected → CommandRow → List Effect
+abbrev pub send_effects : ModuleSettings → State → OpNumber → Unconnected → CommandRow → List Effect
 send_effects config s op u row = refused_effects row
     (with_spending (Local op) (unconnected_effects (Local op) u
     (unconnected_row config s.pendings u)))
 
-abbrev pub open_command_effects : ModuleSettings → State → ℕ → Open → List Effect
+abbrev pub open_command_effects : ModuleSettings → State → OpNumber → Open → List Effect
 open_command_effects config s op o =
     refused_effects (op_row s op) (with_spending (Local op)
     (open_effects s (Local op) o (open_row config s (UpLocal op) o)))
 
 -- the request is the up side's own: the op that opened
-abbrev pub closed_effects : State → ℕ → ℕ → Timing → Option Hop → List Effect
+abbrev pub closed_effects : State → OpNumber → OpNumber → Timing → Option Hop → List Effect
 closed_effects s op of timing None = []
 closed_effects s op of timing (Some hop) =
     with_spending (Local op) (close_effects (Local op) (close_of timing hop)
     (close_row s (Local of) (close_of timing hop)))
 
-abbrev pub close_command_effects : State → ℕ → ℕ → Timing → List Effect
+abbrev pub close_command_effects : State → OpNumber → OpNumber → Timing → List Effect
 close_command_effects s op of timing =
     refused_effects (close_command_row s op of)
     (closed_effects s op of timing (hop_by_op s.hops of))
 
-abbrev pub entered_effects : List ℕ → Option Hop → List Effect
+abbrev pub entered_effects : Octets → Option Hop → List Effect
 entered_effects bytes None = []
 entered_effects bytes (Some hop) = Passes hop.opening.triad Down bytes ∷ []
 
-abbrev pub enter_effects : List ℕ → Option Hop → List Effect
+abbrev pub enter_effects : Octets → Option Hop → List Effect
 enter_effects bytes hop = refused_effects (enter_row bytes hop) (entered_effects bytes hop)
 
-abbrev pub set_effects : State → ℕ → List ℕ → List Effect
+abbrev pub set_effects : State → InstanceNumber → Octets → List Effect
 set_effects s instance bytes = refused_effects (set_row bytes (size_in s.assemblies instance))
     (Writes instance bytes ∷ [])
 
-abbrev pub made_effects : State → ℕ → Option (List ℕ) → List Effect
+abbrev pub made_effects : State → InstanceNumber → Option (List ℕ) → List Effect
 made_effects s instance None = []
 made_effects s instance (Some held) = produced_effects instance held s.hops
 
-abbrev pub produce_effects : State → ℕ → Option (List ℕ) → List Effect
+abbrev pub produce_effects : State → InstanceNumber → Option (List ℕ) → List Effect
 produce_effects s instance held = refused_effects (produce_row held) (made_effects s instance held)
 
 abbrev pub command_effects : ModuleSettings → State → Command → List Effect
@@ -375,15 +376,15 @@ abbrev pub hop_times_out : Hop → Effect
 hop_times_out hop = HopTimesOut hop.opening.triad
 
 -- the due pendings, in rising number
-abbrev pub pending_time_outs : ℕ → Pendings → List Effect
+abbrev pub pending_time_outs : Microseconds → Pendings → List Effect
 pending_time_outs now p = map pending_times_out (due now p)
 
 -- then the due connections, in rising triad
-abbrev pub hop_time_outs : ℕ → Hops → List Effect
+abbrev pub hop_time_outs : Microseconds → Hops → List Effect
 hop_time_outs now h = map hop_times_out (hops.due now h)
 
 -- the clock is raised first
-abbrev pub tick_effects : State → ℕ → List Effect
+abbrev pub tick_effects : State → Microseconds → List Effect
 tick_effects s by = Advances by ∷ pending_time_outs (s.now + by) s.pendings
     ++ hop_time_outs (s.now + by) s.hops
 

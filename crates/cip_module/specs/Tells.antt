@@ -2,6 +2,7 @@
 -- state before it.
 use Rattle.std.specs.Prelude.{◌≡◌, ℕ, ◌+◌, ◌*◌, ◌^◌, ◌≤◌, ◌<◌, ◌==◌, ◌⊎◌, true, false, if◌then◌else◌, Option, Some, None, Ok, Err, List, [], ◌∷◌, drop, length}
 use Rattle.std.specs.FinMap as map
+use Rattle.cip_base.specs.Words.{ConnectionId, InstanceNumber, LinkAddress, Microseconds, Milliseconds, Octets, OpNumber, PortIdentifier, RequestNumber}
 use Rattle.cip_base.specs.declared.timing.Timing.{Timing}
 use Rattle.cip_base.specs.declared.triad.Triad.{Triad}
 use Rattle.cip_segment.specs.Reading.{HopAt, hop_of}
@@ -79,7 +80,7 @@ command_asker (commands.Enter of bytes) = None
 command_asker (commands.Set instance bytes) = None
 command_asker (commands.Produce instance) = None
 
-abbrev pub body_asker : ℕ → List ℕ → Body → Option UpSide
+abbrev pub body_asker : PortIdentifier → LinkAddress → Body → Option UpSide
 body_asker port from (bodies.Request number bytes) = Some (Link port from number)
 body_asker port from (bodies.Reply number bytes) = None
 body_asker port from (bodies.Data id bytes) = None
@@ -93,10 +94,10 @@ asker (events.Tick ms) = None
 -- number
 pub record Came (config : ModuleSettings) (event : Event) (up : UpSide) (row : RequestRow) : Type 0
   where
-    pub port : ℕ
-    pub from : List ℕ
-    pub number : ℕ
-    pub bytes : List ℕ
+    pub port : PortIdentifier
+    pub from : LinkAddress
+    pub number : RequestNumber
+    pub bytes : Octets
     pub event_is : event ≡ events.Frame port from (bodies.Request number bytes)
     pub up_is : up ≡ Link port from number
     pub meets : request_row config port bytes ≡ row
@@ -104,15 +105,15 @@ pub record Came (config : ModuleSettings) (event : Event) (up : UpSide) (row : R
 -- an Unconnected_Send, in a frame or spelled by a command
 pub record SendCame (config : ModuleSettings) (event : Event) (up : UpSide) (u : Unconnected) : Type
     0 where
-  pub asked : List ℕ
+  pub asked : Octets
   pub came : Came config event up (request.UnconnectedSend asked)
   pub read : unconnected_at asked ≡ Ok u
 
 pub record SendSpelled (s : State) (event : Event) (up : UpSide) (u : Unconnected) : Type 0 where
-  pub op : ℕ
+  pub op : OpNumber
   pub timing : Timing
-  pub path : List ℕ
-  pub asked : List ℕ
+  pub path : Octets
+  pub asked : Octets
   pub event_is : event ≡ events.Command (commands.Send op timing path asked)
   pub up_is : up ≡ Local op
   pub spells : u ≡ sent timing path asked
@@ -124,15 +125,15 @@ AsksSend config s event up u = SendCame config event up u ⊎ SendSpelled s even
 -- a Forward_Open, in a frame or spelled by a command
 pub record OpenCame (config : ModuleSettings) (event : Event) (up : UpSide) (o : Open) : Type 0
   where
-    pub asked : List ℕ
+    pub asked : Octets
     pub came : Came config event up (request.ForwardOpen asked)
     pub read : open_at asked ≡ Ok o
 
 pub record OpenSpelled (config : ModuleSettings) (s : State) (event : Event) (up : UpSide)
     (o : Open) : Type 0 where
-  pub op : ℕ
+  pub op : OpNumber
   pub timing : Timing
-  pub path : List ℕ
+  pub path : Octets
   pub params : OpenParams
   pub event_is : event ≡ events.Command (commands.Open op timing path params)
   pub up_is : up ≡ Local op
@@ -146,14 +147,14 @@ AsksOpen config s event up o = OpenCame config event up o ⊎ OpenSpelled config
 -- opened
 pub record CloseCame (config : ModuleSettings) (event : Event) (up sender : UpSide) (c : Close) :
     Type 0 where
-  pub asked : List ℕ
+  pub asked : Octets
   pub came : Came config event up (request.ForwardClose asked)
   pub read : close_at asked ≡ Ok c
   pub sender_is : sender ≡ up
 
 pub record CloseSpelled (s : State) (event : Event) (up sender : UpSide) (c : Close) : Type 0 where
-  pub op : ℕ
-  pub of : ℕ
+  pub op : OpNumber
+  pub of : OpNumber
   pub timing : Timing
   pub hop : Hop
   pub event_is : event ≡ events.Command (commands.Close op of timing)
@@ -169,8 +170,8 @@ AsksClose config s event up sender c =
 
 -- the first hop of a path, which leads on by this link: the module may send there, and ticks are
 -- left
-pub record LeadsOn (config : ModuleSettings) (s : State) (timing : Timing) (path : List ℕ)
-    (port : ℕ) (address rest : List ℕ) : Type 0 where
+pub record LeadsOn (config : ModuleSettings) (s : State) (timing : Timing) (path : Octets)
+    (port : PortIdentifier) (address rest : List ℕ) : Type 0 where
   pub hop : HopAt
   pub first : hop_of path ≡ Some hop
   pub port_is : port ≡ hop.port
@@ -182,17 +183,17 @@ pub record LeadsOn (config : ModuleSettings) (s : State) (timing : Timing) (path
 -- ---- requests
 
 -- the op of a command that asks something is used up, for the first time
-pub record SpendsAs (s : State) (event : Event) (op : ℕ) : Type 0 where
+pub record SpendsAs (s : State) (event : Event) (op : OpNumber) : Type 0 where
   pub asks : asker event ≡ Some (Local op)
   pub unused : is_spent op s.ops ≡ false
 
 -- a reply at once: a request that fails, or an open or a close that ends here
 pub data RepliesAs (config : ModuleSettings) (s : State) (event : Event) (up : UpSide)
-    (bytes : List ℕ) : Type 0 where
+    (bytes : Octets) : Type 0 where
   RequestFails : (service : ℕ) (refusal : RequestRefusal)
       → Came config event up (request.Refuses service refusal)
       → bytes ≡ failure_bytes service (request_status refusal) → RepliesAs config s event up bytes
-  SendUnread : (asked : List ℕ) (fault : UnconnectedFault)
+  SendUnread : (asked : Octets) (fault : UnconnectedFault)
       → Came config event up (request.UnconnectedSend asked) → unconnected_at asked ≡ Err fault
       → bytes ≡ unconnected_failure (unconnected.unread_row asked fault) (route_words_of asked)
       → RepliesAs config s event up bytes
@@ -200,7 +201,7 @@ pub data RepliesAs (config : ModuleSettings) (s : State) (event : Event) (up : U
       → unconnected_row config s.pendings u ≡ unconnected.Refuses refusal
       → bytes ≡ unconnected_failure refusal (Some (words_of u.route))
       → RepliesAs config s event up bytes
-  OpenUnread : (asked : List ℕ) (fault : DataFault)
+  OpenUnread : (asked : Octets) (fault : DataFault)
       → Came config event up (request.ForwardOpen asked) → open_at asked ≡ Err fault
       → bytes ≡ unread_open_bytes asked fault → RepliesAs config s event up bytes
   OpenFails : (o : Open) (refusal : OpenRefusal) → AsksOpen config s event up o
@@ -210,7 +211,7 @@ pub data RepliesAs (config : ModuleSettings) (s : State) (event : Event) (up : U
   OpenEnds : (o : Open) (link : EndLink) → AsksOpen config s event up o
       → open_row config s (opener up o.fields.to_id) o ≡ opens.Accepted link
       → bytes ≡ accepted_bytes o s.hops.next → RepliesAs config s event up bytes
-  CloseUnread : (asked : List ℕ) (fault : DataFault)
+  CloseUnread : (asked : Octets) (fault : DataFault)
       → Came config event up (request.ForwardClose asked) → close_at asked ≡ Err fault
       → bytes ≡ unread_close_bytes asked fault → RepliesAs config s event up bytes
   CloseFails : (sender : UpSide) (c : Close) (refusal : CloseRefusal)
@@ -234,7 +235,7 @@ pub data AnswersAs (config : ModuleSettings) (s : State) (event : Event) (up : U
 pub record SendsOn (config : ModuleSettings) (s : State) (event : Event) (sending : Sending) : Type
     0 where
   pub u : Unconnected
-  pub rest : List ℕ
+  pub rest : Octets
   pub embedded : Request
   pub asks : AsksSend config s event sending.up u
   pub meets : unconnected_row config s.pendings u
@@ -279,7 +280,7 @@ ForwardsAs config s event sending (ClosingKind triad) = ClosesOn config s event 
 pub record BeginsAs (config : ModuleSettings) (s : State) (event : Event) (sending : Sending)
     (opening : Opening) : Type 0 where
   pub o : Open
-  pub rest : List ℕ
+  pub rest : Octets
   pub asks : AsksOpen config s event sending.up o
   pub meets : open_row config s (opener sending.up o.fields.to_id) o
       ≡ opens.Forwarded sending.port sending.address rest
@@ -316,15 +317,17 @@ pub record RemovesAs (config : ModuleSettings) (s : State) (event : Event) (tria
 -- ---- replies
 
 -- the reply to a request that waits under this number for one from there
-pub record ReplyCame (s : State) (event : Event) (number : ℕ) (bytes : List ℕ) (entry : Entry)
+pub record ReplyCame (s : State) (event : Event) (number : RequestNumber) (bytes : Octets)
+    (entry : Entry)
     (reply : Reply) : Type 0 where
-  pub port : ℕ
-  pub from : List ℕ
+  pub port : PortIdentifier
+  pub from : LinkAddress
   pub event_is : event ≡ events.Frame port from (bodies.Reply number bytes)
   pub waits : waiting_at s.pendings number port from ≡ Some entry
   pub read : reply_at bytes ≡ Ok reply
 
-pub record FinishesAs (s : State) (event : Event) (number : ℕ) (triad : Triad) (bytes : List ℕ)
+pub record FinishesAs (s : State) (event : Event) (number : RequestNumber) (triad : Triad)
+    (bytes : Octets)
     (success : OpenSuccess) : Type 0 where
   pub entry : Entry
   pub reply : Reply
@@ -335,16 +338,17 @@ pub record FinishesAs (s : State) (event : Event) (number : ℕ) (triad : Triad)
   pub read : open_reply_at reply.data_ ≡ Ok success
   pub triad_is : success.triad ≡ triad
 
-pub record TakesAs (s : State) (event : Event) (number : ℕ) (bytes : List ℕ) : Type 0 where
-  pub entry : Entry
-  pub reply : Reply
-  pub came : ReplyCame s event number bytes entry reply
-  pub meets : kind_row entry.kind reply ≡ PassedUp
+pub record TakesAs (s : State) (event : Event) (number : RequestNumber) (bytes : Octets) : Type 0
+  where
+    pub entry : Entry
+    pub reply : Reply
+    pub came : ReplyCame s event number bytes entry reply
+    pub meets : kind_row entry.kind reply ≡ PassedUp
 
 -- ---- ticks
 
-pub record PendingTimesOutAs (s : State) (event : Event) (number : ℕ) : Type 0 where
-  pub ms : ℕ
+pub record PendingTimesOutAs (s : State) (event : Event) (number : RequestNumber) : Type 0 where
+  pub ms : Milliseconds
   pub entry : Entry
   pub event_is : event ≡ events.Tick ms
   pub waits : map.get s.pendings.entries number ≡ Some entry
@@ -352,7 +356,7 @@ pub record PendingTimesOutAs (s : State) (event : Event) (number : ℕ) : Type 0
 
 -- the connection stands under its triad in every table, which `key` leaves open
 pub record HopTimesOutAs (s : State) (event : Event) (triad : Triad) : Type 0 where
-  pub ms : ℕ
+  pub ms : Milliseconds
   pub key : Triad
   pub hop : Hop
   pub event_is : event ≡ events.Tick ms
@@ -360,8 +364,8 @@ pub record HopTimesOutAs (s : State) (event : Event) (triad : Triad) : Type 0 wh
   pub triad_is : triad ≡ hop.opening.triad
   pub late : is_late (s.now + 1000 * ms) hop ≡ true
 
-pub record AdvancesAs (s : State) (event : Event) (by : ℕ) : Type 0 where
-  pub ms : ℕ
+pub record AdvancesAs (s : State) (event : Event) (by : Microseconds) : Type 0 where
+  pub ms : Milliseconds
   pub event_is : event ≡ events.Tick ms
   pub by_is : by ≡ 1000 * ms
   pub time : s.now + by < 2 ^ 63
@@ -379,18 +383,19 @@ size_by Up hop = hop.opening.ot_size
 size_by Down hop = hop.opening.to_size
 
 -- a datum of the connection came by that side, with the size of its direction
-pub record DatumCame (s : State) (event : Event) (side : Side) (hop : Hop) (bytes : List ℕ) : Type 0
+pub record DatumCame (s : State) (event : Event) (side : Side) (hop : Hop) (bytes : Octets) : Type 0
   where
-    pub port : ℕ
-    pub from : List ℕ
-    pub id : ℕ
+    pub port : PortIdentifier
+    pub from : LinkAddress
+    pub id : ConnectionId
     pub event_is : event ≡ events.Frame port from (bodies.Data id bytes)
     pub found : hop_by side s.hops id port from ≡ Some hop
     pub sized : length bytes ≡ size_by side hop
 
 -- a datum came to the end of the connection, and is written; in class 1 it is not the last one
 -- again
-pub record DatumWritten (s : State) (event : Event) (hop : Hop) (instance : ℕ) (datum : List ℕ) :
+pub record DatumWritten (s : State) (event : Event) (hop : Hop) (instance : InstanceNumber)
+    (datum : Octets) :
     Type 0 where
   pub config : ℕ
   pub produce : ℕ
@@ -399,8 +404,8 @@ pub record DatumWritten (s : State) (event : Event) (hop : Hop) (instance : ℕ)
   pub unlike : hop.opening.class ≡ 1 → is_last (word_in datum 0) hop.consumed ≡ false
 
 -- an assembly is sent, from which the connection takes its data
-pub record Produced (s : State) (event : Event) (hop : Hop) (held : List ℕ) : Type 0 where
-  pub instance : ℕ
+pub record Produced (s : State) (event : Event) (hop : Hop) (held : Octets) : Type 0 where
+  pub instance : InstanceNumber
   pub key : Triad
   pub event_is : event ≡ events.Command (commands.Produce instance)
   pub holds : map.get s.assemblies instance ≡ Some held
@@ -409,42 +414,44 @@ pub record Produced (s : State) (event : Event) (hop : Hop) (held : List ℕ) : 
 
 pub record RenewsAs (s : State) (event : Event) (triad : Triad) (side : Side) : Type 0 where
   pub hop : Hop
-  pub bytes : List ℕ
+  pub bytes : Octets
   pub came : DatumCame s event side hop bytes
   pub triad_is : triad ≡ hop.opening.triad
 
 -- a datum that came by the other side, that the op that opened enters, or that is made of an
 -- assembly
-pub data PassesAs (s : State) (event : Event) (triad : Triad) (side : Side) (bytes : List ℕ) : Type
+pub data PassesAs (s : State) (event : Event) (triad : Triad) (side : Side) (bytes : Octets) : Type
     0 where
   PassedOn : (hop : Hop) → triad ≡ hop.opening.triad → DatumCame s event (other side) hop bytes
       → PassesAs s event triad side bytes
-  Entered : (of : ℕ) (hop : Hop) → triad ≡ hop.opening.triad → side ≡ Down
+  Entered : (of : OpNumber) (hop : Hop) → triad ≡ hop.opening.triad → side ≡ Down
       → event ≡ events.Command (commands.Enter of bytes)
       → hop_by_op s.hops of ≡ Some hop → length bytes ≡ hop.opening.ot_size
       → PassesAs s event triad side bytes
-  Made : (held : List ℕ) (hop : Hop) → triad ≡ hop.opening.triad → side ≡ Up
+  Made : (held : Octets) (hop : Hop) → triad ≡ hop.opening.triad → side ≡ Up
       → bytes ≡ datum_bytes held hop → Produced s event hop held → PassesAs s event triad side bytes
 
 -- in class 1: the count of a datum that is written, or of one that is made
 pub data CountsAs (s : State) (event : Event) (triad : Triad) (side : Side) (count : ℕ) : Type 0
   where
-    CountedUp : (hop : Hop) (instance : ℕ) (datum : List ℕ) → triad ≡ hop.opening.triad → side ≡ Up
+    CountedUp : (hop : Hop) (instance : InstanceNumber) (datum : Octets) → triad ≡ hop.opening.triad
+        → side ≡ Up
         → hop.opening.class ≡ 1 → count ≡ word_in datum 0
         → DatumWritten s event hop instance datum → CountsAs s event triad side count
-    CountedDown : (hop : Hop) (held : List ℕ) → triad ≡ hop.opening.triad → side ≡ Down
+    CountedDown : (hop : Hop) (held : Octets) → triad ≡ hop.opening.triad → side ≡ Down
         → hop.opening.class ≡ 1 → count ≡ next_count hop.produced
         → Produced s event hop held → CountsAs s event triad side count
 
 -- what stands behind the sequence count, if there is one
-abbrev pub behind_count : Hop → List ℕ → List ℕ
+abbrev pub behind_count : Hop → Octets → List ℕ
 behind_count hop datum = if hop.opening.class == 1 then drop 2 datum else datum
 
-pub data WritesAs (s : State) (event : Event) (instance : ℕ) (bytes : List ℕ) : Type 0 where
-  Taken : (hop : Hop) (datum : List ℕ) → bytes ≡ behind_count hop datum
-      → DatumWritten s event hop instance datum → WritesAs s event instance bytes
-  Set : event ≡ events.Command (commands.Set instance bytes)
-      → size_in s.assemblies instance ≡ Some (length bytes) → WritesAs s event instance bytes
+pub data WritesAs (s : State) (event : Event) (instance : InstanceNumber) (bytes : Octets) : Type 0
+  where
+    Taken : (hop : Hop) (datum : Octets) → bytes ≡ behind_count hop datum
+        → DatumWritten s event hop instance datum → WritesAs s event instance bytes
+    Set : event ≡ events.Command (commands.Set instance bytes)
+        → size_in s.assemblies instance ≡ Some (length bytes) → WritesAs s event instance bytes
 
 -- ---- any effect
 
@@ -453,8 +460,8 @@ pub record IsCommand (event : Event) : Type 0 where
   pub event_is : event ≡ events.Command command
 
 pub record IsFrame (event : Event) : Type 0 where
-  pub port : ℕ
-  pub from : List ℕ
+  pub port : PortIdentifier
+  pub from : LinkAddress
   pub body : Body
   pub event_is : event ≡ events.Frame port from body
 

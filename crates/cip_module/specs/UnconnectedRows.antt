@@ -1,6 +1,22 @@
 -- The unconnected send group: which row answers an Unconnected_Send (Volume 1, chapter 3,
 -- Unconnected_Send).
+--
+-- The rows in their order; the first that fits answers.
+--     cut before the route size     CutBeforeTheRouteSize (unread_row)
+--     cut in the route              CutInTheRoute (unread_row)
+--     bytes after the route         BytesAfterTheRoute (unread_row)
+--     route unreadable              RouteUnreadable (unread_row)
+--     embedded request not allowed  Refuses EmbeddedRequestNotAllowed
+--     answered here                 AnsweredHere
+--     key mismatch                  Refuses (KeyMismatch part)
+--     no port segment               Refuses NoPortSegment
+--     no such port                  Refuses (NotSentOn NoSuchPort)
+--     link address not legal        Refuses (NotSentOn LinkAddressNotLegal)
+--     time-out ticks spent          Refuses (NotSentOn TicksSpent)
+--     no pending left               Refuses (NotSentOn NoPendingLeft)
+--     forwarded                     Forwarded
 use Rattle.std.specs.Prelude.{ℕ, ◌==◌, if◌then◌else◌, Option, Some, None, Result, Ok, Err, List, length}
+use Rattle.cip_base.specs.Words.{LinkAddress, Octets, PortIdentifier}
 use Rattle.cip_segment.specs.Reading.{HopAt, hop_of, segments_of}
 use Rattle.cip_message.specs.Request.{Request}
 use Rattle.cip_message.specs.RequestAt.{request_at}
@@ -22,7 +38,7 @@ use Rattle.cip_module.specs.Object.{begins_with_manager}
 pub data UnconnectedRow : Type 0 where
   Refuses : (refusal : UnconnectedRefusal) → UnconnectedRow
   AnsweredHere : (request : Request) → UnconnectedRow
-  Forwarded : (port : ℕ) → (address : List ℕ) → (rest : List ℕ) → UnconnectedRow
+  Forwarded : (port : PortIdentifier) → (address : LinkAddress) → (rest : Octets) → UnconnectedRow
 
 -- by the link that the first port segment names
 abbrev pub link_row : HopAt → Option LinkRefusal → UnconnectedRow
@@ -61,7 +77,7 @@ cut_row None = CutBeforeTheRouteSize
 cut_row (Some words) = CutInTheRoute
 
 -- the row of data that cannot be read as an Unconnected_Send
-abbrev pub unread_row : List ℕ → UnconnectedFault → UnconnectedRefusal
+abbrev pub unread_row : Octets → UnconnectedFault → UnconnectedRefusal
 unread_row d Short = cut_row (route_words_of d)
 unread_row d Long = BytesAfterTheRoute
 unread_row d (Route fault) = RouteUnreadable

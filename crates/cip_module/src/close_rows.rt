@@ -137,7 +137,8 @@ impl Node {
     /// The row that answers a Forward_Close which was read (Volume 1, chapter 3, Forward_Close).
     #[tactic(auto, unfolding(crate::specs::CloseRows::close_row))]
     pub(crate) fn close_row<'a>(&self, sender: &UpSide, view: &CloseView<'a>) -> CloseDecision<'a>
-        ensures row { close_row_of result ≡ close_row (state_of_node self.now) sender.now (close_of view.now) }
+        ensures row { close_row_of result
+            ≡ close_row (state_of_node self.now) sender.now (close_of view.now) }
         ensures leads { CloseLeads self.now.pendings view.now.fields.timing result }
     {
         let hop = self.hops.by_triad(&view.fields.triad);

@@ -155,7 +155,8 @@ impl Node {
     /// A Forward_Close, by its data.
     pub(crate) fn forward_close(&mut self, up: UpSide, data_: &[u8]) -> Result<Output, NoMemory>
         requires { IsAsked up }
-        ensures { Handles self.old self.new (close_data_effects (state_of_node self.old) up data_.now
+        ensures { Handles self.old self.new
+            (close_data_effects (state_of_node self.old) up data_.now
             (close_at data_.now)) result }
     {
         match read_close(data_) {

@@ -41,7 +41,8 @@ impl Node {
 
     /// A Send: handled as the Unconnected_Send that it spells, with its op as the up side.
     pub(crate) fn send(&mut self, op: u32, view: UnconnectedView<'_>) -> Result<Output, NoMemory>
-        ensures { Handles self.old self.new (send_effects self.old.config (state_of_node self.old) op
+        ensures { Handles self.old self.new
+            (send_effects self.old.config (state_of_node self.old) op
             (unconnected_of view.entry) (send_row (state_of_node self.old) op
             (unconnected_of view.entry))) result }
     {
@@ -87,7 +88,8 @@ impl Node {
         path: &Path,
         params: &OpenParams,
     ) -> Result<Output, NoMemory>
-        ensures { Handles self.old self.new (open_command_effects self.old.config (state_of_node self.old)
+        ensures { Handles self.old self.new
+            (open_command_effects self.old.config (state_of_node self.old)
             op (open_of self.old.config.identity timing path.now params.now)) result }
     {
         if self.ops.contains(op) {
@@ -110,7 +112,8 @@ impl Node {
         of: u32,
         timing: Timing,
     ) -> Result<Output, NoMemory>
-        ensures { Handles self.old self.new (close_command_effects (state_of_node self.old) op of timing)
+        ensures { Handles self.old self.new
+            (close_command_effects (state_of_node self.old) op of timing)
             result }
     {
         if self.ops.contains(op) {
@@ -135,9 +138,10 @@ impl Node {
 
     /// An Enter: a datum by the connection that the op opened.
     pub(crate) fn enter(&self, of: u32, bytes: &Bytes) -> Result<Output, NoMemory>
-        ensures { Handles self.now self.now (enter_effects bytes.now (hop_by_op self.now.hops of)) result }
+        ensures { Handles self.now self.now (enter_effects bytes.now (hop_by_op self.now.hops of))
+            result }
     {
-        let _last = self.hops.last();
+        self.hops.is_within();
         let Some(hop) = self.hops.by_op(of) else {
             return Ok(Output::Refused(Refused::NotOpen));
         };
@@ -150,7 +154,8 @@ impl Node {
 
     /// A Set of an assembly, which has no output where it is taken.
     pub(crate) fn set(&mut self, instance: u32, bytes: &Bytes) -> Option<Output>
-        ensures { Handled self.old self.new (set_effects (state_of_node self.old) instance bytes.now)
+        ensures { Handled self.old self.new
+            (set_effects (state_of_node self.old) instance bytes.now)
             (option_to_list result) }
     {
         let Some(assembly) = self.target.assembly(instance) else {

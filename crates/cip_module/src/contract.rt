@@ -45,7 +45,8 @@ pub trait Module: Drop {
     fn step(&mut self, event: Event) -> Result<Vec<Output>, StepFault>
         ensures ok { IfOk result (λ outputs. IsStep (config_of self.old) (state_of self.old) event
             (state_of self.new) outputs.items) }
-        ensures fault { IsStepFault (config_of self.old) (state_of self.old) event (state_of self.new) result }
+        ensures fault { IsStepFault (config_of self.old) (state_of self.old) event
+            (state_of self.new) result }
         ensures config { config_of self.new ≡ config_of self.old };
 
     /// The state, as lists in rising key.

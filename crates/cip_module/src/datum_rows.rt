@@ -102,7 +102,8 @@ pub(crate) fn behind_count(bytes: &[u8]) -> &[u8]
 
 // At an end: nothing is written where the sequence count is that of the last datum.
 fn written_of(hop: &Hop, instance: u32, bytes: &[u8]) -> Option<Writing>
-    ensures { writing_row hop.now.opening.triad bytes.now result ≡ end_row hop.now instance bytes.now }
+    ensures { writing_row hop.now.opening.triad bytes.now result
+        ≡ end_row hop.now instance bytes.now }
 {
     if hop.opening.class != 1 {
         return Some(Writing {
@@ -184,7 +185,7 @@ impl Node {
             (hop_by_down self.now.hops id port from.now))) }
         ensures on { IfOk result (PassesOn self.now.hops bytes.now) }
     {
-        let _last = self.hops.last();
+        self.hops.is_within();
         if let Some(hop) = self.hops.by_up(id, port, from) {
             return from_above(self.alloc, hop, bytes);
         }

@@ -82,7 +82,7 @@ impl Node {
         ensures config { self.new.config ≡ self.old.config }
         ensures ops { self.new.ops ≡ self.old.ops }
     {
-        let _last = self.pendings.last();
+        self.pendings.is_within();
         let Ok(number) = self.pendings.add(entry) else {
             unreachable!()
         };
@@ -100,7 +100,7 @@ impl Node {
             { pendings = added self.old.pendings entry; hops = begun self.old.hops opening } }
         ensures config { self.new.config ≡ self.old.config }
     {
-        let _last = self.pendings.last();
+        self.pendings.is_within();
         let Ok(number) = self.pendings.add(entry) else {
             unreachable!()
         };
@@ -274,7 +274,7 @@ impl Node {
             ++ hop.due now self.new.hops }
         ensures config { self.new.config ≡ self.old.config }
     {
-        let _last = self.hops.last();
+        self.hops.is_within();
         match self.hops.expire(now) {
             Some(hop) => {
                 release(&mut self.target, &hop.opening.down);

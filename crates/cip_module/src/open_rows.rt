@@ -75,7 +75,8 @@ pub(crate) fn unread_row(data_: &[u8], fault: DataFault) -> OpenRefusal
 impl Node {
     // What the target says to an open, by the connections that end here.
     fn end_row(&self, view: &OpenView<'_>) -> Result<EndLink, EndRefusal>
-        ensures row { result ≡ end_row self.now.target.objects.assemblies (is_consumed self.now.hops)
+        ensures row { result ≡ end_row self.now.target.objects.assemblies
+            (is_consumed self.now.hops)
             (open_of view.now) }
         ensures fits { result ≡ row_at self.now.target (open_of view.now) }
     {
@@ -84,7 +85,8 @@ impl Node {
 
     // A connection that ends here.
     fn open_here(&self, up: &HopUp, view: &OpenView<'_>) -> OpenDecision<'static>
-        ensures row { open_row_of result ≡ here_row (state_of_node self.now) up.now (open_of view.now) }
+        ensures row { open_row_of result
+            ≡ here_row (state_of_node self.now) up.now (open_of view.now) }
         ensures leads { OpenLeads self.now up.now (open_of view.now) result }
     {
         if !up.is_link() {

@@ -116,7 +116,8 @@ fn open_on(
 
 // The success of an end: its own up id, and no application reply.
 fn accepted(alloc: Global, fields: &OpenFields, up_id: u32) -> Result<Bytes, NoMemory>
-    ensures { IfOk result (λ b. b ≡ accepted_bytes (record { fields = fields.now; path = [] }) up_id) }
+    ensures { IfOk result (λ b. b ≡ accepted_bytes (record { fields = fields.now; path = [] })
+        up_id) }
 {
     let reply = OpenReply {
         ot_id: up_id,
@@ -231,7 +232,8 @@ impl Node {
     /// A Forward_Open, by its data.
     pub(crate) fn forward_open(&mut self, up: UpSide, data_: &[u8]) -> Result<Output, NoMemory>
         requires { IsAsked up }
-        ensures { Handles self.old self.new (open_data_effects self.old.config (state_of_node self.old) up
+        ensures { Handles self.old self.new
+            (open_data_effects self.old.config (state_of_node self.old) up
             data_.now (open_at data_.now)) result }
     {
         match read_open(data_) {

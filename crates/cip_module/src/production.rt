@@ -69,7 +69,7 @@ impl Node {
         ensures { IfOk result (λ outputs. outputs.items
             ≡ made_all instance held.now (open_hops self.now.hops)) }
     {
-        let _last = self.hops.last();
+        self.hops.is_within();
         let mut outputs = Vec::new(self.alloc);
         let mut after = None;
         while let Some(hop) = self.hops.next_after(after.as_ref()) {
@@ -90,7 +90,7 @@ impl Node {
     {
         let mut after = None;
         while let Some(hop) = self.hops.next_after(after.as_ref()) {
-            let _last = self.hops.last();
+            self.hops.is_within();
             let triad = hop.opening.triad;
             if let Some(count) = count_for(hop, instance) {
                 self.counts(&triad, Side::Down, count);
@@ -110,7 +110,7 @@ impl Node {
             outputs.push_reserved(Output::Refused(Refused::NoInstance));
             return Ok(outputs);
         };
-        let _last = self.hops.last();
+        self.hops.is_within();
         let outputs = self.data_of(instance, self.target.produce(assembly.instance))?;
         self.count_data(instance);
         Ok(outputs)

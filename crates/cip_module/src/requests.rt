@@ -23,7 +23,8 @@ impl Node {
         number: u32,
         bytes: &[u8],
     ) -> Result<Output, NoMemory>
-        ensures { Handles self.old self.new (request_effects self.old.config (state_of_node self.old)
+        ensures { Handles self.old self.new
+            (request_effects self.old.config (state_of_node self.old)
             (Link port from.now number) (request_row self.old.config port bytes.now)) result }
     {
         let up = UpSide::Link {

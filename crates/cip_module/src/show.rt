@@ -55,7 +55,7 @@ fn hop_rows(alloc: Global, hops: &HopTable) -> Result<Vec<HopRow>, NoMemory>
     ensures { IfOk result (λ rows. rows.items ≡ map hop_row_of
         (filter_map (λ e. as_hop e.1) (finite.entries hops.now.held))) }
 {
-    let _last = hops.last();
+    hops.is_within();
     let mut rows = Vec::new(alloc);
     let mut after = None;
     while let Some(hop) = hops.next_after(after.as_ref()) {

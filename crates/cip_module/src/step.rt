@@ -17,7 +17,8 @@ use cip_unconnected::UnconnectedView;
 impl Node {
     // A frame.
     fn frame(&mut self, port: PortNumber, from: &Address, body: &Body) -> Result<Output, NoMemory>
-        ensures { Handles self.old self.new (frame_effects self.old.config (state_of_node self.old) port
+        ensures { Handles self.old self.new
+            (frame_effects self.old.config (state_of_node self.old) port
             from.now body.now) result }
     {
         match body {
@@ -87,7 +88,8 @@ impl Node {
     pub(crate) fn step(&mut self, event: Event) -> Result<Vec<Output>, StepFault>
         ensures ok { IfOk result (λ outputs. IsStep self.old.config (state_of_node self.old) event
             (state_of_node self.new) outputs.items) }
-        ensures fault { IsStepFault self.old.config (state_of_node self.old) event (state_of_node self.new)
+        ensures fault { IsStepFault self.old.config (state_of_node self.old) event
+            (state_of_node self.new)
             result }
         ensures config { self.new.config ≡ self.old.config }
     {

@@ -18,7 +18,8 @@ impl Node {
         up: UpSide,
         request: RequestView<'_>,
     ) -> Result<Output, NoMemory>
-        ensures handled { Handles self.old self.new (Answers up (request_of request.entry) ∷ []) result }
+        ensures handled { Handles self.old self.new (Answers up (request_of request.entry) ∷ [])
+            result }
         ensures ops { self.new.ops ≡ self.old.ops }
     {
         let bytes = self.target.answer(self.alloc, request)?;

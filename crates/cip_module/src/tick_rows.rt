@@ -42,7 +42,8 @@ fn pendings_out(
     pendings: &PendingTable,
     now: u64,
 ) -> Result<(), NoMemory>
-    ensures { OnOk result (outputs.new.items ≡ outputs.old.items ++ pendings_timed_out now pendings.now) }
+    ensures { OnOk result (outputs.new.items ≡ outputs.old.items
+        ++ pendings_timed_out now pendings.now) }
 {
     let mut after = None;
     while let Some((number, entry)) = pendings.next_after(after) {
@@ -74,7 +75,7 @@ fn is_late(hop: &Hop, now: u64) -> bool
 fn hops_out(outputs: &mut Vec<Output>, hops: &HopTable, now: u64) -> Result<(), NoMemory>
     ensures { OnOk result (outputs.new.items ≡ outputs.old.items ++ hops_timed_out now hops.now) }
 {
-    let _last = hops.last();
+    hops.is_within();
     let mut after = None;
     while let Some(hop) = hops.next_after(after.as_ref()) {
         let triad = hop.opening.triad;

@@ -76,7 +76,8 @@ impl Node {
         view: UnconnectedView<'_>,
     ) -> Result<Output, NoMemory>
         requires { length (unconnected_bytes (unconnected_of view)) ≤ 1400 }
-        ensures handled { Handles self.old self.new (unconnected_effects up (unconnected_of view.entry)
+        ensures handled { Handles self.old self.new
+            (unconnected_effects up (unconnected_of view.entry)
             (unconnected_row self.old.config self.old.pendings (unconnected_of view.entry)))
             result }
         ensures ops { self.new.ops ≡ self.old.ops }

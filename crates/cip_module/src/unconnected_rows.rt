@@ -37,7 +37,8 @@ fn by_hop<'a>(
     view: UnconnectedView<'a>,
 ) -> UnconnectedDecision<'a>
     ensures leads { Leads pendings.now view.entry.timing view.entry.route.bytes.now result }
-    ensures row { unconnected_row_of result ≡ hop_row settings.now pendings.now (unconnected_of view.entry)
+    ensures row { unconnected_row_of result
+        ≡ hop_row settings.now pendings.now (unconnected_of view.entry)
         (hop_of view.entry.route.bytes.now) }
 {
     match first_hop(view.route) {
@@ -69,7 +70,8 @@ fn by_key<'a>(
     view: UnconnectedView<'a>,
 ) -> UnconnectedDecision<'a>
     ensures leads { Leads pendings.now view.entry.timing view.entry.route.bytes.now result }
-    ensures row { unconnected_row_of result ≡ key_row settings.now pendings.now (unconnected_of view.entry)
+    ensures row { unconnected_row_of result
+        ≡ key_row settings.now pendings.now (unconnected_of view.entry)
         (leading_mismatch settings.now (segments_of view.entry.route.bytes.now)) }
 {
     match leading_mismatch(settings, view.route) {

@@ -157,6 +157,13 @@ impl PendingTable {
     {
         (self.next - 1) as u32
     }
+
+    /// That numbers rise and end: a fact for the proof of a caller, and no work.
+    pub fn is_within(&self)
+        ensures { IsWithin self.now }
+    {
+        let _last = self.last();
+    }
 }
 
 // Where the number stands, by binary search.

@@ -2,6 +2,7 @@
 use Rattle.std.specs.Prelude.{◌≡◌, ℕ, ◌<◌, Bool, true, false, List, Option, Some, is_some, if◌then◌else◌, option_and_then}
 use Rattle.std.specs.Option.{option_map_or}
 use Rattle.std.specs.FinMap as map
+use Rattle.cip_base.specs.Words.{InstanceNumber, OpNumber}
 use Rattle.cip_base.specs.declared.triad.Triad.{Triad}
 use Rattle.cip_pending.specs.Pendings.{Pendings}
 use Rattle.cip_hops.specs.declared.opening.Opening.{Opening}
@@ -18,13 +19,13 @@ use Rattle.cip_module.specs.Paired.{IsPaired}
 use Rattle.cip_module.specs.State.{is_spent}
 
 -- whether a connection that is open writes this assembly
-abbrev pub writes_of : Option Held → ℕ → Bool
+abbrev pub writes_of : Option Held → InstanceNumber → Bool
 writes_of x instance = option_map_or (λ hop. writes_to instance hop.opening.down)
     (option_and_then as_hop x) false
 
 -- the op of each connection that a command opens or opened is spent
 abbrev pub AreSpent : Hops → List ℕ → Type 0
-AreSpent h ops = (triad : Triad) (x : Held) (op : ℕ) → map.get h.held triad ≡ Some x
+AreSpent h ops = (triad : Triad) (x : Held) (op : OpNumber) → map.get h.held triad ≡ Some x
     → held_op_of x ≡ Some op → is_spent op ops ≡ true
 
 -- what is opening goes on by a link

@@ -2,6 +2,7 @@
 use Rattle.std.specs.Prelude.{ℕ, ◌+◌, ◌%◌, ◌==◌, Bool, false, if◌then◌else◌, List, [], ◌∷◌, ◌++◌, map, filter, filter_map, Option, Some, None}
 use Rattle.std.specs.Option.{option_map_or}
 use Rattle.std.specs.FinMap as finite
+use Rattle.cip_base.specs.Words.{InstanceNumber, Octets}
 use Rattle.cip_base.specs.Fields.{word}
 use Rattle.cip_base.specs.declared.triad.Triad.{Triad}
 use Rattle.cip_hops.specs.declared.opening.HopDown.{HopDown}
@@ -15,18 +16,18 @@ use Rattle.cip_module.specs.declared.event.Output.{Output}
 use Rattle.cip_module.specs.Effects.{Effect, Counts, Passes, datum_up, recounted}
 use Rattle.cip_module.specs.Produced.{reads_from, next_count, datum_bytes}
 
-abbrev pub made_of : List ℕ → Hop → Output
+abbrev pub made_of : Octets → Hop → Output
 made_of held hop = datum_up hop.opening.up (datum_bytes held hop)
 
-abbrev pub takes_from : ℕ → Hop → Bool
+abbrev pub takes_from : InstanceNumber → Hop → Bool
 takes_from instance hop = reads_from instance hop.opening.down
 
 -- what goes up of all that take their data from this assembly, in rising triad
-abbrev pub made_all : ℕ → List ℕ → List Hop → List Output
+abbrev pub made_all : InstanceNumber → Octets → List Hop → List Output
 made_all instance held hops = map (made_of held) (filter (takes_from instance) hops)
 
 -- the count that a datum of this connection begins with, if it sends one and counts
-abbrev pub count_for : ℕ → Hop → Option ℕ
+abbrev pub count_for : InstanceNumber → Hop → Option ℕ
 count_for instance hop = if reads_from instance hop.opening.down then
     (if hop.opening.class == 1 then Some (next_count hop.produced) else None) else None
 
@@ -34,7 +35,7 @@ abbrev pub counted_by : Hops → Triad → Option ℕ → Hops
 counted_by h triad None = h
 counted_by h triad (Some count) = recounted h triad Down count
 
-abbrev pub counted_all : ℕ → List Hop → Hops → Hops
+abbrev pub counted_all : InstanceNumber → List Hop → Hops → Hops
 counted_all instance [] h = h
 counted_all instance (hop ∷ hops) h =
     counted_all instance hops (counted_by h hop.opening.triad (count_for instance hop))

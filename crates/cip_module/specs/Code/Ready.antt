@@ -1,6 +1,7 @@
 -- What an opening may rely on before it begins.
 use Rattle.std.specs.Prelude.{◌≡◌, ℕ, ◌<◌, true, false, None, Some}
 use Rattle.std.specs.Vec.{vec_len, vec_capacity}
+use Rattle.cip_base.specs.Words.{OpNumber}
 use Rattle.cip_pending.specs.declared.entry.UpSide.{UpSide}
 use Rattle.cip_pending.specs.declared.entry.UpSide.TheVariants.{Link, Local}
 use Rattle.cip_hops.specs.declared.opening.Opening.{Opening}
@@ -14,7 +15,7 @@ use Rattle.cip_module.specs.State.{is_spent}
 pub record IsReady (m : Node) (o : Opening) : Type 0 where
   pub multiplier : o.multiplier < 8
   pub free : IsOpFree m.hops (op_of o.up)
-  pub spent : (op : ℕ) → op_of o.up ≡ Some op → is_spent op m.ops.ops.items ≡ true
+  pub spent : (op : OpNumber) → op_of o.up ≡ Some op → is_spent op m.ops.ops.items ≡ true
   pub room : refusal m.hops o.triad (ids_drawn o) ≡ None
 
 -- an op that a command uses up is new, and there is room for it

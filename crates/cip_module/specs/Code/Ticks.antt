@@ -1,6 +1,7 @@
 -- What a tick tells of what ran out.
 use Rattle.std.specs.Prelude.{◌≡◌, ℕ, ◌+◌, ◌*◌, ◌^◌, ◌<◌, ◌≤◌, List, map, Option, Result, Ok, Err}
 use Rattle.std.specs.Option.{option_to_list}
+use Rattle.cip_base.specs.Words.{Microseconds}
 use Rattle.cip_pending.specs.declared.entry.Entry.{Entry}
 use Rattle.cip_pending.specs.Pendings.{due, Pendings}
 use Rattle.cip_hops.specs.declared.hop.Hop.{Hop}
@@ -25,14 +26,14 @@ abbrev pub shown : ℕ × Entry → Output
 shown waiting = reply_up waiting.1.up (late_bytes waiting.1.kind waiting.1.words)
 
 -- of the due pendings, in rising number
-abbrev pub pendings_timed_out : ℕ → Pendings → List Output
+abbrev pub pendings_timed_out : Microseconds → Pendings → List Output
 pendings_timed_out now p = map shown (due now p)
 
 abbrev pub hop_timed_out : Hop → Output
 hop_timed_out hop = outputs.Expired hop.opening.triad
 
 -- of the due connections, in rising triad
-abbrev pub hops_timed_out : ℕ → Hops → List Output
+abbrev pub hops_timed_out : Microseconds → Hops → List Output
 hops_timed_out now h = map hop_timed_out (hops.due now h)
 
 -- the effect of one due pending, and that of one due connection, where there is one

@@ -17,13 +17,13 @@ loop-hop-init c =
 pub loop-hop-smaller-in_ok-push : goal.loop-hop-smaller-in_ok-push
 loop-hop-smaller-in_ok-push c =
     let h = c.args.hops.now in
-    hop_fewer h c.last-last.ensures.within c.loop-hop.after c.in-Some.hop.now
+    hop_fewer h c.is_within.ensures c.loop-hop.after c.in-Some.hop.now
     (c.in-Some.ensures ∙ ap (λ (o : Option Triad). first_after o h) c.as_ref.ensures.value)
 
 pub loop-hop-smaller : goal.loop-hop-smaller
 loop-hop-smaller c =
     let h = c.args.hops.now in
-    hop_fewer h c.last-last.ensures.within c.loop-hop.after c.in-Some.hop.now
+    hop_fewer h c.is_within.ensures c.loop-hop.after c.in-Some.hop.now
     (c.in-Some.ensures ∙ ap (λ (o : Option Triad). first_after o h) c.as_ref.ensures.value)
 
 pub loop-hop-preserved-in_ok-push : goal.loop-hop-preserved-in_ok-push
@@ -36,7 +36,7 @@ loop-hop-preserved-in_ok-push c =
     ∙ ap (λ b. c.loop-hop.outputs.items ++ map hop_timed_out (cond b (hop ∷ filter (is_late c.args.now) left) (filter (is_late c.args.now) left)))
     (sym (sym c.is_late.ensures ∙ c.if-is_late.true))
     ∙ ap (λ (z : List Hop). c.loop-hop.outputs.items ++ map hop_timed_out (filter (is_late c.args.now) z))
-    (sym (hop_walks h c.last-last.ensures.within c.loop-hop.after hop (c.in-Some.ensures ∙ ap (λ (o : Option Triad). first_after o h) c.as_ref.ensures.value)))
+    (sym (hop_walks h c.is_within.ensures c.loop-hop.after hop (c.in-Some.ensures ∙ ap (λ (o : Option Triad). first_after o h) c.as_ref.ensures.value)))
     ∙ c.loop-hop.invariant
 
 pub loop-hop-preserved : goal.loop-hop-preserved
@@ -47,7 +47,7 @@ loop-hop-preserved c =
     ap (λ b. c.loop-hop.outputs.items ++ map hop_timed_out (cond b (hop ∷ filter (is_late c.args.now) left) (filter (is_late c.args.now) left)))
     (sym (sym c.is_late.ensures ∙ c.if-is_late.false))
     ∙ ap (λ (z : List Hop). c.loop-hop.outputs.items ++ map hop_timed_out (filter (is_late c.args.now) z))
-    (sym (hop_walks h c.last-last.ensures.within c.loop-hop.after hop (c.in-Some.ensures ∙ ap (λ (o : Option Triad). first_after o h) c.as_ref.ensures.value)))
+    (sym (hop_walks h c.is_within.ensures c.loop-hop.after hop (c.in-Some.ensures ∙ ap (λ (o : Option Triad). first_after o h) c.as_ref.ensures.value)))
     ∙ c.loop-hop.invariant
 
 pub returns : goal.returns

@@ -12,7 +12,7 @@ loop-hop-init c = record { config = refl; state = counts_all c.args.instance (st
 
 pub loop-hop-smaller-in-Some-count_for : goal.loop-hop-smaller-in-Some-count_for
 loop-hop-smaller-in-Some-count_for c =
-    counts_fewer c.loop-hop.self.hops c.counts.new.self.hops c.loop-hop.after c.in-Some.hop.now (Some c.in-Some-count_for.count) c.last-last.ensures.within
+    counts_fewer c.loop-hop.self.hops c.counts.new.self.hops c.loop-hop.after c.in-Some.hop.now (Some c.in-Some-count_for.count) c.is_within.ensures
     (c.in-Some.ensures ∙ ap (λ a. first_after a c.loop-hop.self.hops) c.as_ref.ensures.value)
     (ap (λ (s : State). s.hops) c.counts.ensures.after)
 
@@ -24,13 +24,13 @@ loop-hop-preserved-in-Some-count_for c =
       state = ap (counted_from c.args.instance (Some hop.opening.triad)) c.counts.ensures.after
           ∙ ap (λ (o : Option ℕ). counted_from c.args.instance (Some hop.opening.triad) (record s { hops = counted_by s.hops hop.opening.triad o }))
           c.in-Some-count_for.ensures
-          ∙ counts_next c.args.instance c.loop-hop.after s hop c.last-last.ensures.within
+          ∙ counts_next c.args.instance c.loop-hop.after s hop c.is_within.ensures
           (c.in-Some.ensures ∙ ap (λ a. first_after a c.loop-hop.self.hops) c.as_ref.ensures.value)
           ∙ c.loop-hop.invariant.state;
     }
 
 pub loop-hop-smaller : goal.loop-hop-smaller
-loop-hop-smaller c = hop_fewer c.loop-hop.self.hops c.last-last.ensures.within c.loop-hop.after c.in-Some.hop.now
+loop-hop-smaller c = hop_fewer c.loop-hop.self.hops c.is_within.ensures c.loop-hop.after c.in-Some.hop.now
     (c.in-Some.ensures ∙ ap (λ a. first_after a c.loop-hop.self.hops) c.as_ref.ensures.value)
 
 pub loop-hop-preserved : goal.loop-hop-preserved
@@ -40,7 +40,7 @@ loop-hop-preserved c =
       config = c.loop-hop.invariant.config;
       state = ap (λ (o : Option ℕ). counted_from c.args.instance (Some hop.opening.triad) (record s { hops = counted_by s.hops hop.opening.triad o }))
           c.in_default-count_for.ensures
-          ∙ counts_next c.args.instance c.loop-hop.after s hop c.last-last.ensures.within
+          ∙ counts_next c.args.instance c.loop-hop.after s hop c.is_within.ensures
           (c.in-Some.ensures ∙ ap (λ a. first_after a c.loop-hop.self.hops) c.as_ref.ensures.value)
           ∙ c.loop-hop.invariant.state;
     }

@@ -15,14 +15,14 @@ loop-hop-init c =
     ∙ ap (λ (z : List Hop). made_all c.args.instance c.args.held.now z) (opens_all c.args.self.now.hops)
 
 pub loop-hop-smaller : goal.loop-hop-smaller
-loop-hop-smaller c = hop_fewer c.args.self.now.hops c.last-last.ensures.within c.loop-hop.after c.in-Some.hop.now
+loop-hop-smaller c = hop_fewer c.args.self.now.hops c.is_within.ensures c.loop-hop.after c.in-Some.hop.now
     (c.in-Some.ensures ∙ ap (λ a. first_after a c.args.self.now.hops) c.as_ref.ensures.value)
 
 pub loop-hop-preserved : goal.loop-hop-preserved
 loop-hop-preserved c =
     let rest : List Hop = opens_above (Some c.in-Some.hop.now.opening.triad) c.args.self.now.hops in
     let left : List Hop = opens_above c.loop-hop.after c.args.self.now.hops in
-    let walk : left ≡ c.in-Some.hop.now ∷ rest = hop_walks c.args.self.now.hops c.last-last.ensures.within c.loop-hop.after c.in-Some.hop.now
+    let walk : left ≡ c.in-Some.hop.now ∷ rest = hop_walks c.args.self.now.hops c.is_within.ensures c.loop-hop.after c.in-Some.hop.now
     (c.in-Some.ensures ∙ ap (λ a. first_after a c.args.self.now.hops) c.as_ref.ensures.value) in
     elim c.if-reads_from.branch [
       | then-reads_from+in_ok-bytes+in_ok-push w ↦ (

@@ -21,7 +21,7 @@ returns c =
       does = subst (λ (x : Option Hop). Does m.config (state_of_node m) (enter_effects c.args.bytes.now x) (state_of_node m) (c.datum_down.result ∷ []))
           c.in-Some.ensures
           (enters m.config (state_of_node m) hop c.args.bytes.now c.datum_down.result sized
-          (found_held (is_hop_by_op c.args.of) m.hops hop found c.last-last.ensures.within)
+          (found_held (is_hop_by_op c.args.of) m.hops hop found c.is_within.ensures)
           (c.datum_down.ensures ∙ ap (λ (b : List ℕ). datum_down hop hop.opening.down b) bytes));
       same_config = refl;
     }
