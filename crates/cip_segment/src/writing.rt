@@ -1,24 +1,15 @@
 //! Writing segments in their shortest forms.
 ghost use Rattle.std.specs.Prelude.{◌≡◌, ◌<◌, ◌≤◌, ◌++◌, ◌∷◌, length, OnOk, IfOk, IfErr, IsTrue, ◌↔◌, All, IsOk};
 ghost use Rattle.cip_segment.specs.Spelling.{IsForm, Spells};
-ghost use Rattle.cip_base.specs.Fields.{pad, word};
+ghost use Rattle.cip_base.specs.Fields.{pad};
 ghost use Rattle.cip_segment.specs.Reading.{path_at};
 ghost use Rattle.cip_segment.specs.Short.{short_number, short, IsPut, IsWritable, IsRanged, IsWriteFault};
 
 use crate::fault::PathFault;
 use crate::path::Path;
 use crate::segment::Segment;
-use byteorder::{ByteOrder, LittleEndian};
-use cip_base::{KeyFields, MAX_PATH};
+use cip_base::{KeyFields, MAX_PATH, put_double, put_word};
 use std::alloc::{AllocError, Global};
-
-fn put_word(out: &mut Vec<u8>, number: u16) -> Result<(), AllocError>
-    ensures { OnOk result (out.new.items ≡ out.old.items ++ word number) }
-{
-    let mut bytes = [0; 2];
-    LittleEndian::write_u16(&mut bytes, number);
-    out.extend_from_slice(&bytes)
-}
 
 fn put_number(out: &mut Vec<u8>, head: u8, number: u32) -> Result<(), AllocError>
     requires { head < 128 }
@@ -36,8 +27,7 @@ fn put_number(out: &mut Vec<u8>, head: u8, number: u32) -> Result<(), AllocError
     }
     out.push(head + 2)?;
     out.push(0)?;
-    put_word(out, (number % 65536) as u16)?;
-    put_word(out, (number / 65536) as u16)
+    put_double(out, number)
 }
 
 fn put_padded(out: &mut Vec<u8>, bytes: &[u8]) -> Result<(), AllocError>

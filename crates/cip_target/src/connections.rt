@@ -1,10 +1,10 @@
 //! The target as the end of connections.
-ghost use Rattle.std.specs.Prelude.{◌≡◌, ◌≤◌, length, MatchOption, IfOk, IfSome, IsSome, IsSomeAnd};
+ghost use Rattle.std.specs.Prelude.{◌≡◌, ◌≤◌, length, IfOk, IfSome, IsSome};
 ghost use Rattle.std.specs.FinMap as map;
 ghost use Rattle.cip_open.specs.Reading.{open_of};
-ghost use Rattle.cip_target.specs.Assemblies.{config_in};
+ghost use Rattle.cip_target.specs.Assemblies.{HasSize, config_in};
 ghost use Rattle.cip_target.specs.Ends.{Fits, end_gives, row_at, accepted, consumed, released};
-ghost use Rattle.cip_target.specs.Viewed.{application_seen, IsJoined, Misses};
+ghost use Rattle.cip_target.specs.Viewed.{application_seen, IsJoining};
 
 use crate::application::{ApplicationView, application};
 use crate::config::AssemblyConfig;
@@ -19,7 +19,7 @@ use cip_open::OpenView;
 impl Target {
     // The assemblies that an application path names, if all three exist.
     fn joined<'a>(&self, application: ApplicationView<'a>) -> Option<Joined<'a>>
-        ensures { MatchOption result (Misses self.now.objects.assemblies (application_seen application.entry)) (λ j. IsJoined self.now.objects.assemblies (application_seen application.entry) j) }
+        ensures { IsJoining self.now.objects.assemblies (application_seen application.entry) result }
     {
         let Some(config) = self.assemblies.config(application.config) else {
             return None;
@@ -88,7 +88,7 @@ impl Target {
     /// Writes a datum, without its sequence count, to an assembly of as many bytes. It takes no
     /// memory.
     pub fn consume(&mut self, instance: u16, data_: &[u8])
-        requires { IsSomeAnd (map.get self.old.objects.assemblies instance) (λ held. length data_.now ≡ length held) }
+        requires { HasSize self.old.objects.assemblies instance (length data_.now) }
         ensures { self.new ≡ consumed self.old instance data_.now }
     {
         self.assemblies.write(u32::from(instance), data_);

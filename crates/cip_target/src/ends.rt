@@ -1,8 +1,8 @@
 //! The rows of an open that is to end here, from an application path on, in the order of the
 //! routing table (Volume 1, chapter 3, Forward_Open).
 ghost use Rattle.std.specs.Prelude.{◌≡◌, ◌≤◌, Some};
-ghost use Rattle.cip_target.specs.Ends.{is_configuration, datum_size, are_sizes, sized_row, end_gives};
-ghost use Rattle.cip_target.specs.Viewed.{application_joined};
+ghost use Rattle.cip_target.specs.Ends.{is_configuration, datum_size, are_sizes, end_gives};
+ghost use Rattle.cip_target.specs.Viewed.{row_joined};
 
 use crate::config::AssemblyConfig;
 use crate::link::EndLink;
@@ -77,7 +77,7 @@ pub(crate) fn joined_row(
     requires config { joined.now.config.size ≤ 511 }
     requires consume { joined.now.consume.size ≤ 511 }
     requires produce { joined.now.produce.size ≤ 511 }
-    ensures { result ≡ end_gives (sized_row (λ _. owned) fields.now (application_joined joined.now) (Some joined.now.config.size) (Some joined.now.consume.size) (Some joined.now.produce.size)) }
+    ensures { result ≡ end_gives (row_joined owned fields.now joined.now) }
 {
     let class = fields.transport % 16;
     if !is_configuration(joined.config.size, joined.bytes) {
