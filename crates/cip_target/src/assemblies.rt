@@ -76,7 +76,8 @@ impl Assemblies {
     /// Keeps an assembly without an owner, in the place of one of the same instance.
     pub(crate) fn hold(&mut self, instance: u16, bytes: Bytes) -> Result<(), NoMemory>
         requires { length bytes ≤ 511 }
-        ensures { self.new ≡ (if is_ok result then with_fresh self.old instance bytes else self.old) }
+        ensures { self.new
+            ≡ (if is_ok result then with_fresh self.old instance bytes else self.old) }
     {
         let assembly = Assembly { bytes, owner: None };
         match place_from(&self.held, instance) {

@@ -19,7 +19,8 @@ use cip_open::OpenView;
 impl Target {
     // The assemblies that an application path names, if all three exist.
     fn joined<'a>(&self, application: ApplicationView<'a>) -> Option<Joined<'a>>
-        ensures { IsJoining self.now.objects.assemblies (application_seen application.entry) result }
+        ensures { IsJoining self.now.objects.assemblies
+            (application_seen application.entry) result }
     {
         let Some(config) = self.assemblies.config(application.config) else {
             return None;

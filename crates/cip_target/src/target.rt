@@ -238,7 +238,8 @@ impl Target {
     /// Set_Attribute_Single 10 of attribute 3, its data, set whole. Otherwise the reply has the
     /// general status of the first `TargetRefusal` that fits. NoMemory changes nothing.
     pub fn answer(&mut self, alloc: Global, request: RequestView<'_>) -> Result<Bytes, NoMemory>
-        ensures ok { IfOk result (λ b. b ≡ answer_bytes self.old.objects (request_of request.entry)) }
+        ensures ok { IfOk result
+            (λ b. b ≡ answer_bytes self.old.objects (request_of request.entry)) }
         ensures after { self.new ≡ ends_if (is_ok result) self.old (request_of request.entry) }
     {
         match self.row(request) {
