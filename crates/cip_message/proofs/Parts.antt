@@ -1,8 +1,7 @@
 -- Reading data that ends with a part counted in words is exact, whatever stands in front of that part.
-use Rattle.std.proofs.Common.{◌≡◌, ℕ, ◌<◌, List, length, drop, Result, Ok, Err, sym, ap, subst, ◌∙◌}
+use Rattle.std.proofs.Common.{◌≡◌, ℕ, ◌<◌, List, length, drop, Err, sym, ap, subst, ◌∙◌}
 use Rattle.std.specs.Prelude.{MatchResult}
 use Rattle.cip_base.specs.Fields.{IsBytes}
-use Rattle.cip_segment.specs.declared.fault.PathFault.{PathFault}
 use Rattle.cip_segment.specs.Spelling.{IsReadable, IsFault}
 use Rattle.cip_segment.specs.Reading.{path_at}
 use Rattle.cip_segment.proofs.PathsRead.{path_at-IsFault}

@@ -1,7 +1,7 @@
 -- The data of a failed Forward_Open or Forward_Close (Volume 1, chapter 3): the connection triad,
 -- the words of path that were left, and a reserved byte. It may end before the words or be missing
 -- whole; what follows the words is not kept.
-use Rattle.std.specs.Prelude.{◌≡◌, ℕ, ◌<◌, ◌==◌, nat_lt, if◌then◌else◌, List, [], ◌∷◌, ◌++◌, length, slice_get, Option, Some, None, Result, Ok, Err}
+use Rattle.std.specs.Prelude.{◌≡◌, ℕ, ◌<◌, ◌==◌, nat_lt, if◌then◌else◌, [], ◌∷◌, ◌++◌, length, slice_get, Option, Some, None, Result, Ok, Err}
 use Rattle.cip_base.specs.Words.{Octets, WordCount}
 use Rattle.cip_base.specs.declared.timing.Status.{Status}
 use Rattle.cip_base.specs.declared.triad.Triad.{Triad}

@@ -1,6 +1,6 @@
 -- Requests to the Connection Manager: class 6, instance 1 (Volume 1, chapter 3, Connection
 -- Manager).
-use Rattle.std.specs.Prelude.{ℕ, List, [], ◌∷◌}
+use Rattle.std.specs.Prelude.{ℕ, [], ◌∷◌}
 use Rattle.cip_base.specs.Words.{Octets}
 use Rattle.cip_message.specs.Request.{Request, request_with, request_bytes}
 

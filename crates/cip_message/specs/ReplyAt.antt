@@ -1,7 +1,7 @@
 -- What reading bytes as a reply gives. Definitions above, which go by cases on what was read, use
 -- this function; the relation of `Reply` says what it has to be, and the laws of this crate tie the
 -- two together.
-use Rattle.std.specs.Prelude.{◌≡◌, ℕ, ◌*◌, nat_lt, if◌then◌else◌, List, [], ◌∷◌, length, take, drop, Result, Ok, Err}
+use Rattle.std.specs.Prelude.{◌≡◌, ℕ, ◌*◌, nat_lt, if◌then◌else◌, [], ◌∷◌, length, take, drop, Result, Ok, Err}
 use Rattle.cip_base.specs.Words.{Octets}
 use Rattle.cip_message.specs.declared.fault.ReplyFault.{ReplyFault}
 use Rattle.cip_message.specs.declared.fault.ReplyFault.TheVariants.{TooShort, NotReply, ExtraSize}

@@ -7,9 +7,8 @@ ghost use Rattle.cip_message.specs.ReplyAt.{reply_from, reply_at};
 ghost use Rattle.cip_message.specs.Reading.{reply_of};
 
 use crate::fault::{ReplyFault, WriteFault};
-use crate::numbers::put_word;
 use byteorder::{ByteOrder, LittleEndian};
-use cip_base::{Bytes, MAX_MESSAGE, Status};
+use cip_base::{Bytes, MAX_MESSAGE, Status, put_word};
 use std::alloc::{AllocError, Global};
 
 /// A reply whose additional status and data are borrowed (Volume 1, chapter 2, Message Router reply

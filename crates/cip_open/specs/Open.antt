@@ -1,5 +1,5 @@
 -- Forward_Open, service 54 of the Connection Manager (Volume 1, chapter 3, Forward_Open).
-use Rattle.std.specs.Prelude.{◌≡◌, ℕ, ◌*◌, ◌/◌, List, ◌∷◌, ◌++◌, length}
+use Rattle.std.specs.Prelude.{◌≡◌, ℕ, ◌*◌, ◌/◌, ◌∷◌, ◌++◌, length}
 use Rattle.cip_base.specs.Fields.{word, double}
 use Rattle.cip_base.specs.Words.{Octets, WordCount}
 use Rattle.cip_segment.specs.Spelling.{IsReadable}

@@ -6,10 +6,9 @@ ghost use Rattle.cip_open.specs.Open.{ReadsOpen, IsOpenFault, open_bytes};
 ghost use Rattle.cip_open.specs.OpenAt.{open_fields_in, open_at, open_triad_of, open_words_of};
 ghost use Rattle.cip_open.specs.Reading.{open_of, open_along};
 
-use cip_base::{Bytes, NoMemory, Timing, Triad};
+use cip_base::{Bytes, NoMemory, Timing, Triad, put_double, put_word};
 use cip_message::{
-    DataFault, counted_path, double_at, put_double, put_manager_header, put_triad, put_word,
-    triad_within, word_at,
+    DataFault, counted_path, double_at, put_manager_header, put_triad, triad_within, word_at,
 };
 use cip_segment::PathView;
 use std::alloc::{AllocError, Global};

@@ -7,10 +7,8 @@ ghost use Rattle.cip_open.specs.SuccessAt.{open_reply_at};
 ghost use Rattle.cip_open.specs.Reading.{success_of};
 
 use crate::request::FORWARD_OPEN_REPLY;
-use cip_base::{Bytes, NoMemory, Status, Triad};
-use cip_message::{
-    DataFault, counted_part, double_at, put_double, put_reply_header, put_triad, triad_at,
-};
+use cip_base::{Bytes, NoMemory, Status, Triad, put_double};
+use cip_message::{DataFault, counted_part, double_at, put_reply_header, put_triad, triad_at};
 use std::alloc::{AllocError, Global};
 
 /// What the data of a successful Forward_Open's reply says (Volume 1, chapter 3, Forward_Open,

@@ -18,7 +18,7 @@ use Rattle.cip_target.specs.ApplicationPath.{Application, application_of}
 use Rattle.cip_target.specs.Assemblies.{AssemblyMap, size_in, config_in, config_with, written_over, owned_with}
 use Rattle.cip_target.specs.Held.{Holdings}
 use Rattle.cip_target.specs.Ends.{Ends, EndRow, class_of, is_configuration, are_sizes, link_of, sized_row, application_row, end_row, row_at, accepted}
-use Rattle.cip_target.specs.Viewed.{application_joined, joined_row, IsJoined}
+use Rattle.cip_target.specs.Viewed.{application_joined, row_joined, IsJoined}
 
 size_is : (m : AssemblyMap) (i : ℕ) → option_map (λ c. c.size) (config_in m i) ≡ size_in m i
 size_is m i = elim (map.get m i) as (λ (o : Option (List ℕ)). option_map (λ c. c.size) (option_map (config_with i) o) ≡ option_map length o) [
@@ -31,7 +31,7 @@ size_at m i c e = sym (size_is m i) ∙ ap (option_map (λ (c : AssemblyConfig).
 
 -- the row of an open whose assemblies are found
 pub joined_is : (m : AssemblyMap) (owned : ℕ → Bool) (f : OpenFields) (a : Application) (j : Joined) (b : Bool) → IsJoined m a j → b ≡ owned j.consume.instance
-    → joined_row j f b ≡ application_row m owned f (Some a)
+    → row_joined b f j ≡ application_row m owned f (Some a)
 joined_is m owned f a j b h e =
     ap (λ (b : Bool). sized_row (λ _. b) f (application_joined j) (Some j.config.size) (Some j.consume.size) (Some j.produce.size)) e
     ∙ ap (λ (a : Application). sized_row owned f a (Some j.config.size) (Some j.consume.size) (Some j.produce.size)) h.same

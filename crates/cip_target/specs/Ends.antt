@@ -4,6 +4,7 @@
 use Rattle.std.specs.Prelude.{ℕ, Bool, not, ◌+◌, ◌%◌, ◌==◌, ◌&&◌, ◌||◌, nat_lt, if◌then◌else◌, List, [], length, slice_index, is_some, Option, Some, None, Result, Ok, Err}
 use Rattle.std.specs.Option.{option_map_or}
 use Rattle.std.specs.FinMap as map
+use Rattle.cip_base.specs.Words.{Octets, InstanceNumber}
 use Rattle.cip_base.specs.declared.timing.Status.{Status}
 use Rattle.cip_segment.specs.Reading.{segments_of}
 use Rattle.cip_message.specs.Request.{Request}
@@ -17,6 +18,7 @@ use Rattle.cip_target.specs.declared.identity.IdentityFields.{IdentityFields}
 use Rattle.cip_target.specs.declared.link.EndLink.{EndLink}
 use Rattle.cip_target.specs.ApplicationPath.{Application, application_of}
 use Rattle.cip_target.specs.Assemblies.{AssemblyMap, Owners, zeroed, size_in, written_over, owned_with}
+use Rattle.cip_target.specs.Held.{Holdings, unowned}
 use Rattle.cip_target.specs.Objects.{Objects, target_after}
 
 -- the link that an open fits, or why it is refused
@@ -28,7 +30,7 @@ abbrev pub class_of : ℕ → ℕ
 class_of transport = transport % 16
 
 -- as many bytes as the assembly has, or one more, a pad 00, where that is odd
-abbrev pub is_configuration : ℕ → List ℕ → Bool
+abbrev pub is_configuration : ℕ → Octets → Bool
 is_configuration size b =
     length b == size || (size % 2 == 1 && (length b == size + 1 && slice_index b size == 0))
 
@@ -43,12 +45,16 @@ are_sizes f consume produce =
     && (params_of f.to_params).size == datum_size (class_of f.transport) produce
 
 abbrev pub link_of : OpenFields → Application → EndLink
-link_of f a = record { config = a.config; consume = a.consume; produce = a.produce; class =
-    class_of f.transport }
+link_of f a = record {
+  config = a.config;
+  consume = a.consume;
+  produce = a.produce;
+  class = class_of f.transport;
+}
 
 -- with the sizes of the three assemblies, each where it exists
-abbrev pub sized_row : (ℕ → Bool) → OpenFields → Application → Option ℕ → Option ℕ → Option ℕ
-    → EndRow
+abbrev pub sized_row : (InstanceNumber → Bool) → OpenFields → Application
+    → Option ℕ → Option ℕ → Option ℕ → EndRow
 sized_row owned f a (Some config) (Some consume) (Some produce) =
     if not (is_configuration config a.bytes) then Err NoSuchInstanceOrConfiguration
     else if nat_lt 1 (class_of f.transport) then Err TransportClassNotSupported
@@ -57,13 +63,14 @@ sized_row owned f a (Some config) (Some consume) (Some produce) =
     else Ok (link_of f a)
 sized_row owned f a config consume produce = Err NoSuchInstanceOrConfiguration
 
-abbrev pub application_row : AssemblyMap → (ℕ → Bool) → OpenFields → Option Application → EndRow
+abbrev pub application_row : AssemblyMap → (InstanceNumber → Bool) → OpenFields
+    → Option Application → EndRow
 application_row m owned f None = Err NotAnApplicationPath
 application_row m owned f (Some a) =
     sized_row owned f a (size_in m a.config) (size_in m a.consume) (size_in m a.produce)
 
 -- the row of an open, where these instances are owned as outputs
-unfoldable pub end_row : AssemblyMap → (ℕ → Bool) → Open → EndRow
+unfoldable pub end_row : AssemblyMap → (InstanceNumber → Bool) → Open → EndRow
 end_row m owned o = application_row m owned o.fields (application_of (segments_of o.path))
 
 -- general status 01, connection failure, with a word of additional status
@@ -92,21 +99,31 @@ pub record Ends : Type 0 where
 abbrev pub with_assemblies : Objects → AssemblyMap → Objects
 with_assemblies t m = record { identity = t.identity; assemblies = m }
 
+-- with this identity, and the assemblies and owners that are held
+abbrev pub ends_with : IdentityFields → Holdings → Ends
+ends_with identity h = record {
+  objects = record { identity = identity; assemblies = h.bytes };
+  owners = h.owners;
+}
+
 -- as a target begins
 abbrev pub fresh : IdentityFields → List AssemblyConfig → Ends
-fresh identity configs = record { objects =
-    record { identity = identity; assemblies = zeroed configs }; owners = map.empty }
+fresh identity configs = ends_with identity (unowned (zeroed configs))
 
 -- after a request
 abbrev pub ends_after : Ends → Request → Ends
 ends_after t r = record { objects = target_after t.objects r; owners = t.owners }
+
+-- the same where the request was answered
+abbrev pub ends_if : Bool → Ends → Request → Ends
+ends_if answered t r = if answered then ends_after t r else t
 
 -- the row of an open at this target
 abbrev pub row_at : Ends → Open → EndRow
 row_at t o = end_row t.objects.assemblies (λ i. is_some (map.get t.owners i)) o
 
 -- the configuration bytes that come with an open
-abbrev pub configuration_of : Open → List ℕ
+abbrev pub configuration_of : Open → Octets
 configuration_of o = option_map_or (λ a. a.bytes) (application_of (segments_of o.path)) []
 
 -- after the configuration bytes are written, without their pad
@@ -115,17 +132,19 @@ configured m o link = written_over m link.config (configuration_of o) (map.get m
 
 -- after the open is taken on this link
 abbrev pub accepted : Ends → EndLink → Open → Ends
-accepted t link o = record {
-  objects = with_assemblies t.objects (configured t.objects.assemblies o link);
-  owners = owned_with t.owners link.consume o.fields.triad
-      (size_in t.objects.assemblies link.consume);
-}
+accepted t link o =
+    let m = t.objects.assemblies in record {
+      objects = with_assemblies t.objects (configured m o link);
+      owners = owned_with t.owners link.consume o.fields.triad (size_in m link.consume);
+    }
 
 -- after a datum is written to an assembly
-abbrev pub consumed : Ends → ℕ → List ℕ → Ends
-consumed t i d = record { objects =
-    with_assemblies t.objects (map.insert t.objects.assemblies i d); owners = t.owners }
+abbrev pub consumed : Ends → InstanceNumber → Octets → Ends
+consumed t i d = record {
+  objects = with_assemblies t.objects (map.insert t.objects.assemblies i d);
+  owners = t.owners;
+}
 
 -- after an instance is given back
-abbrev pub released : Ends → ℕ → Ends
+abbrev pub released : Ends → InstanceNumber → Ends
 released t i = record { objects = t.objects; owners = map.remove t.owners i }

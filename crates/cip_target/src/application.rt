@@ -1,9 +1,9 @@
 //! The application path of an open.
-ghost use Rattle.std.specs.Prelude.{◌≡◌, option_map};
+ghost use Rattle.std.specs.Prelude.{◌≡◌};
 ghost use Rattle.cip_segment.specs.Reading.{segments_of};
-ghost use Rattle.cip_segment.specs.Seen.{segment_of};
-ghost use Rattle.cip_target.specs.ApplicationPath.{behind_key, without_inhibits, point_of, bytes_in, application_with, points_in, application_in, application_of};
-ghost use Rattle.cip_target.specs.Viewed.{application_seen, IsFirst, IsFirstPoint};
+ghost use Rattle.cip_target.specs.ApplicationPath.{behind_key, bytes_in, application_with, points_in, application_of};
+ghost use Rattle.cip_target.specs.Seen.{bytes_seen};
+ghost use Rattle.cip_target.specs.Viewed.{application_found, parts_of, first_seen, point_seen, IsFirst, IsFirstPoint};
 
 use cip_segment::{PathView, SegmentView, split_first};
 
@@ -35,10 +35,7 @@ fn behind_key(path: PathView<'_>) -> PathView<'_>
 
 // The first segment that is no production inhibit, and what stands behind it.
 fn split(path: PathView<'_>) -> Option<(SegmentView<'_>, PathView<'_>)>
-    ensures {
-        IsFirst (without_inhibits (segments_of path.entry.bytes.now))
-            (option_map (λ found. (segment_of found.0, segments_of found.1.bytes.now)) result)
-    }
+    ensures { IsFirst (parts_of path.entry) (first_seen result) }
 {
     let mut left = path;
     while let Some((first, rest)) = split_first(left) {
@@ -53,10 +50,7 @@ fn split(path: PathView<'_>) -> Option<(SegmentView<'_>, PathView<'_>)>
 // The point that stands first, if it is an instance or a connection point, and what stands behind
 // it.
 fn split_point(path: PathView<'_>) -> Option<(Option<u32>, PathView<'_>)>
-    ensures {
-        IsFirstPoint (without_inhibits (segments_of path.entry.bytes.now))
-            (option_map (λ found. (found.0, segments_of found.1.bytes.now)) result)
-    }
+    ensures { IsFirstPoint (parts_of path.entry) (point_seen result) }
 {
     match split(path) {
         None => None,
@@ -70,10 +64,7 @@ fn split_point(path: PathView<'_>) -> Option<(Option<u32>, PathView<'_>)>
 
 // What stands behind the three points: nothing, or one simple data segment.
 fn bytes_in(path: PathView<'_>) -> Option<&[u8]>
-    ensures {
-        option_map (λ d. d.now) result ≡ bytes_in
-            (without_inhibits (segments_of path.entry.bytes.now))
-    }
+    ensures { bytes_seen result ≡ bytes_in (parts_of path.entry) }
 {
     match split(path) {
         None => Some(&[]),
@@ -93,10 +84,8 @@ fn application_with(
     produce: Option<u32>,
     bytes: Option<&[u8]>,
 ) -> Option<ApplicationView<'_>>
-    ensures {
-        option_map application_seen result
-            ≡ application_with config consume produce (option_map (λ d. d.now) bytes.entry)
-    }
+    ensures { application_found result
+        ≡ application_with config consume produce (bytes_seen bytes.entry) }
 {
     Some(ApplicationView {
         config: config?,
@@ -108,10 +97,7 @@ fn application_with(
 
 // Behind the class: the three points, and what stands behind them.
 fn points_in(path: PathView<'_>) -> Option<ApplicationView<'_>>
-    ensures {
-        option_map application_seen result
-            ≡ points_in (without_inhibits (segments_of path.entry.bytes.now))
-    }
+    ensures { application_found result ≡ points_in (parts_of path.entry) }
 {
     let Some((config, rest)) = split_point(path) else {
         return None;
@@ -129,9 +115,7 @@ fn points_in(path: PathView<'_>) -> Option<ApplicationView<'_>>
 /// each an instance or a connection point, and perhaps one simple data segment. Production inhibit
 /// segments are skipped wherever they stand.
 pub(crate) fn application(path: PathView<'_>) -> Option<ApplicationView<'_>>
-    ensures {
-        option_map application_seen result ≡ application_of (segments_of path.entry.bytes.now)
-    }
+    ensures { application_found result ≡ application_of (segments_of path.entry.bytes.now) }
 {
     match split(behind_key(path)) {
         None => None,

@@ -1,10 +1,10 @@
 //! The target as the end of connections.
-ghost use Rattle.std.specs.Prelude.{◌≡◌, ◌≤◌, length, MatchOption, IfOk, IfSome, IsSome, IsSomeAnd};
+ghost use Rattle.std.specs.Prelude.{◌≡◌, ◌≤◌, length, Ok, IfSome, IsSome};
 ghost use Rattle.std.specs.FinMap as map;
 ghost use Rattle.cip_open.specs.Reading.{open_of};
-ghost use Rattle.cip_target.specs.Assemblies.{config_in};
+ghost use Rattle.cip_target.specs.Assemblies.{HasSize, config_in};
 ghost use Rattle.cip_target.specs.Ends.{end_gives, row_at, accepted, consumed, released};
-ghost use Rattle.cip_target.specs.Viewed.{application_seen, IsJoined, Misses};
+ghost use Rattle.cip_target.specs.Viewed.{application_seen, IsJoining};
 
 use crate::application::{ApplicationView, application};
 use crate::config::AssemblyConfig;
@@ -17,11 +17,8 @@ use cip_open::OpenView;
 impl Target {
     // The assemblies that an application path names, if all three exist.
     fn joined<'a>(&self, application: ApplicationView<'a>) -> Option<Joined<'a>>
-        ensures {
-            MatchOption result (Misses self.now.objects.assemblies
-                (application_seen application.entry))
-                (λ j. IsJoined self.now.objects.assemblies (application_seen application.entry) j)
-        }
+        ensures { IsJoining self.now.objects.assemblies
+            (application_seen application.entry) result }
     {
         let Some(config) = self.assemblies.config(application.config) else {
             return None;
@@ -48,9 +45,8 @@ impl Target {
         self.assemblies.config(instance)
     }
 
-    /// Whether an open can end here (Volume 1, chapter 3, Forward_Open): what it joins, or the
-    /// first row that fits, in the
-    /// order of `EndRefusal`. It takes no memory.
+    /// Whether an open can end here (Volume 1, chapter 3, Forward_Open): what it joins, or the first
+    /// row that fits, in the order of `EndRefusal`. It takes no memory.
     #[tactic(auto, unfolding(crate::specs::Ends::end_row))]
     pub fn end_row(&self, asked: &OpenView<'_>) -> Result<EndLink, EndRefusal>
         ensures { result ≡ row_at self.now (open_of asked.now) }
@@ -79,8 +75,8 @@ impl Target {
     }
 
     /// Takes an open that `check` gave this link: enters the connection as the owner of the O→T
-    /// instance if that has bytes, and
-    /// writes the configuration bytes, without a pad. It takes no memory.
+    /// instance if that has bytes, and writes the configuration bytes, without a pad. It takes no
+    /// memory.
     pub fn accept(&mut self, link: &EndLink, asked: &OpenView<'_>)
         requires { row_at self.old (open_of asked.now) ≡ Ok link.now }
         ensures { self.new ≡ accepted self.old link.now (open_of asked.now) }
@@ -97,10 +93,7 @@ impl Target {
     /// Writes a datum, without its sequence count, to an assembly of as many bytes. It takes no
     /// memory.
     pub fn consume(&mut self, instance: u16, data_: &[u8])
-        requires {
-            IsSomeAnd (map.get self.old.objects.assemblies instance)
-                (λ held. length data_.now ≡ length held)
-        }
+        requires { HasSize self.old.objects.assemblies instance (length data_.now) }
         ensures { self.new ≡ consumed self.old instance data_.now }
     {
         self.assemblies.write(u32::from(instance), data_);

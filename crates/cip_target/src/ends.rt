@@ -1,9 +1,8 @@
 //! The rows of an open that is to end here, from an application path on, in the order of the
-//! routing table
-//! (Volume 1, chapter 3, Forward_Open).
+//! routing table (Volume 1, chapter 3, Forward_Open).
 ghost use Rattle.std.specs.Prelude.{◌≡◌, ◌≤◌};
 ghost use Rattle.cip_target.specs.Ends.{is_configuration, datum_size, are_sizes, end_status};
-ghost use Rattle.cip_target.specs.Viewed.{joined_row};
+ghost use Rattle.cip_target.specs.Viewed.{row_joined};
 
 use crate::config::AssemblyConfig;
 use crate::link::EndLink;
@@ -25,8 +24,8 @@ pub enum EndRefusal {
 }
 
 impl EndRefusal {
-    /// The status that the row answers: general status 01 and an extended status (Volume 1, chapter
-    /// 3, Forward_Open).
+    /// The status that the row answers: general status 01 and an extended status (Volume 1,
+    /// chapter 3, Forward_Open).
     pub fn status(self) -> Status
         ensures { result ≡ end_status self }
     {
@@ -91,7 +90,7 @@ pub(crate) fn joined_row(
     requires config { joined.now.config.size ≤ 511 }
     requires consume { joined.now.consume.size ≤ 511 }
     requires produce { joined.now.produce.size ≤ 511 }
-    ensures { result ≡ joined_row joined.now fields.now owned }
+    ensures { result ≡ row_joined owned fields.now joined.now }
 {
     let class = fields.transport % 16;
     if !is_configuration(joined.config.size, joined.bytes) {

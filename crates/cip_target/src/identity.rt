@@ -3,8 +3,7 @@ ghost use Rattle.std.specs.Prelude.{◌≡◌, ◌≤◌, ◌++◌, ◌↔◌, �
 ghost use Rattle.std.specs.List.{list_all};
 ghost use Rattle.cip_target.specs.Identity.{is_printable, is_identity, number_bytes, identity_bytes};
 
-use cip_base::{Bytes, NoMemory};
-use cip_message::{put_double, put_word};
+use cip_base::{Bytes, NoMemory, put_double, put_word};
 use std::alloc::{AllocError, Global};
 use std::marker::Model;
 
@@ -45,12 +44,7 @@ impl Model for Identity {
 fn are_printable(bytes: &[u8]) -> bool
     ensures { result ≡ list_all is_printable bytes.now }
 {
-    for byte in bytes {
-        if *byte < 0x20 || *byte > 0x7E {
-            return false;
-        }
-    }
-    true
+    bytes.iter().all(|byte| 0x20 <= *byte && *byte <= 0x7E)
 }
 
 impl Identity {

@@ -9,8 +9,8 @@ ghost use Rattle.cip_unconnected.specs.UnconnectedAt.{route_place, unconnected_a
 ghost use Rattle.cip_unconnected.specs.Reading.{unconnected_of, sent_along};
 
 use crate::fault::UnconnectedFault;
-use cip_base::{Bytes, MAX_MESSAGE, Timing};
-use cip_message::{DataFault, WriteFault, counted_path, put_manager_header, put_word, word_at};
+use cip_base::{Bytes, MAX_MESSAGE, Timing, put_word};
+use cip_message::{DataFault, WriteFault, counted_path, put_manager_header, word_at};
 use cip_segment::PathView;
 use std::alloc::{AllocError, Global};
 
