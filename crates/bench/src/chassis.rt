@@ -131,6 +131,11 @@ pub fn device_of(name: &str) -> Option<Device> {
 }
 
 impl Device {
+    /// Its name.
+    pub(crate) fn name(&self) -> &'static str {
+        self.name
+    }
+
     /// The device with one setting changed.
     pub(crate) fn with(mut self, key: &str, value: u64) -> Option<Device> {
         match key {

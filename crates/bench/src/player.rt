@@ -16,7 +16,7 @@
 //!
 //! An output is written as in a transcript. A step that did not happen has `clock full` or `no memory` in its place.
 use crate::asked::event;
-use crate::chassis::{AnyModule, NAMES, device_of, make};
+use crate::chassis::{AnyModule, Device, NAMES, device_of, make};
 use crate::opened::OPENED;
 use crate::told::{Shown, Told, fault_text};
 use crate::words::Words;
@@ -25,26 +25,49 @@ use std::alloc::Global;
 use std::fmt::Write;
 use std::test::Fail;
 
-/// The modules, the lines that the last event gave, and those that the script tells of it.
+/// A module under its name.
+#[derive(Drop)]
+struct Named {
+    name: &'static str,
+    module_: AnyModule,
+}
+
+/// The modules, of which the last of a name is played on, the lines that the last event gave, and those that the script tells
+/// of it.
 #[derive(Drop)]
 struct Bench {
     alloc: Global,
-    modules: Vec<AnyModule>,
+    modules: Vec<Named>,
     given: String,
     told: String,
     /// How often the last event was played.
     turns: u16,
 }
 
-fn place_of(name: &str) -> Option<usize> {
-    NAMES.iter().position(|known| *known == name)
+// The place of the last module of this name.
+fn place_of(modules: &[Named], name: &str) -> Option<usize> {
+    let mut place = None;
+    for (at, module_) in modules.iter().enumerate() {
+        if module_.name == name {
+            place = Some(at);
+        }
+    }
+    place
 }
 
-fn all_modules(alloc: Global) -> Option<Vec<AnyModule>> {
+fn make_named(alloc: Global, device: &Device) -> Option<Named> {
+    let module_ = make(alloc, device)?;
+    Some(Named {
+        name: device.name(),
+        module_,
+    })
+}
+
+fn all_modules(alloc: Global) -> Option<Vec<Named>> {
     let mut modules = Vec::new(alloc);
     for name in NAMES {
         let device = device_of(name)?;
-        modules.push(make(alloc, &device)?).ok()?;
+        modules.push(make_named(alloc, &device)?).ok()?;
     }
     Some(modules)
 }
@@ -102,20 +125,20 @@ impl Bench {
     // `M with SETTING NUMBER`
     fn make_anew(&mut self, name: &str, words: &mut Words) -> Option<()> {
         let device = device_of(name)?.with(words.word()?, words.u64()?)?;
-        *self.modules.get_mut(place_of(name)?)? = make(self.alloc, &device)?;
-        Some(())
+        self.modules.push(make_named(self.alloc, &device)?).ok()
     }
 
     // What a line asks for.
     fn obey(&mut self, line: &str) -> Option<()> {
         let mut words = Words::of(self.alloc, line);
         let name = words.word()?;
-        let module_ = self.modules.get_mut(place_of(name)?)?;
+        let place = place_of(self.modules.as_slice(), name)?;
         match words.word()? {
             "with" => self.make_anew(name, &mut words),
-            "tables" => show(module_, &mut self.given),
+            "tables" => show(&self.modules.get(place)?.module_, &mut self.given),
             kind => {
                 let event = event(kind, &mut words)?;
+                let module_ = &mut self.modules.get_mut(place)?.module_;
                 step(self.alloc, module_, &event, &mut self.given)
             }
         }

@@ -81,7 +81,13 @@ impl fmt::Display for Told<'_> {
     fn fmt<W: fmt::Write>(&self, f: &mut fmt::Formatter<W>) -> fmt::Result {
         match self.0 {
             Output::Send { port, to, body } => {
-                write!(f, "send {} {} {}", port.get(), Pairs(to.as_slice()), Held(body))
+                write!(
+                    f,
+                    "send {} {} {}",
+                    port.get(),
+                    Pairs(to.as_slice()),
+                    Held(body)
+                )
             }
             Output::Done { op, reply } => write!(f, "done {op} {}", Pairs(reply.as_slice())),
             Output::Refused(fault) => write!(f, "{}", refused_text(*fault)),
@@ -186,7 +192,12 @@ impl fmt::Display for Up<'_> {
                 their_id,
             } => {
                 let own = id(self.0.ids.up);
-                write!(f, "{} {} own {own} their {their_id}", port.get(), Pairs(address.as_slice()))
+                write!(
+                    f,
+                    "{} {} own {own} their {their_id}",
+                    port.get(),
+                    Pairs(address.as_slice())
+                )
             }
             HopUp::Local { op } => write!(f, "op {op}"),
         }
@@ -203,7 +214,12 @@ impl fmt::Display for Down<'_> {
             HopDown::Link { port, address } => {
                 let their = id(self.0.their_id);
                 let own = id(self.0.ids.down);
-                write!(f, "{} {} their {their} own {own}", port.get(), Pairs(address.as_slice()))
+                write!(
+                    f,
+                    "{} {} their {their} own {own}",
+                    port.get(),
+                    Pairs(address.as_slice())
+                )
             }
             HopDown::End {
                 config,
@@ -225,7 +241,11 @@ impl fmt::Display for Open<'_> {
         let up = Perhaps(row.up_deadline);
         let down = Perhaps(row.down_deadline);
         write!(f, "hop {triad} up {} down {}", Up(row), Down(row))?;
-        write!(f, " watch {up} {down} path {}", Pairs(row.path.view().bytes()))?;
+        write!(
+            f,
+            " watch {up} {down} path {}",
+            Pairs(row.path.view().bytes())
+        )?;
         write!(f, " sizes {} {}", row.ot_size, row.to_size)
     }
 }
@@ -236,7 +256,12 @@ struct Kept<'a>(&'a AssemblyRow);
 
 impl fmt::Display for Kept<'_> {
     fn fmt<W: fmt::Write>(&self, f: &mut fmt::Formatter<W>) -> fmt::Result {
-        write!(f, "assembly {} {}", self.0.instance, Pairs(self.0.bytes.as_slice()))
+        write!(
+            f,
+            "assembly {} {}",
+            self.0.instance,
+            Pairs(self.0.bytes.as_slice())
+        )
     }
 }
 
@@ -248,7 +273,11 @@ impl fmt::Display for Shown<'_> {
     fn fmt<W: fmt::Write>(&self, f: &mut fmt::Formatter<W>) -> fmt::Result {
         let tables = self.0;
         let now = tables.now;
-        writeln!(f, "now {now} id {} number {}", tables.last_id, tables.last_number)?;
+        writeln!(
+            f,
+            "now {now} id {} number {}",
+            tables.last_id, tables.last_number
+        )?;
         for row in tables.pendings.as_slice() {
             writeln!(f, "{}", Waiting(row))?;
         }
