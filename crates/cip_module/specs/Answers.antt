@@ -26,12 +26,12 @@ failure_bytes service status = answered service status []
 
 -- the words of the path as received, where they are known: the one byte of data of a failed
 -- Unconnected_Send
-abbrev pub words_data : Option ℕ → Octets
-words_data None = []
-words_data (Some words) = words ∷ []
+abbrev pub route_words_data : Option ℕ → Octets
+route_words_data None = []
+route_words_data (Some words) = words ∷ []
 
 abbrev pub unconnected_failed : Status → Option ℕ → Octets
-unconnected_failed status words = answered 0x52 status (words_data words)
+unconnected_failed status words = answered 0x52 status (route_words_data words)
 
 abbrev pub unconnected_failure : UnconnectedRefusal → Option ℕ → Octets
 unconnected_failure refusal words = unconnected_failed (unconnected_status refusal) words

@@ -63,14 +63,14 @@ instances_differ (a ∷ as') = not (list_any (has_instance a.instance) as') && i
 abbrev pub are_assemblies : List AssemblyConfig → Bool
 are_assemblies as' = nat_le (length as') 64 && (list_all is_assembly as' && instances_differ as')
 
-abbrev pub is_room : ℕ → Bool
-is_room n = nat_le 1 n && nat_le n 256
+abbrev pub is_room : ℕ → ℕ → Bool
+is_room most n = nat_le 1 n && nat_le n most
 
 -- the clock below 2^63, the first id and number from 1, the rooms from 1 to 256
 abbrev pub are_counts : ModuleSettings → Bool
 are_counts s = nat_lt s.clock (2 ^ 63)
     && (nat_le 1 s.first_id && (nat_le 1 s.first_number
-    && (is_room s.pending_room && is_room s.hop_room)))
+    && (is_room 256 s.pending_room && is_room 256 s.hop_room)))
 
 -- the settings that a module can have
 abbrev pub is_settings : ModuleSettings → Bool

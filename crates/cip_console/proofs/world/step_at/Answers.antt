@@ -12,5 +12,6 @@ returns-clause-configs c =
 pub returns-clause-steps : goal.returns-clause-steps
 returns-clause-steps c =
     let item = c.in-Some.ensures.item in
-    step_placed (λ v. v.items) c.args.modules.now.items c.args.place c.in-Some.stepped.now c.step_of.new.stepped c.args.event _ (found_here _ _ _ item.3.0 item.1)
+    step_placed (λ v. v.items) c.args.modules.now.items c.args.place c.in-Some.stepped.now c.step_of.new.stepped c.args.event _
+    (found_here _ _ _ item.3.0 item.1)
     c.step_of.ensures.steps
