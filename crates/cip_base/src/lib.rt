@@ -47,4 +47,24 @@ unsafe impl Allocator for NoHeap {
     }
 
     unsafe fn deallocate(&self, _ptr: *mut u8, _size: usize, _align: usize) {}
+
+    unsafe fn grow<T>(
+        &self,
+        _ptr: *mut T,
+        _len: usize,
+        _old_cap: usize,
+        _new_cap: usize,
+    ) -> Result<*mut T, AllocError> {
+        Err(AllocError)
+    }
+
+    unsafe fn shrink<T>(
+        &self,
+        _ptr: *mut T,
+        _len: usize,
+        _old_cap: usize,
+        _new_cap: usize,
+    ) -> Result<*mut T, AllocError> {
+        Err(AllocError)
+    }
 }
