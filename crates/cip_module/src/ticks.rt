@@ -1,6 +1,5 @@
 //! What a tick tells of what ran out.
 ghost use Rattle.std.specs.Prelude.{◌≡◌, ◌++◌, IfOk, OnOk};
-ghost use Rattle.cip_hops.specs.Hops.{is_past, is_late};
 ghost use Rattle.cip_module.specs.Effects.{late_bytes};
 ghost use Rattle.cip_module.specs.Tick.{shown, shown_all, lapsed_all};
 
@@ -54,22 +53,6 @@ fn pendings_out(
     Ok(())
 }
 
-fn is_past(deadline: Option<u64>, now: u64) -> bool
-    ensures { result ≡ is_past now deadline }
-{
-    match deadline {
-        Some(time) => time <= now,
-        None => false,
-    }
-}
-
-// Whether either side was silent for too long.
-fn is_late(hop: &Hop, now: u64) -> bool
-    ensures { result ≡ is_late now hop.now }
-{
-    is_past(hop.up_deadline, now) || is_past(hop.down_deadline, now)
-}
-
 // The connections that were silent for too long, in rising triad.
 fn hops_out(outputs: &mut Vec<Output>, hops: &HopTable, now: u64) -> Result<(), NoMemory>
     ensures { OnOk result (outputs.new.items ≡ outputs.old.items ++ lapsed_all now hops.now) }
@@ -78,7 +61,7 @@ fn hops_out(outputs: &mut Vec<Output>, hops: &HopTable, now: u64) -> Result<(), 
     let mut after = None;
     while let Some(hop) = hops.next_after(after.as_ref()) {
         let triad = hop.opening.triad;
-        if is_late(hop, now) {
+        if hop.is_late(now) {
             outputs.push(Output::Expired { triad })?;
         }
         after = Some(triad);
