@@ -23,8 +23,8 @@ pub use fields::{put_double, put_word};
 pub use key::KeyFields;
 pub use laws::{triad_order, triads_are_ordered};
 pub use limits::{
-    MAX_ADDRESS, MAX_ASSEMBLIES, MAX_DATUM, MAX_HOPS, MAX_LINKS, MAX_MESSAGE, MAX_MODULES,
-    MAX_PATH, MAX_PENDINGS, MAX_PORTS, MAX_SCRIPT,
+    LAST_COUNT, MAX_ADDRESS, MAX_ASSEMBLIES, MAX_DATUM, MAX_HOPS, MAX_MESSAGE, MAX_PATH,
+    MAX_PENDINGS, MAX_PORTS,
 };
 pub use memory::NoMemory;
 pub use numbers::{ModuleId, Ms, PortNumber};

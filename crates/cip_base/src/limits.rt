@@ -8,17 +8,13 @@ pub const MAX_PATH: usize = 510;
 pub const MAX_MESSAGE: usize = 1400;
 /// The most bytes of a datum.
 pub const MAX_DATUM: usize = 511;
-/// The most modules of a topology.
-pub const MAX_MODULES: usize = 64;
-/// The most links of a topology.
-pub const MAX_LINKS: usize = 32;
 /// The most ports of a module.
 pub const MAX_PORTS: usize = 8;
 /// The most assemblies of a module.
 pub const MAX_ASSEMBLIES: usize = 64;
+/// The last connection id and the last request number of a module: neither comes back.
+pub const LAST_COUNT: u64 = 4_294_967_295;
 /// The most requests of one module that wait for their replies.
 pub const MAX_PENDINGS: usize = 256;
 /// The most connections of one module, open and opening together.
 pub const MAX_HOPS: usize = 256;
-/// The most bytes of a script.
-pub const MAX_SCRIPT: usize = 1_048_576;

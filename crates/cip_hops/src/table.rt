@@ -14,7 +14,7 @@ use crate::hop::{Change, Held, Hop, Side};
 use crate::index::NumberIndex;
 use crate::opening::{BeginFault, BeginReason, Opening, OwnIds};
 use crate::triads::{TriadIndex, place_after};
-use cip_base::{Address, NoMemory, PortNumber, Triad};
+use cip_base::{Address, LAST_COUNT, NoMemory, PortNumber, Triad};
 use core::mem::replace_with;
 use slab::Slab;
 use std::alloc::Global;
@@ -84,7 +84,7 @@ impl HopTable {
             Some(BeginReason::Duplicate)
         } else if self.triads.len() >= self.room {
             Some(BeginReason::Full)
-        } else if self.next + u64::from(ids) > 4_294_967_296 {
+        } else if self.next + u64::from(ids) > LAST_COUNT + 1 {
             Some(BeginReason::IdsSpent)
         } else {
             None

@@ -130,7 +130,8 @@ fn joined(alloc: Global, service: u8, status: Status, data_: &[u8]) -> Result<Ve
 }
 
 /// The bytes of a reply with at most one word of additional status, the reserved byte 00 (Volume 1,
-/// chapter 2, Message Router reply format). Bit 7 of the service has to be set.
+/// chapter 2, Message Router reply format). The condition is that bit 7 of the service is set, so
+/// that what is written is read back.
 ///
 /// TooLong past 1,400 bytes in all, NoMemory where a growth is refused.
 pub fn write_reply(

@@ -3,6 +3,7 @@ use Rattle.std.specs.Prelude.{ℕ, ◌+◌, List, [], ◌∷◌, Option, Some, N
 use Rattle.cip_base.specs.Words.{Octets, WordCount}
 use Rattle.cip_base.specs.declared.timing.Status.{Status}
 use Rattle.cip_base.specs.declared.triad.Triad.{Triad}
+use Rattle.cip_unconnected.specs.declared.unconnected.TheConstants.{UNCONNECTED_SEND}
 use Rattle.cip_message.specs.Reply.{reply_bytes, extra_words}
 use Rattle.cip_message.specs.declared.failure.ConnectionFailure.{ConnectionFailure}
 use Rattle.cip_open.specs.Failed.{open_failure_bytes}
@@ -31,7 +32,7 @@ route_words_data None = []
 route_words_data (Some words) = words ∷ []
 
 abbrev pub unconnected_failed : Status → Option ℕ → Octets
-unconnected_failed status words = answered 0x52 status (route_words_data words)
+unconnected_failed status words = answered UNCONNECTED_SEND status (route_words_data words)
 
 abbrev pub unconnected_failure : UnconnectedRefusal → Option ℕ → Octets
 unconnected_failure refusal words = unconnected_failed (unconnected_status refusal) words

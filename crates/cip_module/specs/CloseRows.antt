@@ -14,6 +14,7 @@
 use Rattle.std.specs.Prelude.{ℕ, ◌==◌, Bool, not, ◌&&◌, nat_lt, if◌then◌else◌, Option, Some, None, List, length, is_some}
 use Rattle.std.specs.Str.{bytes_eq}
 use Rattle.cip_base.specs.Words.{LinkAddress, Octets, PortIdentifier}
+use Rattle.cip_close.specs.declared.request.TheConstants.{CLOSE_FIXED_PART}
 use Rattle.cip_segment.specs.Reading.{HopAt, hop_of}
 use Rattle.cip_message.specs.declared.fault.DataFault.{DataFault}
 use Rattle.cip_message.specs.declared.fault.DataFault.TheVariants.{Short, Long, Path}
@@ -73,6 +74,6 @@ close_row s sender c = triad_row s.pendings sender c (hop_at s.hops c.fields.tri
 
 -- the row of data that cannot be read as a Forward_Close
 abbrev pub unread_row : Octets → DataFault → CloseRefusal
-unread_row d Short = if nat_lt (length d) 12 then CutInTheFixedPart else CutInThePath
+unread_row d Short = if nat_lt (length d) CLOSE_FIXED_PART then CutInTheFixedPart else CutInThePath
 unread_row d Long = BytesAfterThePath
 unread_row d (Path fault) = PathUnreadable

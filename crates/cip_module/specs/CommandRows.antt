@@ -9,6 +9,8 @@
 --     taken                                    Taken
 use Rattle.std.specs.Prelude.{◌≡◌, ℕ, ◌≤◌, ◌==◌, false, not, nat_lt, is_some, if◌then◌else◌, List, length, slice_index, Option, Some, None}
 use Rattle.cip_base.specs.Words.{Octets, OpNumber}
+use Rattle.cip_base.specs.declared.limits.TheConstants.{MAX_MESSAGE}
+use Rattle.cip_unconnected.specs.declared.unconnected.TheConstants.{UNCONNECTED_SEND}
 use Rattle.cip_unconnected.specs.Unconnected.{Unconnected, unconnected_bytes}
 use Rattle.cip_hops.specs.declared.hop.Hop.{Hop}
 use Rattle.cip_hops.specs.Hops.{hop_by_op}
@@ -31,8 +33,8 @@ close_command_row s op of =
 unfoldable pub send_row : State → OpNumber → Unconnected → CommandRow
 send_row s op u =
     if is_spent op s.ops then OpUsed
-    else if slice_index u.request 0 == 0x52 then ReservedService
-    else if nat_lt 1400 (length (unconnected_bytes u)) then WrongSize
+    else if slice_index u.request 0 == UNCONNECTED_SEND then ReservedService
+    else if nat_lt MAX_MESSAGE (length (unconnected_bytes u)) then WrongSize
     else Taken
 
 -- what a Send that is taken may rely on: its op is new, and its message is no longer than a message
@@ -43,7 +45,7 @@ CanSend s op u NotOpen = Unit {0}
 CanSend s op u ReservedService = Unit {0}
 CanSend s op u WrongSize = Unit {0}
 CanSend s op u NoInstance = Unit {0}
-CanSend s op u Taken = (is_spent op s.ops ≡ false) × (length (unconnected_bytes u) ≤ 1400)
+CanSend s op u Taken = (is_spent op s.ops ≡ false) × (length (unconnected_bytes u) ≤ MAX_MESSAGE)
 
 -- the row of an Enter by the connection that the op opened
 abbrev pub enter_row : Octets → Option Hop → CommandRow

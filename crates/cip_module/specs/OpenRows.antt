@@ -27,6 +27,7 @@
 use Rattle.std.specs.Prelude.{ℕ, ◌==◌, Bool, true, false, not, ◌&&◌, ◌||◌, nat_lt, nat_le, if◌then◌else◌, Option, Some, None, Ok, Err, List, length, is_some}
 use Rattle.std.specs.FinMap as map
 use Rattle.cip_base.specs.Words.{InstanceNumber, LinkAddress, Octets, PortIdentifier}
+use Rattle.cip_open.specs.declared.request.TheConstants.{OPEN_FIXED_PART}
 use Rattle.cip_segment.specs.Reading.{HopAt, hop_of, segments_of}
 use Rattle.cip_message.specs.declared.fault.DataFault.{DataFault}
 use Rattle.cip_message.specs.declared.fault.DataFault.TheVariants.{Short, Long, Path}
@@ -129,7 +130,7 @@ open_row config s up o =
 
 -- the row of data that cannot be read as a Forward_Open
 abbrev pub unread_row : Octets → DataFault → OpenRefusal
-unread_row d Short = if nat_lt (length d) 36 then CutInTheFixedPart else CutInThePath
+unread_row d Short = if nat_lt (length d) OPEN_FIXED_PART then CutInTheFixedPart else CutInThePath
 unread_row d Long = BytesAfterThePath
 unread_row d (Path fault) = PathUnreadable
 

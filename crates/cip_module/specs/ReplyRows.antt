@@ -9,6 +9,8 @@
 use Rattle.std.specs.Prelude.{ℕ, ◌==◌, ◌&&◌, Bool, true, if◌then◌else◌, Option, Some, None, Result, Ok, Err, List, is_some, slice_get}
 use Rattle.cip_base.specs.Words.{LinkAddress, Octets, PortIdentifier, RequestNumber}
 use Rattle.cip_base.specs.declared.triad.Triad.{Triad}
+use Rattle.cip_close.specs.declared.request.TheConstants.{FORWARD_CLOSE_REPLY}
+use Rattle.cip_open.specs.declared.request.TheConstants.{FORWARD_OPEN_REPLY}
 use Rattle.cip_message.specs.Reply.{Reply}
 use Rattle.cip_message.specs.ReplyAt.{reply_at}
 use Rattle.cip_message.specs.Failure.{failure_at}
@@ -73,8 +75,8 @@ closing_row triad r =
 -- to an Unconnected_Send any reply that can be read; to an open or a close one of its service
 abbrev pub kind_row : Kind → Reply → ReplyRow
 kind_row Unconnected r = PassedUp
-kind_row (Opening triad) r = if r.service == 0xD4 then opening_row triad r else MalformedForItsKind
-kind_row (Closing triad) r = if r.service == 0xCE then closing_row triad r else MalformedForItsKind
+kind_row (Opening triad) r = if r.service == FORWARD_OPEN_REPLY then opening_row triad r else MalformedForItsKind
+kind_row (Closing triad) r = if r.service == FORWARD_CLOSE_REPLY then closing_row triad r else MalformedForItsKind
 
 abbrev pub read_row : Kind → Result Reply ReplyFault → ReplyRow
 read_row kind (Err fault) = MalformedForItsKind

@@ -13,6 +13,11 @@
 --     target                               Target
 use Rattle.std.specs.Prelude.{ℕ, ◌==◌, ◌||◌, nat_lt, not, if◌then◌else◌, Option, Some, None, Result, Ok, Err, List, length, slice_index, is_some, Bool}
 use Rattle.cip_base.specs.Words.{Octets, PortIdentifier}
+use Rattle.cip_base.specs.declared.limits.TheConstants.{MAX_MESSAGE}
+use Rattle.cip_message.specs.declared.request.TheConstants.{CONNECTION_MANAGER}
+use Rattle.cip_close.specs.declared.request.TheConstants.{FORWARD_CLOSE}
+use Rattle.cip_open.specs.declared.request.TheConstants.{FORWARD_OPEN}
+use Rattle.cip_unconnected.specs.declared.unconnected.TheConstants.{UNCONNECTED_SEND}
 use Rattle.cip_segment.specs.Reading.{segments_of}
 use Rattle.cip_message.specs.Request.{Request}
 use Rattle.cip_message.specs.RequestAt.{request_at}
@@ -39,14 +44,14 @@ pub data RequestRow : Type 0 where
 abbrev pub manager_row : Request → ObjectPath → RequestRow
 manager_row r object =
     if not (object.instance == 1) then Refuses r.service NoSuchManagerInstance
-    else if r.service == 0x52 then UnconnectedSend r.data_
-    else if r.service == 0x54 then ForwardOpen r.data_
-    else if r.service == 0x4E then ForwardClose r.data_
+    else if r.service == UNCONNECTED_SEND then UnconnectedSend r.data_
+    else if r.service == FORWARD_OPEN then ForwardOpen r.data_
+    else if r.service == FORWARD_CLOSE then ForwardClose r.data_
     else Refuses r.service ServiceNotSupported
 
 abbrev pub object_row : Request → Option ObjectPath → RequestRow
 object_row r None = Refuses r.service PathFormNotSupported
-object_row r (Some object) = if object.class_ == 6 then manager_row r object else Target r
+object_row r (Some object) = if object.class_ == CONNECTION_MANAGER then manager_row r object else Target r
 
 -- of bytes that cannot be read as a request, by their first byte's service
 abbrev pub unread_row : ℕ → RequestFault → RequestRow
@@ -60,7 +65,7 @@ read_row bytes (Err fault) = unread_row (slice_index bytes 0) fault
 read_row bytes (Ok r) = object_row r (object_of (segments_of r.path))
 
 abbrev pub is_malformed : ModuleSettings → PortIdentifier → Octets → Bool
-is_malformed config port bytes = not (is_some (port_of config port)) || nat_lt 1400 (length bytes)
+is_malformed config port bytes = not (is_some (port_of config port)) || nat_lt MAX_MESSAGE (length bytes)
 
 -- the row of a request that came in by a port
 unfoldable pub request_row : ModuleSettings → PortIdentifier → Octets → RequestRow

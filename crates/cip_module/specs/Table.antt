@@ -4,6 +4,8 @@ use Rattle.std.specs.FinMap as finite
 use Rattle.cip_base.specs.Words.{ConnectionId, InstanceNumber, LinkAddress, Microseconds, Octets, OpNumber, PortIdentifier, RequestNumber}
 use Rattle.cip_base.specs.declared.timing.Timing.{Timing}
 use Rattle.cip_base.specs.declared.triad.Triad.{Triad}
+use Rattle.cip_close.specs.declared.request.TheConstants.{CLOSE_FIXED_PART}
+use Rattle.cip_open.specs.declared.request.TheConstants.{OPEN_FIXED_PART}
 use Rattle.cip_clock.specs.Times.{ticks_us}
 use Rattle.cip_message.specs.declared.fault.DataFault.{DataFault}
 use Rattle.cip_unconnected.specs.Unconnected.{Unconnected, unconnected_bytes}
@@ -167,7 +169,7 @@ open_effects s up o (opens.Accepted link) =
 -- where the fixed part is cut, the failure tells nothing; else the triad and the path size byte
 abbrev pub unread_open_bytes : Octets → DataFault → Octets
 unread_open_bytes d fault =
-    if nat_lt (length d) 36 then open_failure_bytes (open_status (opens.unread_row d fault))
+    if nat_lt (length d) OPEN_FIXED_PART then open_failure_bytes (open_status (opens.unread_row d fault))
     failed_unread
     else open_failure_bytes (open_status (opens.unread_row d fault))
     (record { triad = open_triad_of d; words = open_words_of d })
@@ -207,7 +209,7 @@ close_effects up c closes.ClosedAtTheEnd =
 
 abbrev pub unread_close_bytes : Octets → DataFault → Octets
 unread_close_bytes d fault =
-    if nat_lt (length d) 12 then close_failure_bytes (close_status (closes.unread_row d fault))
+    if nat_lt (length d) CLOSE_FIXED_PART then close_failure_bytes (close_status (closes.unread_row d fault))
     failed_unread
     else close_failure_bytes (close_status (closes.unread_row d fault))
     (record { triad = close_triad_of d; words = close_words_of d })

@@ -5,6 +5,7 @@ use Rattle.std.specs.FinMap as map
 use Rattle.cip_base.specs.Words.{ConnectionId, InstanceNumber, LinkAddress, Microseconds, Milliseconds, Octets, OpNumber, PortIdentifier, RequestNumber}
 use Rattle.cip_base.specs.declared.timing.Timing.{Timing}
 use Rattle.cip_base.specs.declared.triad.Triad.{Triad}
+use Rattle.cip_open.specs.declared.request.TheConstants.{FORWARD_OPEN_REPLY}
 use Rattle.cip_segment.specs.Reading.{HopAt, hop_of}
 use Rattle.cip_message.specs.Numbers.{word_in}
 use Rattle.cip_message.specs.Request.{Request}
@@ -333,7 +334,7 @@ pub record FinishesAs (s : State) (event : Event) (number : RequestNumber) (tria
   pub reply : Reply
   pub came : ReplyCame s event number bytes entry reply
   pub kind : entry.kind ≡ OpeningKind triad
-  pub service : reply.service ≡ 0xD4
+  pub service : reply.service ≡ FORWARD_OPEN_REPLY
   pub general : reply.general ≡ 0
   pub read : open_reply_at reply.data_ ≡ Ok success
   pub triad_is : success.triad ≡ triad

@@ -5,6 +5,7 @@ ghost use Rattle.cip_module.specs.Answers.{answered, failure_bytes, unconnected_
 use crate::refusals::UnconnectedRefusal;
 use cip_base::{Bytes, NoMemory, Status};
 use cip_message::{WriteFault, write_reply};
+use cip_unconnected::UNCONNECTED_SEND;
 use std::alloc::Global;
 
 /// The reply of a service, which is below 80 and is answered with bit 7 set.
@@ -44,8 +45,8 @@ pub(crate) fn unconnected_failed(
     ensures { IfOk result (λ b. b ≡ unconnected_failed status words) }
 {
     match words {
-        None => answered(alloc, 0x52, status, &[]),
-        Some(words) => answered(alloc, 0x52, status, &[words]),
+        None => answered(alloc, UNCONNECTED_SEND, status, &[]),
+        Some(words) => answered(alloc, UNCONNECTED_SEND, status, &[words]),
     }
 }
 

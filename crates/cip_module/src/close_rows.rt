@@ -12,7 +12,7 @@ use crate::links::wait_refusal;
 use crate::node::Node;
 use crate::refusals::CloseRefusal;
 use cip_base::{Address, PortNumber};
-use cip_close::CloseView;
+use cip_close::{CLOSE_FIXED_PART, CloseView};
 use cip_hops::{Hop, HopDown, HopUp};
 use cip_message::DataFault;
 use cip_pending::{PendingTable, UpSide};
@@ -36,7 +36,7 @@ pub(crate) fn unread_row(data_: &[u8], fault: DataFault) -> CloseRefusal
 {
     match fault {
         DataFault::Short => {
-            if data_.len() < 12 {
+            if data_.len() < CLOSE_FIXED_PART {
                 CloseRefusal::CutInTheFixedPart
             } else {
                 CloseRefusal::CutInThePath

@@ -17,8 +17,8 @@ use crate::messages::reply_to;
 use crate::node::Node;
 use cip_base::{Address, Bytes, NoMemory, PortNumber, Status, Triad};
 use cip_close::{
-    CloseFailure, CloseReply, CloseView, close_triad_at, close_words_at, read_close, write_close,
-    write_close_failure, write_close_reply,
+    CLOSE_FIXED_PART, CloseFailure, CloseReply, CloseView, close_triad_at, close_words_at,
+    read_close, write_close, write_close_failure, write_close_reply,
 };
 use cip_message::DataFault;
 use cip_pending::{Entry, Kind, UpSide};
@@ -47,7 +47,7 @@ fn unread_close(alloc: Global, data_: &[u8], fault: DataFault) -> Result<Bytes, 
     ensures { IfOk result (λ b. b ≡ unread_close_bytes data_.now fault) }
 {
     let status = unread_row(data_, fault).status();
-    let failure = if data_.len() < 12 {
+    let failure = if data_.len() < CLOSE_FIXED_PART {
         CloseFailure {
             triad: None,
             words: None,

@@ -7,7 +7,7 @@ ghost use Rattle.cip_module.specs.Code.Node.{state_of_node};
 
 use crate::node::Node;
 use cip_base::MAX_MESSAGE;
-use cip_unconnected::UnconnectedView;
+use cip_unconnected::{UNCONNECTED_SEND, UnconnectedView};
 
 /// The rows of a command. The others than `Taken` refuse it.
 #[derive(Clone, Copy, Debug, PartialEq, Eq)]
@@ -28,10 +28,10 @@ fn message_len(view: UnconnectedView<'_>) -> usize
 }
 
 fn is_reserved(request: &[u8]) -> bool
-    ensures { result ≡ (slice_index request.now 0 == 0x52) }
+    ensures { result ≡ (slice_index request.now 0 == UNCONNECTED_SEND) }
 {
     match request {
-        [service, ..] => *service == 0x52,
+        [service, ..] => *service == UNCONNECTED_SEND,
         [] => false,
     }
 }

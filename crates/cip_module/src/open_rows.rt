@@ -17,7 +17,7 @@ use crate::refusals::OpenRefusal;
 use cip_base::{Address, PortNumber};
 use cip_hops::HopUp;
 use cip_message::DataFault;
-use cip_open::{ConnectionKind, OpenView, Params, params};
+use cip_open::{ConnectionKind, OPEN_FIXED_PART, OpenView, Params, params};
 use cip_segment::{FirstHop, PathView, first_hop, rest};
 use cip_target::{EndLink, EndRefusal};
 
@@ -61,7 +61,7 @@ pub(crate) fn unread_row(data_: &[u8], fault: DataFault) -> OpenRefusal
 {
     match fault {
         DataFault::Short => {
-            if data_.len() < 36 {
+            if data_.len() < OPEN_FIXED_PART {
                 OpenRefusal::CutInTheFixedPart
             } else {
                 OpenRefusal::CutInThePath

@@ -22,8 +22,8 @@ use cip_base::{Address, Bytes, NoMemory, PortNumber, Status, Timing, Triad};
 use cip_hops::{HopDown, HopUp, Opening};
 use cip_message::DataFault;
 use cip_open::{
-    OpenFailure, OpenFields, OpenReply, OpenView, params, read_open, triad_at, words_at,
-    write_open, write_open_failure, write_open_reply,
+    OPEN_FIXED_PART, OpenFailure, OpenFields, OpenReply, OpenView, params, read_open, triad_at,
+    words_at, write_open, write_open_failure, write_open_reply,
 };
 use cip_pending::{Entry, Kind, UpSide};
 use cip_segment::{Path, PathView};
@@ -84,7 +84,7 @@ fn unread_open(alloc: Global, data_: &[u8], fault: DataFault) -> Result<Bytes, N
     ensures { IfOk result (λ b. b ≡ unread_open_bytes data_.now fault) }
 {
     let status = unread_row(data_, fault).status();
-    let failure = if data_.len() < 36 {
+    let failure = if data_.len() < OPEN_FIXED_PART {
         OpenFailure {
             triad: None,
             words: None,

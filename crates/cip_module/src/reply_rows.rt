@@ -12,9 +12,9 @@ ghost use Rattle.cip_pending.specs.declared.entry.Kind.TheVariants as kinds;
 ghost use Rattle.cip_module.specs.Code.Decisions.{reply_row_of, ReplyLeads};
 
 use cip_base::Triad;
-use cip_close::read_close_reply;
+use cip_close::{FORWARD_CLOSE_REPLY, read_close_reply};
 use cip_message::{ReplyView, read_failure, read_reply};
-use cip_open::{OpenReply, read_open_reply};
+use cip_open::{FORWARD_OPEN_REPLY, OpenReply, read_open_reply};
 use cip_pending::Kind;
 
 /// What a reply that was waited for says.
@@ -111,14 +111,14 @@ fn by_kind<'a>(kind: Kind, reply: ReplyView<'a>) -> ReplyDecision<'a>
     match kind {
         Kind::Unconnected => ReplyDecision::PassedUp,
         Kind::Opening(triad) => {
-            if reply.service == 0xD4 {
+            if reply.service == FORWARD_OPEN_REPLY {
                 opening(triad, reply)
             } else {
                 ReplyDecision::Malformed
             }
         }
         Kind::Closing(triad) => {
-            if reply.service == 0xCE {
+            if reply.service == FORWARD_CLOSE_REPLY {
                 closing(triad, reply)
             } else {
                 ReplyDecision::Malformed

@@ -11,18 +11,12 @@ use crate::config::ModuleSettings;
 use crate::ports::port_of;
 use crate::refusals::RequestRefusal;
 use cip_base::{MAX_MESSAGE, PortNumber};
-use cip_message::{RequestFault, RequestView, read_request};
+use cip_close::FORWARD_CLOSE;
+use cip_message::{CONNECTION_MANAGER, RequestFault, RequestView, read_request};
+use cip_open::FORWARD_OPEN;
 use cip_segment::{PathView, SegmentView, split_first};
 use cip_target::{ObjectPath, object_path};
-
-// The Connection Manager's class, and its services (Volume 1, chapter 3).
-const CONNECTION_MANAGER: u16 = 6;
-
-const UNCONNECTED_SEND: u8 = 0x52;
-
-const FORWARD_OPEN: u8 = 0x54;
-
-const FORWARD_CLOSE: u8 = 0x4E;
+use cip_unconnected::UNCONNECTED_SEND;
 
 /// The row that answers a request.
 #[derive(Clone, Copy)]

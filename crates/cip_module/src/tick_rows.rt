@@ -1,6 +1,5 @@
 //! Which pendings and connections a tick finds due, and what it tells of them.
 ghost use Rattle.std.specs.Prelude.{◌≡◌, ◌++◌, IfOk, OnOk};
-ghost use Rattle.cip_hops.specs.Hops.{is_past, is_late};
 ghost use Rattle.cip_module.specs.Effects.{late_bytes};
 ghost use Rattle.cip_module.specs.Code.Ticks.{shown, pendings_timed_out, hops_timed_out};
 
@@ -11,7 +10,7 @@ use crate::messages::reply_to;
 use crate::opens::open_failed;
 use crate::refusals::LinkRefusal;
 use cip_base::{Bytes, NoMemory};
-use cip_hops::{Hop, HopTable};
+use cip_hops::HopTable;
 use cip_pending::{Entry, Kind, PendingTable};
 use std::alloc::Global;
 
@@ -55,22 +54,6 @@ fn pendings_out(
     Ok(())
 }
 
-fn is_past(deadline: Option<u64>, now: u64) -> bool
-    ensures { result ≡ is_past now deadline }
-{
-    match deadline {
-        Some(time) => time <= now,
-        None => false,
-    }
-}
-
-// Whether either side was silent for too long.
-fn is_late(hop: &Hop, now: u64) -> bool
-    ensures { result ≡ is_late now hop.now }
-{
-    is_past(hop.up_deadline, now) || is_past(hop.down_deadline, now)
-}
-
 // The connections that were silent for too long, in rising triad.
 fn hops_out(outputs: &mut Vec<Output>, hops: &HopTable, now: u64) -> Result<(), NoMemory>
     ensures { OnOk result (outputs.new.items ≡ outputs.old.items ++ hops_timed_out now hops.now) }
@@ -79,7 +62,7 @@ fn hops_out(outputs: &mut Vec<Output>, hops: &HopTable, now: u64) -> Result<(), 
     let mut after = None;
     while let Some(hop) = hops.next_after(after.as_ref()) {
         let triad = hop.opening.triad;
-        if is_late(hop, now) {
+        if hop.is_late(now) {
             outputs.push(Output::Expired { triad })?;
         }
         after = Some(triad);

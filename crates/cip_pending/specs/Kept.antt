@@ -1,5 +1,5 @@
 -- What is true of the index and the records in which the pendings are kept.
-use Rattle.std.specs.Prelude.{◌≡◌, ◌≢◌, ℕ, ◌<◌, ◌≤◌, ◌^◌, length, slice_index_or, AllPairs}
+use Rattle.std.specs.Prelude.{◌≡◌, ◌≢◌, ℕ, ◌<◌, ◌≤◌, length, slice_index_or, AllPairs, ◌+◌}
 use Rattle.std.specs.Vec.{vec_len, vec_capacity}
 use Rattle.std.specs.Ordering.{nat_cmp}
 use Rattle.std.specs.FinMap as map
@@ -8,6 +8,7 @@ use Rattle.cip_pending.specs.declared.table.PendingTable.TheInside.{Inside}
 use Rattle.cip_pending.specs.Pendings.{Pendings}
 use Rattle.cip_base.specs.Joined.{joined, IsPresent}
 use Rattle.cip_base.specs.Rising.{IsRising}
+use Rattle.cip_base.specs.declared.limits.TheConstants.{LAST_COUNT}
 
 pub record IsKept (t : Inside) : Type 0 where
   -- so that an entry is added without memory
@@ -16,7 +17,7 @@ pub record IsKept (t : Inside) : Type 0 where
   pub fits : vec_len t.order ≤ t.room
   pub count : slab_len t.records ≡ vec_len t.order
   pub some : 0 < t.next
-  pub spent : t.next ≤ 2 ^ 32
+  pub spent : t.next ≤ LAST_COUNT + 1
   pub sorted : IsRising nat_cmp t.order.items
   pub below : (k : ℕ) (d : ℕ × ℕ)
       → k < length t.order.items → (slice_index_or t.order.items k d).0 < t.next

@@ -10,7 +10,7 @@ ghost use Rattle.cip_base.specs.Joined.{passes};
 ghost use Rattle.cip_base.specs.Rising.{IsRising, Divides};
 
 use crate::entry::{AddFault, AddReason, Entry};
-use cip_base::{Address, NoMemory, PortNumber};
+use cip_base::{Address, LAST_COUNT, NoMemory, PortNumber};
 use slab::Slab;
 use std::alloc::Global;
 use std::marker::Model;
@@ -68,7 +68,7 @@ impl PendingTable {
     {
         if self.order.len() >= self.room {
             Some(AddReason::Full)
-        } else if self.next > u64::from(u32::MAX) {
+        } else if self.next > LAST_COUNT {
             Some(AddReason::NumbersSpent)
         } else {
             None

@@ -144,7 +144,8 @@ fn assembly_service<'a>(
 
 impl Target {
     /// A target of this identity, with these assemblies, all of whose bytes are 00. Where an
-    /// instance stands twice, the last size counts.
+    /// instance stands twice, the last size counts. The condition is that each instance is from 1
+    /// and each size at most 511.
     pub fn new(
         alloc: Global,
         identity: Identity,
@@ -231,7 +232,8 @@ impl Target {
 
     /// The whole reply to a request (Volume 1, chapter 2, Message Router; chapter 5, Identity and
     /// Assembly objects). The request's path names a class, an instance and perhaps an attribute,
-    /// in any spelling.
+    /// in any spelling. Any view is answered, also one that no bytes were read as; the service of
+    /// the reply is the request's with bit 7 set.
     ///
     /// Identity, class 1, instance 1: Get_Attributes_All 01, Get_Attribute_Single 0E of attributes
     /// 1 to 7, none of which can be set. Assembly, class 4: Get_Attribute_Single 0E and

@@ -15,7 +15,7 @@ use cip_segment::PathView;
 use std::alloc::{AllocError, Global};
 
 /// The service Unconnected_Send of the Connection Manager.
-const UNCONNECTED_SEND: u8 = 0x52;
+pub const UNCONNECTED_SEND: u8 = 0x52;
 
 /// The data of an Unconnected_Send whose embedded request and route are borrowed
 /// (Volume 1, chapter 3, Unconnected_Send).

@@ -6,8 +6,8 @@ use Rattle.cip_pending.proofs.table.PendingTable.can_add.Goals as goal
 pub returns-then-len-self : goal.returns-then-len-self
 returns-then-len-self c = sym (refusal_full c.self.inside c.self.invariant (omega arith)) ∙ ap refusal c.self.view_is
 
-pub returns-then-self-from : goal.returns-then-self-from
-returns-then-self-from c = sym (refusal_spent c.self.inside c.self.invariant (omega arith) (omega arith)) ∙ ap refusal c.self.view_is
+pub returns-then-self-gt-LAST_COUNT : goal.returns-then-self-gt-LAST_COUNT
+returns-then-self-gt-LAST_COUNT c = sym (refusal_spent c.self.inside c.self.invariant (omega arith) (omega arith)) ∙ ap refusal c.self.view_is
 
-pub returns-else-self-from : goal.returns-else-self-from
-returns-else-self-from c = sym (refusal_none c.self.inside c.self.invariant (omega arith) (omega arith)) ∙ ap refusal c.self.view_is
+pub returns-else-self-gt-LAST_COUNT : goal.returns-else-self-gt-LAST_COUNT
+returns-else-self-gt-LAST_COUNT c = sym (refusal_none c.self.inside c.self.invariant (omega arith) (omega arith)) ∙ ap refusal c.self.view_is
