@@ -1,4 +1,5 @@
-//! The modules of the bench: a scanner S, the bridges A and B behind it, and behind these the adapter E.
+//! The modules of the bench: a scanner S, the bridges A and B behind it, and behind these the
+//! adapter E.
 use cip_base::{Address, Bytes, NoMemory, PortNumber};
 use cip_module::{
     AdapterModule, Assemblies, Event, LegalAddresses, Module, ModuleConfig, ModuleKind,
@@ -237,7 +238,8 @@ impl AnyModule {
     }
 }
 
-/// The module of a device. It is made of a copy of its config. None where a growth is refused or a setting is out of its range.
+/// The module of a device. It is made of a copy of its config. None where a growth is refused or a
+/// setting is out of its range.
 pub fn make(alloc: Global, device: &Device) -> Option<AnyModule> {
     let config = config(alloc, device)?;
     match config.settings().kind {

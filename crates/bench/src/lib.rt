@@ -1,4 +1,5 @@
-//! A bench for the modules of a chassis: the modules, the scripts that are played on them, and what they put out as text.
+//! A bench for the modules of a chassis: the modules, the scripts that are played on them, and what
+//! they put out as text.
 #![tactic(auto)]
 
 mod asked;

@@ -4,7 +4,8 @@ use cip_segment::{Path, read_path};
 use std::alloc::Global;
 use std::str::SplitAsciiWhitespace;
 
-/// The words of a line that were not read yet. Each call reads the next one; None where there is none, or where it is not what
+/// The words of a line that were not read yet. Each call reads the next one; None where there is
+/// none, or where it is not what
 /// is asked for.
 #[derive(Drop)]
 pub struct Words<'a> {
@@ -57,7 +58,8 @@ impl<'a> Words<'a> {
         })
     }
 
-    /// Bytes: pairs of hexadecimal digits, with `_` between fields, or a dash for none. Pairs, a plus and a number are the bytes
+    /// Bytes: pairs of hexadecimal digits, with `_` between fields, or a dash for none. Pairs, a
+    /// plus and a number are the bytes
     /// of the pairs and then so many zeros.
     pub fn bytes(&mut self) -> Option<Vec<u8>> {
         let word = self.word()?;

@@ -75,8 +75,10 @@ closing_row triad r =
 -- to an Unconnected_Send any reply that can be read; to an open or a close one of its service
 abbrev pub kind_row : Kind → Reply → ReplyRow
 kind_row Unconnected r = PassedUp
-kind_row (Opening triad) r = if r.service == FORWARD_OPEN_REPLY then opening_row triad r else MalformedForItsKind
-kind_row (Closing triad) r = if r.service == FORWARD_CLOSE_REPLY then closing_row triad r else MalformedForItsKind
+kind_row (Opening triad) r = if r.service == FORWARD_OPEN_REPLY then opening_row triad r
+    else MalformedForItsKind
+kind_row (Closing triad) r = if r.service == FORWARD_CLOSE_REPLY then closing_row triad r
+    else MalformedForItsKind
 
 abbrev pub read_row : Kind → Result Reply ReplyFault → ReplyRow
 read_row kind (Err fault) = MalformedForItsKind

@@ -51,7 +51,8 @@ manager_row r object =
 
 abbrev pub object_row : Request → Option ObjectPath → RequestRow
 object_row r None = Refuses r.service PathFormNotSupported
-object_row r (Some object) = if object.class_ == CONNECTION_MANAGER then manager_row r object else Target r
+object_row r (Some object) = if object.class_ == CONNECTION_MANAGER then manager_row r object
+    else Target r
 
 -- of bytes that cannot be read as a request, by their first byte's service
 abbrev pub unread_row : ℕ → RequestFault → RequestRow
@@ -65,7 +66,8 @@ read_row bytes (Err fault) = unread_row (slice_index bytes 0) fault
 read_row bytes (Ok r) = object_row r (object_of (segments_of r.path))
 
 abbrev pub is_malformed : ModuleSettings → PortIdentifier → Octets → Bool
-is_malformed config port bytes = not (is_some (port_of config port)) || nat_lt MAX_MESSAGE (length bytes)
+is_malformed config port bytes = not (is_some (port_of config port))
+    || nat_lt MAX_MESSAGE (length bytes)
 
 -- the row of a request that came in by a port
 unfoldable pub request_row : ModuleSettings → PortIdentifier → Octets → RequestRow

@@ -169,7 +169,8 @@ open_effects s up o (opens.Accepted link) =
 -- where the fixed part is cut, the failure tells nothing; else the triad and the path size byte
 abbrev pub unread_open_bytes : Octets → DataFault → Octets
 unread_open_bytes d fault =
-    if nat_lt (length d) OPEN_FIXED_PART then open_failure_bytes (open_status (opens.unread_row d fault))
+    if nat_lt (length d) OPEN_FIXED_PART then
+    open_failure_bytes (open_status (opens.unread_row d fault))
     failed_unread
     else open_failure_bytes (open_status (opens.unread_row d fault))
     (record { triad = open_triad_of d; words = open_words_of d })
@@ -209,7 +210,8 @@ close_effects up c closes.ClosedAtTheEnd =
 
 abbrev pub unread_close_bytes : Octets → DataFault → Octets
 unread_close_bytes d fault =
-    if nat_lt (length d) CLOSE_FIXED_PART then close_failure_bytes (close_status (closes.unread_row d fault))
+    if nat_lt (length d) CLOSE_FIXED_PART then
+    close_failure_bytes (close_status (closes.unread_row d fault))
     failed_unread
     else close_failure_bytes (close_status (closes.unread_row d fault))
     (record { triad = close_triad_of d; words = close_words_of d })

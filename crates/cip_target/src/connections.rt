@@ -45,7 +45,8 @@ impl Target {
         self.assemblies.config(instance)
     }
 
-    /// Whether an open can end here (Volume 1, chapter 3, Forward_Open): what it joins, or the first
+    /// Whether an open can end here (Volume 1, chapter 3, Forward_Open): what it joins, or the
+    /// first
     /// row that fits, in the order of `EndRefusal`. It takes no memory.
     #[tactic(auto, unfolding(crate::specs::Ends::end_row))]
     pub fn end_row(&self, asked: &OpenView<'_>) -> Result<EndLink, EndRefusal>
