@@ -10,7 +10,7 @@ use crate::opens::open_failed;
 use crate::replies::unconnected_failed;
 use crate::rows::LinkRefusal;
 use cip_base::{Bytes, NoMemory};
-use cip_hops::{Hop, HopTable};
+use cip_hops::HopTable;
 use cip_pending::{Entry, Kind, PendingTable};
 use std::alloc::Global;
 
