@@ -1,20 +1,23 @@
 -- When an opening is taken, and what a fresh table keeps.
-use Rattle.std.proofs.Common.{◌≡◌, ℕ, ◌+◌, ◌<◌, ◌≤◌, ◌^◌, Bool, true, false, List, [], refl, sym, ap, ◌∙◌, arith, Option, Some, None, IsSome, IfSome, is_some, nat_le, nat_lt, if◌then◌else◌}
+use Rattle.std.proofs.Common.{◌≡◌, ℕ, ◌+◌, ◌<◌, ◌≤◌, ◌^◌, Bool, true, false, List, [], refl, sym, ap, subst, ◌∙◌, arith, Option, Some, None, IsSome, IfSome, is_some, nat_le, nat_lt, if◌then◌else◌}
 use Rattle.std.specs.Option.{option_and_then}
 use Rattle.std.specs.List.{count_by, slice_index_or}
 use Rattle.std.specs.Ordering.{nat_cmp}
 use Rattle.std.specs.declared.cmp.Ordering.{Ordering}
 use Rattle.std.specs.FinMap as map
 use Rattle.std.proofs.lemmas.Bool.Decides.{nat_tests}
-use Rattle.slab.specs.Slab.{Slab, get}
+use Rattle.slab.specs.Slab.{Slab, get, Updates}
 use Rattle.cip_base.specs.Triads.{triad_cmp}
 use Rattle.cip_base.specs.declared.triad.Triad.{Triad}
 use Rattle.cip_base.proofs.Triads.{triads_total}
+use Rattle.cip_hops.specs.declared.opening.Opening.{Opening}
+use Rattle.cip_hops.specs.declared.opening.OwnIds.{OwnIds}
 use Rattle.cip_hops.specs.declared.opening.BeginReason.{BeginReason}
 use Rattle.cip_hops.specs.declared.opening.BeginReason.TheVariants.{Duplicate, Full, IdsSpent}
 use Rattle.cip_hops.specs.declared.hop.Held.{Held}
+use Rattle.cip_hops.specs.declared.hop.Held.TheVariants.{Opening as IsOpening}
 use Rattle.cip_hops.specs.declared.table.HopTable.TheInside.{Inside}
-use Rattle.cip_hops.specs.Hops.{refusal, triad_of, up_id_of, down_id_of, held_op_of}
+use Rattle.cip_hops.specs.Hops.{Hops, refusal, triad_of, up_id_of, down_id_of, held_op_of}
 use Rattle.cip_hops.specs.Kept.{Indexes, names, hops, IsKept}
 use Rattle.cip_hops.proofs.Views.{Finds, len-view}
 use Rattle.cip_hops.proofs.Counts.{tally-le}
@@ -59,6 +62,17 @@ module _ (t : Inside) (h : IsKept t) (triad : Triad) (ids : ℕ) where
 
   pub accepted : refusal (hops t) triad ids ≡ None → (map.get t.triads.keys triad ≡ None) × (map.len t.triads.keys < t.room) × (t.next + ids ≤ 4294967296)
   accepted e = taken (map.get t.triads.keys triad) t.room (map.len t.triads.keys) (t.next + ids) (sym refusal_by ∙ e)
+
+-- what `can_begin` tells by None
+pub accepted_at : (t : Inside) (h : IsKept t) (p : Hops) → hops t ≡ p → (triad : Triad) (ids : ℕ) (answer : Option BeginReason)
+    → answer ≡ refusal p triad ids → answer ≡ None
+    → (map.get t.triads.keys triad ≡ None) × (map.len t.triads.keys < t.room) × (t.next + ids ≤ 4294967296)
+accepted_at t h p is triad ids answer told none = accepted t h triad ids (ap (λ q. refusal q triad ids) is ∙ sym told ∙ none)
+
+-- the opening that was put into the records, with the ids that it drew
+pub inserted : {a b : Slab Held} {key : ℕ} (o : Opening) {ids drawn : OwnIds} → ids ≡ drawn → Updates a b key (Some (IsOpening o ids))
+    → Updates a b key (Some (IsOpening o drawn))
+inserted {a} {b} {key} o is updates = subst (λ (ids : OwnIds). Updates a b key (Some (IsOpening o ids))) is updates
 
 -- room in the records and in the indexes
 module _ (t : Inside) (h : IsKept t) (room : map.len t.triads.keys < t.room) where

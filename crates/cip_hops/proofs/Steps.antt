@@ -78,6 +78,22 @@ none_if (Some k) never = absurd (never k refl)
 
 -- ---- an opening comes
 
+abbrev pub inside : ℕ → Slab Held → ℕ → Index triad_cmp → Index nat_cmp → Index nat_cmp → Index nat_cmp → Inside
+inside room records next triads ups downs ops = record {
+  room = room;
+  next = next;
+  triads = triads;
+  ups = ups;
+  downs = downs;
+  ops = ops;
+  records = records;
+}
+
+-- a table of the same parts
+pub same_inside : (room : ℕ) (records : Slab Held) {n n' : ℕ} {a a' : Index triad_cmp} {b b' c c' d d' : Index nat_cmp}
+    → n ≡ n' → a ≡ a' → b ≡ b' → c ≡ c' → d ≡ d' → inside room records n a b c d ≡ inside room records n' a' b' c' d'
+same_inside room records e f g h k = λ i. inside room records (e i) (f i) (g i) (h i) (k i)
+
 module _ (t : Inside) (h : IsKept t) (o : Opening) (key : ℕ) (s : Slab Held) (vacant : get t.records key ≡ None)
     (updates : Updates t.records s key (Some (IsOpening o (own_ids t.next o)))) (free : map.get t.triads.keys o.triad ≡ None) where
   abbrev pub new_held : Held

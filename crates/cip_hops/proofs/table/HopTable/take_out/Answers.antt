@@ -1,4 +1,4 @@
-use Rattle.std.proofs.Common.{◌≡◌, Option, None, IsSome, sym, ap, subst, ◌∙◌}
+use Rattle.std.proofs.Common.{◌≡◌, Option, None, IsSome, refl, sym, ap, subst, ◌∙◌}
 use Rattle.std.specs.FinMap as map
 use Rattle.cip_hops.specs.declared.opening.Opening.{Opening}
 use Rattle.cip_hops.specs.declared.opening.OwnIds.{OwnIds}
@@ -7,7 +7,7 @@ use Rattle.cip_hops.specs.Sides.{op_of}
 use Rattle.cip_hops.specs.Hops.{Hops, without}
 use Rattle.cip_hops.specs.Index.{forgot}
 use Rattle.cip_hops.specs.Kept.{IsKept, hops}
-use Rattle.cip_hops.proofs.Steps.{held_none, held_at, finds, after_drop, kept_dropped, view_dropped}
+use Rattle.cip_hops.proofs.Steps.{held_none, held_at, finds, same_inside, kept_dropped, view_dropped}
 use Rattle.cip_hops.proofs.table.HopTable.take_out.Goals as goal
 
 pub unreachable-requires : goal.unreachable-requires
@@ -22,26 +22,11 @@ remove-held-requires c = finds c.self.inside c.self.invariant c.args.triad.now c
 pub invariant_of-self : goal.invariant_of-self
 invariant_of-self c =
     let t = c.self.inside in
-    let made : after_drop t c.self.invariant c.args.triad.now c.in-Some.key c.remove-held.result c.remove-held.new.self
-    (sym c.in-Some.ensures) c.remove-held.ensures.value c.remove-held.ensures.updates ≡ record {
-      room = t.room;
-      next = t.next;
-      triads = c.forget.new.self;
-      ups = c.forget-2.new.self;
-      downs = c.forget-3.new.self;
-      ops = c.forget-4.new.self;
-      records = c.remove-held.new.self;
-    } =
-    λ i. record {
-      room = t.room;
-      next = t.next;
-      triads = sym c.forget.ensures i;
-      ups = sym (c.forget-2.ensures ∙ ap (λ (ids : OwnIds). forgot t.ups ids.up) c.ids-ids.ensures) i;
-      downs = sym (c.forget-3.ensures ∙ ap (λ (ids : OwnIds). forgot t.downs ids.down) c.ids-ids.ensures) i;
-      ops = sym (c.forget-4.ensures ∙ ap (forgot t.ops) (c.op-op.ensures ∙ ap (λ (o : Opening). op_of o.up) c.opening.ensures)) i;
-      records = c.remove-held.new.self;
-    } in
-    subst IsKept made
+    let made = same_inside t.room c.remove-held.new.self refl c.forget.ensures
+    (c.forget-2.ensures ∙ ap (λ (ids : OwnIds). forgot t.ups ids.up) c.ids-ids.ensures)
+    (c.forget-3.ensures ∙ ap (λ (ids : OwnIds). forgot t.downs ids.down) c.ids-ids.ensures)
+    (c.forget-4.ensures ∙ ap (forgot t.ops) (c.op-op.ensures ∙ ap (λ (o : Opening). op_of o.up) c.opening.ensures)) in
+    subst IsKept (sym made)
     (kept_dropped t c.self.invariant c.args.triad.now c.in-Some.key c.remove-held.result c.remove-held.new.self
     (sym c.in-Some.ensures) c.remove-held.ensures.value c.remove-held.ensures.updates c.remove-held.ensures.len c.remove-held.ensures.capacity)
 
@@ -53,26 +38,11 @@ returns-clause-value c =
 pub returns-clause-after : goal.returns-clause-after
 returns-clause-after c =
     let t = c.self.inside in
-    let made : after_drop t c.self.invariant c.args.triad.now c.in-Some.key c.remove-held.result c.remove-held.new.self
-    (sym c.in-Some.ensures) c.remove-held.ensures.value c.remove-held.ensures.updates ≡ record {
-      room = t.room;
-      next = t.next;
-      triads = c.forget.new.self;
-      ups = c.forget-2.new.self;
-      downs = c.forget-3.new.self;
-      ops = c.forget-4.new.self;
-      records = c.remove-held.new.self;
-    } =
-    λ i. record {
-      room = t.room;
-      next = t.next;
-      triads = sym c.forget.ensures i;
-      ups = sym (c.forget-2.ensures ∙ ap (λ (ids : OwnIds). forgot t.ups ids.up) c.ids-ids.ensures) i;
-      downs = sym (c.forget-3.ensures ∙ ap (λ (ids : OwnIds). forgot t.downs ids.down) c.ids-ids.ensures) i;
-      ops = sym (c.forget-4.ensures ∙ ap (forgot t.ops) (c.op-op.ensures ∙ ap (λ (o : Opening). op_of o.up) c.opening.ensures)) i;
-      records = c.remove-held.new.self;
-    } in
-    ap hops (sym made)
+    let made = same_inside t.room c.remove-held.new.self refl c.forget.ensures
+    (c.forget-2.ensures ∙ ap (λ (ids : OwnIds). forgot t.ups ids.up) c.ids-ids.ensures)
+    (c.forget-3.ensures ∙ ap (λ (ids : OwnIds). forgot t.downs ids.down) c.ids-ids.ensures)
+    (c.forget-4.ensures ∙ ap (forgot t.ops) (c.op-op.ensures ∙ ap (λ (o : Opening). op_of o.up) c.opening.ensures)) in
+    ap hops made
     ∙ view_dropped t c.self.invariant c.args.triad.now c.in-Some.key c.remove-held.result c.remove-held.new.self
     (sym c.in-Some.ensures) c.remove-held.ensures.value c.remove-held.ensures.updates
     ∙ ap (λ p. without p c.args.triad.now) c.self.view_is
