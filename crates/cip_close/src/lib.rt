@@ -15,6 +15,3 @@ pub use request::{
     CloseFields, CloseView, close_triad_at, close_words_at, read_close, write_close,
 };
 pub use success::{CloseReply, read_close_reply, write_close_reply};
-
-#[cfg(test)]
-mod tests;

@@ -17,6 +17,3 @@ pub use parameters::{ConnectionKind, Params, Priority};
 pub use request::{OpenFields, OpenView, read_open, triad_at, words_at, write_open};
 pub use splitting::params;
 pub use success::{OpenReply, read_open_reply, write_open_reply};
-
-#[cfg(test)]
-mod tests;

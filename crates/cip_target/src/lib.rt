@@ -20,8 +20,3 @@ pub use link::EndLink;
 pub use object::{ObjectPath, object_path};
 pub use rows::TargetRefusal;
 pub use target::Target;
-
-#[cfg(test)]
-mod connection_tests;
-#[cfg(test)]
-mod tests;

@@ -8,6 +8,3 @@ mod unconnected;
 pub use fault::UnconnectedFault;
 pub use laws::{unconnected_is_exact, written_unconnected_is_read};
 pub use unconnected::{UnconnectedView, inner, read_unconnected, route_words, write_unconnected};
-
-#[cfg(test)]
-mod tests;
