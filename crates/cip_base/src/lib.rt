@@ -31,9 +31,6 @@ pub use numbers::{ModuleId, Ms, PortNumber};
 pub use timing::{Status, Timing};
 pub use triad::Triad;
 
-#[cfg(test)]
-mod tests;
-
 /// No memory at all: what stands on it has to lie in the value itself.
 #[derive(Clone, Copy)]
 pub struct NoHeap;

@@ -17,6 +17,3 @@ pub use request::{
     close_words_at, read_close, write_close,
 };
 pub use success::{CloseReply, read_close_reply, write_close_reply};
-
-#[cfg(test)]
-mod tests;

@@ -20,6 +20,3 @@ pub use request::{
 };
 pub use splitting::params;
 pub use success::{OpenReply, read_open_reply, write_open_reply};
-
-#[cfg(test)]
-mod tests;

@@ -21,8 +21,3 @@ pub use link::EndLink;
 pub use object::{ObjectPath, object_path};
 pub use rows::TargetRefusal;
 pub use target::Target;
-
-#[cfg(test)]
-mod connection_tests;
-#[cfg(test)]
-mod tests;

@@ -11,6 +11,3 @@ pub use laws::{unconnected_is_exact, written_unconnected_is_read};
 pub use unconnected::{
     UNCONNECTED_SEND, UnconnectedView, inner, read_unconnected, route_words, write_unconnected,
 };
-
-#[cfg(test)]
-mod tests;
