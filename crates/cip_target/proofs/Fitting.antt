@@ -96,7 +96,7 @@ pub fitting : (t : Ends) (o : Open) (link : EndLink) → row_at t o ≡ Ok link 
 unfolding end_row
 fitting t o link e =
     elim (application_of (segments_of o.path)) as (λ (p : Option Application). application_row t.objects.assemblies (λ i. is_some (map.get t.owners i)) o.fields
-        p ≡ Ok link → FitsWith t.objects.assemblies link p) [
+    p ≡ Ok link → FitsWith t.objects.assemblies link p) [
       | None ↦ λ e. cc
       | Some a ↦ λ e. held_fits t.objects.assemblies o.fields a link
           (sized_fits (λ i. is_some (map.get t.owners i)) o.fields a (size_in t.objects.assemblies a.config) (size_in t.objects.assemblies a.consume)
@@ -152,7 +152,7 @@ sized_alike owned other f a (Some config) (Some consume) None same = refl
 sized_alike owned other f a (Some config) (Some consume) (Some produce) same =
     ap (λ (b : Bool). cond (not (is_configuration config a.bytes)) (Err NoSuchInstanceOrConfiguration)
     (cond (nat_lt 1 (class_of f.transport)) (Err TransportClassNotSupported)
-        (cond (not (are_sizes f consume produce)) (Err SizeMismatch) (cond b (Err OutputOwned) (Ok (link_of f a))))))
+    (cond (not (are_sizes f consume produce)) (Err SizeMismatch) (cond b (Err OutputOwned) (Ok (link_of f a))))))
     (owned_alike consume (owned a.consume) (other a.consume) (same consume refl))
 
 -- the row of an open looks at the owners of instances that have bytes alone
