@@ -1,7 +1,6 @@
 //! The reply of a failed Forward_Close.
-ghost use Rattle.std.specs.Prelude.{◌≡◌, IfOk, IfErr};
-ghost use Rattle.cip_message.specs.Gives.{Gives};
-ghost use Rattle.cip_message.specs.Exact.{GivesOnly};
+ghost use Rattle.std.specs.Prelude.{◌≡◌, IfOk};
+ghost use Rattle.cip_message.specs.Exact.{IsRead};
 ghost use Rattle.cip_message.specs.Failure.{ReadsFailure, IsFailureFault, failure_at, HasTriadForWords};
 ghost use Rattle.cip_close.specs.Failed.{close_failure_bytes};
 
@@ -20,10 +19,7 @@ pub type CloseFailure = ConnectionFailure;
 ///
 /// Short from 1 to 7 bytes.
 pub fn read_close_failure(data_: &[u8]) -> Result<CloseFailure, DataFault>
-    ensures found { IfOk result (λ f. ReadsFailure data_.now f) }
-    ensures only { GivesOnly (λ f. f) result (ReadsFailure data_.now) }
-    ensures fault { IfErr result (IsFailureFault data_.now) }
-    ensures gives { Gives (λ f. f) result (failure_at data_.now) }
+    ensures { IsRead (λ f. f) failure_at ReadsFailure IsFailureFault data_.now result }
 {
     read_failure(data_)
 }

@@ -1,7 +1,7 @@
 //! The request Forward_Close.
-ghost use Rattle.std.specs.Prelude.{◌≡◌, ◌≤◌, ◌++◌, length, IfOk, IfErr};
+ghost use Rattle.std.specs.Prelude.{◌≡◌, ◌≤◌, ◌++◌, length, IfOk};
 ghost use Rattle.cip_message.specs.Gives.{Gives};
-ghost use Rattle.cip_message.specs.Exact.{GivesOnly};
+ghost use Rattle.cip_message.specs.Exact.{IsRead};
 ghost use Rattle.cip_close.specs.Close.{ReadsClose, IsCloseFault, close_bytes};
 ghost use Rattle.cip_close.specs.CloseAt.{close_at, close_triad_of, close_words_of};
 ghost use Rattle.cip_close.specs.Reading.{close_of, close_along};
@@ -58,10 +58,7 @@ fn view(data_: &[u8]) -> Result<CloseView<'_>, DataFault>
 /// Otherwise the first that fits: Short where bytes are missing, Long where bytes stand after the
 /// path, Path of the path's fault.
 pub fn read_close(data_: &[u8]) -> Result<CloseView<'_>, DataFault>
-    ensures found { IfOk result (λ view. ReadsClose data_.now (close_of view)) }
-    ensures only { GivesOnly close_of result (ReadsClose data_.now) }
-    ensures fault { IfErr result (IsCloseFault data_.now) }
-    ensures gives { Gives close_of result (close_at data_.now) }
+    ensures { IsRead close_of close_at ReadsClose IsCloseFault data_.now result }
 {
     view(data_)
 }

@@ -1,7 +1,7 @@
 //! The reply of a successful Forward_Close.
-ghost use Rattle.std.specs.Prelude.{◌≡◌, ◌≤◌, ◌%◌, ◌++◌, length, IfOk, IfErr};
+ghost use Rattle.std.specs.Prelude.{◌≡◌, ◌≤◌, ◌%◌, ◌++◌, length, IfOk};
 ghost use Rattle.cip_message.specs.Gives.{Gives};
-ghost use Rattle.cip_message.specs.Exact.{GivesOnly};
+ghost use Rattle.cip_message.specs.Exact.{IsRead};
 ghost use Rattle.cip_close.specs.Success.{ReadsCloseReply, IsCloseReplyFault, close_reply_bytes};
 ghost use Rattle.cip_close.specs.SuccessAt.{close_reply_at};
 ghost use Rattle.cip_close.specs.Reading.{success_of};
@@ -38,10 +38,7 @@ fn success(data_: &[u8]) -> Result<CloseReply<'_>, DataFault>
 /// Otherwise the first that fits: Short where bytes are missing, Long where bytes stand after the
 /// application reply.
 pub fn read_close_reply(data_: &[u8]) -> Result<CloseReply<'_>, DataFault>
-    ensures found { IfOk result (λ reply. ReadsCloseReply data_.now (success_of reply)) }
-    ensures only { GivesOnly success_of result (ReadsCloseReply data_.now) }
-    ensures fault { IfErr result (IsCloseReplyFault data_.now) }
-    ensures gives { Gives success_of result (close_reply_at data_.now) }
+    ensures { IsRead success_of close_reply_at ReadsCloseReply IsCloseReplyFault data_.now result }
 {
     success(data_)
 }

@@ -5,24 +5,36 @@ use Rattle.std.proofs.lemmas.List.{get_or-take, get_or-drop, get_or_past, length
 use Rattle.cip_base.specs.Fields.{IsBytes}
 use Rattle.std.specs.Prelude.{IfOk, IfErr, IsOkAnd, MatchResult}
 use Rattle.cip_message.specs.Gives.{Gives}
+use Rattle.cip_message.specs.Exact.{IsRead}
 
 -- what holds of each value that reading gives holds of what was found
-pub found_holds : {X Y E : Type 0} (P : Y → Type 0) (Q : E → Type 0) (view : X → Y) (result : Result X E) (read : Result Y E) → Gives view result read
+found_holds : {X Y E : Type 0} (P : Y → Type 0) (Q : E → Type 0) (view : X → Y) (result : Result X E) (read : Result Y E) → Gives view result read
     → MatchResult read P Q → IfOk result (λ x. P (view x))
 found_holds P Q view (Ok x) read given h = subst (λ r. MatchResult r P Q) given h
 found_holds P Q view (Err e) read given h = tt
 
 -- what holds of each fault of reading holds of the fault that was answered
-pub fault_holds : {X Y E : Type 0} (P : Y → Type 0) (Q : E → Type 0) (view : X → Y) (result : Result X E) (read : Result Y E) → Gives view result read
+fault_holds : {X Y E : Type 0} (P : Y → Type 0) (Q : E → Type 0) (view : X → Y) (result : Result X E) (read : Result Y E) → Gives view result read
     → MatchResult read P Q → IfErr result Q
 fault_holds P Q view (Ok x) read given h = tt
 fault_holds P Q view (Err f) read given h = subst (λ r. MatchResult r P Q) given h
 
 -- what reading gives is found
-pub only_found : {X Y E : Type 0} (view : X → Y) (result : Result X E) (read : Result Y E) (y : Y) → Gives view result read → read ≡ Ok y
+only_found : {X Y E : Type 0} (view : X → Y) (result : Result X E) (read : Result Y E) (y : Y) → Gives view result read → read ≡ Ok y
     → IsOkAnd result (λ x. view x ≡ y)
 only_found view (Ok x) read y given e = cc
 only_found view (Err f) read y given e = absurd cc
+
+-- all that is said of a reader, from its one clause and what is proved of reading
+pub is_read : {X Y E : Type 0} (view : X → Y) (read : List ℕ → Result Y E) (Reads : List ℕ → Y → Type 0) (IsFault : List ℕ → E → Type 0)
+    (b : List ℕ) (result : Result X E) → Gives view result (read b) → MatchResult (read b) (Reads b) (IsFault b)
+    → ((y : Y) → Reads b y → read b ≡ Ok y) → IsRead view read Reads IsFault b result
+is_read view read Reads IsFault b result given verdict each = record {
+  found = found_holds (Reads b) (IsFault b) view result (read b) given verdict;
+  only = λ y h. only_found view result (read b) y given (each y h);
+  fault = fault_holds (Reads b) (IsFault b) view result (read b) given verdict;
+  gives = given;
+}
 
 pub IsBytes-take : (n : ℕ) (b : List ℕ) → IsBytes b → IsBytes (take n b)
 IsBytes-take n b h i =

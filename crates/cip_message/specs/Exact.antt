@@ -1,7 +1,8 @@
 -- Reading is exact: it gives the record whose layout the bytes have, or else the fault that fits.
-use Rattle.std.specs.Prelude.{◌≡◌, Result, Ok, Err, IsOkAnd, MatchResult}
+use Rattle.std.specs.Prelude.{◌≡◌, Result, Ok, Err, IfOk, IfErr, IsOkAnd, MatchResult}
 use Rattle.cip_base.specs.Words.{Octets}
 use Rattle.cip_base.specs.Fields.{IsBytes}
+use Rattle.cip_message.specs.Gives.{Gives}
 
 -- bytes that have the layout of a record are read as that record
 abbrev pub ReadsEach : {X E : Type 0} → (Octets → Result X E) → (Octets → X → Type 0) → Type 0
@@ -21,6 +22,12 @@ abbrev pub RefusesBytes : {X E : Type 0} → (Octets → Result X E) → (Octets
 RefusesBytes {E = E} read IsFault =
     (b : Octets) (f : E) → IsBytes b → IsFault b f → read b ≡ Err f
 
--- a reader gives whatever can be read
-abbrev pub GivesOnly : {X Y E : Type 0} → (X → Y) → Result X E → (Y → Type 0) → Type 0
-GivesOnly {Y = Y} view result Reads = (y : Y) → Reads y → IsOkAnd result (λ x. view x ≡ y)
+-- a reader gives the one record whose layout the bytes have, or else the fault that fits, and that
+-- is what reading gives
+pub record IsRead {X Y E : Type 0} (view : X → Y) (read : Octets → Result Y E)
+    (Reads : Octets → Y → Type 0) (IsFault : Octets → E → Type 0)
+    (b : Octets) (result : Result X E) : Type 0 where
+  pub found : IfOk result (λ x. Reads b (view x))
+  pub only : (y : Y) → Reads b y → IsOkAnd result (λ x. view x ≡ y)
+  pub fault : IfErr result (IsFault b)
+  pub gives : Gives view result (read b)

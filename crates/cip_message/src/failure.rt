@@ -1,7 +1,7 @@
 //! The data of a failed Forward_Open or Forward_Close.
-ghost use Rattle.std.specs.Prelude.{◌≡◌, ◌++◌, IfOk, IfErr, OnOk};
+ghost use Rattle.std.specs.Prelude.{◌≡◌, ◌++◌, IfOk, OnOk};
 ghost use Rattle.cip_message.specs.Gives.{Gives};
-ghost use Rattle.cip_message.specs.Exact.{GivesOnly};
+ghost use Rattle.cip_message.specs.Exact.{IsRead};
 ghost use Rattle.cip_message.specs.Failure.{ReadsFailure, IsFailureFault, failure_at, failure_data, failure_bytes, HasTriadForWords};
 
 use crate::fault::DataFault;
@@ -42,10 +42,7 @@ fn failure(data_: &[u8]) -> Result<ConnectionFailure, DataFault>
 /// bytes of the triad and then perhaps the words; what follows the words is not kept (Volume 1,
 /// chapter 3). Short from 1 to 7 bytes. It takes no memory.
 pub fn read_failure(data_: &[u8]) -> Result<ConnectionFailure, DataFault>
-    ensures found { IfOk result (λ f. ReadsFailure data_.now f) }
-    ensures only { GivesOnly (λ f. f) result (ReadsFailure data_.now) }
-    ensures fault { IfErr result (IsFailureFault data_.now) }
-    ensures gives { Gives (λ f. f) result (failure_at data_.now) }
+    ensures { IsRead (λ f. f) failure_at ReadsFailure IsFailureFault data_.now result }
 {
     failure(data_)
 }

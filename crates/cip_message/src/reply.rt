@@ -1,7 +1,7 @@
 //! Replies of the Message Router.
-ghost use Rattle.std.specs.Prelude.{◌≡◌, ◌<◌, ◌≤◌, ◌↔◌, length, IfOk, IfErr, IsErrOf, OnOk, ◌++◌};
+ghost use Rattle.std.specs.Prelude.{◌≡◌, ◌<◌, ◌≤◌, ◌↔◌, length, IfOk, IsErrOf, OnOk, ◌++◌};
 ghost use Rattle.cip_message.specs.Gives.{Gives};
-ghost use Rattle.cip_message.specs.Exact.{GivesOnly};
+ghost use Rattle.cip_message.specs.Exact.{IsRead};
 ghost use Rattle.cip_message.specs.Reply.{ReadsReply, IsReplyFault, reply_bytes, reply_with, reply_header, status_of};
 ghost use Rattle.cip_message.specs.ReplyAt.{reply_from, reply_at};
 ghost use Rattle.cip_message.specs.Reading.{reply_of};
@@ -93,10 +93,7 @@ fn reply(bytes: &[u8]) -> Result<ReplyView<'_>, ReplyFault>
 /// Otherwise the first that fits: TooShort under 4 bytes, NotReply where bit 7 of the service is
 /// clear, ExtraSize where the additional status passes the end.
 pub fn read_reply(bytes: &[u8]) -> Result<ReplyView<'_>, ReplyFault>
-    ensures found { IfOk result (λ view. ReadsReply bytes.now (reply_of view)) }
-    ensures only { GivesOnly reply_of result (ReadsReply bytes.now) }
-    ensures fault { IfErr result (IsReplyFault bytes.now) }
-    ensures gives { Gives reply_of result (reply_at bytes.now) }
+    ensures { IsRead reply_of reply_at ReadsReply IsReplyFault bytes.now result }
 {
     reply(bytes)
 }

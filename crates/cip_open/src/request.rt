@@ -1,7 +1,7 @@
 //! The request Forward_Open.
-ghost use Rattle.std.specs.Prelude.{◌≡◌, ◌≤◌, ◌++◌, length, IfOk, IfErr};
+ghost use Rattle.std.specs.Prelude.{◌≡◌, ◌≤◌, ◌++◌, length, IfOk};
 ghost use Rattle.cip_message.specs.Gives.{Gives};
-ghost use Rattle.cip_message.specs.Exact.{GivesOnly};
+ghost use Rattle.cip_message.specs.Exact.{IsRead};
 ghost use Rattle.cip_open.specs.Open.{ReadsOpen, IsOpenFault, open_bytes};
 ghost use Rattle.cip_open.specs.OpenAt.{open_fields_in, open_at, open_triad_of, open_words_of};
 ghost use Rattle.cip_open.specs.Reading.{open_of, open_along};
@@ -93,10 +93,7 @@ fn view(data_: &[u8]) -> Result<OpenView<'_>, DataFault>
 /// Otherwise the first that fits: Short where bytes are missing, Long where bytes stand after the
 /// path, Path of the path's fault.
 pub fn read_open(data_: &[u8]) -> Result<OpenView<'_>, DataFault>
-    ensures found { IfOk result (λ view. ReadsOpen data_.now (open_of view)) }
-    ensures only { GivesOnly open_of result (ReadsOpen data_.now) }
-    ensures fault { IfErr result (IsOpenFault data_.now) }
-    ensures gives { Gives open_of result (open_at data_.now) }
+    ensures { IsRead open_of open_at ReadsOpen IsOpenFault data_.now result }
 {
     view(data_)
 }

@@ -1,7 +1,7 @@
 //! The reply of a successful Forward_Open.
-ghost use Rattle.std.specs.Prelude.{◌≡◌, ◌≤◌, ◌%◌, ◌++◌, length, IfOk, IfErr};
+ghost use Rattle.std.specs.Prelude.{◌≡◌, ◌≤◌, ◌%◌, ◌++◌, length, IfOk};
 ghost use Rattle.cip_message.specs.Gives.{Gives};
-ghost use Rattle.cip_message.specs.Exact.{GivesOnly};
+ghost use Rattle.cip_message.specs.Exact.{IsRead};
 ghost use Rattle.cip_open.specs.Success.{ReadsOpenReply, IsOpenReplyFault, open_reply_bytes};
 ghost use Rattle.cip_open.specs.SuccessAt.{open_reply_at};
 ghost use Rattle.cip_open.specs.Reading.{success_of};
@@ -50,10 +50,7 @@ fn success(data_: &[u8]) -> Result<OpenReply<'_>, DataFault>
 /// Otherwise the first that fits: Short where bytes are missing, Long where bytes stand after the
 /// application reply.
 pub fn read_open_reply(data_: &[u8]) -> Result<OpenReply<'_>, DataFault>
-    ensures found { IfOk result (λ reply. ReadsOpenReply data_.now (success_of reply)) }
-    ensures only { GivesOnly success_of result (ReadsOpenReply data_.now) }
-    ensures fault { IfErr result (IsOpenReplyFault data_.now) }
-    ensures gives { Gives success_of result (open_reply_at data_.now) }
+    ensures { IsRead success_of open_reply_at ReadsOpenReply IsOpenReplyFault data_.now result }
 {
     success(data_)
 }

@@ -1,8 +1,8 @@
 //! The data of Unconnected_Send, read and written.
-ghost use Rattle.std.specs.Prelude.{◌≡◌, ◌+◌, ◌<◌, ◌≤◌, ◌↔◌, ◌++◌, length, IfOk, IfErr, IsErrOf, OnOk, IfSome, IsNone, take, drop};
+ghost use Rattle.std.specs.Prelude.{◌≡◌, ◌+◌, ◌<◌, ◌≤◌, ◌↔◌, ◌++◌, length, IfOk, IsErrOf, OnOk, IfSome, IsNone, take, drop};
 ghost use Rattle.cip_base.specs.Fields.{pad};
 ghost use Rattle.cip_message.specs.Gives.{Gives};
-ghost use Rattle.cip_message.specs.Exact.{GivesOnly};
+ghost use Rattle.cip_message.specs.Exact.{IsRead};
 ghost use Rattle.cip_message.specs.Numbers.{word_in};
 ghost use Rattle.cip_unconnected.specs.Unconnected.{ReadsUnconnected, IsUnconnectedFault};
 ghost use Rattle.cip_unconnected.specs.UnconnectedAt.{route_place, unconnected_at, route_words_of};
@@ -79,10 +79,7 @@ fn unconnected(data_: &[u8]) -> Result<UnconnectedView<'_>, UnconnectedFault>
 /// Otherwise the first that fits: Short where bytes are missing, Long where bytes stand after the
 /// route, Route of the route's fault.
 pub fn read_unconnected(data_: &[u8]) -> Result<UnconnectedView<'_>, UnconnectedFault>
-    ensures found { IfOk result (λ view. ReadsUnconnected data_.now (unconnected_of view)) }
-    ensures only { GivesOnly unconnected_of result (ReadsUnconnected data_.now) }
-    ensures fault { IfErr result (IsUnconnectedFault data_.now) }
-    ensures gives { Gives unconnected_of result (unconnected_at data_.now) }
+    ensures { IsRead unconnected_of unconnected_at ReadsUnconnected IsUnconnectedFault data_.now result }
 {
     unconnected(data_)
 }
