@@ -9,7 +9,8 @@ ghost use Rattle.cip_base.specs.Triads.{triad_cmp};
 use crate::Triad;
 use std::cmp::Ordering;
 
-/// Triads are compared by connection serial number, then by vendor, then by the originator's serial number.
+/// Triads are compared by connection serial number, then by vendor, then by the originator's serial
+/// number.
 pub fn triad_order(left: &Triad, right: &Triad) -> Ordering
     ensures { result ≡ triad_cmp left.now right.now }
 {

@@ -1,5 +1,5 @@
-//! The small values that every layer shares: link addresses, port numbers, connection triads, times, statuses,
-//! electronic keys, lists of bytes, and the limits of a chassis.
+//! The small values that every layer shares: link addresses, port numbers, connection triads,
+//! times, statuses, electronic keys, lists of bytes, and the limits of a chassis.
 #![tactic(auto)]
 
 ghost use Rattle.std.specs.Borrow.{ffalse};
@@ -8,6 +8,7 @@ use std::alloc::{AllocError, Allocator};
 
 mod address;
 mod bytes;
+mod fields;
 mod key;
 mod laws;
 mod limits;
@@ -18,6 +19,7 @@ mod triad;
 
 pub use address::{Address, AddressFault};
 pub use bytes::Bytes;
+pub use fields::{put_double, put_word};
 pub use key::KeyFields;
 pub use laws::{triad_order, triads_are_ordered};
 pub use limits::{
@@ -45,4 +47,24 @@ unsafe impl Allocator for NoHeap {
     }
 
     unsafe fn deallocate(&self, _ptr: *mut u8, _size: usize, _align: usize) {}
+
+    unsafe fn grow<T>(
+        &self,
+        _ptr: *mut T,
+        _len: usize,
+        _old_cap: usize,
+        _new_cap: usize,
+    ) -> Result<*mut T, AllocError> {
+        Err(AllocError)
+    }
+
+    unsafe fn shrink<T>(
+        &self,
+        _ptr: *mut T,
+        _len: usize,
+        _old_cap: usize,
+        _new_cap: usize,
+    ) -> Result<*mut T, AllocError> {
+        Err(AllocError)
+    }
 }

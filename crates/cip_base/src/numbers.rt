@@ -39,7 +39,8 @@ impl Ms {
     }
 }
 
-/// The number of a module's port, from 1 to 65,535 (Volume 1, Appendix C, port segment: port 0 is reserved).
+/// The number of a module's port, from 1 to 65,535 (Volume 1, Appendix C, port segment: port 0 is
+/// reserved).
 #[derive(Clone, Copy, Debug, PartialEq, Eq, PartialOrd, Ord)]
 pub struct PortNumber {
     number: u16,

@@ -54,7 +54,8 @@ impl Clock {
         self.micros
     }
 
-    /// Raises the time by so many milliseconds. ClockFull, and the time stays, where that would pass `LAST`.
+    /// Raises the time by so many milliseconds. ClockFull, and the time stays, where that would
+    /// pass `LAST`.
     pub fn advance(&mut self, by: Ms) -> Result<(), ClockFull>
         ensures succeeds { IsOk result ↔ (self.old + 1000 * by < 2 ^ 63) }
         ensures ok { OnOk result (self.new ≡ self.old + 1000 * by) }
@@ -68,9 +69,10 @@ impl Clock {
         Ok(())
     }
 
-    /// The deadline of a request with this priority/time tick and these time-out ticks: `ticks` times 2^`tick`
-    /// milliseconds from now, in microseconds (Volume 1, chapter 3, time-out of unconnected services). `tick` is the
-    /// exponent alone, at most 15. The deadline may lie past `LAST`.
+    /// The deadline of a request with this priority/time tick and these time-out ticks: `ticks`
+    /// times 2^`tick` milliseconds from now, in microseconds (Volume 1, chapter 3, time-out of
+    /// unconnected services). `tick` is the exponent alone, at most 15. The deadline may lie past
+    /// `LAST`.
     pub fn after_ticks(&self, tick: u8, ticks: u8) -> u64
         requires { tick < 16 }
         ensures { result ≡ self.now + ticks_us tick ticks }
@@ -78,9 +80,9 @@ impl Clock {
         self.micros + 1000 * ((1u64 << tick) * u64::from(ticks))
     }
 
-    /// The time at which a connection of this requested packet interval (in microseconds) and connection timeout
-    /// multiplier (0 to 7 for 4, 8, 16 .. 512 intervals) has been silent for too long, in microseconds (Volume 1,
-    /// chapter 3, inactivity watchdog). It may lie past `LAST`.
+    /// The time at which a connection of this requested packet interval (in microseconds) and
+    /// connection timeout multiplier (0 to 7 for 4, 8, 16 .. 512 intervals) has been silent for too
+    /// long, in microseconds (Volume 1, chapter 3, inactivity watchdog). It may lie past `LAST`.
     pub fn after_rpi(&self, rpi: u32, multiplier: u8) -> u64
         requires { multiplier < 8 }
         ensures { result ≡ self.now + watchdog_us rpi multiplier }

@@ -1,4 +1,5 @@
-//! Forward_Close: closing a connection along the path by which it was opened (Volume 1, chapter 3, Forward_Close).
+//! Forward_Close: closing a connection along the path by which it was opened (Volume 1, chapter 3,
+//! Forward_Close).
 #![tactic(auto)]
 
 mod failed;

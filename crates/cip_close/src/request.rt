@@ -1,9 +1,10 @@
 //! The request Forward_Close.
-ghost use Rattle.std.specs.Prelude.{◌≡◌, ◌≤◌, ◌++◌, length, IfOk, IfErr, IsOkAnd};
+ghost use Rattle.std.specs.Prelude.{◌≡◌, ◌≤◌, ◌++◌, length, IfOk, IfErr};
 ghost use Rattle.cip_message.specs.Gives.{Gives};
-ghost use Rattle.cip_close.specs.Close.{Close, ReadsClose, IsCloseFault, close_with, close_bytes};
+ghost use Rattle.cip_message.specs.Exact.{GivesOnly};
+ghost use Rattle.cip_close.specs.Close.{ReadsClose, IsCloseFault, close_bytes};
 ghost use Rattle.cip_close.specs.CloseAt.{close_at, close_triad_of, close_words_of};
-ghost use Rattle.cip_close.specs.Reading.{close_of};
+ghost use Rattle.cip_close.specs.Reading.{close_of, close_along};
 
 use cip_base::{Bytes, NoMemory, Timing, Triad};
 use cip_message::{DataFault, counted_path, put_manager_header, put_triad, triad_at, triad_within};
@@ -52,27 +53,27 @@ fn view(data_: &[u8]) -> Result<CloseView<'_>, DataFault>
 /// The Forward_Close that the data is, all of it; the data is what follows the path of the request
 /// (Volume 1, chapter 3, Forward_Close). The reserved byte has any value. It takes no memory.
 ///
-/// Otherwise the first that fits: Short where bytes are missing, Long where bytes stand after the path, Path of the path's
-/// fault.
+/// Otherwise the first that fits: Short where bytes are missing, Long where bytes stand after the
+/// path, Path of the path's fault.
 pub fn read_close(data_: &[u8]) -> Result<CloseView<'_>, DataFault>
     ensures found { IfOk result (λ view. ReadsClose data_.now (close_of view)) }
-    ensures only { (o : Close) → ReadsClose data_.now o → IsOkAnd result (λ view. close_of view ≡ o) }
+    ensures only { GivesOnly close_of result (ReadsClose data_.now) }
     ensures fault { IfErr result (IsCloseFault data_.now) }
     ensures gives { Gives close_of result (close_at data_.now) }
 {
     view(data_)
 }
 
-/// The connection triad in the data of a Forward_Close; None exactly where one of its bytes is missing. The data may be cut
-/// after it.
+/// The connection triad in the data of a Forward_Close; None exactly where one of its bytes is
+/// missing. The data may be cut after it.
 pub fn close_triad_at(data_: &[u8]) -> Option<Triad>
     ensures { result ≡ close_triad_of data_.now }
 {
     triad_within(data_, 2)
 }
 
-/// The path size in the data of a Forward_Close, in words; None exactly where that byte is missing. The data may be cut
-/// after it.
+/// The path size in the data of a Forward_Close, in words; None exactly where that byte is missing.
+/// The data may be cut after it.
 pub fn close_words_at(data_: &[u8]) -> Option<u8>
     ensures { result ≡ close_words_of data_.now }
 {
@@ -80,7 +81,7 @@ pub fn close_words_at(data_: &[u8]) -> Option<u8>
 }
 
 fn joined(alloc: Global, fields: &CloseFields, path: PathView<'_>) -> Result<Vec<u8>, AllocError>
-    ensures { IfOk result (λ v. v.items ≡ close_bytes (close_with fields.now path.entry.bytes.now)) }
+    ensures { IfOk result (λ v. v.items ≡ close_bytes (close_along fields.now path.entry)) }
 {
     let mut bytes = Vec::new(alloc);
     put_manager_header(&mut bytes, FORWARD_CLOSE)?;
@@ -91,14 +92,15 @@ fn joined(alloc: Global, fields: &CloseFields, path: PathView<'_>) -> Result<Vec
     Ok(bytes)
 }
 
-/// The whole message of a Forward_Close to the Connection Manager: header, priority/time tick, time-out ticks, connection
-/// triad, path size in words, a reserved 00, path (Volume 1, chapter 3, Forward_Close).
+/// The whole message of a Forward_Close to the Connection Manager: header, priority/time tick,
+/// time-out ticks, connection triad, path size in words, a reserved 00, path (Volume 1, chapter 3,
+/// Forward_Close).
 pub fn write_close(
     alloc: Global,
     fields: &CloseFields,
     path: PathView<'_>,
 ) -> Result<Bytes, NoMemory>
-    ensures { IfOk result (λ b. b ≡ close_bytes (close_with fields.now path.entry.bytes.now)) }
+    ensures { IfOk result (λ b. b ≡ close_bytes (close_along fields.now path.entry)) }
 {
     Ok(Bytes::of(joined(alloc, fields, path)?))
 }

@@ -1,7 +1,8 @@
 //! The reply of a successful Forward_Close.
-ghost use Rattle.std.specs.Prelude.{◌≡◌, ◌≤◌, ◌%◌, ◌++◌, length, IfOk, IfErr, IsOkAnd};
+ghost use Rattle.std.specs.Prelude.{◌≡◌, ◌≤◌, ◌%◌, ◌++◌, length, IfOk, IfErr};
 ghost use Rattle.cip_message.specs.Gives.{Gives};
-ghost use Rattle.cip_close.specs.Success.{CloseSuccess, ReadsCloseReply, IsCloseReplyFault, close_reply_bytes};
+ghost use Rattle.cip_message.specs.Exact.{GivesOnly};
+ghost use Rattle.cip_close.specs.Success.{ReadsCloseReply, IsCloseReplyFault, close_reply_bytes};
 ghost use Rattle.cip_close.specs.SuccessAt.{close_reply_at};
 ghost use Rattle.cip_close.specs.Reading.{success_of};
 
@@ -10,7 +11,8 @@ use cip_base::{Bytes, NoMemory, Status, Triad};
 use cip_message::{DataFault, counted_part, put_reply_header, put_triad, triad_at};
 use std::alloc::{AllocError, Global};
 
-/// What the data of a successful Forward_Close's reply says (Volume 1, chapter 3, Forward_Close, successful response).
+/// What the data of a successful Forward_Close's reply says (Volume 1, chapter 3, Forward_Close,
+/// successful response).
 #[derive(Clone, Copy)]
 pub struct CloseReply<'a> {
     pub triad: Triad,
@@ -29,13 +31,15 @@ fn success(data_: &[u8]) -> Result<CloseReply<'_>, DataFault>
     })
 }
 
-/// What the data of a successful Forward_Close's reply says, all of it; the data is what follows the reply's status
-/// (Volume 1, chapter 3, Forward_Close, successful response). The reserved byte has any value. It takes no memory.
+/// What the data of a successful Forward_Close's reply says, all of it; the data is what follows
+/// the reply's status (Volume 1, chapter 3, Forward_Close, successful response). The reserved byte
+/// has any value. It takes no memory.
 ///
-/// Otherwise the first that fits: Short where bytes are missing, Long where bytes stand after the application reply.
+/// Otherwise the first that fits: Short where bytes are missing, Long where bytes stand after the
+/// application reply.
 pub fn read_close_reply(data_: &[u8]) -> Result<CloseReply<'_>, DataFault>
     ensures found { IfOk result (λ reply. ReadsCloseReply data_.now (success_of reply)) }
-    ensures only { (s : CloseSuccess) → ReadsCloseReply data_.now s → IsOkAnd result (λ reply. success_of reply ≡ s) }
+    ensures only { GivesOnly success_of result (ReadsCloseReply data_.now) }
     ensures fault { IfErr result (IsCloseReplyFault data_.now) }
     ensures gives { Gives success_of result (close_reply_at data_.now) }
 {
@@ -60,9 +64,10 @@ fn joined(alloc: Global, reply: &CloseReply<'_>) -> Result<Vec<u8>, AllocError>
     Ok(bytes)
 }
 
-/// The whole message of a successful Forward_Close's reply: the reply's header with status 00, the triad, the size of the
-/// application reply in words, a reserved 00, the application reply (Volume 1, chapter 3, Forward_Close, successful
-/// response). The application reply has an even number of bytes, at most 510.
+/// The whole message of a successful Forward_Close's reply: the reply's header with status 00, the
+/// triad, the size of the application reply in words, a reserved 00, the application reply (Volume
+/// 1, chapter 3, Forward_Close, successful response). The application reply has an even number of
+/// bytes, at most 510.
 pub fn write_close_reply(alloc: Global, reply: &CloseReply<'_>) -> Result<Bytes, NoMemory>
     requires even { length reply.now.reply.now % 2 ≡ 0 }
     requires most { length reply.now.reply.now ≤ 510 }

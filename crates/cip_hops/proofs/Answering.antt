@@ -25,7 +25,8 @@ if_some P None h = tt
 if_some P (Some n) h = h n refl
 
 abbrev reason : Bool → ℕ → ℕ → ℕ → Option BeginReason
-reason used room len next = if used then Some Duplicate else (if nat_le room len then Some Full else (if nat_lt 4294967296 next then Some IdsSpent else None))
+reason used room len next =
+    if used then Some Duplicate else (if nat_le room len then Some Full else (if nat_lt 4294967296 next then Some IdsSpent else None))
 
 same_some : (found : ℕ → Option Held) (o : Option ℕ) → ((k : ℕ) → o ≡ Some k → IsSome (found k)) → is_some (option_and_then found o) ≡ is_some o
 same_some found None h = refl
@@ -34,7 +35,8 @@ same_some found (Some k) h = h k refl
 module _ (t : Inside) (h : IsKept t) (triad : Triad) (ids : ℕ) where
   refusal_by : refusal (hops t) triad ids ≡ reason (is_some (map.get t.triads.keys triad)) t.room (map.len t.triads.keys) (t.next + ids)
   refusal_by =
-      let used : is_some (map.get (hops t).held triad) ≡ is_some (map.get t.triads.keys triad) = ap is_some (held_is t h triad) ∙ same_some (get t.records) (map.get t.triads.keys triad) (finds t h triad) in
+      let used : is_some (map.get (hops t).held triad) ≡ is_some (map.get t.triads.keys triad) = ap is_some (held_is t h triad)
+      ∙ same_some (get t.records) (map.get t.triads.keys triad) (finds t h triad) in
       λ i. reason (used i) t.room (len_is t h i) (t.next + ids)
 
   pub refusal_used : is_some (map.get t.triads.keys triad) ≡ true → refusal (hops t) triad ids ≡ Some Duplicate
@@ -43,10 +45,12 @@ module _ (t : Inside) (h : IsKept t) (triad : Triad) (ids : ℕ) where
   pub refusal_full : is_some (map.get t.triads.keys triad) ≡ false → t.room ≤ map.len t.triads.keys → refusal (hops t) triad ids ≡ Some Full
   refusal_full e full = refusal_by ∙ ap (λ b. reason b t.room (map.len t.triads.keys) (t.next + ids)) e ∙ grind (arith, nat_tests)
 
-  pub refusal_spent : is_some (map.get t.triads.keys triad) ≡ false → map.len t.triads.keys < t.room → 4294967296 < t.next + ids → refusal (hops t) triad ids ≡ Some IdsSpent
+  pub refusal_spent : is_some (map.get t.triads.keys triad) ≡ false → map.len t.triads.keys < t.room → 4294967296 < t.next + ids
+      → refusal (hops t) triad ids ≡ Some IdsSpent
   refusal_spent e room spent = refusal_by ∙ ap (λ b. reason b t.room (map.len t.triads.keys) (t.next + ids)) e ∙ grind (arith, nat_tests)
 
-  pub refusal_none : is_some (map.get t.triads.keys triad) ≡ false → map.len t.triads.keys < t.room → t.next + ids ≤ 4294967296 → refusal (hops t) triad ids ≡ None
+  pub refusal_none : is_some (map.get t.triads.keys triad) ≡ false → map.len t.triads.keys < t.room → t.next + ids ≤ 4294967296
+      → refusal (hops t) triad ids ≡ None
   refusal_none e room left = refusal_by ∙ ap (λ b. reason b t.room (map.len t.triads.keys) (t.next + ids)) e ∙ grind (arith, nat_tests)
 
   taken : (o : Option ℕ) (room len next : ℕ) → reason (is_some o) room len next ≡ None → (o ≡ None) × (len < room) × (next ≤ 4294967296)
@@ -59,13 +63,16 @@ module _ (t : Inside) (h : IsKept t) (triad : Triad) (ids : ℕ) where
 -- room in the records and in the indexes
 module _ (t : Inside) (h : IsKept t) (room : map.len t.triads.keys < t.room) where
   pub ups_left : map.len t.ups.keys < t.ups.room
-  ups_left = let few = tally-le triad_cmp (λ x. is_some (up_id_of x)) (hops t).held in let len = len_is t h in omega (arith, room, few, len, h.ups_count, h.ups_room)
+  ups_left = let few = tally-le triad_cmp (λ x. is_some (up_id_of x)) (hops t).held in let len = len_is t h in
+      omega (arith, room, few, len, h.ups_count, h.ups_room)
 
   pub downs_left : map.len t.downs.keys < t.downs.room
-  downs_left = let few = tally-le triad_cmp (λ x. is_some (down_id_of x)) (hops t).held in let len = len_is t h in omega (arith, room, few, len, h.downs_count, h.downs_room)
+  downs_left = let few = tally-le triad_cmp (λ x. is_some (down_id_of x)) (hops t).held in let len = len_is t h in
+      omega (arith, room, few, len, h.downs_count, h.downs_room)
 
   pub ops_left : map.len t.ops.keys < t.ops.room
-  ops_left = let few = tally-le triad_cmp (λ x. is_some (held_op_of x)) (hops t).held in let len = len_is t h in omega (arith, room, few, len, h.ops_count, h.ops_room)
+  ops_left = let few = tally-le triad_cmp (λ x. is_some (held_op_of x)) (hops t).held in let len = len_is t h in
+      omega (arith, room, few, len, h.ops_count, h.ops_room)
 
 -- ---- a fresh table
 

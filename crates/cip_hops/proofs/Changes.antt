@@ -1,50 +1,33 @@
 -- A hop that is made of an opening, or changed in its place.
-use Rattle.std.proofs.Common.{◌≡◌, ℕ, ◌+◌, ◌<◌, Bool, true, false, not, refl, sym, ap, subst, ◌∙◌, Option, Some, None, IsSome, IsTrue, is_some}
+use Rattle.std.proofs.Common.{◌≡◌, ℕ, ◌<◌, Bool, true, false, not, refl, sym, ap, subst, ◌∙◌, Option, Some, None, IsSome, IsTrue, is_some, arith, ◌^◌}
 use Rattle.std.specs.Option.{option_and_then, IsSomeAnd}
 use Rattle.std.specs.FinMap as map
-use Rattle.slab.specs.Slab.{Slab, get, slab_len, Updates}
+use Rattle.std.proofs.lemmas.List.Sums.{sum_by-set}
+use Rattle.slab.specs.Slab.{Slab, get, slab_len, with_value, Updates}
+use Rattle.slab.proofs.SlabLemmas.{ContainsKey-within, Updates-with_value}
 use Rattle.cip_base.specs.declared.triad.Triad.{Triad}
 use Rattle.cip_hops.specs.declared.opening.Opening.{Opening}
 use Rattle.cip_hops.specs.declared.opening.OwnIds.{OwnIds}
 use Rattle.cip_hops.specs.declared.hop.Hop.{Hop}
+use Rattle.cip_hops.specs.declared.hop.Change.{Change}
+use Rattle.cip_hops.specs.declared.hop.Change.TheVariants.{Finish, Touch, Count}
 use Rattle.cip_hops.specs.declared.hop.Side.{Side}
 use Rattle.cip_hops.specs.declared.hop.Side.TheVariants.{Up, Down}
 use Rattle.cip_hops.specs.declared.hop.Held.{Held}
 use Rattle.cip_hops.specs.declared.hop.Held.TheVariants.{Opening as IsOpening, Open}
 use Rattle.cip_hops.specs.declared.table.HopTable.TheInside.{Inside}
 use Rattle.cip_hops.specs.Sides.{up_is_link, down_is_link}
-use Rattle.cip_hops.specs.Hops.{Hops, as_opening, as_hop, opening_at, hop_at, opened, open_in, finished, with_hop, change_in, changed, is_link, touched, counted, IsHop, IsHeld}
+use Rattle.cip_hops.specs.Changes.{Suits, change_of}
+use Rattle.cip_hops.specs.Hops.{Hops, as_opening, as_hop, opened, open_in, finished, with_held, with_hop, ends_here, change_in, changed, is_link, touched, counted, IsHop, IsHeld}
 use Rattle.cip_hops.specs.Kept.{hops, IsKept}
+use Rattle.cip_hops.proofs.Counts.{one_if}
 use Rattle.cip_hops.proofs.Ids.{is_some-if}
-use Rattle.cip_hops.proofs.Steps.{SameNames, kept_changed, view_changed, put_back}
-
--- the record under a key was taken out of the slab and put back as another
-pub record PutBack (t : Inside) (triad : Triad) (key : ℕ) (x y : Held) (mid s : Slab Held) (again : ℕ) : Type 0 where
-  pub at : map.get t.triads.keys triad ≡ Some key
-  pub found : get t.records key ≡ Some x
-  pub out : Updates t.records mid key None
-  pub fewer : slab_len mid + 1 ≡ slab_len t.records
-  pub vacant : mid.vacant_key ≡ key
-  pub same_room : mid.capacity ≡ t.records.capacity
-  pub again_is : again ≡ mid.vacant_key
-  pub back : Updates mid s again (Some y)
-  pub more : slab_len s ≡ slab_len mid + 1
-  pub kept_room : s.capacity ≡ mid.capacity
-
-module _ (t : Inside) (h : IsKept t) (triad : Triad) (key : ℕ) (x y : Held) (mid s : Slab Held) (again : ℕ) (b : PutBack t triad key x y mid s again) (alike : SameNames x y) where
-  pub kept_put : IsHeld t.next y → IsKept (record { room = t.room; next = t.next; triads = t.triads; ups = t.ups; downs = t.downs; ops = t.ops; records = s })
-  kept_put sound =
-      let there = put_back t.records mid s key again y b.out b.vacant b.again_is b.back in
-      kept_changed t h triad key x y s b.at b.found there.0 there.1 alike (b.more ∙ b.fewer) (b.kept_room ∙ b.same_room) sound
-
-  pub view_put : hops (record { room = t.room; next = t.next; triads = t.triads; ups = t.ups; downs = t.downs; ops = t.ops; records = s }) ≡ record { room = t.room; next = t.next; held = map.insert (hops t).held triad y }
-  view_put =
-      let there = put_back t.records mid s key again y b.out b.vacant b.again_is b.back in
-      view_changed t h triad key x y s b.at b.found there.0 there.1 alike
+use Rattle.cip_hops.proofs.Steps.{SameNames, held_at, kept_changed, view_changed}
 
 -- ---- an opening becomes a hop
 
-pub opened_sound : (next : ℕ) (o : Opening) (ids : OwnIds) (their_id now : ℕ) → IsHeld next (IsOpening o ids) → IsHeld next (Open (opened o ids their_id now))
+pub opened_sound : (next : ℕ) (o : Opening) (ids : OwnIds) (their_id now : ℕ) → IsHeld next (IsOpening o ids)
+    → IsHeld next (Open (opened o ids their_id now))
 opened_sound next o ids their_id now h = record {
   multiplier = h.multiplier;
   up = h.up;
@@ -63,12 +46,14 @@ opened_sound next o ids their_id now h = record {
 pub opened_alike : (o : Opening) (ids : OwnIds) (their_id now : ℕ) → SameNames (IsOpening o ids) (Open (opened o ids their_id now))
 opened_alike o ids their_id now = record { triad = refl; up = refl; down = refl; op = refl }
 
-pub finished_is : (p : Hops) (triad : Triad) (their_id now : ℕ) (o : Opening) (ids : OwnIds) → map.get p.held triad ≡ Some (IsOpening o ids) → finished p triad their_id now ≡ with_hop p triad (opened o ids their_id now)
+pub finished_is : (p : Hops) (triad : Triad) (their_id now : ℕ) (o : Opening) (ids : OwnIds) → map.get p.held triad ≡ Some (IsOpening o ids)
+    → finished p triad their_id now ≡ with_hop p triad (opened o ids their_id now)
 finished_is p triad their_id now o ids e = ap (open_in p triad their_id now) e
 
 -- ---- a hop changes
 
-pub changed_is : (p : Hops) (triad : Triad) (change : Hop → Hop) (hop : Hop) → map.get p.held triad ≡ Some (Open hop) → changed p triad change ≡ with_hop p triad (change hop)
+pub changed_is : (p : Hops) (triad : Triad) (change : Hop → Hop) (hop : Hop) → map.get p.held triad ≡ Some (Open hop)
+    → changed p triad change ≡ with_hop p triad (change hop)
 changed_is p triad change hop e = ap (λ o. change_in p triad change (option_and_then as_hop o)) e
 
 pub touched_alike : (side : Side) (now : ℕ) (hop : Hop) → SameNames (Open hop) (Open (touched side now hop))
@@ -89,39 +74,143 @@ with_open next hop new same ids h is = record {
   open_ = λ other e. let one : new ≡ other = cc in subst IsHop one is;
 }
 
-pub touched_sound : (next : ℕ) (side : Side) (now : ℕ) (hop : Hop) → IsTrue (is_link side hop) → IsHeld next (Open hop) → IsHeld next (Open (touched side now hop))
+pub touched_sound : (next : ℕ) (side : Side) (now : ℕ) (hop : Hop) → IsTrue (is_link side hop) → IsHeld next (Open hop)
+    → IsHeld next (Open (touched side now hop))
 touched_sound next Up now hop link h =
     let is = h.open_ hop refl in
-    with_open next hop _ refl refl h record { their_id = is.their_id; up_deadline = sym link; down_deadline = is.down_deadline; consumed = is.consumed; produced = is.produced }
+    with_open next hop _ refl refl h record {
+      their_id = is.their_id;
+      up_deadline = sym link;
+      down_deadline = is.down_deadline;
+      consumed = is.consumed;
+      produced = is.produced;
+    }
 touched_sound next Down now hop link h =
     let is = h.open_ hop refl in
-    with_open next hop _ refl refl h record { their_id = is.their_id; up_deadline = is.up_deadline; down_deadline = sym link; consumed = is.consumed; produced = is.produced }
+    with_open next hop _ refl refl h record {
+      their_id = is.their_id;
+      up_deadline = is.up_deadline;
+      down_deadline = sym link;
+      consumed = is.consumed;
+      produced = is.produced;
+    }
 
 no_link : (b : Bool) → IsTrue (not b) → b ≡ true → ⊥
 no_link true e f = cc
 no_link false e f = cc
 
-pub counted_sound : (next : ℕ) (side : Side) (count : ℕ) (hop : Hop) → IsTrue (not (down_is_link hop.opening.down)) → IsHeld next (Open hop) → IsHeld next (Open (counted side count hop))
+pub counted_sound : (next : ℕ) (side : Side) (count : ℕ) (hop : Hop) → IsTrue (not (down_is_link hop.opening.down)) → IsHeld next (Open hop)
+    → IsHeld next (Open (counted side count hop))
 counted_sound next Up count hop end h =
     let is = h.open_ hop refl in
-    with_open next hop _ refl refl h record { their_id = is.their_id; up_deadline = is.up_deadline; down_deadline = is.down_deadline; consumed = λ e. absurd (no_link (down_is_link hop.opening.down) end e); produced = is.produced }
+    with_open next hop _ refl refl h record {
+      their_id = is.their_id;
+      up_deadline = is.up_deadline;
+      down_deadline = is.down_deadline;
+      consumed = λ e. absurd (no_link (down_is_link hop.opening.down) end e);
+      produced = is.produced;
+    }
 counted_sound next Down count hop end h =
     let is = h.open_ hop refl in
-    with_open next hop _ refl refl h record { their_id = is.their_id; up_deadline = is.up_deadline; down_deadline = is.down_deadline; consumed = is.consumed; produced = λ e. absurd (no_link (down_is_link hop.opening.down) end e) }
+    with_open next hop _ refl refl h record {
+      their_id = is.their_id;
+      up_deadline = is.up_deadline;
+      down_deadline = is.down_deadline;
+      consumed = is.consumed;
+      produced = λ e. absurd (no_link (down_is_link hop.opening.down) end e);
+    }
 
--- ---- what a condition on a hop says where a record was found
+-- ---- what each change makes of what is held
 
-pub no_opening : (p : Hops) (triad : Triad) → IsSome (opening_at p triad) → map.get p.held triad ≡ None → ⊥
-no_opening p triad some none = let never : IsSome {T = Opening} None = subst (λ (o : Option Held). IsSome (option_and_then as_opening o)) none some in cc
+pub alike : (change : Change) (x : Held) → SameNames x (change_of change x)
+alike (Finish their_id now) (IsOpening o ids) = opened_alike o ids their_id now
+alike (Finish their_id now) (Open hop) = record { triad = refl; up = refl; down = refl; op = refl }
+alike (Touch side now) (IsOpening o ids) = record { triad = refl; up = refl; down = refl; op = refl }
+alike (Touch side now) (Open hop) = touched_alike side now hop
+alike (Count side count) (IsOpening o ids) = record { triad = refl; up = refl; down = refl; op = refl }
+alike (Count side count) (Open hop) = counted_alike side count hop
 
-pub not_open : (p : Hops) (triad : Triad) (hop : Hop) → IsSome (opening_at p triad) → map.get p.held triad ≡ Some (Open hop) → ⊥
-not_open p triad hop some is = let never : IsSome {T = Opening} None = subst (λ (o : Option Held). IsSome (option_and_then as_opening o)) is some in cc
+sound : (next : ℕ) (change : Change) (x : Held) → Suits change x → IsHeld next x → IsHeld next (change_of change x)
+sound next (Finish their_id now) (IsOpening o ids) suits h = opened_sound next o ids their_id now h
+sound next (Finish their_id now) (Open hop) suits h = h
+sound next (Touch side now) (IsOpening o ids) suits h = h
+sound next (Touch side now) (Open hop) suits h = touched_sound next side now hop suits.0 h
+sound next (Count side count) (IsOpening o ids) suits h = h
+sound next (Count side count) (Open hop) suits h = counted_sound next side count hop suits h
 
-pub no_hop : (P : Hop → Type 0) (p : Hops) (triad : Triad) → IsSomeAnd (hop_at p triad) P → map.get p.held triad ≡ None → ⊥
-no_hop P p triad some none = subst (λ (o : Option Held). IsSomeAnd (option_and_then as_hop o) P) none some
+-- as many records as before
+same_len : (s : Slab Held) (key : ℕ) (x y : Held) → get s key ≡ Some x → slab_len (with_value s key y) ≡ slab_len s
+same_len s key x y found =
+    let within = ContainsKey-within s key (subst (λ (o : Option Held). IsSome o) (sym found) refl) in
+    let sum = sum_by-set (λ (o : Option Held). one_if (is_some o)) s.slots key (Some y) None within in
+    let was : one_if (is_some (get s key)) ≡ one_if true = ap (λ (o : Option Held). one_if (is_some o)) found in omega (arith, sum, was)
 
-pub not_opening : (P : Hop → Type 0) (p : Hops) (triad : Triad) (o : Opening) (ids : OwnIds) → IsSomeAnd (hop_at p triad) P → map.get p.held triad ≡ Some (IsOpening o ids) → ⊥
-not_opening P p triad o ids some is = subst (λ (o : Option Held). IsSomeAnd (option_and_then as_hop o) P) is some
+-- the table with another record under a key
+abbrev pub written : Inside → ℕ → Held → Inside
+written t key y = record {
+  room = t.room;
+  next = t.next;
+  triads = t.triads;
+  ups = t.ups;
+  downs = t.downs;
+  ops = t.ops;
+  records = with_value t.records key y;
+}
 
-pub its_hop : (P : Hop → Type 0) (p : Hops) (triad : Triad) (hop : Hop) → IsSomeAnd (hop_at p triad) P → map.get p.held triad ≡ Some (Open hop) → P hop
-its_hop P p triad hop some is = subst (λ (o : Option Held). IsSomeAnd (option_and_then as_hop o) P) is some
+-- what stands under the key stands under the triad
+pub stands : (t : Inside) (p : Hops) → IsKept t → hops t ≡ p → (triad : Triad) (key : ℕ) (x : Held)
+    → map.get t.triads.keys triad ≡ Some key → get t.records key ≡ Some x → map.get p.held triad ≡ Some x
+stands t p h is triad key x at found = ap (λ (p : Hops). map.get p.held triad) (sym is) ∙ held_at t h triad key x at found
+
+module _ (t : Inside) (h : IsKept t) (triad : Triad) (key : ℕ) (x : Held) (change : Change)
+    (at : map.get t.triads.keys triad ≡ Some key) (found : get t.records key ≡ Some x) where
+  abbrev y : Held
+  y = change_of change x
+
+  updates : Updates t.records (with_value t.records key y) key (Some y)
+  updates = Updates-with_value t.records key y (subst (λ (o : Option Held). IsSome o) (sym found) refl)
+
+  pub kept_in_place : Suits change x → IsKept (written t key (change_of change x))
+  kept_in_place suits =
+      kept_changed t h triad key x y (with_value t.records key y) at found updates.changed updates.others (alike change x)
+      (same_len t.records key x y found) refl (sound t.next change x suits (h.each key x found))
+
+  pub view_in_place : hops (written t key (change_of change x)) ≡ with_held (hops t) triad (change_of change x)
+  view_in_place = view_changed t h triad key x y (with_value t.records key y) at found updates.changed updates.others (alike change x)
+
+-- ---- each call by the change that it makes
+
+pub finish_suits : (their_id now : ℕ) (o : Option Held) → IsSome (option_and_then as_opening o) → now < 2 ^ 63
+    → IsSomeAnd o (Suits (Finish their_id now))
+finish_suits their_id now None is time = absurd (cc)
+finish_suits their_id now (Some x) is time = (is, time)
+
+pub finish_is : (p new : Hops) (triad : Triad) (their_id now : ℕ) (o : Option Held) → IsSome (option_and_then as_opening o)
+    → IsSomeAnd o (λ x. new ≡ with_held p triad (change_of (Finish their_id now) x)) → new ≡ open_in p triad their_id now o
+finish_is p new triad their_id now None is e = absurd (cc)
+finish_is p new triad their_id now (Some (IsOpening o ids)) is e = e
+finish_is p new triad their_id now (Some (Open hop)) is e = absurd (cc)
+
+pub touch_suits : (side : Side) (now : ℕ) (o : Option Held) → IsSomeAnd (option_and_then as_hop o) (λ hop. IsTrue (is_link side hop)) → now < 2 ^ 63
+    → IsSomeAnd o (Suits (Touch side now))
+touch_suits side now None is time = is
+touch_suits side now (Some x) is time = (is, time)
+
+pub count_suits : (side : Side) (count : ℕ) (o : Option Held) → IsSomeAnd (option_and_then as_hop o) (λ hop. IsTrue (ends_here hop))
+    → IsSomeAnd o (Suits (Count side count))
+count_suits side count None is = is
+count_suits side count (Some x) is = is
+
+pub touch_is : (p new : Hops) (triad : Triad) (side : Side) (now : ℕ) (o : Option Held)
+    → IsSomeAnd (option_and_then as_hop o) (λ hop. IsTrue (is_link side hop))
+    → IsSomeAnd o (λ x. new ≡ with_held p triad (change_of (Touch side now) x)) → new ≡ change_in p triad (touched side now) (option_and_then as_hop o)
+touch_is p new triad side now None is e = absurd is
+touch_is p new triad side now (Some (IsOpening o ids)) is e = absurd is
+touch_is p new triad side now (Some (Open hop)) is e = e
+
+pub count_is : (p new : Hops) (triad : Triad) (side : Side) (count : ℕ) (o : Option Held)
+    → IsSomeAnd (option_and_then as_hop o) (λ hop. IsTrue (ends_here hop))
+    → IsSomeAnd o (λ x. new ≡ with_held p triad (change_of (Count side count) x)) → new ≡ change_in p triad (counted side count) (option_and_then as_hop o)
+count_is p new triad side count None is e = absurd is
+count_is p new triad side count (Some (IsOpening o ids)) is e = absurd is
+count_is p new triad side count (Some (Open hop)) is e = e

@@ -27,10 +27,12 @@ module _ {K X : Type 0} (R : K → K → Ordering) (p : X → Bool) where
   count-put : (k : K) (v : X) (es : List (K × X)) → find R k es ≡ None → counted_in (put R k v es) ≡ one_if (p v) + counted_in es
   count-put k v [] none = count-cons (k, v) []
   count-put k v (e ∷ es) none =
-      elim (R k e.0) as (λ r. cond (is_eq r) (Some e.1) (find R k es) ≡ None → counted_in (by_order r ((k, v) ∷ e ∷ es) ((e.0, v) ∷ es) (e ∷ put R k v es)) ≡ one_if (p v) + counted_in (e ∷ es)) [
+      elim (R k e.0) as (λ r. cond (is_eq r) (Some e.1) (find R k es) ≡ None
+      → counted_in (by_order r ((k, v) ∷ e ∷ es) ((e.0, v) ∷ es) (e ∷ put R k v es)) ≡ one_if (p v) + counted_in (e ∷ es)) [
         | Less ↦ λ s. count-cons (k, v) (e ∷ es)
         | Equal ↦ λ s. absurd (cc)
-        | Greater ↦ λ s. let rest = count-put k v es s in let more = count-cons e (put R k v es) in let old = count-cons e es in omega (arith, rest, more, old)
+        | Greater ↦ λ s. let rest = count-put k v es s in let more = count-cons e (put R k v es) in let old = count-cons e es in
+            omega (arith, rest, more, old)
       ] none
 
   module _ (o : IsTotalOrder R) (same : IsAntisymmetric R) where
@@ -57,7 +59,8 @@ module _ {K X : Type 0} (R : K → K → Ordering) (p : X → Bool) where
 
     pub tally-change : (m : FinMap R X) (k : K) (v w : X) → map.get m k ≡ Some v → p w ≡ p v → tally (map.insert m k w) ≡ tally m
     tally-change m k v w is alike =
-        ap tally (sym (over m k w)) ∙ tally-insert (map.remove m k) k w (gone m k) ∙ ap (λ b. one_if b + tally (map.remove m k)) alike ∙ tally-remove m k v is
+        ap tally (sym (over m k w)) ∙ tally-insert (map.remove m k) k w (gone m k) ∙ ap (λ b. one_if b + tally (map.remove m k)) alike
+        ∙ tally-remove m k v is
 
   pub tally-le : (m : FinMap R X) → tally m ≤ map.len m
   tally-le m = let short = count_by-le-length (λ (e : K × X). p e.1) (map.entries m) in let len = map.len-entries m in omega (arith, short, len)

@@ -26,26 +26,32 @@ module _ {K : Type 0} (R : K → K → Ordering) (o : IsTotalOrder R) (same : Is
   moved found new key k name others ne h = record { held = h.held; stands = others k ne ∙ h.stands; named = h.named }
 
   -- a record comes
-  pub index_add : (m : Index R) (found new : ℕ → Option Held) (key : ℕ) (x : Held) (name : Option K) → Indexes name_of m.keys found → found key ≡ None → new key ≡ Some x → Others found new key
+  pub index_add : (m : Index R) (found new : ℕ → Option Held) (key : ℕ) (x : Held) (name : Option K) → Indexes name_of m.keys found → found key ≡ None
+      → new key ≡ Some x → Others found new key
       → name_of x ≡ name → ((n : K) → name ≡ Some n → map.get m.keys n ≡ None) → Indexes name_of (noted m name key).keys new
   index_add m found new key x None h vacant is others named free = record {
-    sound = λ n k e. let old = h.sound n k e in moved found new key k n others (λ s. let no : None ≡ Some old.held = sym vacant ∙ ap found (sym s) ∙ old.stands in cc) old;
+    sound = λ n k e. let old = h.sound n k e in
+        moved found new key k n others (λ s. let no : None ≡ Some old.held = sym vacant ∙ ap found (sym s) ∙ old.stands in cc) old;
     complete = λ n k y e f. elim (same_or_not k key) [
-      | inl s ↦ let one : x ≡ y = let both : Some x ≡ Some y = sym is ∙ ap new (sym s) ∙ e in cc in let no : None ≡ Some n = sym named ∙ ap name_of one ∙ f in absurd (cc)
+      | inl s ↦ let one : x ≡ y = let both : Some x ≡ Some y = sym is ∙ ap new (sym s) ∙ e in cc in let no : None ≡ Some n = sym named ∙ ap name_of one
+          ∙ f in absurd (cc)
       | inr ne ↦ h.complete n k y (sym (others k ne) ∙ e) f
     ];
   }
   index_add m found new key x (Some name) h vacant is others named free = record {
     sound = λ n k e.
         elim (eq_by_cmp R n name) as (λ b. eq_by_cmp R n name ≡ b → cond b (Some key) (map.get m.keys n) ≡ Some k → HasName name_of new k n) [
-          | true ↦ λ t s. let at : key ≡ k = cc in record { held = x; stands = ap new (sym at) ∙ is; named = named ∙ ap (λ q. Some q) (sym (tied_name same n name t)) }
-          | false ↦ λ t s. let old = h.sound n k s in moved found new key k n others (λ s. let no : None ≡ Some old.held = sym vacant ∙ ap found (sym s) ∙ old.stands in cc) old
+          | true ↦ λ t s. let at : key ≡ k = cc in
+              record { held = x; stands = ap new (sym at) ∙ is; named = named ∙ ap (λ q. Some q) (sym (tied_name same n name t)) }
+          | false ↦ λ t s. let old = h.sound n k s in
+              moved found new key k n others (λ s. let no : None ≡ Some old.held = sym vacant ∙ ap found (sym s) ∙ old.stands in cc) old
         ] refl (sym (map.get-insert o m.keys name key n) ∙ e);
     complete = λ n k y e f.
         map.get-insert o m.keys name key n ∙ elim (same_or_not k key) [
           | inl s ↦ let one : x ≡ y = let both : Some x ≡ Some y = sym is ∙ ap new (sym s) ∙ e in cc in
               let at : name ≡ n = let both : Some name ≡ Some n = sym named ∙ ap name_of one ∙ f in cc in
-              ap (λ q. cond (eq_by_cmp R q name) (Some key) (map.get m.keys q)) (sym at) ∙ ap (λ r. cond (is_eq r) (Some key) (map.get m.keys name)) (tied_itself o name) ∙ ap (λ j. Some j) (sym s)
+              ap (λ q. cond (eq_by_cmp R q name) (Some key) (map.get m.keys q)) (sym at)
+              ∙ ap (λ r. cond (is_eq r) (Some key) (map.get m.keys name)) (tied_itself o name) ∙ ap (λ j. Some j) (sym s)
           | inr ne ↦ let stands = h.complete n k y (sym (others k ne) ∙ e) f in
               elim (eq_by_cmp R n name) as (λ b. eq_by_cmp R n name ≡ b → cond b (Some key) (map.get m.keys n) ≡ Some k) [
                 | true ↦ λ t. let no : None ≡ Some k = sym (free name refl) ∙ ap (map.get m.keys) (sym (tied_name same n name t)) ∙ stands in absurd (cc)
@@ -55,11 +61,13 @@ module _ {K : Type 0} (R : K → K → Ordering) (o : IsTotalOrder R) (same : Is
   }
 
   -- a record goes
-  pub index_drop : (m : Index R) (found new : ℕ → Option Held) (key : ℕ) (x : Held) (name : Option K) → Indexes name_of m.keys found → found key ≡ Some x → new key ≡ None → Others found new key
+  pub index_drop : (m : Index R) (found new : ℕ → Option Held) (key : ℕ) (x : Held) (name : Option K) → Indexes name_of m.keys found → found key ≡ Some x
+      → new key ≡ None → Others found new key
       → name_of x ≡ name → Indexes name_of (forgot m name).keys new
   index_drop m found new key x None h is vacant others named = record {
     sound = λ n k e. let old = h.sound n k e in
-        moved found new key k n others (λ s. let one : x ≡ old.held = let both : Some x ≡ Some old.held = sym is ∙ ap found (sym s) ∙ old.stands in cc in let no : None ≡ Some n = sym named ∙ ap name_of one ∙ old.named in cc) old;
+        moved found new key k n others (λ s. let one : x ≡ old.held = let both : Some x ≡ Some old.held = sym is ∙ ap found (sym s) ∙ old.stands in cc in
+        let no : None ≡ Some n = sym named ∙ ap name_of one ∙ old.named in cc) old;
     complete = λ n k y e f. h.complete n k y (sym (others k (λ s. let no : None ≡ Some y = sym vacant ∙ ap new (sym s) ∙ e in cc)) ∙ e) f;
   }
   index_drop m found new key x (Some name) h is vacant others named = record {
@@ -76,13 +84,15 @@ module _ {K : Type 0} (R : K → K → Ordering) (o : IsTotalOrder R) (same : Is
         let ne : k ≢ key = λ s. let no : None ≡ Some y = sym vacant ∙ ap new (sym s) ∙ e in cc in
         let stands = h.complete n k y (sym (others k ne) ∙ e) f in
         map.get-remove o m.keys name n ∙ elim (eq_by_cmp R n name) as (λ b. eq_by_cmp R n name ≡ b → cond b None (map.get m.keys n) ≡ Some k) [
-          | true ↦ λ t. let both : Some k ≡ Some key = sym stands ∙ ap (map.get m.keys) (tied_name same n name t) ∙ h.complete name key x is named in let at : k ≡ key = cc in absurd (ne at)
+          | true ↦ λ t. let both : Some k ≡ Some key = sym stands ∙ ap (map.get m.keys) (tied_name same n name t) ∙ h.complete name key x is named in
+              let at : k ≡ key = cc in absurd (ne at)
           | false ↦ λ t. stands
         ] refl;
   }
 
   -- a record changes, and keeps its name
-  pub index_change : (m : FinMap R ℕ) (found new : ℕ → Option Held) (key : ℕ) (x y : Held) → Indexes name_of m found → found key ≡ Some x → new key ≡ Some y → Others found new key
+  pub index_change : (m : FinMap R ℕ) (found new : ℕ → Option Held) (key : ℕ) (x y : Held) → Indexes name_of m found → found key ≡ Some x
+      → new key ≡ Some y → Others found new key
       → name_of y ≡ name_of x → Indexes name_of m new
   index_change m found new key x y h is now others alike = record {
     sound = λ n k e. let old = h.sound n k e in elim (same_or_not k key) [
@@ -97,17 +107,22 @@ module _ {K : Type 0} (R : K → K → Ordering) (o : IsTotalOrder R) (same : Is
     ];
   }
 
-  pub len-noted : (m : Index R) (name : Option K) (key : ℕ) → ((n : K) → name ≡ Some n → map.get m.keys n ≡ None) → map.len (noted m name key).keys ≡ one_if (is_some name) + map.len m.keys
+  pub len-noted : (m : Index R) (name : Option K) (key : ℕ) → ((n : K) → name ≡ Some n → map.get m.keys n ≡ None)
+      → map.len (noted m name key).keys ≡ one_if (is_some name) + map.len m.keys
   len-noted m None key free = omega arith
-  len-noted m (Some n) key free = map.len-insert o m.keys n key ∙ ap (λ (x : Option ℕ). cond (is_some x) (map.len m.keys) (map.len m.keys + 1)) (free n refl) ∙ omega arith
+  len-noted m (Some n) key free = map.len-insert o m.keys n key
+      ∙ ap (λ (x : Option ℕ). cond (is_some x) (map.len m.keys) (map.len m.keys + 1)) (free n refl) ∙ omega arith
 
   some_names : (m : FinMap R ℕ) (n : K) (key : ℕ) (l : ℕ) → map.len m ≡ l → map.get m n ≡ Some key → 1 ≤ l
-  some_names m n key zero e at = let no : None ≡ Some key = sym (map.get-empty R n) ∙ ap (λ (e : FinMap R ℕ). map.get e n) (sym (map.empty_of_len m e)) ∙ at in absurd (cc)
+  some_names m n key zero e at = let no : None ≡ Some key = sym (map.get-empty R n) ∙ ap (λ (e : FinMap R ℕ). map.get e n) (sym (map.empty_of_len m e))
+      ∙ at in absurd (cc)
   some_names m n key (suc l) e at = omega arith
 
-  pub len-forgot : (m : Index R) (name : Option K) (key : ℕ) → ((n : K) → name ≡ Some n → map.get m.keys n ≡ Some key) → one_if (is_some name) + map.len (forgot m name).keys ≡ map.len m.keys
+  pub len-forgot : (m : Index R) (name : Option K) (key : ℕ) → ((n : K) → name ≡ Some n → map.get m.keys n ≡ Some key)
+      → one_if (is_some name) + map.len (forgot m name).keys ≡ map.len m.keys
   len-forgot m None key at = omega arith
   len-forgot m (Some n) key at =
       let some : 1 ≤ map.len m.keys = some_names m.keys n key (map.len m.keys) refl (at n refl) in
-      let less : map.len (map.remove m.keys n) ≡ map.len m.keys - 1 = map.len-remove o m.keys n ∙ ap (λ (x : Option ℕ). cond (is_some x) (map.len m.keys - 1) (map.len m.keys)) (at n refl) in
+      let less : map.len (map.remove m.keys n) ≡ map.len m.keys - 1 = map.len-remove o m.keys n
+      ∙ ap (λ (x : Option ℕ). cond (is_some x) (map.len m.keys - 1) (map.len m.keys)) (at n refl) in
       omega (arith, some, less)

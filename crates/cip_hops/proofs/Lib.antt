@@ -1,5 +1,3 @@
-pub mod Joined
-pub mod Search
 pub mod Views
 pub mod Counts
 pub mod Indexing

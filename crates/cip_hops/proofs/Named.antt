@@ -42,16 +42,20 @@ pub is_open : (x : Held) (hop : Hop) → as_hop x ≡ Some hop → x ≡ Open ho
 is_open (IsOpening o ids) hop e = absurd (cc)
 is_open (Open hop) hop' e = let same : hop ≡ hop' = cc in ap (λ h. Open h) same
 
-module _ (t : Inside) (h : IsKept t) (name_of : Held → Option ℕ) (m : FinMap nat_cmp ℕ) (ix : Indexes name_of m (get t.records)) (test : Hop → Bool) (name : ℕ) (named : (x : Held) → is_hop test x ≡ true → name_of x ≡ Some name) where
+module _ (t : Inside) (h : IsKept t) (name_of : Held → Option ℕ) (m : FinMap nat_cmp ℕ) (ix : Indexes name_of m (get t.records)) (test : Hop → Bool)
+    (name : ℕ) (named : (x : Held) → is_hop test x ≡ true → name_of x ≡ Some name) where
   pub hop_absent : map.get m name ≡ None → first_hop test (hops t) ≡ None
   hop_absent none =
-      ap (option_and_then (λ (e : Triad × Held). as_hop e.1)) (find-nowhere triad_cmp triads_total triads_apart (hops t).held (λ e. is_hop test e.1) (λ q y e. not_true (is_hop test y) (λ pass.
+      ap (option_and_then (λ (e : Triad × Held). as_hop e.1))
+      (find-nowhere triad_cmp triads_total triads_apart (hops t).held (λ e. is_hop test e.1) (λ q y e. not_true (is_hop test y) (λ pass.
       let s = stands t h q y e in
       let no_key : None ≡ Some s.key = sym none ∙ ix.complete name s.key y s.found (named y pass) in cc)))
 
-  pub hop_found : (key : ℕ) (x : Held) (b : Bool) → map.get m name ≡ Some key → get t.records key ≡ Some x → is_hop test x ≡ b → first_hop test (hops t) ≡ (if b then as_hop x else None)
+  pub hop_found : (key : ℕ) (x : Held) (b : Bool) → map.get m name ≡ Some key → get t.records key ≡ Some x → is_hop test x ≡ b
+      → first_hop test (hops t) ≡ (if b then as_hop x else None)
   hop_found key x true at found pass =
-      ap (option_and_then (λ (e : Triad × Held). as_hop e.1)) (find-only triad_cmp triads_total triads_apart (hops t).held (λ e. is_hop test e.1) (triad_of x) x (under t h key x found) pass (λ r y e p.
+      ap (option_and_then (λ (e : Triad × Held). as_hop e.1))
+      (find-only triad_cmp triads_total triads_apart (hops t).held (λ e. is_hop test e.1) (triad_of x) x (under t h key x found) pass (λ r y e p.
       let s = stands t h r y e in
       let keys : Some s.key ≡ Some key = sym (ix.complete name s.key y s.found (named y p)) ∙ at in
       let same : s.key ≡ key = cc in
@@ -59,7 +63,8 @@ module _ (t : Inside) (h : IsKept t) (name_of : Held → Option ℕ) (m : FinMap
       let one : y ≡ x = cc in
       sym ((within t h).triads r y e) ∙ ap triad_of one))
   hop_found key x false at found pass =
-      ap (option_and_then (λ (e : Triad × Held). as_hop e.1)) (find-nowhere triad_cmp triads_total triads_apart (hops t).held (λ e. is_hop test e.1) (λ q y e. not_true (is_hop test y) (λ p.
+      ap (option_and_then (λ (e : Triad × Held). as_hop e.1))
+      (find-nowhere triad_cmp triads_total triads_apart (hops t).held (λ e. is_hop test e.1) (λ q y e. not_true (is_hop test y) (λ p.
       let s = stands t h q y e in
       let keys : Some s.key ≡ Some key = sym (ix.complete name s.key y s.found (named y p)) ∙ at in
       let same : s.key ≡ key = cc in
@@ -75,17 +80,23 @@ module _ (t : Inside) (h : IsKept t) (id port : ℕ) (address : List ℕ) where
   pub no_up : map.get t.ups.keys id ≡ None → hop_by_up (hops t) id port address ≡ None
   no_up = hop_absent t h up_id_of t.ups.keys h.by_up (is_hop_by_up id port address) id named_up
 
-  pub up_opening : (key : ℕ) (x : Held) → map.get t.ups.keys id ≡ Some key → get t.records key ≡ Some x → as_hop x ≡ None → hop_by_up (hops t) id port address ≡ None
-  up_opening key x at found none = hop_found t h up_id_of t.ups.keys h.by_up (is_hop_by_up id port address) id named_up key x false at found (ap (λ (o : Option Hop). option_map_or (is_hop_by_up id port address) o false) none)
+  pub up_opening : (key : ℕ) (x : Held) → map.get t.ups.keys id ≡ Some key → get t.records key ≡ Some x → as_hop x ≡ None
+      → hop_by_up (hops t) id port address ≡ None
+  up_opening key x at found none =
+      hop_found t h up_id_of t.ups.keys h.by_up (is_hop_by_up id port address) id named_up key x false at found
+      (ap (λ (o : Option Hop). option_map_or (is_hop_by_up id port address) o false) none)
 
-  pub up_gives : (key : ℕ) (x : Held) (hop : Hop) (r : Bool) → map.get t.ups.keys id ≡ Some key → get t.records key ≡ Some x → as_hop x ≡ Some hop → up_is port address hop.opening.up ≡ r → hop_by_up (hops t) id port address ≡ (if r then Some hop else None)
+  pub up_gives : (key : ℕ) (x : Held) (hop : Hop) (r : Bool) → map.get t.ups.keys id ≡ Some key → get t.records key ≡ Some x → as_hop x ≡ Some hop
+      → up_is port address hop.opening.up ≡ r → hop_by_up (hops t) id port address ≡ (if r then Some hop else None)
   up_gives key x hop r at found is side =
       let s = h.by_up.sound id key at in
       let both : Some s.held ≡ Some x = sym s.stands ∙ found in
       let one : s.held ≡ x = cc in
       let own : hop.ids.up ≡ Some id = sym (ap up_id_of (is_open x hop is)) ∙ ap up_id_of (sym one) ∙ s.named in
-      let pass : is_hop (is_hop_by_up id port address) x ≡ r = ap (λ (o : Option Hop). option_map_or (is_hop_by_up id port address) o false) is ∙ (λ i. is_id_same id hop.ids.up own i && side i) in
-      hop_found t h up_id_of t.ups.keys h.by_up (is_hop_by_up id port address) id named_up key x r at found pass ∙ ap (λ (o : Option Hop). if r then o else None) is
+      let pass : is_hop (is_hop_by_up id port address) x ≡ r = ap (λ (o : Option Hop). option_map_or (is_hop_by_up id port address) o false) is
+      ∙ (λ i. is_id_same id hop.ids.up own i && side i) in
+      hop_found t h up_id_of t.ups.keys h.by_up (is_hop_by_up id port address) id named_up key x r at found pass
+      ∙ ap (λ (o : Option Hop). if r then o else None) is
 
   named_down : (x : Held) → is_hop (is_hop_by_down id port address) x ≡ true → down_id_of x ≡ Some id
   named_down (IsOpening o ids) e = absurd (cc)
@@ -94,17 +105,23 @@ module _ (t : Inside) (h : IsKept t) (id port : ℕ) (address : List ℕ) where
   pub no_down : map.get t.downs.keys id ≡ None → hop_by_down (hops t) id port address ≡ None
   no_down = hop_absent t h down_id_of t.downs.keys h.by_down (is_hop_by_down id port address) id named_down
 
-  pub down_opening : (key : ℕ) (x : Held) → map.get t.downs.keys id ≡ Some key → get t.records key ≡ Some x → as_hop x ≡ None → hop_by_down (hops t) id port address ≡ None
-  down_opening key x at found none = hop_found t h down_id_of t.downs.keys h.by_down (is_hop_by_down id port address) id named_down key x false at found (ap (λ (o : Option Hop). option_map_or (is_hop_by_down id port address) o false) none)
+  pub down_opening : (key : ℕ) (x : Held) → map.get t.downs.keys id ≡ Some key → get t.records key ≡ Some x → as_hop x ≡ None
+      → hop_by_down (hops t) id port address ≡ None
+  down_opening key x at found none =
+      hop_found t h down_id_of t.downs.keys h.by_down (is_hop_by_down id port address) id named_down key x false at found
+      (ap (λ (o : Option Hop). option_map_or (is_hop_by_down id port address) o false) none)
 
-  pub down_gives : (key : ℕ) (x : Held) (hop : Hop) (r : Bool) → map.get t.downs.keys id ≡ Some key → get t.records key ≡ Some x → as_hop x ≡ Some hop → down_is port address hop.opening.down ≡ r → hop_by_down (hops t) id port address ≡ (if r then Some hop else None)
+  pub down_gives : (key : ℕ) (x : Held) (hop : Hop) (r : Bool) → map.get t.downs.keys id ≡ Some key → get t.records key ≡ Some x → as_hop x ≡ Some hop
+      → down_is port address hop.opening.down ≡ r → hop_by_down (hops t) id port address ≡ (if r then Some hop else None)
   down_gives key x hop r at found is side =
       let s = h.by_down.sound id key at in
       let both : Some s.held ≡ Some x = sym s.stands ∙ found in
       let one : s.held ≡ x = cc in
       let own : hop.ids.down ≡ Some id = sym (ap down_id_of (is_open x hop is)) ∙ ap down_id_of (sym one) ∙ s.named in
-      let pass : is_hop (is_hop_by_down id port address) x ≡ r = ap (λ (o : Option Hop). option_map_or (is_hop_by_down id port address) o false) is ∙ (λ i. is_id_same id hop.ids.down own i && side i) in
-      hop_found t h down_id_of t.downs.keys h.by_down (is_hop_by_down id port address) id named_down key x r at found pass ∙ ap (λ (o : Option Hop). if r then o else None) is
+      let pass : is_hop (is_hop_by_down id port address) x ≡ r = ap (λ (o : Option Hop). option_map_or (is_hop_by_down id port address) o false) is
+      ∙ (λ i. is_id_same id hop.ids.down own i && side i) in
+      hop_found t h down_id_of t.downs.keys h.by_down (is_hop_by_down id port address) id named_down key x r at found pass
+      ∙ ap (λ (o : Option Hop). if r then o else None) is
 
 module _ (t : Inside) (h : IsKept t) (op : ℕ) where
   named_op : (x : Held) → is_hop (is_hop_by_op op) x ≡ true → held_op_of x ≡ Some op

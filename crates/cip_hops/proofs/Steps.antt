@@ -35,7 +35,8 @@ finds t h = finds_by t.triads.keys (get t.records) h.by_triad
 pub held_is : (t : Inside) → IsKept t → (q : Triad) → map.get (hops t).held q ≡ option_and_then (get t.records) (map.get t.triads.keys q)
 held_is t h q = get-view triad_cmp triads_total triads_apart t.triads.keys (get t.records) (finds t h) q
 
-pub held_at : (t : Inside) → IsKept t → (q : Triad) (key : ℕ) (x : Held) → map.get t.triads.keys q ≡ Some key → get t.records key ≡ Some x → map.get (hops t).held q ≡ Some x
+pub held_at : (t : Inside) → IsKept t → (q : Triad) (key : ℕ) (x : Held) → map.get t.triads.keys q ≡ Some key → get t.records key ≡ Some x
+    → map.get (hops t).held q ≡ Some x
 held_at t h q key x at is = held_is t h q ∙ ap (option_and_then (get t.records)) at ∙ is
 
 pub held_none : (t : Inside) → IsKept t → (q : Triad) → map.get t.triads.keys q ≡ None → map.get (hops t).held q ≡ None
@@ -51,7 +52,8 @@ split_then found None x e = absurd (cc)
 split_then found (Some key) x e = (key, refl, e)
 
 pub stands : (t : Inside) → IsKept t → (q : Triad) (x : Held) → map.get (hops t).held q ≡ Some x → Stands t q x
-stands t h q x e = let s = split_then (get t.records) (map.get t.triads.keys q) x (sym (held_is t h q) ∙ e) in record { key = s.0; noted_ = s.1; found = s.2 }
+stands t h q x e = let s = split_then (get t.records) (map.get t.triads.keys q) x (sym (held_is t h q) ∙ e) in
+    record { key = s.0; noted_ = s.1; found = s.2 }
 
 -- a record stands under its triad
 pub under : (t : Inside) → IsKept t → (key : ℕ) (x : Held) → get t.records key ≡ Some x → map.get (hops t).held (triad_of x) ≡ Some x
@@ -76,7 +78,8 @@ none_if (Some k) never = absurd (never k refl)
 
 -- ---- an opening comes
 
-module _ (t : Inside) (h : IsKept t) (o : Opening) (key : ℕ) (s : Slab Held) (vacant : get t.records key ≡ None) (updates : Updates t.records s key (Some (IsOpening o (own_ids t.next o)))) (free : map.get t.triads.keys o.triad ≡ None) where
+module _ (t : Inside) (h : IsKept t) (o : Opening) (key : ℕ) (s : Slab Held) (vacant : get t.records key ≡ None)
+    (updates : Updates t.records s key (Some (IsOpening o (own_ids t.next o)))) (free : map.get t.triads.keys o.triad ≡ None) where
   abbrev pub new_held : Held
   new_held = IsOpening o (own_ids t.next o)
 
@@ -92,7 +95,9 @@ module _ (t : Inside) (h : IsKept t) (o : Opening) (key : ℕ) (s : Slab Held) (
   }
 
   begun_triads : Indexes (λ x. Some (triad_of x)) (map.insert t.triads.keys o.triad key) (get s)
-  begun_triads = index_add triad_cmp triads_total triads_apart (λ x. Some (triad_of x)) t.triads (get t.records) (get s) key new_held (Some o.triad) h.by_triad vacant updates.changed updates.others refl
+  begun_triads =
+      index_add triad_cmp triads_total triads_apart (λ x. Some (triad_of x)) t.triads (get t.records) (get s) key new_held
+      (Some o.triad) h.by_triad vacant updates.changed updates.others refl
       (λ n e. let same : o.triad ≡ n = cc in ap (map.get t.triads.keys) (sym same) ∙ free)
 
   begun_finds : Finds (map.insert t.triads.keys o.triad key) (get s)
@@ -103,25 +108,31 @@ module _ (t : Inside) (h : IsKept t) (o : Opening) (key : ℕ) (s : Slab Held) (
 
   pub view_begun : hops after_begin ≡ begun (hops t) o
   view_begun =
-      let is = view-insert triad_cmp triads_total triads_apart t.triads.keys (get t.records) (get s) o.triad key new_held (finds t h) begun_finds updates.changed (λ q k e. updates.others k (not_new q k e)) in
+      let is =
+      view-insert triad_cmp triads_total triads_apart t.triads.keys (get t.records) (get s) o.triad key new_held
+      (finds t h) begun_finds updates.changed (λ q k e. updates.others k (not_new q k e)) in
       λ i. record { room = t.room; next = t.next + ids_drawn o; held = is i }
 
   pub up_free : (id : ℕ) → (own_ids t.next o).up ≡ Some id → map.get t.ups.keys id ≡ None
   up_free id e =
       let range = up_range (up_is_link o.up) (down_is_link o.down) t.next id e in
-      none_if (map.get t.ups.keys id) (λ k f. let x = h.by_up.sound id k f in let below = (h.each k x.held x.stands).up_below id x.named in omega (arith, range.0, below))
+      none_if (map.get t.ups.keys id) (λ k f. let x = h.by_up.sound id k f in let below = (h.each k x.held x.stands).up_below id x.named in
+      omega (arith, range.0, below))
 
   pub down_free : (id : ℕ) → (own_ids t.next o).down ≡ Some id → map.get t.downs.keys id ≡ None
   down_free id e =
       let range = down_range (up_is_link o.up) (down_is_link o.down) t.next id e in
-      none_if (map.get t.downs.keys id) (λ k f. let x = h.by_down.sound id k f in let below = (h.each k x.held x.stands).down_below id x.named in omega (arith, range.0, below))
+      none_if (map.get t.downs.keys id) (λ k f. let x = h.by_down.sound id k f in let below = (h.each k x.held x.stands).down_below id x.named in
+      omega (arith, range.0, below))
 
   module _ (op_free : IsOpFree (hops t) (op_of o.up)) where
     pub op_unused : (op : ℕ) → op_of o.up ≡ Some op → map.get t.ops.keys op ≡ None
     op_unused op e =
-        none_if (map.get t.ops.keys op) (λ k f. let x = h.by_op.sound op k f in op_free.differs (triad_of x.held) x.held op (under t h k x.held x.stands) e x.named)
+        none_if (map.get t.ops.keys op) (λ k f. let x = h.by_op.sound op k f in
+        op_free.differs (triad_of x.held) x.held op (under t h k x.held x.stands) e x.named)
 
-    module _ (multiplier : o.multiplier < 8) (room : map.len t.triads.keys < t.room) (ids : t.next + ids_drawn o ≤ 4294967296) (count : slab_len s ≡ slab_len t.records + 1) (capacity : s.capacity ≡ t.records.capacity) where
+    module _ (multiplier : o.multiplier < 8) (room : map.len t.triads.keys < t.room) (ids : t.next + ids_drawn o ≤ 4294967296)
+        (count : slab_len s ≡ slab_len t.records + 1) (capacity : s.capacity ≡ t.records.capacity) where
       new_sound : IsHeld (t.next + ids_drawn o) new_held
       new_sound = record {
         multiplier = multiplier;
@@ -148,16 +159,20 @@ module _ (t : Inside) (h : IsKept t) (o : Opening) (key : ℕ) (s : Slab Held) (
       begun_apart j k x y id e f a b = elim (old_or_new j x e) [
         | inl old ↦ elim (old_or_new k y f) [
           | inl old' ↦ h.apart j k x y id old old' a b
-          | inr is ↦ let low = (down_range (up_is_link o.up) (down_is_link o.down) t.next id (ap down_id_of (sym is) ∙ b)).0 in let high = (h.each j x old).up_below id a in omega (arith, low, high)
+          | inr is ↦ let low = (down_range (up_is_link o.up) (down_is_link o.down) t.next id (ap down_id_of (sym is) ∙ b)).0 in let high =
+              (h.each j x old).up_below id a in omega (arith, low, high)
         ]
         | inr is ↦ let up = ap up_id_of (sym is) ∙ a in elim (old_or_new k y f) [
-          | inl old' ↦ let low = (up_range (up_is_link o.up) (down_is_link o.down) t.next id up).0 in let high = (h.each k y old').down_below id b in omega (arith, low, high)
+          | inl old' ↦ let low = (up_range (up_is_link o.up) (down_is_link o.down) t.next id up).0 in let high = (h.each k y old').down_below id b in
+              omega (arith, low, high)
           | inr is' ↦ drawn_apart (up_is_link o.up) (down_is_link o.down) t.next id up (ap down_id_of (sym is') ∙ b)
         ]
       ]
 
-      begun_names : {K : Type 0} (name_of : Held → Option K) → names name_of (hops after_begin).held ≡ one_if (is_some (name_of new_held)) + names name_of (hops t).held
-      begun_names name_of = ap (λ (p : Hops). names name_of p.held) view_begun ∙ tally-insert triad_cmp (λ x. is_some (name_of x)) triads_total triads_apart (hops t).held o.triad new_held (held_none t h o.triad free)
+      begun_names : {K : Type 0} (name_of : Held → Option K)
+          → names name_of (hops after_begin).held ≡ one_if (is_some (name_of new_held)) + names name_of (hops t).held
+      begun_names name_of = ap (λ (p : Hops). names name_of p.held) view_begun
+          ∙ tally-insert triad_cmp (λ x. is_some (name_of x)) triads_total triads_apart (hops t).held o.triad new_held (held_none t h o.triad free)
 
       pub kept_begun : IsKept after_begin
       kept_begun = record {
@@ -171,12 +186,19 @@ module _ (t : Inside) (h : IsKept t) (o : Opening) (key : ℕ) (s : Slab Held) (
         some = omega (arith, h.some);
         spent = omega (arith, ids);
         by_triad = begun_triads;
-        by_up = index_add nat_cmp nat_cmp_total nat_cmp-IsAntisymmetric up_id_of t.ups (get t.records) (get s) key new_held _ h.by_up vacant updates.changed updates.others refl up_free;
-        by_down = index_add nat_cmp nat_cmp_total nat_cmp-IsAntisymmetric down_id_of t.downs (get t.records) (get s) key new_held _ h.by_down vacant updates.changed updates.others refl down_free;
-        by_op = index_add nat_cmp nat_cmp_total nat_cmp-IsAntisymmetric held_op_of t.ops (get t.records) (get s) key new_held _ h.by_op vacant updates.changed updates.others refl op_unused;
-        ups_count = len-noted nat_cmp nat_cmp_total nat_cmp-IsAntisymmetric up_id_of t.ups _ key up_free ∙ ap (λ n. one_if (is_some (own_ids t.next o).up) + n) h.ups_count ∙ sym (begun_names up_id_of);
-        downs_count = len-noted nat_cmp nat_cmp_total nat_cmp-IsAntisymmetric down_id_of t.downs _ key down_free ∙ ap (λ n. one_if (is_some (own_ids t.next o).down) + n) h.downs_count ∙ sym (begun_names down_id_of);
-        ops_count = len-noted nat_cmp nat_cmp_total nat_cmp-IsAntisymmetric held_op_of t.ops _ key op_unused ∙ ap (λ n. one_if (is_some (op_of o.up)) + n) h.ops_count ∙ sym (begun_names held_op_of);
+        by_up = index_add nat_cmp nat_cmp_total nat_cmp-IsAntisymmetric up_id_of t.ups (get t.records)
+            (get s) key new_held _ h.by_up vacant updates.changed updates.others refl up_free;
+        by_down =
+            index_add nat_cmp nat_cmp_total nat_cmp-IsAntisymmetric down_id_of t.downs (get t.records)
+            (get s) key new_held _ h.by_down vacant updates.changed updates.others refl down_free;
+        by_op = index_add nat_cmp nat_cmp_total nat_cmp-IsAntisymmetric held_op_of t.ops (get t.records)
+            (get s) key new_held _ h.by_op vacant updates.changed updates.others refl op_unused;
+        ups_count = len-noted nat_cmp nat_cmp_total nat_cmp-IsAntisymmetric up_id_of t.ups _ key up_free
+            ∙ ap (λ n. one_if (is_some (own_ids t.next o).up) + n) h.ups_count ∙ sym (begun_names up_id_of);
+        downs_count = len-noted nat_cmp nat_cmp_total nat_cmp-IsAntisymmetric down_id_of t.downs _ key down_free
+            ∙ ap (λ n. one_if (is_some (own_ids t.next o).down) + n) h.downs_count ∙ sym (begun_names down_id_of);
+        ops_count = len-noted nat_cmp nat_cmp_total nat_cmp-IsAntisymmetric held_op_of t.ops _ key op_unused
+            ∙ ap (λ n. one_if (is_some (op_of o.up)) + n) h.ops_count ∙ sym (begun_names held_op_of);
         each = begun_each;
         apart = begun_apart;
       }
@@ -186,11 +208,14 @@ module _ (t : Inside) (h : IsKept t) (o : Opening) (key : ℕ) (s : Slab Held) (
           room_noted m (Some n) = refl
 
           len_more : map.len (map.insert t.triads.keys o.triad key) ≡ 1 + map.len t.triads.keys
-          len_more = len-noted triad_cmp triads_total triads_apart (λ x. Some (triad_of x)) t.triads (Some o.triad) key (λ n e. let same : o.triad ≡ n = cc in ap (map.get t.triads.keys) (sym same) ∙ free)
+          len_more =
+              len-noted triad_cmp triads_total triads_apart (λ x. Some (triad_of x)) t.triads (Some o.triad) key (λ n e. let same : o.triad ≡ n = cc in
+              ap (map.get t.triads.keys) (sym same) ∙ free)
 
 -- ---- a record goes
 
-module _ (t : Inside) (h : IsKept t) (triad : Triad) (key : ℕ) (x : Held) (s : Slab Held) (at : map.get t.triads.keys triad ≡ Some key) (found : get t.records key ≡ Some x) (updates : Updates t.records s key None) where
+module _ (t : Inside) (h : IsKept t) (triad : Triad) (key : ℕ) (x : Held) (s : Slab Held) (at : map.get t.triads.keys triad ≡ Some key)
+    (found : get t.records key ≡ Some x) (updates : Updates t.records s key None) where
   abbrev pub after_drop : Inside
   after_drop = record {
     room = t.room;
@@ -210,11 +235,15 @@ module _ (t : Inside) (h : IsKept t) (triad : Triad) (key : ℕ) (x : Held) (s :
       ap triad_of one ∙ cc
 
   dropped_triads : Indexes (λ x. Some (triad_of x)) (map.remove t.triads.keys triad) (get s)
-  dropped_triads = index_drop triad_cmp triads_total triads_apart (λ x. Some (triad_of x)) t.triads (get t.records) (get s) key x (Some triad) h.by_triad found updates.changed updates.others (ap (λ q. Some q) its_triad)
+  dropped_triads =
+      index_drop triad_cmp triads_total triads_apart (λ x. Some (triad_of x)) t.triads (get t.records) (get s) key x
+      (Some triad) h.by_triad found updates.changed updates.others (ap (λ q. Some q) its_triad)
 
   pub view_dropped : hops after_drop ≡ without (hops t) triad
   view_dropped =
-      let is = view-remove triad_cmp triads_total triads_apart t.triads.keys (get t.records) (get s) triad (finds t h) (finds_by _ (get s) dropped_triads) (λ q k e ne. updates.others k (other_key q k e ne)) in
+      let is =
+      view-remove triad_cmp triads_total triads_apart t.triads.keys (get t.records) (get s) triad (finds t h) (finds_by _ (get s) dropped_triads)
+      (λ q k e ne. updates.others k (other_key q k e ne)) in
       λ i. record { room = t.room; next = t.next; held = is i }
     where
       other_key : (q : Triad) (k : ℕ) → map.get t.triads.keys q ≡ Some k → eq_by_cmp triad_cmp q triad ≡ false → k ≢ key
@@ -238,8 +267,10 @@ module _ (t : Inside) (h : IsKept t) (triad : Triad) (key : ℕ) (x : Held) (s :
     still : (k : ℕ) (y : Held) → get s k ≡ Some y → get t.records k ≡ Some y
     still k y e = sym (updates.others k (λ same. let none : None ≡ Some y = sym updates.changed ∙ ap (get s) (sym same) ∙ e in cc)) ∙ e
 
-    dropped_names : {K : Type 0} (name_of : Held → Option K) → one_if (is_some (name_of x)) + names name_of (hops after_drop).held ≡ names name_of (hops t).held
-    dropped_names name_of = ap (λ (p : Hops). one_if (is_some (name_of x)) + names name_of p.held) view_dropped ∙ tally-remove triad_cmp (λ x. is_some (name_of x)) triads_total triads_apart (hops t).held triad x (held_at t h triad key x at found)
+    dropped_names : {K : Type 0} (name_of : Held → Option K)
+        → one_if (is_some (name_of x)) + names name_of (hops after_drop).held ≡ names name_of (hops t).held
+    dropped_names name_of = ap (λ (p : Hops). one_if (is_some (name_of x)) + names name_of p.held) view_dropped
+        ∙ tally-remove triad_cmp (λ x. is_some (name_of x)) triads_total triads_apart (hops t).held triad x (held_at t h triad key x at found)
 
     pub kept_dropped : IsKept after_drop
     kept_dropped = record {
@@ -253,12 +284,22 @@ module _ (t : Inside) (h : IsKept t) (triad : Triad) (key : ℕ) (x : Held) (s :
       some = h.some;
       spent = h.spent;
       by_triad = dropped_triads;
-      by_up = index_drop nat_cmp nat_cmp_total nat_cmp-IsAntisymmetric up_id_of t.ups (get t.records) (get s) key x _ h.by_up found updates.changed updates.others refl;
-      by_down = index_drop nat_cmp nat_cmp_total nat_cmp-IsAntisymmetric down_id_of t.downs (get t.records) (get s) key x _ h.by_down found updates.changed updates.others refl;
-      by_op = index_drop nat_cmp nat_cmp_total nat_cmp-IsAntisymmetric held_op_of t.ops (get t.records) (get s) key x _ h.by_op found updates.changed updates.others refl;
-      ups_count = less_left _ _ _ _ _ (len-forgot nat_cmp nat_cmp_total nat_cmp-IsAntisymmetric up_id_of t.ups (up_id_of x) key up_noted) h.ups_count (dropped_names up_id_of);
-      downs_count = less_left _ _ _ _ _ (len-forgot nat_cmp nat_cmp_total nat_cmp-IsAntisymmetric down_id_of t.downs (down_id_of x) key down_noted) h.downs_count (dropped_names down_id_of);
-      ops_count = less_left _ _ _ _ _ (len-forgot nat_cmp nat_cmp_total nat_cmp-IsAntisymmetric held_op_of t.ops (held_op_of x) key op_noted) h.ops_count (dropped_names held_op_of);
+      by_up = index_drop nat_cmp nat_cmp_total nat_cmp-IsAntisymmetric up_id_of t.ups (get t.records)
+          (get s) key x _ h.by_up found updates.changed updates.others refl;
+      by_down =
+          index_drop nat_cmp nat_cmp_total nat_cmp-IsAntisymmetric down_id_of t.downs (get t.records)
+          (get s) key x _ h.by_down found updates.changed updates.others refl;
+      by_op = index_drop nat_cmp nat_cmp_total nat_cmp-IsAntisymmetric held_op_of t.ops (get t.records)
+          (get s) key x _ h.by_op found updates.changed updates.others refl;
+      ups_count =
+          less_left _ _ _ _ _ (len-forgot nat_cmp nat_cmp_total nat_cmp-IsAntisymmetric up_id_of t.ups (up_id_of x) key up_noted) h.ups_count
+          (dropped_names up_id_of);
+      downs_count =
+          less_left _ _ _ _ _ (len-forgot nat_cmp nat_cmp_total nat_cmp-IsAntisymmetric down_id_of t.downs (down_id_of x) key down_noted) h.downs_count
+          (dropped_names down_id_of);
+      ops_count =
+          less_left _ _ _ _ _ (len-forgot nat_cmp nat_cmp_total nat_cmp-IsAntisymmetric held_op_of t.ops (held_op_of x) key op_noted) h.ops_count
+          (dropped_names held_op_of);
       each = λ k y e. h.each k y (still k y e);
       apart = λ j k y z id e f. h.apart j k y z id (still j y e) (still k z f);
     }
@@ -271,7 +312,9 @@ module _ (t : Inside) (h : IsKept t) (triad : Triad) (key : ℕ) (x : Held) (s :
         less_left one a b c d e f g = omega arith
 
         len_less : 1 + map.len (map.remove t.triads.keys triad) ≡ map.len t.triads.keys
-        len_less = len-forgot triad_cmp triads_total triads_apart (λ x. Some (triad_of x)) t.triads (Some triad) key (λ n e. let same : triad ≡ n = cc in ap (map.get t.triads.keys) (sym same) ∙ at)
+        len_less =
+            len-forgot triad_cmp triads_total triads_apart (λ x. Some (triad_of x)) t.triads (Some triad) key (λ n e. let same : triad ≡ n = cc in
+            ap (map.get t.triads.keys) (sym same) ∙ at)
 
 -- ---- a record changes
 
@@ -282,16 +325,21 @@ pub record SameNames (x y : Held) : Type 0 where
   pub down : down_id_of y ≡ down_id_of x
   pub op : held_op_of y ≡ held_op_of x
 
-module _ (t : Inside) (h : IsKept t) (triad : Triad) (key : ℕ) (x y : Held) (s : Slab Held) (at : map.get t.triads.keys triad ≡ Some key) (found : get t.records key ≡ Some x) (changed : get s key ≡ Some y) (others : Others (get t.records) (get s) key) (alike : SameNames x y) where
+module _ (t : Inside) (h : IsKept t) (triad : Triad) (key : ℕ) (x y : Held) (s : Slab Held) (at : map.get t.triads.keys triad ≡ Some key)
+    (found : get t.records key ≡ Some x) (changed : get s key ≡ Some y) (others : Others (get t.records) (get s) key) (alike : SameNames x y) where
   abbrev pub after_change : Inside
   after_change = record { room = t.room; next = t.next; triads = t.triads; ups = t.ups; downs = t.downs; ops = t.ops; records = s }
 
   changed_triads : Indexes (λ x. Some (triad_of x)) t.triads.keys (get s)
-  changed_triads = index_change triad_cmp triads_total triads_apart (λ x. Some (triad_of x)) t.triads.keys (get t.records) (get s) key x y h.by_triad found changed others (ap (λ q. Some q) alike.triad)
+  changed_triads =
+      index_change triad_cmp triads_total triads_apart (λ x. Some (triad_of x)) t.triads.keys (get t.records)
+      (get s) key x y h.by_triad found changed others (ap (λ q. Some q) alike.triad)
 
   pub view_changed : hops after_change ≡ record { room = t.room; next = t.next; held = map.insert (hops t).held triad y }
   view_changed =
-      let is = view-change triad_cmp triads_total triads_apart t.triads.keys (get t.records) (get s) triad key y (finds t h) (finds_by _ (get s) changed_triads) at changed (λ q k e ne. others k (other_key q k e ne)) in
+      let is =
+      view-change triad_cmp triads_total triads_apart t.triads.keys (get t.records) (get s) triad key y (finds t h)
+      (finds_by _ (get s) changed_triads) at changed (λ q k e ne. others k (other_key q k e ne)) in
       λ i. record { room = t.room; next = t.next; held = is i }
     where
       other_key : (q : Triad) (k : ℕ) → map.get t.triads.keys q ≡ Some k → eq_by_cmp triad_cmp q triad ≡ false → k ≢ key
@@ -312,14 +360,17 @@ module _ (t : Inside) (h : IsKept t) (triad : Triad) (key : ℕ) (x y : Held) (s
     ]
 
     -- an old record with the same ids
-    before : (k : ℕ) (z : Held) → get s k ≡ Some z → (j : ℕ) × (w : Held) × (get t.records j ≡ Some w) × (up_id_of z ≡ up_id_of w) × (down_id_of z ≡ down_id_of w)
+    before : (k : ℕ) (z : Held) → get s k ≡ Some z → (j : ℕ) × (w : Held) × (get t.records j ≡ Some w) × (up_id_of z ≡ up_id_of w)
+        × (down_id_of z ≡ down_id_of w)
     before k z e = elim (old_or_changed k z e) [
       | inl old ↦ (k, z, old, refl, refl)
       | inr is ↦ (key, x, found, ap up_id_of is ∙ alike.up, ap down_id_of is ∙ alike.down)
     ]
 
     changed_names : {K : Type 0} (name_of : Held → Option K) → name_of y ≡ name_of x → names name_of (hops after_change).held ≡ names name_of (hops t).held
-    changed_names name_of same = ap (λ (p : Hops). names name_of p.held) view_changed ∙ tally-change triad_cmp (λ x. is_some (name_of x)) triads_total triads_apart (hops t).held triad x y (held_at t h triad key x at found) (ap is_some same)
+    changed_names name_of same = ap (λ (p : Hops). names name_of p.held) view_changed
+        ∙ tally-change triad_cmp (λ x. is_some (name_of x)) triads_total triads_apart (hops t).held triad x y (held_at t h triad key x at found)
+        (ap is_some same)
 
     pub kept_changed : IsKept after_change
     kept_changed = record {
@@ -333,21 +384,19 @@ module _ (t : Inside) (h : IsKept t) (triad : Triad) (key : ℕ) (x y : Held) (s
       some = h.some;
       spent = h.spent;
       by_triad = changed_triads;
-      by_up = index_change nat_cmp nat_cmp_total nat_cmp-IsAntisymmetric up_id_of t.ups.keys (get t.records) (get s) key x y h.by_up found changed others alike.up;
-      by_down = index_change nat_cmp nat_cmp_total nat_cmp-IsAntisymmetric down_id_of t.downs.keys (get t.records) (get s) key x y h.by_down found changed others alike.down;
-      by_op = index_change nat_cmp nat_cmp_total nat_cmp-IsAntisymmetric held_op_of t.ops.keys (get t.records) (get s) key x y h.by_op found changed others alike.op;
+      by_up = index_change nat_cmp nat_cmp_total nat_cmp-IsAntisymmetric up_id_of t.ups.keys (get t.records)
+          (get s) key x y h.by_up found changed others alike.up;
+      by_down =
+          index_change nat_cmp nat_cmp_total nat_cmp-IsAntisymmetric down_id_of t.downs.keys (get t.records)
+          (get s) key x y h.by_down found changed others alike.down;
+      by_op = index_change nat_cmp nat_cmp_total nat_cmp-IsAntisymmetric held_op_of t.ops.keys (get t.records)
+          (get s) key x y h.by_op found changed others alike.op;
       ups_count = h.ups_count ∙ sym (changed_names up_id_of alike.up);
       downs_count = h.downs_count ∙ sym (changed_names down_id_of alike.down);
       ops_count = h.ops_count ∙ sym (changed_names held_op_of alike.op);
       each = λ k z e. elim (old_or_changed k z e) [ inl old ↦ h.each k z old | inr is ↦ subst (IsHeld t.next) (sym is) sound ];
       apart = λ j k z w id e f a b. let c = before j z e in let d = before k w f in h.apart c.0 d.0 c.1 d.1 id c.2 d.2 (sym c.3 ∙ a) (sym d.4 ∙ b);
     }
-
--- a record that was taken out of a slab and put back changed
-pub put_back : (a b c : Slab Held) (key again : ℕ) (y : Held) → Updates a b key None → b.vacant_key ≡ key → again ≡ b.vacant_key → Updates b c again (Some y) → (get c key ≡ Some y) × Others (get a) (get c) key
-put_back a b c key again y out vacant is back =
-    let same : again ≡ key = is ∙ vacant in
-    (ap (get c) (sym same) ∙ back.changed, λ k ne. back.others k (λ e. ne (e ∙ same)) ∙ out.others k ne)
 
 -- ---- what every table keeps
 
@@ -359,11 +408,14 @@ within t h = record {
   triads = λ q x e. let s = stands t h q x e in its q s.key x s.noted_ s.found;
   each = λ q x e. let s = stands t h q x e in h.each s.key x s.found;
   ups = λ a b x y id e f g i. let s = stands t h a x e in let r = stands t h b y f in
-      one_place a b x y s r (let both : Some s.key ≡ Some r.key = sym (h.by_up.complete id s.key x s.found g) ∙ h.by_up.complete id r.key y r.found i in cc);
+      one_place a b x y s r (let both : Some s.key ≡ Some r.key = sym (h.by_up.complete id s.key x s.found g) ∙ h.by_up.complete id r.key y r.found i in
+      cc);
   downs = λ a b x y id e f g i. let s = stands t h a x e in let r = stands t h b y f in
-      one_place a b x y s r (let both : Some s.key ≡ Some r.key = sym (h.by_down.complete id s.key x s.found g) ∙ h.by_down.complete id r.key y r.found i in cc);
+      one_place a b x y s r (let both : Some s.key ≡ Some r.key = sym (h.by_down.complete id s.key x s.found g)
+      ∙ h.by_down.complete id r.key y r.found i in cc);
   ops = λ a b x y op e f g i. let s = stands t h a x e in let r = stands t h b y f in
-      one_place a b x y s r (let both : Some s.key ≡ Some r.key = sym (h.by_op.complete op s.key x s.found g) ∙ h.by_op.complete op r.key y r.found i in cc);
+      one_place a b x y s r (let both : Some s.key ≡ Some r.key = sym (h.by_op.complete op s.key x s.found g) ∙ h.by_op.complete op r.key y r.found i in
+      cc);
   apart = λ a b x y id e f g i. let s = stands t h a x e in let r = stands t h b y f in h.apart s.key r.key x y id s.found r.found g i;
 }
   where

@@ -1,75 +1,27 @@
 -- The first due hop goes, and the next hop above a triad.
-use Rattle.std.proofs.Common.{◌≡◌, ℕ, zero, suc, ◌+◌, ◌-◌, ◌<◌, ◌≤◌, Bool, true, false, cond, not, List, [], ◌∷◌, length, get_or, drop, refl, sym, ap, subst, ◌∙◌, arith, Option, Some, None, IsSome, is_some}
+use Rattle.std.proofs.Common.{◌≡◌, ℕ, zero, suc, ◌+◌, ◌-◌, ◌<◌, ◌≤◌, Bool, true, false, cond, List, ◌∷◌, length, get_or, drop, refl, sym, ap, subst, ◌∙◌, arith, Option, Some, None, IsSome, is_some}
 use Rattle.std.specs.Option.{option_and_then, option_map_or}
-use Rattle.std.specs.List.{find, filter, filter_map, remove, position}
+use Rattle.std.specs.List.{find, filter_map, position}
 use Rattle.std.specs.List.Sorted.{IsPartitionPoint}
-use Rattle.std.specs.declared.cmp.Ordering.{Ordering}
-use Rattle.std.specs.Cmp.{IsTotalOrder}
 use Rattle.std.specs.FinMap as map
-use Rattle.std.specs.FinMap.{FinMap, IsAntisymmetric}
 use Rattle.std.proofs.lemmas.List.{get_or-drop, length-drop}
 use Rattle.std.proofs.lemmas.List.Quantifiers.{position-Some}
 use Rattle.slab.specs.Slab.{get}
 use Rattle.cip_base.specs.Triads.{triad_cmp}
 use Rattle.cip_base.specs.declared.triad.Triad.{Triad}
-use Rattle.cip_base.proofs.Sorted.{from_sorted-remove, sorted_remove}
-use Rattle.cip_base.proofs.Places.{find-None, find-Some, find-first, all_miss}
+use Rattle.cip_base.proofs.Going.{goes}
+use Rattle.cip_base.proofs.Places.{find-None, find-Some, find-first, find-misses, all_miss}
 use Rattle.cip_base.proofs.Triads.{triads_total}
 use Rattle.cip_hops.specs.declared.hop.Hop.{Hop}
 use Rattle.cip_hops.specs.declared.hop.Held.{Held}
 use Rattle.cip_hops.specs.declared.hop.Held.TheVariants.{Opening as IsOpening, Open}
 use Rattle.cip_hops.specs.declared.table.HopTable.TheInside.{Inside}
 use Rattle.cip_hops.specs.Hops.{Hops, triad_of, as_hop, is_hop, is_hop_due, first_due, due, rest, without, is_after, first_after}
-use Rattle.cip_hops.specs.Joined.{passes}
+use Rattle.cip_base.specs.Joined.{passes}
 use Rattle.cip_hops.specs.Kept.{hops, IsKept}
-use Rattle.cip_hops.proofs.Joined.{joined_none, joined_first}
+use Rattle.cip_base.proofs.Joined.{joined_none, joined_first}
 use Rattle.cip_hops.proofs.Views.{get-at, entries-view, found-gives}
 use Rattle.cip_hops.proofs.Steps.{triads_apart, held_at}
-
-pub record FirstGoes {X : Type 0} (p : X → Bool) (es : List X) (x : X) : Type 0 where
-  pub place : ℕ
-  pub within : place < length es
-  pub stands : get_or es place x ≡ x
-  pub chosen : filter p es ≡ x ∷ filter p (remove es place)
-  pub others : filter (λ e. not (p e)) es ≡ filter (λ e. not (p e)) (remove es place)
-
-first_goes : {X : Type 0} (p : X → Bool) (es : List X) (x : X) → find p es ≡ Some x → FirstGoes p es x
-first_goes p [] x e = absurd (cc)
-first_goes p (y ∷ es) x e =
-    elim (p y) as (λ b. p y ≡ b → cond b (Some y) (find p es) ≡ Some x → FirstGoes p (y ∷ es) x) [
-      | true ↦ λ t s. let same : y ≡ x = cc in record {
-        place = 0;
-        within = omega arith;
-        stands = same;
-        chosen = ap (λ b. cond b (y ∷ filter p es) (filter p es)) t ∙ ap (λ z. z ∷ filter p es) same;
-        others = ap (λ b. cond (not b) (y ∷ filter (λ e. not (p e)) es) (filter (λ e. not (p e)) es)) t;
-      }
-      | false ↦ λ t s. let h = first_goes p es x s in record {
-        place = suc h.place;
-        within = omega (arith, h.within);
-        stands = h.stands;
-        chosen = ap (λ b. cond b (y ∷ filter p es) (filter p es)) t ∙ h.chosen ∙ sym (ap (λ b. x ∷ cond b (y ∷ filter p (remove es h.place)) (filter p (remove es h.place))) t);
-        others = ap (λ b. cond (not b) (y ∷ filter (λ e. not (p e)) es) (filter (λ e. not (p e)) es)) t ∙ ap (λ z. y ∷ z) h.others
-            ∙ sym (ap (λ b. cond (not b) (y ∷ filter (λ e. not (p e)) (remove es h.place)) (filter (λ e. not (p e)) (remove es h.place))) t);
-      }
-    ] refl e
-
-module _ {K X : Type 0} (R : K → K → Ordering) (o : IsTotalOrder R) (same : IsAntisymmetric R) where
-  entries-remove : (m : FinMap R X) (i : ℕ) (d : K × X) → i < length (map.entries m) → map.entries (map.remove m (get_or (map.entries m) i d).0) ≡ remove (map.entries m) i
-  entries-remove m i d lt =
-      let es = map.entries m in
-      let sorted = map.entries_sorted m in
-      let back : map.from_sorted {R = R} es ≡ m = map.same_entries_map _ _ (map.entries-from_sorted R es sorted) in
-      ap map.entries (ap (λ m. map.remove m (get_or es i d).0) (sym back) ∙ sym (from_sorted-remove R o same es i d sorted lt))
-      ∙ map.entries-from_sorted R _ (sorted_remove R o es i d sorted lt)
-
-  -- the first entry that passes goes: those that pass lose their first, and the others stay
-  pub goes : (m : FinMap R X) (p : K × X → Bool) (q : K) (x : X) → find p (map.entries m) ≡ Some (q, x)
-      → (filter p (map.entries m) ≡ (q, x) ∷ filter p (map.entries (map.remove m q))) × (filter (λ e. not (p e)) (map.entries m) ≡ filter (λ e. not (p e)) (map.entries (map.remove m q)))
-  goes m p q x e =
-      let h = first_goes p (map.entries m) (q, x) e in
-      let left : map.entries (map.remove m q) ≡ remove (map.entries m) h.place = ap (λ (y : K × X). map.entries (map.remove m y.0)) (sym h.stands) ∙ entries-remove m h.place (q, x) h.within in
-      (h.chosen ∙ ap (λ fs. (q, x) ∷ filter p fs) (sym left), h.others ∙ ap (filter (λ e. not (p e))) (sym left))
 
 -- ---- the due
 
@@ -83,9 +35,11 @@ module _ (t : Inside) (h : IsKept t) where
   due_none now none =
       ap (option_and_then (λ (e : Triad × Held). as_hop e.1))
       (ap (find (λ (e : Triad × Held). is_hop_due now e.1)) (entries-view triad_cmp triads_total triads_apart t.triads.keys (get t.records))
-      ∙ joined_none (λ e. is_hop_due now e.1) (map.entries t.triads.keys) (get t.records) (find-None (passes (λ (e : Triad × Held). is_hop_due now e.1) (get t.records)) (map.entries t.triads.keys) none))
+      ∙ joined_none (λ e. is_hop_due now e.1) (map.entries t.triads.keys) (get t.records)
+      (find-None (passes (λ (e : Triad × Held). is_hop_due now e.1) (get t.records)) (map.entries t.triads.keys) none))
 
-  pub due_at : (now at : ℕ) (d : Triad × ℕ) → position (passes (λ e. is_hop_due now e.1) (get t.records)) (map.entries t.triads.keys) ≡ Some at → DueAt (hops t) now (get_or (map.entries t.triads.keys) at d).0
+  pub due_at : (now at : ℕ) (d : Triad × ℕ) → position (passes (λ e. is_hop_due now e.1) (get t.records)) (map.entries t.triads.keys) ≡ Some at
+      → DueAt (hops t) now (get_or (map.entries t.triads.keys) at d).0
   due_at now at d e =
       let es = map.entries t.triads.keys in
       let here = position-Some (passes (λ (e : Triad × Held). is_hop_due now e.1) (get t.records)) es at d e in
@@ -100,7 +54,8 @@ module _ (t : Inside) (h : IsKept t) where
 
   -- ---- the next
 
-  module _ (after : Option Triad) (from : ℕ) (parts : IsPartitionPoint (λ p. is_after after p.0 ≡ false) (λ p. is_after after p.0 ≡ true) (map.entries t.triads.keys) from) where
+  module _ (after : Option Triad) (from : ℕ)
+      (parts : IsPartitionPoint (λ p. is_after after p.0 ≡ false) (λ p. is_after after p.0 ≡ true) (map.entries t.triads.keys) from) where
     abbrev es : List (Triad × ℕ)
     es = map.entries t.triads.keys
 
@@ -110,12 +65,14 @@ module _ (t : Inside) (h : IsKept t) where
     abbrev is_open_at : Triad × Held → Bool
     is_open_at e = is_some (as_hop e.1)
 
-    by_triad_of : (x : Held) (b : Bool) → is_after after (triad_of x) ≡ b → is_hop (λ hop. is_after after hop.opening.triad) x ≡ cond (is_some (as_hop x)) b false
+    by_triad_of : (x : Held) (b : Bool) → is_after after (triad_of x) ≡ b
+        → is_hop (λ hop. is_after after hop.opening.triad) x ≡ cond (is_some (as_hop x)) b false
     by_triad_of (IsOpening o ids) b e = refl
     by_triad_of (Open hop) b e = e
 
     -- whether an entry of the index is next, by its triad and by what stands there
-    next_by : (k : ℕ) (d : Triad × ℕ) (b c : Bool) → k < length es → is_after after (get_or es k d).0 ≡ b → passes is_open_at (get t.records) (get_or es k d) ≡ c → passes is_next (get t.records) (get_or es k d) ≡ cond c b false
+    next_by : (k : ℕ) (d : Triad × ℕ) (b c : Bool) → k < length es → is_after after (get_or es k d).0 ≡ b
+        → passes is_open_at (get t.records) (get_or es k d) ≡ c → passes is_next (get t.records) (get_or es k d) ≡ cond c b false
     next_by k d b c lt side open_ =
         let noted = get-at triad_cmp triads_total triads_apart t.triads.keys k d lt in
         let x = h.by_triad.sound _ _ noted in
@@ -131,12 +88,9 @@ module _ (t : Inside) (h : IsKept t) where
         both_false true = refl
         both_false false = refl
 
-    shut_after : (k : ℕ) (d : Triad × ℕ) → k < length es → from ≤ k → passes is_open_at (get t.records) (get_or es k d) ≡ false → passes is_next (get t.records) (get_or es k d) ≡ false
+    shut_after : (k : ℕ) (d : Triad × ℕ) → k < length es → from ≤ k → passes is_open_at (get t.records) (get_or es k d) ≡ false
+        → passes is_next (get t.records) (get_or es k d) ≡ false
     shut_after k d lt above shut = next_by k d true false lt (parts.1 k d above lt) shut
-
-    no-found : (p : Triad × ℕ → Bool) (xs : List (Triad × ℕ)) → ((k : ℕ) (d : Triad × ℕ) → k < length xs → p (get_or xs k d) ≡ false) → find p xs ≡ None
-    no-found p [] miss = refl
-    no-found p (e ∷ xs) miss = ap (λ b. cond b (Some e) (find p xs)) (miss 0 e (omega arith)) ∙ no-found p xs (λ k d lt. miss (suc k) d (omega arith))
 
     before_or_not : (A : Type 0) (k : ℕ) → (k < from → A) → (from ≤ k → A) → A
     before_or_not A k low high = split k from low high
@@ -153,27 +107,33 @@ module _ (t : Inside) (h : IsKept t) where
     next_none none =
         ap (option_and_then (λ (e : Triad × Held). as_hop e.1))
         (ap (find is_next) (entries-view triad_cmp triads_total triads_apart t.triads.keys (get t.records))
-        ∙ joined_none is_next es (get t.records) (no-found (passes is_next (get t.records)) es (λ k d lt.
+        ∙ joined_none is_next es (get t.records) (find-misses (passes is_next (get t.records)) es (λ k d lt.
         before_or_not (passes is_next (get t.records) (get_or es k d) ≡ false) k (never_before k d lt) (λ above.
         let len = length-drop from es in
-        shut_after k d lt above (ap (passes is_open_at (get t.records)) (sym (in_rest k d above)) ∙ all_miss (passes is_open_at (get t.records)) (drop from es) none (k - from) d (omega (arith, len)))))))
+        shut_after k d lt above (ap (passes is_open_at (get t.records)) (sym (in_rest k d above))
+        ∙ all_miss (passes is_open_at (get t.records)) (drop from es) none (k - from) d (omega (arith, len)))))))
 
-    pub next_is : (at : ℕ) (d : Triad × ℕ) (x : Held) → position (passes is_open_at (get t.records)) (drop from es) ≡ Some at → get t.records (get_or es (from + at) d).1 ≡ Some x → first_after after (hops t) ≡ as_hop x
+    pub next_is : (at : ℕ) (d : Triad × ℕ) (x : Held) → position (passes is_open_at (get t.records)) (drop from es) ≡ Some at
+        → get t.records (get_or es (from + at) d).1 ≡ Some x → first_after after (hops t) ≡ as_hop x
     next_is at d x e found =
         let here = position-Some (passes is_open_at (get t.records)) (drop from es) at d e in
         let len = length-drop from es in
         let lt : from + at < length es = omega (arith, here.0, len) in
-        let open_ : passes is_open_at (get t.records) (get_or es (from + at) d) ≡ true = ap (passes is_open_at (get t.records)) (sym (get_or-drop from es at d)) ∙ here.1 in
-        let hit : passes is_next (get t.records) (get_or es (from + at) d) ≡ true = next_by (from + at) d true true lt (parts.1 (from + at) d (omega arith) lt) open_ in
+        let open_ : passes is_open_at (get t.records) (get_or es (from + at) d) ≡ true =
+        ap (passes is_open_at (get t.records)) (sym (get_or-drop from es at d)) ∙ here.1 in
+        let hit : passes is_next (get t.records) (get_or es (from + at) d) ≡ true =
+        next_by (from + at) d true true lt (parts.1 (from + at) d (omega arith) lt) open_ in
         let miss : (k : ℕ) → k < from + at → passes is_next (get t.records) (get_or es k d) ≡ false = λ k below.
         before_or_not (passes is_next (get t.records) (get_or es k d) ≡ false) k (never_before k d (omega arith)) (λ above.
         shut_after k d (omega arith) above (ap (passes is_open_at (get t.records)) (sym (in_rest k d above)) ∙ here.2 (k - from) (omega arith))) in
         ap (option_and_then (λ (e : Triad × Held). as_hop e.1))
         (ap (find is_next) (entries-view triad_cmp triads_total triads_apart t.triads.keys (get t.records))
-        ∙ joined_first is_next es (get t.records) (get_or es (from + at) d) x (find-first (passes is_next (get t.records)) es (from + at) d lt hit miss) found)
+        ∙ joined_first is_next es (get t.records) (get_or es (from + at) d) x
+        (find-first (passes is_next (get t.records)) es (from + at) d lt hit miss) found)
 
     -- a record stands there
-    pub next_stands : (at : ℕ) (d : Triad × ℕ) → position (passes is_open_at (get t.records)) (drop from es) ≡ Some at → get t.records (get_or es (from + at) d).1 ≡ None → ⊥
+    pub next_stands : (at : ℕ) (d : Triad × ℕ) → position (passes is_open_at (get t.records)) (drop from es) ≡ Some at
+        → get t.records (get_or es (from + at) d).1 ≡ None → ⊥
     next_stands at d e none =
         let here = position-Some (passes is_open_at (get t.records)) (drop from es) at d e in
         let len = length-drop from es in
@@ -201,7 +161,8 @@ module _ (p : Hops) (now : ℕ) (q : Triad) (d : DueAt p now q) where
   pub due_hop : (hop : Hop) → map.get p.held q ≡ Some (Open hop) → first_due now p ≡ Some hop
   due_hop hop e = ap (option_and_then (λ (e : Triad × Held). as_hop e.1)) (first_is hop e)
 
-  pub due_lists : (hop : Hop) (new : Hops) → map.get p.held q ≡ Some (Open hop) → new ≡ without p q → (due now p ≡ hop ∷ due now new) × (rest now new ≡ rest now p)
+  pub due_lists : (hop : Hop) (new : Hops) → map.get p.held q ≡ Some (Open hop) → new ≡ without p q
+      → (due now p ≡ hop ∷ due now new) × (rest now new ≡ rest now p)
   due_lists hop new e after =
       let g = goes triad_cmp triads_total triads_apart p.held (λ e. is_hop_due now e.1) q (Open hop) (first_is hop e) in
       (ap (filter_map (λ (e : Triad × Held). as_hop e.1)) g.0 ∙ ap (λ r. hop ∷ due now r) (sym after), ap (rest now) after ∙ sym g.1)

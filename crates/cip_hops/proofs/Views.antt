@@ -9,8 +9,9 @@ use Rattle.std.specs.FinMap as map
 use Rattle.std.specs.FinMap.{FinMap, IsAntisymmetric}
 use Rattle.std.specs.FinMap.Entries as entries
 use Rattle.cip_base.proofs.Sorted.{find-at}
-use Rattle.cip_hops.specs.Joined.{put_before, joined, IsPresent}
-use Rattle.cip_hops.proofs.Joined.{sorted_joined, length_joined}
+use Rattle.cip_base.proofs.Places.{find-misses}
+use Rattle.cip_base.specs.Joined.{put_before, joined, IsPresent}
+use Rattle.cip_base.proofs.Joined.{sorted_joined, length_joined}
 
 -- each key that the index finds has a record
 abbrev pub Finds : {K X : Type 0} {R : K → K → Ordering} → FinMap R ℕ → (ℕ → Option X) → Type 0
@@ -19,7 +20,8 @@ Finds {K} m found = (q : K) (key : ℕ) → map.get m q ≡ Some key → IsSome 
 abbrev pub view : {K X : Type 0} {R : K → K → Ordering} → FinMap R ℕ → (ℕ → Option X) → FinMap R X
 view m found = map.from_sorted (joined (map.entries m) found)
 
-same_then : {X : Type 0} (o : Option ℕ) (found new : ℕ → Option X) → ((key : ℕ) → o ≡ Some key → new key ≡ found key) → option_and_then new o ≡ option_and_then found o
+same_then : {X : Type 0} (o : Option ℕ) (found new : ℕ → Option X) → ((key : ℕ) → o ≡ Some key → new key ≡ found key)
+    → option_and_then new o ≡ option_and_then found o
 same_then None found new h = refl
 same_then (Some key) found new h = h key refl
 
@@ -37,22 +39,26 @@ some_or (Some x) B none some = some x refl
 
 module _ {K X : Type 0} (R : K → K → Ordering) (o : IsTotalOrder R) (same : IsAntisymmetric R) where
   -- the entry at a place is found under its name
-  pub get-at : (m : FinMap R X) (i : ℕ) (d : K × X) → i < length (map.entries m) → map.get m (get_or (map.entries m) i d).0 ≡ Some (get_or (map.entries m) i d).1
+  pub get-at : (m : FinMap R X) (i : ℕ) (d : K × X) → i < length (map.entries m)
+      → map.get m (get_or (map.entries m) i d).0 ≡ Some (get_or (map.entries m) i d).1
   get-at m i d lt = map.get-entries m _ ∙ find-at R o (map.entries m) i d (map.entries_sorted m) lt
 
 module _ {K X : Type 0} (R : K → K → Ordering) (o : IsTotalOrder R) (same : IsAntisymmetric R) where
   pub present : (m : FinMap R ℕ) (found : ℕ → Option X) → Finds m found → IsPresent (map.entries m) found
   present m found h k d lt = h _ _ (get-at R o same m k d lt)
 
-  find-put_before : (q k : K) (x : Option X) (rest : List (K × X)) → IsSome x → entries.find R q (put_before k x rest) ≡ cond (eq_by_cmp R q k) x (entries.find R q rest)
+  find-put_before : (q k : K) (x : Option X) (rest : List (K × X)) → IsSome x
+      → entries.find R q (put_before k x rest) ≡ cond (eq_by_cmp R q k) x (entries.find R q rest)
   find-put_before q k None rest h = absurd (cc)
   find-put_before q k (Some x) rest h = refl
 
-  find-joined : (q : K) (ps : List (K × ℕ)) (found : ℕ → Option X) → IsPresent ps found → entries.find R q (joined ps found) ≡ option_and_then found (entries.find R q ps)
+  find-joined : (q : K) (ps : List (K × ℕ)) (found : ℕ → Option X) → IsPresent ps found
+      → entries.find R q (joined ps found) ≡ option_and_then found (entries.find R q ps)
   find-joined q [] found h = refl
   find-joined q (p ∷ ps) found h =
       find-put_before q p.0 (found p.1) (joined ps found) (h 0 p (omega arith))
-      ∙ elim (eq_by_cmp R q p.0) as (λ b. cond b (found p.1) (entries.find R q (joined ps found)) ≡ option_and_then found (cond b (Some p.1) (entries.find R q ps))) [
+      ∙ elim (eq_by_cmp R q p.0) as (λ b. cond b (found p.1) (entries.find R q (joined ps found))
+      ≡ option_and_then found (cond b (Some p.1) (entries.find R q ps))) [
         | true ↦ refl
         | false ↦ find-joined q ps found (λ k d lt. h (suc k) d (omega arith))
       ]
@@ -66,7 +72,8 @@ module _ {K X : Type 0} (R : K → K → Ordering) (o : IsTotalOrder R) (same : 
       ∙ find-joined q (map.entries m) found (present m found h) ∙ ap (option_and_then found) (sym (map.get-entries m q))
 
   pub len-view : (m : FinMap R ℕ) (found : ℕ → Option X) → Finds m found → map.len (view m found) ≡ map.len m
-  len-view m found h = map.len-entries _ ∙ ap length (entries-view m found) ∙ length_joined (map.entries m) found (present m found h) ∙ sym (map.len-entries m)
+  len-view m found h = map.len-entries _ ∙ ap length (entries-view m found) ∙ length_joined (map.entries m) found (present m found h)
+      ∙ sym (map.len-entries m)
 
   -- a record under a new key
   pub view-insert : (m : FinMap R ℕ) (found new : ℕ → Option X) (name : K) (key : ℕ) (x : X) → Finds m found → Finds (map.insert m name key) new
@@ -81,10 +88,12 @@ module _ {K X : Type 0} (R : K → K → Ordering) (o : IsTotalOrder R) (same : 
 
   -- a record goes
   pub view-remove : (m : FinMap R ℕ) (found new : ℕ → Option X) (name : K) → Finds m found → Finds (map.remove m name) new
-      → ((q : K) (k : ℕ) → map.get m q ≡ Some k → eq_by_cmp R q name ≡ false → new k ≡ found k) → view (map.remove m name) new ≡ map.remove (view m found) name
+      → ((q : K) (k : ℕ) → map.get m q ≡ Some k → eq_by_cmp R q name ≡ false → new k ≡ found k)
+      → view (map.remove m name) new ≡ map.remove (view m found) name
   view-remove m found new name h h' others =
       map.same_map o same _ _ (λ q. get-view (map.remove m name) new h' q ∙ ap (option_and_then new) (map.get-remove o m name q)
-      ∙ elim (eq_by_cmp R q name) as (λ b. eq_by_cmp R q name ≡ b → option_and_then new (cond b None (map.get m q)) ≡ cond b None (option_and_then found (map.get m q))) [
+      ∙ elim (eq_by_cmp R q name) as (λ b. eq_by_cmp R q name ≡ b
+      → option_and_then new (cond b None (map.get m q)) ≡ cond b None (option_and_then found (map.get m q))) [
         | true ↦ λ t. refl
         | false ↦ λ t. same_then (map.get m q) found new (λ k e. others q k e t)
       ] refl
@@ -92,10 +101,12 @@ module _ {K X : Type 0} (R : K → K → Ordering) (o : IsTotalOrder R) (same : 
 
   -- another record under the same key
   pub view-change : (m : FinMap R ℕ) (found new : ℕ → Option X) (name : K) (key : ℕ) (x : X) → Finds m found → Finds m new → map.get m name ≡ Some key
-      → new key ≡ Some x → ((q : K) (k : ℕ) → map.get m q ≡ Some k → eq_by_cmp R q name ≡ false → new k ≡ found k) → view m new ≡ map.insert (view m found) name x
+      → new key ≡ Some x → ((q : K) (k : ℕ) → map.get m q ≡ Some k → eq_by_cmp R q name ≡ false → new k ≡ found k)
+      → view m new ≡ map.insert (view m found) name x
   view-change m found new name key x h h' stands is others =
       map.same_map o same _ _ (λ q. get-view m new h' q
-      ∙ elim (eq_by_cmp R q name) as (λ b. eq_by_cmp R q name ≡ b → option_and_then new (map.get m q) ≡ cond b (Some x) (option_and_then found (map.get m q))) [
+      ∙ elim (eq_by_cmp R q name) as (λ b. eq_by_cmp R q name ≡ b
+      → option_and_then new (map.get m q) ≡ cond b (Some x) (option_and_then found (map.get m q))) [
         | true ↦ λ t. ap (λ r. option_and_then new (map.get m r)) (tied_name same q name t) ∙ ap (option_and_then new) stands ∙ is
         | false ↦ λ t. same_then (map.get m q) found new (λ k e. others q k e t)
       ] refl
@@ -103,13 +114,9 @@ module _ {K X : Type 0} (R : K → K → Ordering) (o : IsTotalOrder R) (same : 
 
   -- ---- the first entry that passes a test
 
-  no-found : (p : K × X → Bool) (es : List (K × X)) → ((k : ℕ) (d : K × X) → k < length es → p (get_or es k d) ≡ false) → find p es ≡ None
-  no-found p [] miss = refl
-  no-found p (e ∷ es) miss = ap (λ b. cond b (Some e) (find p es)) (miss 0 e (omega arith)) ∙ no-found p es (λ k d lt. miss (suc k) d (omega arith))
-
   -- none passes
   pub find-nowhere : (m : FinMap R X) (p : K × X → Bool) → ((q : K) (x : X) → map.get m q ≡ Some x → p (q, x) ≡ false) → find p (map.entries m) ≡ None
-  find-nowhere m p miss = no-found p (map.entries m) (λ k d lt. miss _ _ (get-at R o same m k d lt))
+  find-nowhere m p miss = find-misses p (map.entries m) (λ k d lt. miss _ _ (get-at R o same m k d lt))
 
   record Passing (p : K × X → Bool) (es : List (K × X)) (e : K × X) : Type 0 where
     pub place : ℕ
@@ -134,12 +141,15 @@ module _ {K X : Type 0} (R : K → K → Ordering) (o : IsTotalOrder R) (same : 
   missed : (p : K × X → Bool) (es : List (K × X)) → find p es ≡ None → (k : ℕ) (d : K × X) → k < length es → p (get_or es k d) ≡ false
   missed p [] f k d lt = absurd (omega arith)
   missed p (e ∷ es) f zero d lt = elim (p e) as (λ b. cond b (Some e) (find p es) ≡ None → b ≡ false) [ true ↦ λ s. absurd (cc) | false ↦ λ s. refl ] f
-  missed p (e ∷ es) f (suc k) d lt = missed p es (elim (p e) as (λ b. cond b (Some e) (find p es) ≡ None → find p es ≡ None) [ true ↦ λ s. absurd (cc) | false ↦ λ s. s ] f) k d (omega arith)
+  missed p (e ∷ es) f (suc k) d lt =
+      missed p es (elim (p e) as (λ b. cond b (Some e) (find p es) ≡ None → find p es ≡ None) [ true ↦ λ s. absurd (cc) | false ↦ λ s. s ] f) k d
+      (omega arith)
 
   place_in : (q : K) (x : X) (es : List (K × X)) → entries.find R q es ≡ Some x → (i : ℕ) × (i < length es) × (get_or es i (q, x) ≡ (q, x))
   place_in q x [] f = absurd (cc)
   place_in q x (e ∷ es) f =
-      elim (eq_by_cmp R q e.0) as (λ b. eq_by_cmp R q e.0 ≡ b → cond b (Some e.1) (entries.find R q es) ≡ Some x → (i : ℕ) × (i < length (e ∷ es)) × (get_or (e ∷ es) i (q, x) ≡ (q, x))) [
+      elim (eq_by_cmp R q e.0) as (λ b. eq_by_cmp R q e.0 ≡ b → cond b (Some e.1) (entries.find R q es) ≡ Some x
+      → (i : ℕ) × (i < length (e ∷ es)) × (get_or (e ∷ es) i (q, x) ≡ (q, x))) [
         | true ↦ λ t s. let name : e.0 ≡ q = sym (tied_name same q e.0 t) in let value : e.1 ≡ x = cc in (0, omega arith, λ i. (name i, value i))
         | false ↦ λ t s. let h = place_in q x es s in (suc h.0, omega (arith, h.1), h.2)
       ] refl f

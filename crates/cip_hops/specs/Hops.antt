@@ -1,9 +1,10 @@
 -- What a table of hops is: a room, the next id, and a finite map from triads to openings and hops.
-use Rattle.std.specs.Prelude.{◌≡◌, ℕ, ◌+◌, ◌^◌, ◌<◌, ◌≤◌, Bool, true, false, not, ◌&&◌, ◌||◌, ◌==◌, List, Option, Some, None, Result, Ok, Err, nat_le, nat_lt, is_some, if◌then◌else◌, find, filter, filter_map, option_and_then}
+use Rattle.std.specs.Prelude.{◌≡◌, ℕ, ◌+◌, ◌^◌, ◌<◌, ◌≤◌, Bool, true, false, not, ◌&&◌, ◌||◌, ◌==◌, List, Option, Some, None, Result, Ok, Err, nat_le, nat_lt, is_some, MatchOption, if◌then◌else◌, find, filter, filter_map, option_and_then}
 use Rattle.std.specs.Option.{option_map_or}
 use Rattle.std.specs.Ordering.{is_lt}
 use Rattle.std.specs.FinMap as map
 use Rattle.cip_base.specs.Triads.{triad_cmp}
+use Rattle.cip_base.specs.Words.{LinkAddress, PortIdentifier, ConnectionId, OpNumber, Microseconds}
 use Rattle.cip_base.specs.declared.triad.Triad.{Triad}
 use Rattle.cip_clock.specs.Times.{watchdog_us}
 use Rattle.cip_hops.specs.declared.opening.Opening.{Opening}
@@ -45,13 +46,13 @@ as_hop (Open hop) = Some hop
 abbrev pub triad_of : Held → Triad
 triad_of x = (opening_of x).triad
 
-abbrev pub up_id_of : Held → Option ℕ
+abbrev pub up_id_of : Held → Option ConnectionId
 up_id_of x = (ids_of x).up
 
-abbrev pub down_id_of : Held → Option ℕ
+abbrev pub down_id_of : Held → Option ConnectionId
 down_id_of x = (ids_of x).down
 
-abbrev pub held_op_of : Held → Option ℕ
+abbrev pub held_op_of : Held → Option OpNumber
 held_op_of x = op_of (opening_of x).up
 
 abbrev pub opening_at : Hops → Triad → Option Opening
@@ -63,13 +64,18 @@ hop_at h triad = option_and_then as_hop (map.get h.held triad)
 abbrev pub without : Hops → Triad → Hops
 without h triad = record { room = h.room; next = h.next; held = map.remove h.held triad }
 
+-- without it, where it goes
+abbrev pub without_if : Bool → Hops → Triad → Hops
+without_if goes h triad = if goes then without h triad else h
+
 -- ---- an opening
 
 -- why an opening is not taken, in this order
 abbrev pub refusal : Hops → Triad → ℕ → Option BeginReason
 refusal h triad ids =
     if is_some (map.get h.held triad) then Some Duplicate
-    else (if nat_le h.room (map.len h.held) then Some Full else (if nat_lt 4294967296 (h.next + ids) then Some IdsSpent else None))
+    else (if nat_le h.room (map.len h.held) then Some Full
+    else (if nat_lt 4294967296 (h.next + ids) then Some IdsSpent else None))
 
 abbrev pub fault_of : BeginReason → Opening → BeginFault
 fault_of Duplicate o = DuplicateOf o
@@ -84,19 +90,25 @@ abbrev pub begin_gives : Hops → Opening → Result OwnIds BeginFault
 begin_gives h o = unless_refused (refusal h o.triad (ids_drawn o)) h.next o
 
 abbrev pub begun : Hops → Opening → Hops
-begun h o = record { room = h.room; next = h.next + ids_drawn o; held = map.insert h.held o.triad (IsOpening o (own_ids h.next o)) }
+begun h o = record {
+  room = h.room;
+  next = h.next + ids_drawn o;
+  held = map.insert h.held o.triad (IsOpening o (own_ids h.next o));
+}
 
 -- no command of this op is held
-pub record IsOpFree (h : Hops) (up : Option ℕ) : Type 0 where
-  pub differs : (triad : Triad) (x : Held) (op : ℕ) → map.get h.held triad ≡ Some x → up ≡ Some op → held_op_of x ≡ Some op → ⊥
+pub record IsOpFree (h : Hops) (up : Option OpNumber) : Type 0 where
+  pub differs : (triad : Triad) (x : Held) (op : OpNumber)
+      → map.get h.held triad ≡ Some x → up ≡ Some op → held_op_of x ≡ Some op → ⊥
 
 -- ---- a hop
 
-abbrev pub watched : Bool → ℕ → ℕ → ℕ → Option ℕ
-watched is_link now rpi multiplier = if is_link then Some (now + watchdog_us rpi multiplier) else None
+abbrev pub watched : Bool → Microseconds → Microseconds → ℕ → Option Microseconds
+watched is_link now rpi multiplier =
+    if is_link then Some (now + watchdog_us rpi multiplier) else None
 
 -- an opening with the other side's id, watched from now on
-abbrev pub opened : Opening → OwnIds → ℕ → ℕ → Hop
+abbrev pub opened : Opening → OwnIds → ConnectionId → Microseconds → Hop
 opened o ids their_id now = record {
   opening = o;
   ids = ids;
@@ -107,15 +119,19 @@ opened o ids their_id now = record {
   produced = None;
 }
 
-abbrev pub with_hop : Hops → Triad → Hop → Hops
-with_hop h triad hop = record { room = h.room; next = h.next; held = map.insert h.held triad (Open hop) }
+-- with this under its triad
+abbrev pub with_held : Hops → Triad → Held → Hops
+with_held h triad x = record { room = h.room; next = h.next; held = map.insert h.held triad x }
 
-abbrev pub open_in : Hops → Triad → ℕ → ℕ → Option Held → Hops
+abbrev pub with_hop : Hops → Triad → Hop → Hops
+with_hop h triad hop = with_held h triad (Open hop)
+
+abbrev pub open_in : Hops → Triad → ConnectionId → Microseconds → Option Held → Hops
 open_in h triad their_id now None = h
 open_in h triad their_id now (Some (Open hop)) = h
 open_in h triad their_id now (Some (IsOpening o ids)) = with_hop h triad (opened o ids their_id now)
 
-abbrev pub finished : Hops → Triad → ℕ → ℕ → Hops
+abbrev pub finished : Hops → Triad → ConnectionId → Microseconds → Hops
 finished h triad their_id now = open_in h triad their_id now (map.get h.held triad)
 
 -- with its hop changed
@@ -130,10 +146,18 @@ abbrev pub is_link : Side → Hop → Bool
 is_link Up hop = up_is_link hop.opening.up
 is_link Down hop = down_is_link hop.opening.down
 
+-- its target is this module
+abbrev pub ends_here : Hop → Bool
+ends_here hop = not (down_is_link hop.opening.down)
+
 -- that side is watched anew from now on
-abbrev pub touched : Side → ℕ → Hop → Hop
-touched Up now hop = record hop { up_deadline = Some (now + watchdog_us hop.opening.ot_rpi hop.opening.multiplier) }
-touched Down now hop = record hop { down_deadline = Some (now + watchdog_us hop.opening.to_rpi hop.opening.multiplier) }
+abbrev pub touched : Side → Microseconds → Hop → Hop
+touched Up now hop = record hop {
+  up_deadline = Some (now + watchdog_us hop.opening.ot_rpi hop.opening.multiplier);
+}
+touched Down now hop = record hop {
+  down_deadline = Some (now + watchdog_us hop.opening.to_rpi hop.opening.multiplier);
+}
 
 -- up the count of the last datum that was consumed, down that of the last that was produced
 abbrev pub counted : Side → ℕ → Hop → Hop
@@ -142,16 +166,16 @@ counted Down count hop = record hop { produced = Some count }
 
 -- ---- hops by their names
 
-abbrev pub is_id : ℕ → Option ℕ → Bool
+abbrev pub is_id : ConnectionId → Option ConnectionId → Bool
 is_id id own = option_map_or (λ n. n == id) own false
 
-abbrev pub is_hop_by_up : ℕ → ℕ → List ℕ → Hop → Bool
+abbrev pub is_hop_by_up : ConnectionId → PortIdentifier → LinkAddress → Hop → Bool
 is_hop_by_up id port address hop = is_id id hop.ids.up && up_is port address hop.opening.up
 
-abbrev pub is_hop_by_down : ℕ → ℕ → List ℕ → Hop → Bool
+abbrev pub is_hop_by_down : ConnectionId → PortIdentifier → LinkAddress → Hop → Bool
 is_hop_by_down id port address hop = is_id id hop.ids.down && down_is port address hop.opening.down
 
-abbrev pub is_hop_by_op : ℕ → Hop → Bool
+abbrev pub is_hop_by_op : OpNumber → Hop → Bool
 is_hop_by_op op hop = is_id op (op_of hop.opening.up)
 
 abbrev pub is_hop : (Hop → Bool) → Held → Bool
@@ -159,40 +183,52 @@ is_hop test x = option_map_or test (as_hop x) false
 
 -- the first hop that passes a test, in rising triad
 abbrev pub first_hop : (Hop → Bool) → Hops → Option Hop
-first_hop test h = option_and_then (λ e. as_hop e.1) (find (λ e. is_hop test e.1) (map.entries h.held))
+first_hop test h =
+    option_and_then (λ e. as_hop e.1) (find (λ e. is_hop test e.1) (map.entries h.held))
 
--- the hop of which this is the own id towards the originator, on the link by this port to this address
-abbrev pub hop_by_up : Hops → ℕ → ℕ → List ℕ → Option Hop
+-- the hop of which this is the own id towards the originator, on the link by this port to this
+-- address
+abbrev pub hop_by_up : Hops → ConnectionId → PortIdentifier → LinkAddress → Option Hop
 hop_by_up h id port address = first_hop (is_hop_by_up id port address) h
 
 -- the same towards the target
-abbrev pub hop_by_down : Hops → ℕ → ℕ → List ℕ → Option Hop
+abbrev pub hop_by_down : Hops → ConnectionId → PortIdentifier → LinkAddress → Option Hop
 hop_by_down h id port address = first_hop (is_hop_by_down id port address) h
 
 -- the hop that a command of this op opened
-abbrev pub hop_by_op : Hops → ℕ → Option Hop
+abbrev pub hop_by_op : Hops → OpNumber → Option Hop
 hop_by_op h op = first_hop (is_hop_by_op op) h
 
-abbrev pub is_past : ℕ → Option ℕ → Bool
+abbrev pub is_past : Microseconds → Option Microseconds → Bool
 is_past now deadline = option_map_or (λ time. nat_le time now) deadline false
 
 -- either side has been silent for too long
-abbrev pub is_late : ℕ → Hop → Bool
+abbrev pub is_late : Microseconds → Hop → Bool
 is_late now hop = is_past now hop.up_deadline || is_past now hop.down_deadline
 
-abbrev pub is_hop_due : ℕ → Held → Bool
+abbrev pub is_hop_due : Microseconds → Held → Bool
 is_hop_due now x = is_hop (is_late now) x
 
+abbrev pub is_entry_due : Microseconds → Triad × Held → Bool
+is_entry_due now e = is_hop_due now e.1
+
+abbrev pub is_entry_open : Triad × Held → Bool
+is_entry_open e = is_some (as_hop e.1)
+
 -- the due hop of the least triad
-abbrev pub first_due : ℕ → Hops → Option Hop
+abbrev pub first_due : Microseconds → Hops → Option Hop
 first_due now h = first_hop (is_late now) h
 
+-- without the hop that went, if one did
+abbrev pub IsWithout : Option Hop → Hops → Hops → Type 0
+IsWithout gone h new = MatchOption gone (new ≡ h) (λ hop. new ≡ without h hop.opening.triad)
+
 -- all that are due, in rising triad
-abbrev pub due : ℕ → Hops → List Hop
+abbrev pub due : Microseconds → Hops → List Hop
 due now h = filter_map (λ e. as_hop e.1) (filter (λ e. is_hop_due now e.1) (map.entries h.held))
 
 -- and all else that is held
-abbrev pub rest : ℕ → Hops → List (Triad × Held)
+abbrev pub rest : Microseconds → Hops → List (Triad × Held)
 rest now h = filter (λ e. not (is_hop_due now e.1)) (map.entries h.held)
 
 abbrev pub is_after : Option Triad → Triad → Bool
@@ -205,7 +241,8 @@ first_after after h = first_hop (λ hop. is_after after hop.opening.triad) h
 
 -- ---- what every table keeps
 
--- a hop has an id, a deadline and another's id for each side that is a link, and counts at an end alone
+-- a hop has an id, a deadline and another's id for each side that is a link, and counts at an end
+-- alone
 pub record IsHop (hop : Hop) : Type 0 where
   pub their_id : is_some hop.their_id ≡ down_is_link hop.opening.down
   pub up_deadline : is_some hop.up_deadline ≡ up_is_link hop.opening.up
@@ -221,6 +258,12 @@ pub record IsHeld (next : ℕ) (x : Held) : Type 0 where
   pub down_below : (id : ℕ) → down_id_of x ≡ Some id → id < next
   pub open_ : (hop : Hop) → as_hop x ≡ Some hop → IsHop hop
 
+-- where two bear the same number they are one
+abbrev pub TellsApart : (Held → Option ℕ) → Hops → Type 0
+TellsApart number_of h =
+    (a b : Triad) (x y : Held) (n : ℕ) → map.get h.held a ≡ Some x → map.get h.held b ≡ Some y
+    → number_of x ≡ Some n → number_of y ≡ Some n → a ≡ b
+
 -- each stands under its own triad, below the next id, and shares no id and no op with another
 pub record IsWithin (h : Hops) : Type 0 where
   pub some : 0 < h.next
@@ -228,7 +271,9 @@ pub record IsWithin (h : Hops) : Type 0 where
   pub fits : map.len h.held ≤ h.room
   pub triads : (triad : Triad) (x : Held) → map.get h.held triad ≡ Some x → triad_of x ≡ triad
   pub each : (triad : Triad) (x : Held) → map.get h.held triad ≡ Some x → IsHeld h.next x
-  pub ups : (a b : Triad) (x y : Held) (id : ℕ) → map.get h.held a ≡ Some x → map.get h.held b ≡ Some y → up_id_of x ≡ Some id → up_id_of y ≡ Some id → a ≡ b
-  pub downs : (a b : Triad) (x y : Held) (id : ℕ) → map.get h.held a ≡ Some x → map.get h.held b ≡ Some y → down_id_of x ≡ Some id → down_id_of y ≡ Some id → a ≡ b
-  pub ops : (a b : Triad) (x y : Held) (op : ℕ) → map.get h.held a ≡ Some x → map.get h.held b ≡ Some y → held_op_of x ≡ Some op → held_op_of y ≡ Some op → a ≡ b
-  pub apart : (a b : Triad) (x y : Held) (id : ℕ) → map.get h.held a ≡ Some x → map.get h.held b ≡ Some y → up_id_of x ≡ Some id → down_id_of y ≡ Some id → ⊥
+  pub ups : TellsApart up_id_of h
+  pub downs : TellsApart down_id_of h
+  pub ops : TellsApart held_op_of h
+  pub apart : (a b : Triad) (x y : Held) (id : ConnectionId)
+      → map.get h.held a ≡ Some x → map.get h.held b ≡ Some y
+      → up_id_of x ≡ Some id → down_id_of y ≡ Some id → ⊥

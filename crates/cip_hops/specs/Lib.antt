@@ -1,6 +1,6 @@
 pub mod Sides
 pub mod Hops
+pub mod Changes
 pub mod Index
 pub mod Numbers
-pub mod Joined
 pub mod Kept

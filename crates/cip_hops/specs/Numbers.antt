@@ -6,7 +6,8 @@ use Rattle.std.specs.FinMap as map
 use Rattle.cip_base.specs.Triads.{triad_cmp}
 use Rattle.cip_hops.specs.declared.index.NumberIndex.TheInside.{Inside as NumbersInside}
 use Rattle.cip_hops.specs.declared.triads.TriadIndex.TheInside.{Inside as TriadsInside}
-use Rattle.cip_hops.specs.Index.{Index, IsRising}
+use Rattle.cip_base.specs.Rising.{IsRising}
+use Rattle.cip_hops.specs.Index.{Index}
 
 pub record IsNumbers (t : NumbersInside) : Type 0 where
   pub reserved : t.room ≤ vec_capacity t.pairs

@@ -1,7 +1,6 @@
 //! A connection that is open.
-ghost use Rattle.std.specs.Prelude.{◌≡◌, ◌<◌, ◌^◌, false, nat_le};
-ghost use Rattle.std.specs.Option.{option_map_or};
-ghost use Rattle.cip_hops.specs.Hops.{watched as watched_until};
+ghost use Rattle.std.specs.Prelude.{◌≡◌, ◌<◌, ◌^◌};
+ghost use Rattle.cip_hops.specs.Hops.{is_past, watched as watched_until};
 
 use crate::opening::{Opening, OwnIds};
 use cip_clock::Clock;
@@ -21,10 +20,12 @@ pub struct Hop {
     pub ids: OwnIds,
     /// The id under which the node below is sent data, its O to T id; None at an end.
     pub their_id: Option<u32>,
-    /// The time in microseconds at which each side has been silent for too long; None where the side is no link.
+    /// The time in microseconds at which each side has been silent for too long; None where the
+    /// side is no link.
     pub up_deadline: Option<u64>,
     pub down_deadline: Option<u64>,
-    /// The sequence counts of the last datum that was consumed and of the last that was produced at an end.
+    /// The sequence counts of the last datum that was consumed and of the last that was produced at
+    /// an end.
     pub consumed: Option<u16>,
     pub produced: Option<u16>,
 }
@@ -36,8 +37,20 @@ pub enum Held {
     Open(Hop),
 }
 
+/// What the table does to what stands under a triad, where it stands.
+#[derive(Clone, Copy)]
+pub(crate) enum Change {
+    /// An opening becomes a hop, with the id of the node below, watched from now on.
+    Finish { their_id: u32, now: u64 },
+    /// A side of a hop is watched anew from now on.
+    Touch { side: Side, now: u64 },
+    /// A hop keeps the count of its last datum, consumed (up) or produced (down).
+    Count { side: Side, count: u16 },
+}
+
 impl Held {
     ghost use Rattle.std.specs.Option.{option_copied};
+    ghost use Rattle.cip_hops.specs.Changes.{Suits, change_of};
     ghost use Rattle.cip_hops.specs.Hops.{opening_of, ids_of, as_hop, is_hop_due};
 
     /// What was opened.
@@ -76,13 +89,31 @@ impl Held {
     {
         match self {
             Held::Opening(_, _) => false,
-            Held::Open(hop) => is_past(hop.up_deadline, now) || is_past(hop.down_deadline, now),
+            Held::Open(hop) => hop.is_late(now),
         }
+    }
+
+    // What the change makes of it, for `replace_with`.
+    pub(crate) fn changed(self, change: Change) -> (Held, ())
+        requires suits { Suits change self }
+        requires multiplier { (opening_of self).multiplier < 8 }
+        ensures { result.0 ≡ change_of change self }
+    {
+        let hop = match (self, change) {
+            (Held::Opening(opening, ids), Change::Finish { their_id, now }) => {
+                Hop::opened(opening, ids, their_id, now)
+            }
+            (Held::Open(hop), Change::Touch { side, now }) => hop.touched(side, now),
+            (Held::Open(hop), Change::Count { side, count }) => hop.counted(side, count),
+            (Held::Opening(_, _), Change::Touch { .. } | Change::Count { .. })
+            | (Held::Open(_), Change::Finish { .. }) => unreachable!(),
+        };
+        (Held::Open(hop), ())
     }
 }
 
 fn is_past(deadline: Option<u64>, now: u64) -> bool
-    ensures { result ≡ option_map_or (λ time. nat_le time now) deadline false }
+    ensures { result ≡ is_past now deadline }
 {
     match deadline {
         Some(time) => time <= now,
@@ -91,7 +122,14 @@ fn is_past(deadline: Option<u64>, now: u64) -> bool
 }
 
 impl Hop {
-    ghost use Rattle.cip_hops.specs.Hops.{opened, touched, counted};
+    ghost use Rattle.cip_hops.specs.Hops.{is_late, opened, touched, counted};
+
+    /// Whether either side has been silent for too long at `now`, in microseconds.
+    pub fn is_late(&self, now: u64) -> bool
+        ensures { result ≡ is_late now self.now }
+    {
+        is_past(self.up_deadline, now) || is_past(self.down_deadline, now)
+    }
 
     // An opening with the other side's id, watched from now on.
     pub(crate) fn opened(opening: Opening, ids: OwnIds, their_id: u32, now: u64) -> Hop

@@ -1,8 +1,9 @@
 //! An index by number: of records by their own ids, or by the ops of their commands.
-ghost use Rattle.std.specs.Prelude.{◌≡◌, ◌<◌, None, IfOk, IfSome, IsSome, MatchResult};
+ghost use Rattle.std.specs.Prelude.{◌≡◌, ◌<◌, None, IfOk, IfSome, IsSome};
 ghost use Rattle.std.specs.Ordering.{nat_cmp};
 ghost use Rattle.std.specs.FinMap as map;
-ghost use Rattle.cip_hops.specs.Index.{noted, forgot, IsRising, StandsAt, FitsAt};
+ghost use Rattle.cip_base.specs.Rising.{IsRising, IsPlaceOf};
+ghost use Rattle.cip_hops.specs.Index.{noted, forgot};
 
 use std::alloc::{AllocError, Global};
 use std::marker::Model;
@@ -84,7 +85,7 @@ impl NumberIndex {
 // Where the number stands, or where it would, by binary search.
 fn place_of(pairs: &[(u32, usize)], number: u32) -> Result<usize, usize>
     requires { IsRising nat_cmp pairs.now }
-    ensures { MatchResult result (StandsAt pairs.now number) (FitsAt nat_cmp pairs.now number) }
+    ensures { IsPlaceOf nat_cmp pairs.now number result }
 {
     pairs.binary_search_by_key(&number, |&(number, _)| number)
 }

@@ -1,25 +1,27 @@
-//! The table: records in a slab, and indexes of their keys by triad, by own ids and by op. All room is reserved.
+//! The table: records in a slab, and indexes of their keys by triad, by own ids and by op. All room
+//! is reserved.
 ghost use Rattle.std.specs.Prelude.{◌≡◌, ◌+◌, ◌++◌, ◌<◌, ◌^◌, not, false, IfOk, IsSome, IsSomeAnd, IsTrue, is_ok, is_some, if◌then◌else◌, MatchOption};
 ghost use Rattle.std.specs.List.{position};
 ghost use Rattle.std.specs.Option.{option_copied, option_to_list, option_map_or};
 ghost use Rattle.std.specs.FinMap as map;
 ghost use Rattle.slab.specs.Slab.{get as get_record};
-ghost use Rattle.cip_hops.specs.Joined.{passes};
+ghost use Rattle.cip_base.specs.Joined.{passes};
 ghost use Rattle.cip_hops.specs.Sides.{op_of, down_is_link};
-ghost use Rattle.cip_hops.specs.Hops.{refusal, begin_gives, begun, IsOpFree, opening_at, hop_at, without, finished, changed, is_link, touched, counted, hop_by_up, hop_by_down, hop_by_op, first_due, due, rest, first_after, as_hop, is_hop_due, IsWithin};
+ghost use Rattle.cip_hops.specs.Changes.{Suits, IsChanged};
+ghost use Rattle.cip_hops.specs.Hops.{refusal, begin_gives, begun, IsOpFree, opening_at, hop_at, without, without_if, IsWithout, finished, changed, is_link, ends_here, touched, counted, hop_by_up, hop_by_down, hop_by_op, first_due, due, rest, first_after, as_hop, is_hop_due, is_entry_due, is_entry_open, IsWithin};
 
-use crate::hop::{Held, Hop, Side};
+use crate::hop::{Change, Held, Hop, Side};
 use crate::index::NumberIndex;
 use crate::opening::{BeginFault, BeginReason, Opening, OwnIds};
 use crate::triads::{TriadIndex, place_after};
 use cip_base::{Address, NoMemory, PortNumber, Triad};
-use cip_clock::Clock;
+use core::mem::replace_with;
 use slab::Slab;
 use std::alloc::Global;
 use std::marker::Model;
 
-/// The connections of a module, opening and open, each under its triad. Ids rise and never come back.
-/// All memory is taken by `with_room`.
+/// The connections of a module, opening and open, each under its triad. Ids rise and never come
+/// back. All memory is taken by `with_room`.
 #[derive(Drop)]
 pub struct HopTable {
     room: usize,
@@ -51,8 +53,8 @@ impl Model for HopTable {
 }
 
 impl HopTable {
-    /// An empty table with room for `room` connections, opening and open together, whose first id is `first`, above 0.
-    /// NoMemory where the room is refused.
+    /// An empty table with room for `room` connections, opening and open together, whose first id
+    /// is `first`, above 0. NoMemory where the room is refused.
     pub fn with_room(alloc: Global, room: usize, first: u32) -> Result<HopTable, NoMemory>
         requires { 0 < first }
         ensures { IfOk result (λ t. t ≡ record { room = room; next = first; held = map.empty }) }
@@ -73,7 +75,8 @@ impl HopTable {
         })
     }
 
-    /// Why `begin` would refuse an opening of this triad that draws so many ids; None where it would not.
+    /// Why `begin` would refuse an opening of this triad that draws so many ids; None where it
+    /// would not.
     pub fn can_begin(&self, triad: &Triad, ids: u8) -> Option<BeginReason>
         ensures { result ≡ refusal self.now triad.now ids }
     {
@@ -88,9 +91,10 @@ impl HopTable {
         }
     }
 
-    /// Keeps an opening under the next ids, one for each side that is a link and that of the down side first.
-    /// Duplicate where its triad is opening or open, else Full where the room is used up, else IdsSpent where fewer ids
-    /// up to 0xFFFF_FFFF are left than it draws: the opening then comes back, and nothing changes.
+    /// Keeps an opening under the next ids, one for each side that is a link and that of the down
+    /// side first. Duplicate where its triad is opening or open, else Full where the room is used
+    /// up, else IdsSpent where fewer ids up to 0xFFFF_FFFF are left than it draws: the opening then
+    /// comes back, and nothing changes.
     pub fn begin(&mut self, opening: Opening) -> Result<OwnIds, BeginFault>
         requires multiplier { opening.multiplier < 8 }
         requires op { IsOpFree self.old (op_of opening.up) }
@@ -116,29 +120,22 @@ impl HopTable {
         }
     }
 
-    /// Makes a hop of what was being opened: `their_id` is the O to T id of the node below (an end has none), and each
-    /// side that is a link is watched from `now` on, in microseconds.
+    /// Makes a hop of what was being opened: `their_id` is the O to T id of the node below (an end
+    /// has none), and each side that is a link is watched from `now` on, in microseconds.
     pub fn finish(&mut self, triad: &Triad, their_id: u32, now: u64)
         requires opening { IsSome (opening_at self.old triad.now) }
         requires time { now < 2 ^ 63 }
         ensures { self.new ≡ finished self.old triad.now their_id now }
     {
-        let Some(key) = self.triads.find(triad) else {
-            unreachable!()
-        };
-        let Held::Opening(opening, ids) = self.records.remove(key) else {
-            unreachable!()
-        };
-        let hop = Hop::opened(opening, ids, their_id, now);
-        self.records.insert_reserved(Held::Open(hop));
+        self.change(triad, Change::Finish { their_id, now });
     }
 
     /// Takes out what was being opened under this triad.
     pub fn abandon(&mut self, triad: &Triad) -> Option<Opening>
         ensures value { result ≡ opening_at self.old triad.now }
-        ensures after { self.new ≡ (if is_some result then without self.old triad.now else self.old) }
+        ensures after { self.new ≡ without_if (is_some result) self.old triad.now }
     {
-        if self.held_at(triad)?.hop().is_some() {
+        if self.held(triad)?.hop().is_some() {
             return None;
         }
         match self.take_out(triad) {
@@ -150,9 +147,9 @@ impl HopTable {
     /// Takes out the hop of this triad.
     pub fn remove(&mut self, triad: &Triad) -> Option<Hop>
         ensures value { result ≡ hop_at self.old triad.now }
-        ensures after { self.new ≡ (if is_some result then without self.old triad.now else self.old) }
+        ensures after { self.new ≡ without_if (is_some result) self.old triad.now }
     {
-        if self.held_at(triad)?.hop().is_none() {
+        if self.held(triad)?.hop().is_none() {
             return None;
         }
         match self.take_out(triad) {
@@ -165,7 +162,7 @@ impl HopTable {
     pub fn by_triad(&self, triad: &Triad) -> Option<&Hop>
         ensures { option_copied result ≡ hop_at self.now triad.now }
     {
-        self.held_at(triad)?.hop()
+        self.held(triad)?.hop()
     }
 
     /// The hop that a command of this op opened. There is at most one.
@@ -176,8 +173,8 @@ impl HopTable {
         self.records.get(key)?.hop()
     }
 
-    /// The hop of which this is the own id towards the originator, on the link by this port to this address. There is at
-    /// most one.
+    /// The hop of which this is the own id towards the originator, on the link by this port to this
+    /// address. There is at most one.
     pub fn by_up(&self, id: u32, port: PortNumber, address: &Address) -> Option<&Hop>
         ensures { option_copied result ≡ hop_by_up self.now id port address.now }
     {
@@ -190,8 +187,8 @@ impl HopTable {
         }
     }
 
-    /// The hop of which this is the own id towards the target, on the link by this port to this address. There is at
-    /// most one.
+    /// The hop of which this is the own id towards the target, on the link by this port to this
+    /// address. There is at most one.
     pub fn by_down(&self, id: u32, port: PortNumber, address: &Address) -> Option<&Hop>
         ensures { option_copied result ≡ hop_by_down self.now id port address.now }
     {
@@ -210,36 +207,23 @@ impl HopTable {
         requires time { now < 2 ^ 63 }
         ensures { self.new ≡ changed self.old triad.now (touched side now) }
     {
-        let Some(key) = self.triads.find(triad) else {
-            unreachable!()
-        };
-        let Held::Open(hop) = self.records.remove(key) else {
-            unreachable!()
-        };
-        self.records
-            .insert_reserved(Held::Open(hop.touched(side, now)));
+        self.change(triad, Change::Touch { side, now });
     }
 
-    /// Keeps the sequence count of the last datum of a hop that ends here: up that of the last that was consumed, down
-    /// that of the last that was produced.
+    /// Keeps the sequence count of the last datum of a hop that ends here: up that of the last that
+    /// was consumed, down that of the last that was produced.
     pub fn set_count(&mut self, triad: &Triad, side: Side, count: u16)
-        requires { IsSomeAnd (hop_at self.old triad.now) (λ hop. IsTrue (not (down_is_link hop.opening.down))) }
+        requires { IsSomeAnd (hop_at self.old triad.now) (λ hop. IsTrue (ends_here hop)) }
         ensures { self.new ≡ changed self.old triad.now (counted side count) }
     {
-        let Some(key) = self.triads.find(triad) else {
-            unreachable!()
-        };
-        let Held::Open(hop) = self.records.remove(key) else {
-            unreachable!()
-        };
-        self.records
-            .insert_reserved(Held::Open(hop.counted(side, count)));
+        self.change(triad, Change::Count { side, count });
     }
 
-    /// Takes out the hop of the least triad of which either side has been silent until `now`, in microseconds.
+    /// Takes out the hop of the least triad of which either side has been silent until `now`, in
+    /// microseconds.
     pub fn expire(&mut self, now: u64) -> Option<Hop>
         ensures value { result ≡ first_due now self.old }
-        ensures after { MatchOption result (self.new ≡ self.old) (λ hop. self.new ≡ without self.old hop.opening.triad) }
+        ensures after { IsWithout result self.old self.new }
 
         // What a loop over all that are due takes.
         ensures due { due now self.old ≡ option_to_list result ++ due now self.new }
@@ -271,18 +255,34 @@ impl HopTable {
         (self.next - 1) as u32
     }
 
+    /// That each record stands under its own triad, and that ids end: a fact for the proof of a
+    /// caller, and no work.
+    pub fn is_within(&self)
+        ensures { IsWithin self.now }
+    {
+        let _last = self.last();
+    }
+
     /// What stands under a triad, opening or open.
     pub fn held(&self, triad: &Triad) -> Option<&Held>
         ensures { option_copied result ≡ map.get self.now.held triad.now }
     {
-        self.held_at(triad)
-    }
-
-    fn held_at(&self, triad: &Triad) -> Option<&Held>
-        ensures { option_copied result ≡ map.get self.now.held triad.now }
-    {
         let key = self.triads.find(triad)?;
         self.records.get(key)
+    }
+
+    // Changes what stands under a triad in its place. Its names stay.
+    fn change(&mut self, triad: &Triad, change: Change)
+        requires { IsSomeAnd (map.get self.old.held triad.now) (Suits change) }
+        ensures { IsChanged change self.old triad.now self.new }
+    {
+        let Some(key) = self.triads.find(triad) else {
+            unreachable!()
+        };
+        let Some(held) = self.records.get_mut(key) else {
+            unreachable!()
+        };
+        replace_with(held, change, Held::changed);
     }
 
     // Takes out what stands under a triad, and forgets its names.
@@ -307,7 +307,7 @@ impl HopTable {
 
 // Where the first triad stands whose hop is due.
 fn due_place(pairs: &[(Triad, usize)], records: &Slab<Held>, now: u64) -> Option<usize>
-    ensures { result ≡ position (passes (λ e. is_hop_due now e.1) (get_record records.now)) pairs.now }
+    ensures { result ≡ position (passes (is_entry_due now) (get_record records.now)) pairs.now }
 {
     pairs.iter().position(|p| is_due_at(records, p.1, now))
 }
@@ -323,7 +323,7 @@ fn is_due_at(records: &Slab<Held>, key: usize, now: u64) -> bool
 
 // Where the first triad stands that has a hop.
 fn hop_place(pairs: &[(Triad, usize)], records: &Slab<Held>) -> Option<usize>
-    ensures { result ≡ position (passes (λ e. is_some (as_hop e.1)) (get_record records.now)) pairs.now }
+    ensures { result ≡ position (passes is_entry_open (get_record records.now)) pairs.now }
 {
     pairs.iter().position(|p| is_hop_at(records, p.1))
 }

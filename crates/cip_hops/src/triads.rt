@@ -1,11 +1,11 @@
 //! An index by triad.
-ghost use Rattle.std.specs.Prelude.{◌≡◌, ◌<◌, ◌≤◌, None, true, false, length, IfOk, IsSome, MatchResult};
-ghost use Rattle.std.specs.List.Sorted.{IsPartitionPoint};
+ghost use Rattle.std.specs.Prelude.{◌≡◌, ◌<◌, ◌≤◌, None, Some, length, IfOk, IsSome};
 ghost use Rattle.std.specs.Option.{option_copied};
 ghost use Rattle.std.specs.FinMap as map;
 ghost use Rattle.cip_base.specs.Triads.{triad_cmp};
 ghost use Rattle.cip_hops.specs.Hops.{is_after};
-ghost use Rattle.cip_hops.specs.Index.{IsRising, StandsAt, FitsAt};
+ghost use Rattle.cip_base.specs.Rising.{IsRising, IsPlaceOf, Divides};
+ghost use Rattle.cip_hops.specs.Index.{noted, forgot};
 
 use cip_base::Triad;
 use std::alloc::{AllocError, Global};
@@ -73,7 +73,7 @@ impl TriadIndex {
     pub(crate) fn note(&mut self, triad: Triad, key: usize)
         requires free { map.get self.old.keys triad ≡ None }
         requires room { map.len self.old.keys < self.old.room }
-        ensures { self.new ≡ record { room = self.old.room; keys = map.insert self.old.keys triad key } }
+        ensures { self.new ≡ noted self.old (Some triad) key }
     {
         let Err(at) = place_of(&self.pairs, &triad) else {
             unreachable!()
@@ -86,7 +86,7 @@ impl TriadIndex {
     /// Forgets a triad.
     pub(crate) fn forget(&mut self, triad: &Triad)
         requires { IsSome (map.get self.old.keys triad.now) }
-        ensures { self.new ≡ record { room = self.old.room; keys = map.remove self.old.keys triad.now } }
+        ensures { self.new ≡ forgot self.old (Some triad.now) }
     {
         let Ok(at) = place_of(&self.pairs, triad) else {
             unreachable!()
@@ -98,7 +98,7 @@ impl TriadIndex {
 // Where the triad stands, or where it would, by binary search.
 fn place_of(pairs: &[(Triad, usize)], triad: &Triad) -> Result<usize, usize>
     requires { IsRising triad_cmp pairs.now }
-    ensures { MatchResult result (StandsAt pairs.now triad.now) (FitsAt triad_cmp pairs.now triad.now) }
+    ensures { IsPlaceOf triad_cmp pairs.now triad.now result }
 {
     pairs.binary_search_by_key(triad, |&(triad, _)| triad)
 }
@@ -107,7 +107,7 @@ fn place_of(pairs: &[(Triad, usize)], triad: &Triad) -> Result<usize, usize>
 pub(crate) fn place_after(pairs: &[(Triad, usize)], after: Option<&Triad>) -> usize
     requires { IsRising triad_cmp pairs.now }
     ensures bound { result ≤ length pairs.now }
-    ensures parts { IsPartitionPoint (λ p. is_after (option_copied after.entry) p.0 ≡ false) (λ p. is_after (option_copied after.entry) p.0 ≡ true) pairs.now result }
+    ensures parts { Divides (λ p. is_after (option_copied after.entry) p.0) pairs.now result }
 {
     match after {
         None => 0,

@@ -24,15 +24,18 @@ counted_at-Short size start b lt = rw (lt-ltb _ _ lt) refl
 
 pub counted_at-whole : (size start : ℕ) (b : List ℕ) → length b ≡ whole_length size start b → counted_at size start b ≡ counted (drop start b)
 unfolding counted_at
-counted_at-whole size start b e = rw (le-ltb (length b) (whole_length size start b) (omega arith), le-ltb (whole_length size start b) (length b) (omega arith)) refl
+counted_at-whole size start b e =
+    rw (le-ltb (length b) (whole_length size start b) (omega arith), le-ltb (whole_length size start b) (length b) (omega arith)) refl
 
 pub counted_path_at-Short : (size start : ℕ) (b : List ℕ) → length b < whole_length size start b → counted_path_at size start b ≡ refused Short
 unfolding counted_path_at
 counted_path_at-Short size start b lt = ap then_path (counted_at-Short size start b lt)
 
-pub counted_path_at-whole : (size start : ℕ) (b : List ℕ) → length b ≡ whole_length size start b → IsReadable (drop start b) → counted_path_at size start b ≡ counted (drop start b)
+pub counted_path_at-whole : (size start : ℕ) (b : List ℕ) → length b ≡ whole_length size start b → IsReadable (drop start b)
+    → counted_path_at size start b ≡ counted (drop start b)
 unfolding counted_path_at
-counted_path_at-whole size start b e readable = ap then_path (counted_at-whole size start b e) ∙ ap (λ r. if_path r (drop start b)) (path_at-readable (drop start b) readable)
+counted_path_at-whole size start b e readable = ap then_path (counted_at-whole size start b e)
+    ∙ ap (λ r. if_path r (drop start b)) (path_at-readable (drop start b) readable)
 
 pub counted_at-Long : (size start : ℕ) (b : List ℕ) → whole_length size start b < length b → counted_at size start b ≡ refused Long
 unfolding counted_at
@@ -42,13 +45,15 @@ pub counted_path_at-Long : (size start : ℕ) (b : List ℕ) → whole_length si
 unfolding counted_path_at
 counted_path_at-Long size start b lt = ap then_path (counted_at-Long size start b lt)
 
-pub counted_path_at-Path : (size start : ℕ) (b : List ℕ) (f : PathFault) → length b ≡ whole_length size start b → path_at (drop start b) ≡ Err f → counted_path_at size start b ≡ refused (Path f)
+pub counted_path_at-Path : (size start : ℕ) (b : List ℕ) (f : PathFault) → length b ≡ whole_length size start b → path_at (drop start b) ≡ Err f
+    → counted_path_at size start b ≡ refused (Path f)
 unfolding counted_path_at
 counted_path_at-Path size start b f e fault = ap then_path (counted_at-whole size start b e) ∙ ap (λ r. if_path r (drop start b)) fault
 
 -- what the length of the data says of the answer
 pub counted_verdict : (P : Result (List ℕ) DataFault → Type 0) (size start : ℕ) (b : List ℕ)
-    → (length b < whole_length size start b → P (refused Short)) → (whole_length size start b < length b → P (refused Long)) → (length b ≡ whole_length size start b → P (counted (drop start b)))
+    → (length b < whole_length size start b → P (refused Short)) → (whole_length size start b < length b → P (refused Long))
+    → (length b ≡ whole_length size start b → P (counted (drop start b)))
     → P (counted_at size start b)
 unfolding counted_at
 counted_verdict P size start b short long whole =
@@ -56,7 +61,8 @@ counted_verdict P size start b short long whole =
     (λ e. short (ltb-true _ _ e))
     (λ d. cond_both (ltb (whole_length size start b) (length b)) (Err Long) (Ok (drop start b)) P
     (λ e. long (ltb-true _ _ e))
-    (λ e. let le : length b ≤ whole_length size start b = ltb-false _ _ e in let ge : whole_length size start b ≤ length b = ltb-false _ _ d in whole (omega arith)))
+    (λ e. let le : length b ≤ whole_length size start b = ltb-false _ _ e in let ge : whole_length size start b ≤ length b = ltb-false _ _ d in
+    whole (omega arith)))
 
 path_verdict : (P : Result (List ℕ) DataFault → Type 0) (p : List ℕ) (read : Result (List Segment) PathFault) → IsBytes p → path_at p ≡ read
     → (IsReadable p → P (counted p)) → ((f : PathFault) → IsFault p f → P (refused (Path f))) → P (if_path read p)

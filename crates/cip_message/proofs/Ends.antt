@@ -25,7 +25,8 @@ zeros_bytes : (b : List ℕ) (k : ℕ) → IsBytes b → IsBytes (b ++ replicate
 zeros_bytes b k fits i = rw (zeros_index b k i) (fits i)
 
 -- `whole` says how long bytes with the layout are, by the bytes themselves
-pub cut_off : (H : List ℕ → Type 0) (whole : List ℕ → ℕ) → ((c : List ℕ) → IsBytes c → length c ≡ whole c → H c) → ((b : List ℕ) (k : ℕ) → whole (b ++ replicate k 0) ≡ whole b)
+pub cut_off : (H : List ℕ → Type 0) (whole : List ℕ → ℕ) → ((c : List ℕ) → IsBytes c → length c ≡ whole c → H c)
+    → ((b : List ℕ) (k : ℕ) → whole (b ++ replicate k 0) ≡ whole b)
     → (b : List ℕ) → IsBytes b → length b < whole b → IsCutOff H b
 cut_off H whole has same b fits short =
     let k : ℕ = whole b - length b in
@@ -34,12 +35,18 @@ cut_off H whole has same b fits short =
     let whole_is : length (b ++ zeros) ≡ whole b = omega (arith, length-append b zeros, len) in
     (zeros, omega (arith, len), has (b ++ zeros) (zeros_bytes b k fits) (whole_is ∙ sym (same b k)))
 
-pub overlong : (H : List ℕ → Type 0) (whole : List ℕ → ℕ) → ((c : List ℕ) → IsBytes c → length c ≡ whole c → H c) → ((b : List ℕ) → whole b < length b → whole (take (whole b) b) ≡ whole b)
+pub overlong : (H : List ℕ → Type 0) (whole : List ℕ → ℕ) → ((c : List ℕ) → IsBytes c → length c ≡ whole c → H c)
+    → ((b : List ℕ) → whole b < length b → whole (take (whole b) b) ≡ whole b)
     → (b : List ℕ) → IsBytes b → whole b < length b → IsOverlong H b
 overlong H whole has same b fits long =
     let front : length (take (whole b) b) ≡ whole b = length-take-le (whole b) b (omega arith) in
-    let rest : 0 < length (drop (whole b) b) = omega (arith, length-drop (whole b) b) in
-    (take (whole b) b, drop (whole b) b, rest, sym (take-append-drop (whole b) b), has (take (whole b) b) (IsBytes-take (whole b) b fits) (front ∙ sym (same b long)))
+    let rest : 0 < length (drop (whole b) b) = omega (arith, length-drop (whole b) b) in (
+      take (whole b) b,
+      drop (whole b) b,
+      rest,
+      sym (take-append-drop (whole b) b),
+      has (take (whole b) b) (IsBytes-take (whole b) b fits) (front ∙ sym (same b long)),
+    )
 
 -- where the size stands at a place of its own
 pub whole-zeros : (size start : ℕ) (b : List ℕ) (k : ℕ) → whole_length size start (b ++ replicate k 0) ≡ whole_length size start b

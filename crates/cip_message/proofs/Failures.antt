@@ -24,7 +24,8 @@ pub failure_read : (b : List ℕ) (f : ConnectionFailure) → ReadsFailure b f �
 unfolding failure_at
 failure_read b f h = reads b f.triad f.words h
   where
-    reads : (b : List ℕ) (t : Option Triad) (w : Option ℕ) → ReadsFailure b (record { triad = t; words = w }) → failure_at b ≡ Ok (record { triad = t; words = w })
+    reads : (b : List ℕ) (t : Option Triad) (w : Option ℕ) → ReadsFailure b (record { triad = t; words = w })
+        → failure_at b ≡ Ok (record { triad = t; words = w })
     reads b None None e = rw e refl
     reads b None (Some n) e = absurd e
     reads b (Some t) None e = rw (e, triad_again t []) refl
@@ -44,7 +45,8 @@ failure_verdict (a ∷ c ∷ d ∷ e ∷ []) fits = (omega arith, omega arith)
 failure_verdict (a ∷ c ∷ d ∷ e ∷ f ∷ []) fits = (omega arith, omega arith)
 failure_verdict (a ∷ c ∷ d ∷ e ∷ f ∷ g ∷ []) fits = (omega arith, omega arith)
 failure_verdict (a ∷ c ∷ d ∷ e ∷ f ∷ g ∷ h ∷ []) fits = (omega arith, omega arith)
-failure_verdict (a ∷ c ∷ d ∷ e ∷ f ∷ g ∷ h ∷ i ∷ []) fits = sym (triad_back a c d e f g h i (fits 0) (fits 1) (fits 2) (fits 3) (fits 4) (fits 5) (fits 6) (fits 7))
+failure_verdict (a ∷ c ∷ d ∷ e ∷ f ∷ g ∷ h ∷ i ∷ []) fits =
+    sym (triad_back a c d e f g h i (fits 0) (fits 1) (fits 2) (fits 3) (fits 4) (fits 5) (fits 6) (fits 7))
 failure_verdict (a ∷ c ∷ d ∷ e ∷ f ∷ g ∷ h ∷ i ∷ n ∷ rest) fits =
     let b : List ℕ = a ∷ c ∷ d ∷ e ∷ f ∷ g ∷ h ∷ i ∷ n ∷ rest in
     let back = triad_back a c d e f g h i (fits 0) (fits 1) (fits 2) (fits 3) (fits 4) (fits 5) (fits 6) (fits 7) in
@@ -56,7 +58,8 @@ failure_verdict (a ∷ c ∷ d ∷ e ∷ f ∷ g ∷ h ∷ i ∷ n ∷ rest) fit
 pub failure_back : (f : ConnectionFailure) → HasTriadForWords f → failure_at (failure_data f) ≡ Ok f
 failure_back f h = failure_read (failure_data f) f (reads f.triad f.words h)
   where
-    reads : (t : Option Triad) (w : Option ℕ) → HasTriadForWords (record { triad = t; words = w }) → ReadsFailure (failure_data (record { triad = t; words = w })) (record { triad = t; words = w })
+    reads : (t : Option Triad) (w : Option ℕ) → HasTriadForWords (record { triad = t; words = w })
+        → ReadsFailure (failure_data (record { triad = t; words = w })) (record { triad = t; words = w })
     reads None None h = refl
     reads None (Some n) h = let bad = h refl in absurd cc
     reads (Some t) None h = refl

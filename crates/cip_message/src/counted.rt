@@ -6,8 +6,8 @@ ghost use Rattle.cip_message.specs.Counted.{counted_at, counted_path_at};
 use crate::fault::DataFault;
 use cip_segment::{PathView, view_path};
 
-/// The bytes from place `start` to the end, which are as many words as the byte at place `size` says: Short where bytes are
-/// missing, Long where there are more.
+/// The bytes from place `start` to the end, which are as many words as the byte at place `size`
+/// says: Short where bytes are missing, Long where there are more.
 #[tactic(auto, unfolding(crate::specs::Counted::counted_at))]
 pub fn counted_part(bytes: &[u8], size: usize, start: usize) -> Result<&[u8], DataFault>
     requires { size < start }
@@ -28,8 +28,8 @@ pub fn counted_part(bytes: &[u8], size: usize, start: usize) -> Result<&[u8], Da
     Ok(part)
 }
 
-/// The path from place `start` to the end, as many words as the byte at place `size` says: Short where bytes are missing,
-/// Long where there are more, Path of the path's fault.
+/// The path from place `start` to the end, as many words as the byte at place `size` says: Short
+/// where bytes are missing, Long where there are more, Path of the path's fault.
 #[tactic(auto, unfolding(crate::specs::Counted::counted_path_at))]
 pub fn counted_path(bytes: &[u8], size: usize, start: usize) -> Result<PathView<'_>, DataFault>
     requires { size < start }

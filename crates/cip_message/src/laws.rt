@@ -1,10 +1,9 @@
-//! What holds of every message: reading gives exactly what has the layout, and what is written is read back.
-ghost use Rattle.std.specs.Prelude.{◌≡◌, ◌<◌, ◌≤◌, ℕ, List, Ok, Err, MatchResult};
-ghost use Rattle.cip_base.specs.Fields.{IsBytes};
+//! What holds of every message: reading gives exactly what has the layout, and what is written is
+//! read back.
+ghost use Rattle.std.specs.Prelude.{◌≡◌, ◌<◌, ◌≤◌, ℕ, Ok};
+ghost use Rattle.cip_base.specs.Words.{Octets};
 ghost use Rattle.cip_segment.specs.Spelling.{IsReadable};
-ghost use Rattle.cip_message.specs.declared.fault.RequestFault.{RequestFault as NoRequest};
-ghost use Rattle.cip_message.specs.declared.fault.ReplyFault.{ReplyFault as NoReply};
-ghost use Rattle.cip_message.specs.declared.fault.DataFault.{DataFault as NoData};
+ghost use Rattle.cip_message.specs.Exact.{ReadsEach, Decides, Refuses, RefusesBytes};
 ghost use Rattle.cip_message.specs.declared.failure.ConnectionFailure.{ConnectionFailure as Failure};
 ghost use Rattle.cip_message.specs.Failure.{ReadsFailure, IsFailureFault, failure_at, failure_data, HasTriadForWords};
 ghost use Rattle.cip_message.specs.Request.{Request, ReadsRequest, IsRequestFault, request_bytes};
@@ -15,26 +14,27 @@ ghost use Rattle.cip_message.specs.ReplyAt.{reply_at};
 
 /// Reading bytes as a request gives the one record that has its layout, or the one fault that fits.
 pub fn request_is_exact()
-    ensures only { (b : List ℕ) (r : Request) → ReadsRequest b r → request_at b ≡ Ok r }
-    ensures verdict { (b : List ℕ) → IsBytes b → MatchResult (request_at b) (ReadsRequest b) (IsRequestFault b) }
-    ensures faults { (b : List ℕ) (f : NoRequest) → IsBytes b → IsRequestFault b f → request_at b ≡ Err f }
+    ensures only { ReadsEach request_at ReadsRequest }
+    ensures verdict { Decides request_at ReadsRequest IsRequestFault }
+    ensures faults { RefusesBytes request_at IsRequestFault }
 {}
 
 /// Reading bytes as a reply gives the one record that has its layout, or the one fault that fits.
 pub fn reply_is_exact()
-    ensures only { (b : List ℕ) (r : Reply) → ReadsReply b r → reply_at b ≡ Ok r }
-    ensures verdict { (b : List ℕ) → IsBytes b → MatchResult (reply_at b) (ReadsReply b) (IsReplyFault b) }
-    ensures faults { (b : List ℕ) (f : NoReply) → IsReplyFault b f → reply_at b ≡ Err f }
+    ensures only { ReadsEach reply_at ReadsReply }
+    ensures verdict { Decides reply_at ReadsReply IsReplyFault }
+    ensures faults { Refuses reply_at IsReplyFault }
 {}
 
 /// A request that is written is read back as the same record.
 pub fn written_request_is_read()
-    ensures { (r : Request) → r.service < 128 → IsReadable r.path → request_at (request_bytes r) ≡ Ok r }
+    ensures { (r : Request) → r.service < 128 → IsReadable r.path
+        → request_at (request_bytes r) ≡ Ok r }
 {}
 
 /// A request to the Connection Manager that is written is read back as the same record.
 pub fn written_manager_request_is_read()
-    ensures { (service : ℕ) (d : List ℕ) → service < 128
+    ensures { (service : ℕ) (d : Octets) → service < 128
         → request_at (manager_bytes service d) ≡ Ok (manager_request service d) }
 {}
 
@@ -45,9 +45,9 @@ pub fn written_reply_is_read()
 
 /// Reading the data of a failure gives the one record that has its layout, or the fault.
 pub fn failure_is_exact()
-    ensures only { (b : List ℕ) (f : Failure) → ReadsFailure b f → failure_at b ≡ Ok f }
-    ensures verdict { (b : List ℕ) → IsBytes b → MatchResult (failure_at b) (ReadsFailure b) (IsFailureFault b) }
-    ensures faults { (b : List ℕ) (f : NoData) → IsFailureFault b f → failure_at b ≡ Err f }
+    ensures only { ReadsEach failure_at ReadsFailure }
+    ensures verdict { Decides failure_at ReadsFailure IsFailureFault }
+    ensures faults { Refuses failure_at IsFailureFault }
 {}
 
 /// The data of a failure that is written is read back as the same record.

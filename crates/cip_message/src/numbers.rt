@@ -1,10 +1,9 @@
 //! Number fields of messages at their places.
 ghost use Rattle.std.specs.Prelude.{◌≡◌, ◌+◌, ◌<◌, ◌≤◌, ◌++◌, length, OnOk};
-ghost use Rattle.cip_base.specs.Fields.{word, double};
 ghost use Rattle.cip_message.specs.Numbers.{word_in, double_in, triad_in, triad_within, triad_bytes};
 
 use byteorder::{ByteOrder, LittleEndian};
-use cip_base::Triad;
+use cip_base::{Triad, put_double, put_word};
 use std::alloc::AllocError;
 
 /// The 16-bit word from place `at`, the lowest byte first.
@@ -35,8 +34,8 @@ pub fn triad_at(bytes: &[u8], at: usize) -> Triad
     }
 }
 
-/// The connection triad in the eight bytes from place `at`; None exactly where one of them is missing
-/// (Volume 1, chapter 3, connection triad).
+/// The connection triad in the eight bytes from place `at`; None exactly where one of them is
+/// missing (Volume 1, chapter 3, connection triad).
 pub fn triad_within(bytes: &[u8], at: usize) -> Option<Triad>
     requires { at < 1000 }
     ensures { result ≡ triad_within bytes.now at }
@@ -46,23 +45,6 @@ pub fn triad_within(bytes: &[u8], at: usize) -> Option<Triad>
     } else {
         Some(triad_at(bytes, at))
     }
-}
-
-/// Appends a word, the lowest byte first.
-pub fn put_word(out: &mut Vec<u8>, number: u16) -> Result<(), AllocError>
-    ensures { OnOk result (out.new.items ≡ out.old.items ++ word number) }
-{
-    let mut bytes = [0; 2];
-    LittleEndian::write_u16(&mut bytes, number);
-    out.extend_from_slice(&bytes)
-}
-
-/// Appends a double word, the lowest byte first.
-pub fn put_double(out: &mut Vec<u8>, number: u32) -> Result<(), AllocError>
-    ensures { OnOk result (out.new.items ≡ out.old.items ++ double number) }
-{
-    put_word(out, (number % 65536) as u16)?;
-    put_word(out, (number / 65536) as u16)
 }
 
 /// Appends the eight bytes of a connection triad (Volume 1, chapter 3, connection triad).

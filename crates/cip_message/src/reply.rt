@@ -1,18 +1,18 @@
 //! Replies of the Message Router.
-ghost use Rattle.std.specs.Prelude.{◌≡◌, ◌<◌, ◌≤◌, ◌↔◌, length, IfOk, IfErr, IsErrOf, IsOkAnd, OnOk, [], ◌++◌, slice_get};
+ghost use Rattle.std.specs.Prelude.{◌≡◌, ◌<◌, ◌≤◌, ◌↔◌, length, IfOk, IfErr, IsErrOf, OnOk, ◌++◌};
 ghost use Rattle.cip_message.specs.Gives.{Gives};
-ghost use Rattle.cip_message.specs.Numbers.{words_in};
-ghost use Rattle.cip_message.specs.Reply.{Reply, ReadsReply, IsReplyFault, reply_bytes, reply_with};
+ghost use Rattle.cip_message.specs.Exact.{GivesOnly};
+ghost use Rattle.cip_message.specs.Reply.{ReadsReply, IsReplyFault, reply_bytes, reply_with, reply_header, status_of};
 ghost use Rattle.cip_message.specs.ReplyAt.{reply_from, reply_at};
 ghost use Rattle.cip_message.specs.Reading.{reply_of};
 
 use crate::fault::{ReplyFault, WriteFault};
-use crate::numbers::put_word;
 use byteorder::{ByteOrder, LittleEndian};
-use cip_base::{Bytes, MAX_MESSAGE, Status};
+use cip_base::{Bytes, MAX_MESSAGE, Status, put_word};
 use std::alloc::{AllocError, Global};
 
-/// A reply whose additional status and data are borrowed (Volume 1, chapter 2, Message Router reply format).
+/// A reply whose additional status and data are borrowed (Volume 1, chapter 2, Message Router reply
+/// format).
 #[derive(Clone, Copy)]
 pub struct ReplyView<'a> {
     /// The service, whose bit 7 is set in what was read.
@@ -33,10 +33,10 @@ impl<'a> ReplyView<'a> {
         self.service
     }
 
-    /// The general status, and the first word of additional status where there is one (Volume 1, Appendix B).
+    /// The general status, and the first word of additional status where there is one (Volume 1,
+    /// Appendix B).
     pub fn status(self) -> Status
-        ensures { result
-            ≡ record { general = self.entry.general; extra = slice_get (words_in self.entry.extra.now) 0 } }
+        ensures { result ≡ status_of (reply_of self.entry) }
     {
         let extra = match self.extra {
             [_, _, ..] => Some(LittleEndian::read_u16(self.extra)),
@@ -86,25 +86,26 @@ fn reply(bytes: &[u8]) -> Result<ReplyView<'_>, ReplyFault>
     }
 }
 
-/// The reply that the bytes are, all of them: service, a reserved byte of any value, general status, size of the additional
-/// status in 16-bit words, additional status, data (Volume 1, chapter 2, Message Router reply format). It takes no memory.
+/// The reply that the bytes are, all of them: service, a reserved byte of any value, general
+/// status, size of the additional status in 16-bit words, additional status, data (Volume 1,
+/// chapter 2, Message Router reply format). It takes no memory.
 ///
-/// Otherwise the first that fits: TooShort under 4 bytes, NotReply where bit 7 of the service is clear, ExtraSize where the
-/// additional status passes the end.
+/// Otherwise the first that fits: TooShort under 4 bytes, NotReply where bit 7 of the service is
+/// clear, ExtraSize where the additional status passes the end.
 pub fn read_reply(bytes: &[u8]) -> Result<ReplyView<'_>, ReplyFault>
     ensures found { IfOk result (λ view. ReadsReply bytes.now (reply_of view)) }
-    ensures only { (r : Reply) → ReadsReply bytes.now r → IsOkAnd result (λ view. reply_of view ≡ r) }
+    ensures only { GivesOnly reply_of result (ReadsReply bytes.now) }
     ensures fault { IfErr result (IsReplyFault bytes.now) }
     ensures gives { Gives reply_of result (reply_at bytes.now) }
 {
     reply(bytes)
 }
 
-/// Appends the header of a reply with at most one word of additional status: the service, a reserved 00, the general status,
-/// the size of the additional status in words, the additional status (Volume 1, chapter 2, Message Router reply format). The
-/// data follows.
+/// Appends the header of a reply with at most one word of additional status: the service, a
+/// reserved 00, the general status, the size of the additional status in words, the additional
+/// status (Volume 1, chapter 2, Message Router reply format). The data follows.
 pub fn put_reply_header(out: &mut Vec<u8>, service: u8, status: Status) -> Result<(), AllocError>
-    ensures { OnOk result (out.new.items ≡ out.old.items ++ reply_bytes (reply_with service status [])) }
+    ensures { OnOk result (out.new.items ≡ out.old.items ++ reply_header service status) }
 {
     out.extend_from_slice(&[service, 0, status.general])?;
     match status.extra {
@@ -128,8 +129,8 @@ fn joined(alloc: Global, service: u8, status: Status, data_: &[u8]) -> Result<Ve
     Ok(bytes)
 }
 
-/// The bytes of a reply with at most one word of additional status, the reserved byte 00 (Volume 1, chapter 2, Message
-/// Router reply format). Bit 7 of the service has to be set.
+/// The bytes of a reply with at most one word of additional status, the reserved byte 00 (Volume 1,
+/// chapter 2, Message Router reply format). Bit 7 of the service has to be set.
 ///
 /// TooLong past 1,400 bytes in all, NoMemory where a growth is refused.
 pub fn write_reply(

@@ -1,6 +1,6 @@
 pub mod OpsLemmas
 pub mod Walks
-pub mod Expiries
+pub mod TimeOuts
 pub mod SettingsLemmas
 pub mod Found
 pub mod Outputs

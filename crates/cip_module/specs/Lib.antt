@@ -3,7 +3,6 @@ pub mod Statuses
 pub mod Keys
 pub mod Object
 pub mod State
-pub mod Rising
 pub mod Answers
 pub mod Effects
 pub mod Links
@@ -15,15 +14,9 @@ pub mod ReplyRows
 pub mod DataRows
 pub mod CommandRows
 pub mod Produced
-pub mod Decisions
 pub mod Table
-pub mod Plans
-pub mod Does
-pub mod Tick
 pub mod Tells
 pub mod Steps
 pub mod Paired
-pub mod Fit
-pub mod Node
-pub mod Ready
 pub mod Views
+pub mod Code

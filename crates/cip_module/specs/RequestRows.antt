@@ -1,5 +1,18 @@
--- The request group: which row answers a request (Volume 1, chapter 2 for the Message Router, chapter 3 for the Connection Manager).
+-- The request group: which row answers a request (Volume 1, chapter 2 for the Message Router,
+-- chapter 3 for the Connection Manager).
+--
+-- The rows in their order; the first that fits answers.
+--     unknown port or too long             UnknownPortOrTooLong
+--     not a request                        NotARequest
+--     path past the end                    Refuses service PathPastTheEnd
+--     path unreadable                      Refuses service PathUnreadable
+--     path form not supported              Refuses service PathFormNotSupported
+--     no such Connection Manager instance  Refuses service NoSuchManagerInstance
+--     service not supported                Refuses service ServiceNotSupported
+--     Connection Manager                   UnconnectedSend, ForwardOpen, ForwardClose
+--     target                               Target
 use Rattle.std.specs.Prelude.{ℕ, ◌==◌, ◌||◌, nat_lt, not, if◌then◌else◌, Option, Some, None, Result, Ok, Err, List, length, slice_index, is_some, Bool}
+use Rattle.cip_base.specs.Words.{Octets, PortIdentifier}
 use Rattle.cip_segment.specs.Reading.{segments_of}
 use Rattle.cip_message.specs.Request.{Request}
 use Rattle.cip_message.specs.RequestAt.{request_at}
@@ -7,8 +20,8 @@ use Rattle.cip_message.specs.declared.fault.RequestFault.{RequestFault}
 use Rattle.cip_message.specs.declared.fault.RequestFault.TheVariants.{TooShort, PathSize, Path, NotRequest}
 use Rattle.cip_module.specs.declared.config.ModuleSettings.{ModuleSettings}
 use Rattle.cip_target.specs.declared.object.ObjectPath.{ObjectPath}
-use Rattle.cip_module.specs.declared.rows.RequestRefusal.{RequestRefusal}
-use Rattle.cip_module.specs.declared.rows.RequestRefusal.TheVariants.{PathPastTheEnd, PathUnreadable, PathFormNotSupported, NoSuchManagerInstance, ServiceNotSupported}
+use Rattle.cip_module.specs.declared.refusals.RequestRefusal.{RequestRefusal}
+use Rattle.cip_module.specs.declared.refusals.RequestRefusal.TheVariants.{PathPastTheEnd, PathUnreadable, PathFormNotSupported, NoSuchManagerInstance, ServiceNotSupported}
 use Rattle.cip_module.specs.Config.{port_of}
 use Rattle.cip_target.specs.Object.{object_of}
 
@@ -17,9 +30,9 @@ pub data RequestRow : Type 0 where
   NotARequest : RequestRow
   Refuses : (service : ℕ) → (refusal : RequestRefusal) → RequestRow
   -- the Connection Manager: an Unconnected_Send, a Forward_Open or a Forward_Close with this data
-  UnconnectedSend : (sent : List ℕ) → RequestRow
-  ForwardOpen : (asked : List ℕ) → RequestRow
-  ForwardClose : (asked : List ℕ) → RequestRow
+  UnconnectedSend : (sent : Octets) → RequestRow
+  ForwardOpen : (asked : Octets) → RequestRow
+  ForwardClose : (asked : Octets) → RequestRow
   Target : (request : Request) → RequestRow
 
 -- the Connection Manager's instance first, then its services
@@ -42,13 +55,14 @@ unread_row service NotRequest = NotARequest
 unread_row service PathSize = Refuses service PathPastTheEnd
 unread_row service (Path fault) = Refuses service PathUnreadable
 
-abbrev pub read_row : List ℕ → Result Request RequestFault → RequestRow
+abbrev pub read_row : Octets → Result Request RequestFault → RequestRow
 read_row bytes (Err fault) = unread_row (slice_index bytes 0) fault
 read_row bytes (Ok r) = object_row r (object_of (segments_of r.path))
 
-abbrev pub is_malformed : ModuleSettings → ℕ → List ℕ → Bool
+abbrev pub is_malformed : ModuleSettings → PortIdentifier → Octets → Bool
 is_malformed config port bytes = not (is_some (port_of config port)) || nat_lt 1400 (length bytes)
 
 -- the row of a request that came in by a port
-unfoldable pub request_row : ModuleSettings → ℕ → List ℕ → RequestRow
-request_row config port bytes = if is_malformed config port bytes then UnknownPortOrTooLong else read_row bytes (request_at bytes)
+unfoldable pub request_row : ModuleSettings → PortIdentifier → Octets → RequestRow
+request_row config port bytes = if is_malformed config port bytes then UnknownPortOrTooLong
+    else read_row bytes (request_at bytes)

@@ -35,6 +35,7 @@ pub record ShowsState (s : State) (tables : Tables) : Type 0 where
   pub last_id : tables.last_id + 1 ≡ s.hops.next
   pub last_number : tables.last_number + 1 ≡ s.pendings.next
   pub pendings : tables.pendings ≡ map row_of (finite.entries s.pendings.entries)
-  pub hops : tables.hops ≡ map hop_row_of (filter_map (λ e. as_hop e.1) (finite.entries s.hops.held))
+  pub hops : tables.hops ≡ map hop_row_of
+      (filter_map (λ e. as_hop e.1) (finite.entries s.hops.held))
   pub assemblies : tables.assemblies ≡ map assembly_row_of (finite.entries s.assemblies)
   pub ops : tables.ops ≡ s.ops

@@ -18,13 +18,16 @@ pub enum StepFault {
     /// A growth was refused.
     #[error("out of memory")]
     NoMemory(Event),
-    /// The tick would lead past the last time, 9,223,372,036,854,775,807 microseconds. It is looked at first.
+    /// The tick would lead past the last time, 9,223,372,036,854,775,807 microseconds. It is looked
+    /// at first.
     #[error("the clock is full")]
     ClockFull(Event),
 }
 
-/// A module of a chassis: a config that never changes, and a state that each event changes as the routing table says.
-/// In every state each connection that is opening waits for the reply to one request, and each request that opens for one
+/// A module of a chassis: a config that never changes, and a state that each event changes as the
+/// routing table says.
+/// In every state each connection that is opening waits for the reply to one request, and each
+/// request that opens for one
 /// connection: the law `paired`.
 pub trait Module: Drop {
     ghost config_of: { Self → Settings };
@@ -37,10 +40,13 @@ pub trait Module: Drop {
     fn config(&self) -> &ModuleConfig
         ensures { result.now ≡ config_of self.now };
 
-    /// Takes one event: a command, a frame or a tick. The outputs and the new state are those of the routing table.
+    /// Takes one event: a command, a frame or a tick. The outputs and the new state are those of
+    /// the routing table.
     fn step(&mut self, event: Event) -> Result<Vec<Output>, StepFault>
-        ensures ok { IfOk result (λ outputs. IsStep (config_of self.old) (state_of self.old) event (state_of self.new) outputs.items) }
-        ensures fault { IsStepFault (config_of self.old) (state_of self.old) event (state_of self.new) result }
+        ensures ok { IfOk result (λ outputs. IsStep (config_of self.old) (state_of self.old) event
+            (state_of self.new) outputs.items) }
+        ensures fault { IsStepFault (config_of self.old) (state_of self.old) event
+            (state_of self.new) result }
         ensures config { config_of self.new ≡ config_of self.old };
 
     /// The state, as lists in rising key.

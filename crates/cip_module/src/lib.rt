@@ -2,14 +2,16 @@
 #![tactic(auto)]
 
 mod adapter;
+mod answers;
 mod close_rows;
 mod closes;
+mod command_rows;
 mod commands;
 mod config;
 mod contract;
 mod copies;
 mod datum;
-mod decisions;
+mod datum_rows;
 mod effects;
 mod event;
 mod keys;
@@ -18,23 +20,25 @@ mod links;
 mod lists;
 mod messages;
 mod node;
-mod object;
 mod open_rows;
 mod opens;
 mod plain;
 mod ports;
 mod production;
-mod reception;
+mod refusals;
 mod replies;
 mod reply_rows;
+mod request_rows;
 mod requests;
-mod rows;
 mod show;
 mod spent;
 mod step;
 mod tables;
+mod targets;
+mod tick_rows;
 mod ticks;
 mod unconnected;
+mod unconnected_rows;
 
 pub use adapter::AdapterModule;
 pub use config::{LegalAddresses, ModuleConfig, ModuleKind, ModuleSettings, PortConfig};
@@ -42,7 +46,7 @@ pub use contract::{Module, StepFault};
 pub use event::{Body, Command, Dropped, Event, OpenParams, Output, Refused};
 pub use lists::{Assemblies, Ports};
 pub use plain::PlainModule;
-pub use rows::{
+pub use refusals::{
     CloseRefusal, KeyPart, LinkRefusal, OpenRefusal, RequestRefusal, UnconnectedRefusal,
 };
 pub use tables::{

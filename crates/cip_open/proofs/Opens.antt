@@ -7,18 +7,14 @@ use Rattle.cip_base.specs.declared.triad.Triad.{Triad}
 use Rattle.cip_segment.specs.Spelling.{IsReadable}
 use Rattle.cip_segment.proofs.Whole.{whole_words}
 use Rattle.cip_message.specs.declared.fault.DataFault.{DataFault}
-use Rattle.cip_message.specs.Counted.{whole_length}
+use Rattle.cip_message.specs.Counted.{whole_length, with_part}
 use Rattle.cip_message.proofs.Words.{word_again, double_again, triad_again, word_back, double_back, triad_back}
-use Rattle.cip_message.proofs.Counteds.{counted_path_at-whole, counted_path_at-Short, counted_path_at-Long, counted_path_at-Path, counted_path_verdict}
-use Rattle.cip_message.proofs.Ends.{cut_off, overlong, whole-zeros, whole-take, cut_short, over_long}
-use Rattle.cip_message.proofs.Readers.{IsBytes-drop}
-use Rattle.cip_message.specs.declared.fault.DataFault.TheVariants.{Short, Long, Path}
-use Rattle.cip_segment.specs.Reading.{path_at}
-use Rattle.cip_segment.proofs.PathsRead.{path_at-IsFault}
+use Rattle.cip_message.proofs.Counteds.{counted_path_at-whole}
+use Rattle.cip_message.proofs.Parts.{path_verdict, path_faults}
 use Rattle.cip_message.proofs.Fronts.{fronts}
 use Rattle.cip_open.specs.declared.request.OpenFields.{OpenFields}
-use Rattle.cip_open.specs.Open.{Open, open_layout, LaysOpen, ReadsOpen, HasOpenLayout, IsOpenFault, open_data}
-use Rattle.cip_open.specs.OpenAt.{open_fields_in, with_open_path, open_at}
+use Rattle.cip_open.specs.Open.{Open, open_layout, LaysOpen, ReadsOpen, IsOpenFault, open_data}
+use Rattle.cip_open.specs.OpenAt.{open_fields_in, open_in, open_at}
 
 -- ---- what has the layout is read
 
@@ -51,7 +47,7 @@ opened fields path = Ok (record { fields = fields; path = path })
 layout_read : (x y z n : ℕ) (o : Open) → IsReadable o.path → length o.path ≡ 2 * n → open_at (open_layout x y z n o) ≡ Ok o
 unfolding open_at
 layout_read x y z n o readable len =
-    ap (with_open_path (open_layout x y z n o)) (counted_path_at-whole 35 36 (open_layout x y z n o) (omega (arith, len)) readable)
+    ap (with_part (open_in (open_layout x y z n o))) (counted_path_at-whole 35 36 (open_layout x y z n o) (omega (arith, len)) readable)
     ∙ ap (λ (f : OpenFields). opened f o.path) (layout_fields x y z n o)
 
 pub open_read : (b : List ℕ) (o : Open) → ReadsOpen b o → open_at b ≡ Ok o
@@ -64,7 +60,8 @@ parts t s ot_id to_id triad m x y z ot_rpi ot_params to_rpi to_params w n path =
     t ∷ s ∷ ot_id ++ (to_id ++ (triad ++ (m ∷ x ∷ y ∷ z ∷ ot_rpi ++ (ot_params ++ (to_rpi ++ (to_params ++ (w ∷ n ∷ path)))))))
 
 same_parts : (t s : ℕ) (a a' b b' c c' : List ℕ) (m x y z : ℕ) (d d' e e' f f' g g' : List ℕ) (w n : ℕ) (path : List ℕ)
-    → a ≡ a' → b ≡ b' → c ≡ c' → d ≡ d' → e ≡ e' → f ≡ f' → g ≡ g' → parts t s a b c m x y z d e f g w n path ≡ parts t s a' b' c' m x y z d' e' f' g' w n path
+    → a ≡ a' → b ≡ b' → c ≡ c' → d ≡ d' → e ≡ e' → f ≡ f' → g ≡ g'
+    → parts t s a b c m x y z d e f g w n path ≡ parts t s a' b' c' m x y z d' e' f' g' w n path
 same_parts t s a a' b b' c c' m x y z d d' e e' f f' g g' w n path ea eb ec ed ee ef eg = rw (ea, eb, ec, ed, ee, ef, eg) refl
 
 lays : (b : List ℕ) → IsBytes b → length b ≡ whole_length 35 36 b → LaysOpen b (record { fields = open_fields_in b; path = drop 36 b })
@@ -78,46 +75,33 @@ lays b fits len =
       fronts 36 b (omega (arith, len))
           ∙ sym (same_parts (at 0) (at 1) _ (at 2 ∷ at 3 ∷ at 4 ∷ at 5 ∷ []) _ (at 6 ∷ at 7 ∷ at 8 ∷ at 9 ∷ [])
           _ (at 10 ∷ at 11 ∷ at 12 ∷ at 13 ∷ at 14 ∷ at 15 ∷ at 16 ∷ at 17 ∷ []) (at 18) (at 19) (at 20) (at 21)
-          _ (at 22 ∷ at 23 ∷ at 24 ∷ at 25 ∷ []) _ (at 26 ∷ at 27 ∷ []) _ (at 28 ∷ at 29 ∷ at 30 ∷ at 31 ∷ []) _ (at 32 ∷ at 33 ∷ []) (at 34) (at 35) (drop 36 b)
+          _ (at 22 ∷ at 23 ∷ at 24 ∷ at 25 ∷ []) _ (at 26 ∷ at 27 ∷ []) _ (at 28 ∷ at 29 ∷ at 30 ∷ at 31 ∷ []) _ (at 32 ∷ at 33 ∷ []) (at 34) (at 35)
+          (drop 36 b)
           (double_back (at 2) (at 3) (at 4) (at 5) (fits 2) (fits 3) (fits 4) (fits 5))
           (double_back (at 6) (at 7) (at 8) (at 9) (fits 6) (fits 7) (fits 8) (fits 9))
-          (triad_back (at 10) (at 11) (at 12) (at 13) (at 14) (at 15) (at 16) (at 17) (fits 10) (fits 11) (fits 12) (fits 13) (fits 14) (fits 15) (fits 16) (fits 17))
+          (triad_back (at 10) (at 11) (at 12) (at 13) (at 14) (at 15) (at 16) (at 17) (fits 10) (fits 11) (fits 12) (fits 13) (fits 14) (fits 15) (fits 16)
+          (fits 17))
           (double_back (at 22) (at 23) (at 24) (at 25) (fits 22) (fits 23) (fits 24) (fits 25))
           (word_back (at 26) (at 27) (fits 26))
           (double_back (at 28) (at 29) (at 30) (at 31) (fits 28) (fits 29) (fits 30) (fits 31))
           (word_back (at 32) (at 33) (fits 32))),
     )
 
-has_layout : (b : List ℕ) → IsBytes b → length b ≡ whole_length 35 36 b → HasOpenLayout b
-has_layout b fits len = (record { fields = open_fields_in b; path = drop 36 b }, lays b fits len)
+layout_len : (b : List ℕ) (o : Open) → LaysOpen b o → length b ≡ whole_length 35 36 b
+layout_len b o (x, y, z, n, len, e) = subst (λ (c : List ℕ). length c ≡ whole_length 35 36 c) (sym e) (omega (arith, len))
+
+path_is : (b : List ℕ) (o : Open) → LaysOpen b o → drop 36 b ≡ o.path
+path_is b o (x, y, z, n, len, e) = ap (λ (c : List ℕ). drop 36 c) e
 
 pub open_verdict : (b : List ℕ) → IsBytes b → MatchResult (open_at b) (ReadsOpen b) (IsOpenFault b)
 unfolding open_at
-open_verdict b fits =
-    counted_path_verdict (λ r. MatchResult (with_open_path b r) (ReadsOpen b) (IsOpenFault b)) 35 36 b fits
-    (λ lt. cut_off HasOpenLayout (whole_length 35 36) has_layout (whole-zeros 35 36) b fits lt)
-    (λ lt. overlong HasOpenLayout (whole_length 35 36) has_layout (λ c le. whole-take 35 36 c (omega arith)) b fits lt)
-    (λ e readable. (readable, lays b fits e))
-    (λ e f fault. (record { fields = open_fields_in b; path = drop 36 b }, lays b fits e, fault))
+open_verdict b fits = path_verdict 35 36 (omega arith) open_in LaysOpen lays layout_len (λ o. o.path) (λ c p. refl) path_is b fits
+
+pub open_faults : (b : List ℕ) (f : DataFault) → IsBytes b → IsOpenFault b f → open_at b ≡ Err f
+unfolding open_at
+open_faults b f fits h = path_faults 35 36 (omega arith) open_in LaysOpen lays layout_len (λ o. o.path) (λ c p. refl) path_is b f fits h
 
 -- ---- what is written is read back
 
 pub open_back : (o : Open) → IsReadable o.path → open_at (open_data o) ≡ Ok o
 open_back o readable = layout_read 0 0 0 (length o.path / 2) o readable (whole_words o.path readable)
-
--- ---- a fault that fits is the one that is answered
-
-layout_len : (b : List ℕ) → HasOpenLayout b → length b ≡ whole_length 35 36 b
-layout_len b (o, (x, y, z, n, len, e)) = subst (λ (c : List ℕ). length c ≡ whole_length 35 36 c) (sym e) (omega (arith, len))
-
-path_is : (b : List ℕ) (o : Open) → LaysOpen b o → drop 36 b ≡ o.path
-path_is b o (x, y, z, n, len, e) = ap (λ (c : List ℕ). drop 36 c) e
-
-pub open_faults : (b : List ℕ) (f : DataFault) → IsBytes b → IsOpenFault b f → open_at b ≡ Err f
-unfolding open_at
-open_faults b Short fits h = ap (with_open_path b) (counted_path_at-Short 35 36 b (cut_short HasOpenLayout 35 36 (omega arith) layout_len b h))
-open_faults b Long fits h = ap (with_open_path b) (counted_path_at-Long 35 36 b (over_long HasOpenLayout 35 36 (omega arith) layout_len b h))
-open_faults b (Path f) fits (o, lays_o, fault) =
-    let behind : drop 36 b ≡ o.path = path_is b o lays_o in
-    let path_fits : IsBytes o.path = subst IsBytes behind (IsBytes-drop 36 b fits) in
-    ap (with_open_path b) (counted_path_at-Path 35 36 b f (layout_len b (o, lays_o)) (ap path_at behind ∙ path_at-IsFault o.path f path_fits fault))

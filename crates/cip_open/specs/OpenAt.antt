@@ -1,14 +1,16 @@
--- What reading data as that of Forward_Open gives: each field at its place. Definitions above, which go by cases on what
--- was read, use these functions; the relation of `Open` says what they have to be, and the laws of this crate tie the two.
-use Rattle.std.specs.Prelude.{ℕ, List, slice_index, slice_get, Option, Result, Ok, Err}
+-- What reading data as that of Forward_Open gives: each field at its place. Definitions above,
+-- which go by cases on what was read, use these functions; the relation of `Open` says what they
+-- have to be, and the laws of this crate tie the two.
+use Rattle.std.specs.Prelude.{slice_index, slice_get, Option, Result}
+use Rattle.cip_base.specs.Words.{Octets, WordCount}
 use Rattle.cip_base.specs.declared.triad.Triad.{Triad}
 use Rattle.cip_message.specs.declared.fault.DataFault.{DataFault}
 use Rattle.cip_message.specs.Numbers.{word_in, double_in, triad_in, triad_within}
-use Rattle.cip_message.specs.Counted.{counted_path_at}
+use Rattle.cip_message.specs.Counted.{counted_path_at, with_part}
 use Rattle.cip_open.specs.declared.request.OpenFields.{OpenFields}
-use Rattle.cip_open.specs.Open.{Open}
+use Rattle.cip_open.specs.Open.{Open, open_with}
 
-abbrev pub open_fields_in : List ℕ → OpenFields
+abbrev pub open_fields_in : Octets → OpenFields
 open_fields_in b = record {
   timing = record { tick = slice_index b 0; ticks = slice_index b 1 };
   ot_id = double_in b 2;
@@ -22,18 +24,17 @@ open_fields_in b = record {
   transport = slice_index b 34;
 }
 
--- the record, once its path was read
-abbrev pub with_open_path : List ℕ → Result (List ℕ) DataFault → Result Open DataFault
-with_open_path b (Ok path) = Ok (record { fields = open_fields_in b; path = path })
-with_open_path b (Err f) = Err f
+abbrev pub open_in : Octets → Octets → Open
+open_in b path = open_with (open_fields_in b) path
 
--- the record, or the first fault that fits: the path size is byte 35, and the path begins at byte 36
-unfoldable pub open_at : List ℕ → Result Open DataFault
-open_at b = with_open_path b (counted_path_at 35 36 b)
+-- the record, or the first fault that fits: the path size is byte 35, and the path begins at byte
+-- 36
+unfoldable pub open_at : Octets → Result Open DataFault
+open_at b = with_part (open_in b) (counted_path_at 35 36 b)
 
 -- the triad and the path size, each where its bytes are there
-abbrev pub open_triad_of : List ℕ → Option Triad
+abbrev pub open_triad_of : Octets → Option Triad
 open_triad_of b = triad_within b 10
 
-abbrev pub open_words_of : List ℕ → Option ℕ
+abbrev pub open_words_of : Octets → Option WordCount
 open_words_of b = slice_get b 35

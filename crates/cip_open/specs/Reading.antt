@@ -1,5 +1,7 @@
 -- What borrowed messages say.
-use Rattle.cip_open.specs.Open.{Open}
+use Rattle.cip_segment.specs.declared.view.PathView.{PathView}
+use Rattle.cip_open.specs.Open.{Open, open_with}
+use Rattle.cip_open.specs.declared.request.OpenFields.{OpenFields}
 use Rattle.cip_open.specs.Success.{OpenSuccess}
 use Rattle.cip_open.specs.declared.request.OpenView.{OpenView}
 use Rattle.cip_open.specs.declared.success.OpenReply.{OpenReply}
@@ -7,5 +9,16 @@ use Rattle.cip_open.specs.declared.success.OpenReply.{OpenReply}
 abbrev pub open_of : OpenView → Open
 open_of v = record { fields = v.fields; path = v.path.bytes.now }
 
+-- the request along a borrowed path
+abbrev pub open_along : OpenFields → PathView → Open
+open_along fields path = open_with fields path.bytes.now
+
 abbrev pub success_of : OpenReply → OpenSuccess
-success_of r = record { ot_id = r.ot_id; to_id = r.to_id; triad = r.triad; ot_api = r.ot_api; to_api = r.to_api; reply = r.reply.now }
+success_of r = record {
+  ot_id = r.ot_id;
+  to_id = r.to_id;
+  triad = r.triad;
+  ot_api = r.ot_api;
+  to_api = r.to_api;
+  reply = r.reply.now;
+}

@@ -1,44 +1,46 @@
--- The data of a successful Forward_Open's reply (Volume 1, chapter 3, Forward_Open, successful response).
-use Rattle.std.specs.Prelude.{◌≡◌, ℕ, ◌*◌, ◌/◌, List, ◌∷◌, ◌++◌, length}
+-- The data of a successful Forward_Open's reply (Volume 1, chapter 3, Forward_Open, successful
+-- response).
+use Rattle.std.specs.Prelude.{◌≡◌, ℕ, ◌*◌, ◌/◌, ◌∷◌, ◌++◌, length}
 use Rattle.cip_base.specs.Fields.{double}
+use Rattle.cip_base.specs.Words.{Octets, ConnectionId, Microseconds, WordCount}
 use Rattle.cip_base.specs.declared.triad.Triad.{Triad}
 use Rattle.cip_message.specs.declared.fault.DataFault.{DataFault}
-use Rattle.cip_message.specs.declared.fault.DataFault.TheVariants.{Short, Long, Path}
 use Rattle.cip_message.specs.Numbers.{triad_bytes}
-use Rattle.cip_message.specs.Cut.{IsCutOff, IsOverlong}
+use Rattle.cip_message.specs.Cut.{IsPartFault}
 use Rattle.cip_message.specs.Reply.{reply_bytes, done_with}
 
 pub record OpenSuccess : Type 0 where
-  pub ot_id : ℕ
-  pub to_id : ℕ
+  pub ot_id : ConnectionId
+  pub to_id : ConnectionId
   pub triad : Triad
-  pub ot_api : ℕ
-  pub to_api : ℕ
-  pub reply : List ℕ
+  pub ot_api : Microseconds
+  pub to_api : Microseconds
+  pub reply : Octets
 
--- O→T and T→O connection id, connection triad, O→T and T→O API, size of the application reply in words, a reserved byte,
--- the application reply
-abbrev pub open_reply_layout : ℕ → ℕ → OpenSuccess → List ℕ
+-- O→T and T→O connection id, connection triad, O→T and T→O API, size of the application reply in
+-- words, a reserved byte, the application reply
+abbrev pub open_reply_layout : WordCount → ℕ → OpenSuccess → Octets
 open_reply_layout words x s =
-    double s.ot_id ++ (double s.to_id ++ (triad_bytes s.triad ++ (double s.ot_api ++ (double s.to_api ++ (words ∷ x ∷ s.reply)))))
+    double s.ot_id ++ (double s.to_id ++ (triad_bytes s.triad
+    ++ (double s.ot_api ++ (double s.to_api ++ (words ∷ x ∷ s.reply)))))
 
 -- the reserved byte has any value
-abbrev pub ReadsOpenReply : List ℕ → OpenSuccess → Type 0
-ReadsOpenReply b s = (words : ℕ) × (x : ℕ) × (length s.reply ≡ 2 * words) × (b ≡ open_reply_layout words x s)
+abbrev pub ReadsOpenReply : Octets → OpenSuccess → Type 0
+ReadsOpenReply b s =
+    (words : WordCount) × (x : ℕ)
+    × (length s.reply ≡ 2 * words) × (b ≡ open_reply_layout words x s)
 
-abbrev pub HasOpenReplyLayout : List ℕ → Type 0
+abbrev pub HasOpenReplyLayout : Octets → Type 0
 HasOpenReplyLayout b = (s : OpenSuccess) × ReadsOpenReply b s
 
 -- the first fault that fits
-abbrev pub IsOpenReplyFault : List ℕ → DataFault → Type 0
-IsOpenReplyFault b Short = IsCutOff HasOpenReplyLayout b
-IsOpenReplyFault b Long = IsOverlong HasOpenReplyLayout b
-IsOpenReplyFault b (Path f) = ⊥
+abbrev pub IsOpenReplyFault : Octets → DataFault → Type 0
+IsOpenReplyFault b f = IsPartFault HasOpenReplyLayout (λ c g. ⊥) b f
 
 -- the data as it is written: the reserved byte 00
-abbrev pub open_reply_data : OpenSuccess → List ℕ
+abbrev pub open_reply_data : OpenSuccess → Octets
 open_reply_data s = open_reply_layout (length s.reply / 2) 0 s
 
 -- the whole message: a reply of Forward_Open with status 00
-abbrev pub open_reply_bytes : OpenSuccess → List ℕ
+abbrev pub open_reply_bytes : OpenSuccess → Octets
 open_reply_bytes s = reply_bytes (done_with 0xD4 (open_reply_data s))

@@ -1,6 +1,7 @@
 //! The network connection parameters of one direction of a connection.
 
-/// How urgent a connection's data is (Volume 1, chapter 3, network connection parameters, priority).
+/// How urgent a connection's data is (Volume 1, chapter 3, network connection parameters,
+/// priority).
 #[derive(Clone, Copy, Debug, PartialEq, Eq)]
 pub enum Priority {
     Low,
@@ -9,7 +10,8 @@ pub enum Priority {
     Urgent,
 }
 
-/// How many consumers a connection has (Volume 1, chapter 3, network connection parameters, connection type).
+/// How many consumers a connection has (Volume 1, chapter 3, network connection parameters,
+/// connection type).
 #[derive(Clone, Copy, Debug, PartialEq, Eq)]
 pub enum ConnectionKind {
     Null,

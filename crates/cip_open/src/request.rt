@@ -1,14 +1,14 @@
 //! The request Forward_Open.
-ghost use Rattle.std.specs.Prelude.{◌≡◌, ◌≤◌, ◌++◌, length, IfOk, IfErr, IsOkAnd};
+ghost use Rattle.std.specs.Prelude.{◌≡◌, ◌≤◌, ◌++◌, length, IfOk, IfErr};
 ghost use Rattle.cip_message.specs.Gives.{Gives};
-ghost use Rattle.cip_open.specs.Open.{Open, ReadsOpen, IsOpenFault, open_with, open_bytes};
+ghost use Rattle.cip_message.specs.Exact.{GivesOnly};
+ghost use Rattle.cip_open.specs.Open.{ReadsOpen, IsOpenFault, open_bytes};
 ghost use Rattle.cip_open.specs.OpenAt.{open_fields_in, open_at, open_triad_of, open_words_of};
-ghost use Rattle.cip_open.specs.Reading.{open_of};
+ghost use Rattle.cip_open.specs.Reading.{open_of, open_along};
 
-use cip_base::{Bytes, NoMemory, Timing, Triad};
+use cip_base::{Bytes, NoMemory, Timing, Triad, put_double, put_word};
 use cip_message::{
-    DataFault, counted_path, double_at, put_double, put_manager_header, put_triad, put_word,
-    triad_within, word_at,
+    DataFault, counted_path, double_at, put_manager_header, put_triad, triad_within, word_at,
 };
 use cip_segment::PathView;
 use std::alloc::{AllocError, Global};
@@ -18,7 +18,8 @@ const FORWARD_OPEN: u8 = 0x54;
 /// The service of its reply.
 pub(crate) const FORWARD_OPEN_REPLY: u8 = 0xD4;
 
-/// The fixed fields of Forward_Open (Volume 1, chapter 3, Forward_Open). Reserved bits stay as they are.
+/// The fixed fields of Forward_Open (Volume 1, chapter 3, Forward_Open). Reserved bits stay as they
+/// are.
 #[derive(Clone, Copy, Debug, PartialEq, Eq)]
 pub struct OpenFields {
     /// Priority/time tick and time-out ticks.
@@ -87,27 +88,27 @@ fn view(data_: &[u8]) -> Result<OpenView<'_>, DataFault>
 /// The Forward_Open that the data is, all of it; the data is what follows the path of the request
 /// (Volume 1, chapter 3, Forward_Open). The reserved bytes have any value. It takes no memory.
 ///
-/// Otherwise the first that fits: Short where bytes are missing, Long where bytes stand after the path, Path of the path's
-/// fault.
+/// Otherwise the first that fits: Short where bytes are missing, Long where bytes stand after the
+/// path, Path of the path's fault.
 pub fn read_open(data_: &[u8]) -> Result<OpenView<'_>, DataFault>
     ensures found { IfOk result (λ view. ReadsOpen data_.now (open_of view)) }
-    ensures only { (o : Open) → ReadsOpen data_.now o → IsOkAnd result (λ view. open_of view ≡ o) }
+    ensures only { GivesOnly open_of result (ReadsOpen data_.now) }
     ensures fault { IfErr result (IsOpenFault data_.now) }
     ensures gives { Gives open_of result (open_at data_.now) }
 {
     view(data_)
 }
 
-/// The connection triad in the data of a Forward_Open; None exactly where one of its bytes is missing. The data may be cut
-/// after it.
+/// The connection triad in the data of a Forward_Open; None exactly where one of its bytes is
+/// missing. The data may be cut after it.
 pub fn triad_at(data_: &[u8]) -> Option<Triad>
     ensures { result ≡ open_triad_of data_.now }
 {
     triad_within(data_, 10)
 }
 
-/// The path size in the data of a Forward_Open, in words; None exactly where that byte is missing. The data may be cut
-/// after it.
+/// The path size in the data of a Forward_Open, in words; None exactly where that byte is missing.
+/// The data may be cut after it.
 pub fn words_at(data_: &[u8]) -> Option<u8>
     ensures { result ≡ open_words_of data_.now }
 {
@@ -115,7 +116,7 @@ pub fn words_at(data_: &[u8]) -> Option<u8>
 }
 
 fn joined(alloc: Global, fields: &OpenFields, path: PathView<'_>) -> Result<Vec<u8>, AllocError>
-    ensures { IfOk result (λ v. v.items ≡ open_bytes (open_with fields.now path.entry.bytes.now)) }
+    ensures { IfOk result (λ v. v.items ≡ open_bytes (open_along fields.now path.entry)) }
 {
     let mut bytes = Vec::new(alloc);
     put_manager_header(&mut bytes, FORWARD_OPEN)?;
@@ -133,10 +134,10 @@ fn joined(alloc: Global, fields: &OpenFields, path: PathView<'_>) -> Result<Vec<
     Ok(bytes)
 }
 
-/// The whole message of a Forward_Open to the Connection Manager: header, the fixed fields with the reserved bytes 00, path
-/// size in words, path (Volume 1, chapter 3, Forward_Open).
+/// The whole message of a Forward_Open to the Connection Manager: header, the fixed fields with the
+/// reserved bytes 00, path size in words, path (Volume 1, chapter 3, Forward_Open).
 pub fn write_open(alloc: Global, fields: &OpenFields, path: PathView<'_>) -> Result<Bytes, NoMemory>
-    ensures { IfOk result (λ b. b ≡ open_bytes (open_with fields.now path.entry.bytes.now)) }
+    ensures { IfOk result (λ b. b ≡ open_bytes (open_along fields.now path.entry)) }
 {
     Ok(Bytes::of(joined(alloc, fields, path)?))
 }

@@ -26,9 +26,9 @@ fn kind(bits: u16) -> ConnectionKind
     }
 }
 
-/// The parts of a word of network connection parameters: bits 8 to 0 the size, bit 9 variable, bits 11 to 10 the priority,
-/// bits 14 to 13 the connection type, bit 15 redundant owner; bit 12 is reserved and left out (Volume 1, chapter 3, network
-/// connection parameters). It takes no memory.
+/// The parts of a word of network connection parameters: bits 8 to 0 the size, bit 9 variable, bits
+/// 11 to 10 the priority, bits 14 to 13 the connection type, bit 15 redundant owner; bit 12 is
+/// reserved and left out (Volume 1, chapter 3, network connection parameters). It takes no memory.
 pub fn params(word: u16) -> Params
     ensures { result ≡ params_of word }
 {

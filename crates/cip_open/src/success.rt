@@ -1,18 +1,18 @@
 //! The reply of a successful Forward_Open.
-ghost use Rattle.std.specs.Prelude.{◌≡◌, ◌≤◌, ◌%◌, ◌++◌, length, IfOk, IfErr, IsOkAnd};
+ghost use Rattle.std.specs.Prelude.{◌≡◌, ◌≤◌, ◌%◌, ◌++◌, length, IfOk, IfErr};
 ghost use Rattle.cip_message.specs.Gives.{Gives};
-ghost use Rattle.cip_open.specs.Success.{OpenSuccess, ReadsOpenReply, IsOpenReplyFault, open_reply_bytes};
+ghost use Rattle.cip_message.specs.Exact.{GivesOnly};
+ghost use Rattle.cip_open.specs.Success.{ReadsOpenReply, IsOpenReplyFault, open_reply_bytes};
 ghost use Rattle.cip_open.specs.SuccessAt.{open_reply_at};
 ghost use Rattle.cip_open.specs.Reading.{success_of};
 
 use crate::request::FORWARD_OPEN_REPLY;
-use cip_base::{Bytes, NoMemory, Status, Triad};
-use cip_message::{
-    DataFault, counted_part, double_at, put_double, put_reply_header, put_triad, triad_at,
-};
+use cip_base::{Bytes, NoMemory, Status, Triad, put_double};
+use cip_message::{DataFault, counted_part, double_at, put_reply_header, put_triad, triad_at};
 use std::alloc::{AllocError, Global};
 
-/// What the data of a successful Forward_Open's reply says (Volume 1, chapter 3, Forward_Open, successful response).
+/// What the data of a successful Forward_Open's reply says (Volume 1, chapter 3, Forward_Open,
+/// successful response).
 #[derive(Clone, Copy)]
 pub struct OpenReply<'a> {
     /// The O→T network connection id.
@@ -43,13 +43,15 @@ fn success(data_: &[u8]) -> Result<OpenReply<'_>, DataFault>
     })
 }
 
-/// What the data of a successful Forward_Open's reply says, all of it; the data is what follows the reply's status
-/// (Volume 1, chapter 3, Forward_Open, successful response). The reserved byte has any value. It takes no memory.
+/// What the data of a successful Forward_Open's reply says, all of it; the data is what follows the
+/// reply's status (Volume 1, chapter 3, Forward_Open, successful response). The reserved byte has
+/// any value. It takes no memory.
 ///
-/// Otherwise the first that fits: Short where bytes are missing, Long where bytes stand after the application reply.
+/// Otherwise the first that fits: Short where bytes are missing, Long where bytes stand after the
+/// application reply.
 pub fn read_open_reply(data_: &[u8]) -> Result<OpenReply<'_>, DataFault>
     ensures found { IfOk result (λ reply. ReadsOpenReply data_.now (success_of reply)) }
-    ensures only { (s : OpenSuccess) → ReadsOpenReply data_.now s → IsOkAnd result (λ reply. success_of reply ≡ s) }
+    ensures only { GivesOnly success_of result (ReadsOpenReply data_.now) }
     ensures fault { IfErr result (IsOpenReplyFault data_.now) }
     ensures gives { Gives success_of result (open_reply_at data_.now) }
 {
@@ -78,9 +80,10 @@ fn joined(alloc: Global, reply: &OpenReply<'_>) -> Result<Vec<u8>, AllocError>
     Ok(bytes)
 }
 
-/// The whole message of a successful Forward_Open's reply: the reply's header with status 00, the connection ids, the
-/// triad, the actual packet intervals, the size of the application reply in words, a reserved 00, the application reply
-/// (Volume 1, chapter 3, Forward_Open, successful response). The application reply has an even number of bytes, at most 510.
+/// The whole message of a successful Forward_Open's reply: the reply's header with status 00, the
+/// connection ids, the triad, the actual packet intervals, the size of the application reply in
+/// words, a reserved 00, the application reply (Volume 1, chapter 3, Forward_Open, successful
+/// response). The application reply has an even number of bytes, at most 510.
 pub fn write_open_reply(alloc: Global, reply: &OpenReply<'_>) -> Result<Bytes, NoMemory>
     requires even { length reply.now.reply.now % 2 ≡ 0 }
     requires most { length reply.now.reply.now ≤ 510 }

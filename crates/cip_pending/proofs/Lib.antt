@@ -1,4 +1,3 @@
-pub mod Joined
 pub mod Search
 pub mod Ticks
 pub mod Steps

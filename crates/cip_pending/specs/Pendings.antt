@@ -1,8 +1,9 @@
 -- What a table of pendings is: a room, the next number, and a finite map from numbers to entries.
-use Rattle.std.specs.Prelude.{◌≡◌, ℕ, ◌+◌, ◌^◌, ◌<◌, ◌≤◌, Bool, true, not, ◌&&◌, ◌==◌, List, Option, Some, None, Result, Ok, Err, nat_le, nat_lt, if◌then◌else◌, find, filter, option_and_then}
+use Rattle.std.specs.Prelude.{◌≡◌, ℕ, ◌+◌, ◌^◌, ◌<◌, ◌≤◌, Bool, true, not, ◌&&◌, ◌==◌, List, Option, Some, None, Result, Ok, Err, nat_le, nat_lt, MatchOption, if◌then◌else◌, find, filter, option_and_then}
 use Rattle.std.specs.Str.{bytes_eq}
 use Rattle.std.specs.Ordering.{nat_cmp}
 use Rattle.std.specs.FinMap as map
+use Rattle.cip_base.specs.Words.{LinkAddress, PortIdentifier, RequestNumber, Microseconds}
 use Rattle.cip_pending.specs.declared.entry.Entry.{Entry}
 use Rattle.cip_pending.specs.declared.entry.AddReason.{AddReason}
 use Rattle.cip_pending.specs.declared.entry.AddReason.TheVariants.{Full, NumbersSpent}
@@ -22,13 +23,25 @@ refusal p =
 
 -- with the entry under the next number
 abbrev pub added : Pendings → Entry → Pendings
-added p entry = record { room = p.room; next = p.next + 1; entries = map.insert p.entries p.next entry }
+added p entry = record {
+  room = p.room;
+  next = p.next + 1;
+  entries = map.insert p.entries p.next entry;
+}
 
-abbrev pub without : Pendings → ℕ → Pendings
+abbrev pub without : Pendings → RequestNumber → Pendings
 without p number = record { room = p.room; next = p.next; entries = map.remove p.entries number }
 
+-- without it, where it goes
+abbrev pub without_if : Bool → Pendings → RequestNumber → Pendings
+without_if goes p number = if goes then without p number else p
+
+-- without the entry that went, if one did
+abbrev pub IsWithout : Option (RequestNumber × Entry) → Pendings → Pendings → Type 0
+IsWithout gone p new = MatchOption gone (new ≡ p) (λ e. new ≡ without p e.0)
+
 -- whether this entry was sent to this address by this port
-abbrev pub is_asked : ℕ → List ℕ → Entry → Bool
+abbrev pub is_asked : PortIdentifier → LinkAddress → Entry → Bool
 is_asked port address entry = entry.port == port && bytes_eq entry.address address
 
 -- the next number, or the entry handed back
@@ -36,45 +49,48 @@ abbrev pub fault_of : AddReason → Entry → AddFault
 fault_of Full entry = FullWith entry
 fault_of NumbersSpent entry = SpentWith entry
 
-abbrev pub unless_refused : Option AddReason → ℕ → Entry → Result ℕ AddFault
+abbrev pub unless_refused : Option AddReason → RequestNumber → Entry → Result RequestNumber AddFault
 unless_refused None next entry = Ok next
 unless_refused (Some reason) next entry = Err (fault_of reason entry)
 
-abbrev pub add_gives : Pendings → Entry → Result ℕ AddFault
+abbrev pub add_gives : Pendings → Entry → Result RequestNumber AddFault
 add_gives p entry = unless_refused (refusal p) p.next entry
 
 -- the entry that waits under this number for a reply from there
-abbrev pub waiting_at : Pendings → ℕ → ℕ → List ℕ → Option Entry
+abbrev pub waiting_at : Pendings → RequestNumber → PortIdentifier → LinkAddress → Option Entry
 waiting_at p number port address =
-    option_and_then (λ entry. if is_asked port address entry then Some entry else None) (map.get p.entries number)
+    option_and_then (λ entry. if is_asked port address entry then Some entry else None)
+    (map.get p.entries number)
 
 -- whether an entry is due at this time
-abbrev pub is_due : ℕ → (ℕ × Entry) → Bool
+abbrev pub is_due : Microseconds → (RequestNumber × Entry) → Bool
 is_due now e = nat_le e.1.deadline now
 
 -- the due entry of the least number
-abbrev pub first_due : ℕ → Pendings → Option (ℕ × Entry)
+abbrev pub first_due : Microseconds → Pendings → Option (RequestNumber × Entry)
 first_due now p = find (is_due now) (map.entries p.entries)
 
 -- all that are due, in rising number
-abbrev pub due : ℕ → Pendings → List (ℕ × Entry)
+abbrev pub due : Microseconds → Pendings → List (RequestNumber × Entry)
 due now p = filter (is_due now) (map.entries p.entries)
 
 -- and all others
-abbrev pub rest : ℕ → Pendings → List (ℕ × Entry)
+abbrev pub rest : Microseconds → Pendings → List (RequestNumber × Entry)
 rest now p = filter (λ e. not (is_due now e)) (map.entries p.entries)
 
-abbrev pub is_after : Option ℕ → ℕ → Bool
+abbrev pub is_after : Option RequestNumber → RequestNumber → Bool
 is_after None number = true
 is_after (Some n) number = nat_lt n number
 
 -- the entry of the least number above
-abbrev pub first_after : Option ℕ → Pendings → Option (ℕ × Entry)
+abbrev pub first_after : Option RequestNumber → Pendings → Option (RequestNumber × Entry)
 first_after after p = find (λ e. is_after after e.0) (map.entries p.entries)
 
--- what every table keeps: a number of 32 bits, or one past the last; each number in use was given; no more entries than room
+-- what every table keeps: a number of 32 bits, or one past the last; each number in use was given;
+-- no more entries than room
 pub record IsWithin (p : Pendings) : Type 0 where
   pub some : 0 < p.next
   pub spent : p.next ≤ 2 ^ 32
-  pub below : (number : ℕ) (entry : Entry) → map.get p.entries number ≡ Some entry → number < p.next
+  pub below : (number : RequestNumber) (entry : Entry)
+      → map.get p.entries number ≡ Some entry → number < p.next
   pub fits : map.len p.entries ≤ p.room

@@ -5,7 +5,8 @@ ghost use Rattle.cip_pending.specs.Pendings.{is_asked};
 use cip_base::{Address, PortNumber, Triad};
 use thiserror::Error;
 
-/// Whom a reply goes to: the node on a link that asked, under the number that it gave, or a command of this module.
+/// Whom a reply goes to: the node on a link that asked, under the number that it gave, or a command
+/// of this module.
 #[derive(Debug, Drop, PartialEq, Eq)]
 pub enum UpSide {
     Link {
@@ -18,7 +19,8 @@ pub enum UpSide {
     },
 }
 
-/// The service that was sent on (Volume 1, chapter 3): what Unconnected_Send carries, Forward_Open or Forward_Close.
+/// The service that was sent on (Volume 1, chapter 3): what Unconnected_Send carries, Forward_Open
+/// or Forward_Close.
 #[derive(Clone, Copy, Debug, PartialEq, Eq)]
 pub enum Kind {
     Unconnected,

@@ -1,13 +1,13 @@
 //! The table: records in a slab, and an index of their keys in rising number. All room is reserved.
 ghost use Rattle.std.specs.Prelude.{◌≡◌, ◌+◌, ◌++◌, ◌<◌, ◌≤◌, true, false, length, IfOk, ◌==◌, is_ok, is_some, if◌then◌else◌, MatchOption, option_map};
 ghost use Rattle.std.specs.List.{position};
-ghost use Rattle.std.specs.List.Sorted.{IsPartitionPoint};
+ghost use Rattle.std.specs.Ordering.{nat_cmp};
 ghost use Rattle.std.specs.Option.{option_copied, option_to_list};
 ghost use Rattle.std.specs.FinMap as map;
 ghost use Rattle.slab.specs.Slab.{get as get_record};
-ghost use Rattle.cip_pending.specs.Pendings.{refusal, add_gives, added, waiting_at, without, is_due, first_due, due, rest, first_after, is_after, IsWithin};
-ghost use Rattle.cip_pending.specs.Joined.{passes};
-ghost use Rattle.cip_pending.specs.Kept.{IsRising};
+ghost use Rattle.cip_pending.specs.Pendings.{refusal, add_gives, added, waiting_at, without, without_if, IsWithout, is_due, first_due, due, rest, first_after, is_after, IsWithin};
+ghost use Rattle.cip_base.specs.Joined.{passes};
+ghost use Rattle.cip_base.specs.Rising.{IsRising, Divides};
 
 use crate::entry::{AddFault, AddReason, Entry};
 use cip_base::{Address, NoMemory, PortNumber};
@@ -15,8 +15,8 @@ use slab::Slab;
 use std::alloc::Global;
 use std::marker::Model;
 
-/// The requests that wait for their replies, each under its number. Numbers rise and never come back.
-/// All memory is taken by `with_room`.
+/// The requests that wait for their replies, each under its number. Numbers rise and never come
+/// back. All memory is taken by `with_room`.
 #[derive(Drop)]
 pub struct PendingTable {
     room: usize,
@@ -46,8 +46,8 @@ impl Model for PendingTable {
 }
 
 impl PendingTable {
-    /// An empty table with room for `room` requests, whose first number is `first`, above 0. NoMemory where the room is
-    /// refused.
+    /// An empty table with room for `room` requests, whose first number is `first`, above 0.
+    /// NoMemory where the room is refused.
     pub fn with_room(alloc: Global, room: usize, first: u32) -> Result<PendingTable, NoMemory>
         requires { 0 < first }
         ensures { IfOk result (λ t. t ≡ record { room = room; next = first; entries = map.empty }) }
@@ -75,8 +75,9 @@ impl PendingTable {
         }
     }
 
-    /// Keeps a request under the next number, and gives that number. Full where the room is used up, and else
-    /// NumbersSpent where 0xFFFF_FFFF was given: the entry then comes back, and nothing changes.
+    /// Keeps a request under the next number, and gives that number. Full where the room is used
+    /// up, and else NumbersSpent where 0xFFFF_FFFF was given: the entry then comes back, and
+    /// nothing changes.
     pub fn add(&mut self, entry: Entry) -> Result<u32, AddFault>
         ensures value { result ≡ add_gives self.old entry }
         ensures after { self.new ≡ (if is_ok result then added self.old entry else self.old) }
@@ -112,7 +113,7 @@ impl PendingTable {
     /// Takes out the request of this number, where it went by this port to this address.
     pub fn take(&mut self, number: u32, port: PortNumber, address: &Address) -> Option<Entry>
         ensures value { result ≡ waiting_at self.old number port address.now }
-        ensures after { self.new ≡ (if is_some result then without self.old number else self.old) }
+        ensures after { self.new ≡ without_if (is_some result) self.old number }
     {
         let at = place_of(&self.order, number)?;
         let key = self.order[at].1;
@@ -126,7 +127,7 @@ impl PendingTable {
     /// Takes out the request of the least number whose deadline is at most `now`, in microseconds.
     pub fn expire(&mut self, now: u64) -> Option<(u32, Entry)>
         ensures value { result ≡ first_due now self.old }
-        ensures after { MatchOption result (self.new ≡ self.old) (λ gone. self.new ≡ without self.old gone.0) }
+        ensures after { IsWithout result self.old self.new }
 
         // What a loop over all that are due takes.
         ensures due { due now self.old ≡ option_to_list result ++ due now self.new }
@@ -156,11 +157,18 @@ impl PendingTable {
     {
         (self.next - 1) as u32
     }
+
+    /// That numbers rise and end: a fact for the proof of a caller, and no work.
+    pub fn is_within(&self)
+        ensures { IsWithin self.now }
+    {
+        let _last = self.last();
+    }
 }
 
 // Where the number stands, by binary search.
 fn place_of(order: &[(u32, usize)], number: u32) -> Option<usize>
-    requires { IsRising order.now }
+    requires { IsRising nat_cmp order.now }
     ensures { result ≡ position (λ p. p.0 == number) order.now }
 {
     order
@@ -186,9 +194,9 @@ fn is_due_at(records: &Slab<Entry>, key: usize, now: u64) -> bool
 
 // Where the numbers above begin, by binary search.
 fn place_after(order: &[(u32, usize)], after: Option<u32>) -> usize
-    requires { IsRising order.now }
+    requires { IsRising nat_cmp order.now }
     ensures bound { result ≤ length order.now }
-    ensures parts { IsPartitionPoint (λ p. is_after after p.0 ≡ false) (λ p. is_after after p.0 ≡ true) order.now result }
+    ensures parts { Divides (λ p. is_after after p.0) order.now result }
 {
     match after {
         None => 0,

@@ -57,7 +57,8 @@ pub wide_scans : (k : Kind) (n : ℕ) (w y : List ℕ) → IsWord n w → wide_a
 unfolding wide_at
 wide_scans k n w y h = rw (word_scans n w y h) refl
 
-pub plain_port_scans : (q : ℕ) (a : List ℕ) (low : ℕ) (w y : List ℕ) → IsPortNumber q low w → length a ≡ 1 → segment_at (low ∷ (w ++ (a ++ y))) ≡ found (Port q a) y
+pub plain_port_scans : (q : ℕ) (a : List ℕ) (low : ℕ) (w y : List ℕ) → IsPortNumber q low w → length a ≡ 1
+    → segment_at (low ∷ (w ++ (a ++ y))) ≡ found (Port q a) y
 unfolding segment_at port_at plain_port_at
 plain_port_scans q a low w y num one =
     let range = low_range q low w num in
@@ -73,7 +74,8 @@ size_scans n y least most =
     let small : ltb 16 n ≡ false = le-ltb _ _ most in
     rw (nonzero, small) refl
 
-pub sized_port_scans : (q : ℕ) (a : List ℕ) (low : ℕ) (w y : List ℕ) → IsPortNumber q low w → 1 ≤ length a → length a ≤ 16 → segment_at ((16 + low) ∷ (length a ∷ (w ++ (a ++ (pad (length a) ++ y))))) ≡ found (Port q a) y
+pub sized_port_scans : (q : ℕ) (a : List ℕ) (low : ℕ) (w y : List ℕ) → IsPortNumber q low w → 1 ≤ length a → length a ≤ 16
+    → segment_at ((16 + low) ∷ (length a ∷ (w ++ (a ++ (pad (length a) ++ y))))) ≡ found (Port q a) y
 unfolding segment_at port_at sized_port_at
 sized_port_scans q a low w y num least most =
     let range = low_range q low w num in
@@ -81,14 +83,28 @@ sized_port_scans q a low w y num least most =
     let nonzero : eqb ((16 + low) % 16) 0 ≡ false = ne_eqb _ _ (λ e. omega (arith, range)) in
     let sized : ltb (16 + low) 16 ≡ false = le-ltb _ _ (omega arith) in
     let back : 16 + low - 16 ≡ low = omega arith in
-    rw (logical, nonzero, sized, size_scans (length a) (w ++ (a ++ (pad (length a) ++ y))) least most, back, number_scans q low w (a ++ (pad (length a) ++ y)) num, padded_scans (length a) a y refl) refl
+    rw (
+      logical,
+      nonzero,
+      sized,
+      size_scans (length a) (w ++ (a ++ (pad (length a) ++ y))) least most,
+      back,
+      number_scans q low w (a ++ (pad (length a) ++ y)) num,
+      padded_scans (length a) a y refl,
+    ) refl
 
-pub fields_scan : (k : KeyFields) (v t p y : List ℕ) → IsWord k.vendor v → IsWord k.device_type t → IsWord k.product p → fields_at (v ++ (t ++ (p ++ (k.major ∷ k.minor ∷ y)))) ≡ found k y
+pub fields_scan : (k : KeyFields) (v t p y : List ℕ) → IsWord k.vendor v → IsWord k.device_type t → IsWord k.product p
+    → fields_at (v ++ (t ++ (p ++ (k.major ∷ k.minor ∷ y)))) ≡ found k y
 unfolding fields_at
 fields_scan k v t p y hv ht hp =
-    rw (word_scans k.vendor v (t ++ (p ++ (k.major ∷ k.minor ∷ y))) hv, word_scans k.device_type t (p ++ (k.major ∷ k.minor ∷ y)) ht, word_scans k.product p (k.major ∷ k.minor ∷ y) hp) refl
+    rw (
+      word_scans k.vendor v (t ++ (p ++ (k.major ∷ k.minor ∷ y))) hv,
+      word_scans k.device_type t (p ++ (k.major ∷ k.minor ∷ y)) ht,
+      word_scans k.product p (k.major ∷ k.minor ∷ y) hp,
+    ) refl
 
-pub key_scans : (k : KeyFields) (v t p y : List ℕ) → IsWord k.vendor v → IsWord k.device_type t → IsWord k.product p → segment_at (0x34 ∷ (0x04 ∷ (v ++ (t ++ (p ++ (k.major ∷ k.minor ∷ y)))))) ≡ found (Key k) y
+pub key_scans : (k : KeyFields) (v t p y : List ℕ) → IsWord k.vendor v → IsWord k.device_type t → IsWord k.product p
+    → segment_at (0x34 ∷ (0x04 ∷ (v ++ (t ++ (p ++ (k.major ∷ k.minor ∷ y)))))) ≡ found (Key k) y
 unfolding segment_at logical_at other_at key_at
 key_scans k v t p y hv ht hp = rw (fields_scan k v t p y hv ht hp) refl
 
@@ -101,7 +117,8 @@ unfolding segment_at logical_at other_at instance_at point_at key_at words_at sy
 form_scans (Port q a) x y (low, w, num, inl h) =
     ap segment_at (ap (λ (t : List ℕ). t ++ y) h.1 ∙ append_assoc (low ∷ w) a y) ∙ plain_port_scans q a low w y num h.0
 form_scans (Port q a) x y (low, w, num, inr h) =
-    ap segment_at (ap (λ (t : List ℕ). t ++ y) h.2 ∙ append_assoc (((16 + low) ∷ length a ∷ w) ++ a) (pad (length a)) y ∙ append_assoc ((16 + low) ∷ length a ∷ w) a (pad (length a) ++ y))
+    ap segment_at (ap (λ (t : List ℕ). t ++ y) h.2 ∙ append_assoc (((16 + low) ∷ length a ∷ w) ++ a) (pad (length a)) y
+    ∙ append_assoc ((16 + low) ∷ length a ∷ w) a (pad (length a) ++ y))
     ∙ sized_port_scans q a low w y num h.0 h.1
 form_scans (Class n) x y (inl h) = rw h.1 (narrow_scans kinds.Class n y)
 form_scans (Class n) x y (inr h) = rw h.2 (wide_scans kinds.Class n h.0 y h.1)
@@ -116,7 +133,8 @@ form_scans (Point n) x y (inr (inr h)) = rw (h.2, double_scans n h.0 y h.1) refl
 form_scans (Attribute n) x y (inl h) = rw h.1 (narrow_scans kinds.Attribute n y)
 form_scans (Attribute n) x y (inr h) = rw h.2 (wide_scans kinds.Attribute n h.0 y h.1)
 form_scans (Key k) x y h =
-    ap segment_at (ap (λ (t : List ℕ). t ++ y) h.8 ∙ append_assoc (((0x34 ∷ 0x04 ∷ h.0) ++ h.1) ++ h.2) (k.major ∷ k.minor ∷ []) y ∙ append_assoc ((0x34 ∷ 0x04 ∷ h.0) ++ h.1) h.2 (k.major ∷ k.minor ∷ y) ∙ append_assoc (0x34 ∷ 0x04 ∷ h.0) h.1 (h.2 ++ (k.major ∷ k.minor ∷ y)))
+    ap segment_at (ap (λ (t : List ℕ). t ++ y) h.8 ∙ append_assoc (((0x34 ∷ 0x04 ∷ h.0) ++ h.1) ++ h.2) (k.major ∷ k.minor ∷ []) y
+    ∙ append_assoc ((0x34 ∷ 0x04 ∷ h.0) ++ h.1) h.2 (k.major ∷ k.minor ∷ y) ∙ append_assoc (0x34 ∷ 0x04 ∷ h.0) h.1 (h.2 ++ (k.major ∷ k.minor ∷ y)))
     ∙ key_scans k h.0 h.1 h.2 y h.3 h.4 h.5
 form_scans (Words d) x y h = rw (h.3, bytes_scans (2 * h.0) d y h.2) refl
 form_scans (Symbol d) x y h =

@@ -63,7 +63,8 @@ unfolding hop_of
 hop_of-none b e = ap (λ (t : List Segment). hop_in t b) e
 
 -- a segment that is no port has no hop
-pub seen_other : (key : Option KeyFields) (v : SegmentView) (y : List ℕ) → ((q : ℕ) (a : _) → v ≡ views.Port q a → ⊥) → port_first key (segment_of v) y ≡ no_hop
+pub seen_other : (key : Option KeyFields) (v : SegmentView) (y : List ℕ) → ((q : ℕ) (a : _) → v ≡ views.Port q a → ⊥)
+    → port_first key (segment_of v) y ≡ no_hop
 seen_other key (views.Port q a) y other = absurd (other q a refl)
 seen_other key (views.Class n) y other = refl
 seen_other key (views.Instance n) y other = refl
@@ -76,7 +77,8 @@ seen_other key (views.Symbol d) y other = refl
 seen_other key (views.Inhibit n) y other = refl
 
 -- nor has one that is neither a port nor a key
-pub seen_neither : (v : SegmentView) (y : List ℕ) → ((q : ℕ) (a : _) → v ≡ views.Port q a → ⊥) → ((k : KeyFields) → v ≡ views.Key k → ⊥) → hop_first (segment_of v) y ≡ no_hop
+pub seen_neither : (v : SegmentView) (y : List ℕ) → ((q : ℕ) (a : _) → v ≡ views.Port q a → ⊥) → ((k : KeyFields) → v ≡ views.Key k → ⊥)
+    → hop_first (segment_of v) y ≡ no_hop
 seen_neither (views.Port q a) y other none = absurd (other q a refl)
 seen_neither (views.Class n) y other none = refl
 seen_neither (views.Instance n) y other none = refl
@@ -107,7 +109,8 @@ abbrev IsHopOf : List ℕ → Option HopAt → Type 0
 IsHopOf b None = Unit {0}
 IsHopOf b (Some h) = IsHop b h.key h.port h.address h.rest
 
-keyed_hop : (k : KeyFields) (b x y : List ℕ) (g : Segment) (z w : List ℕ) → b ≡ x ++ y → IsForm x (Key k) → y ≡ z ++ w → IsForm z g → IsReadable w → IsHopOf b (port_first (Some k) g w)
+keyed_hop : (k : KeyFields) (b x y : List ℕ) (g : Segment) (z w : List ℕ) → b ≡ x ++ y → IsForm x (Key k) → y ≡ z ++ w → IsForm z g → IsReadable w
+    → IsHopOf b (port_first (Some k) g w)
 keyed_hop k b x y (Port q a) z w parts key after form rest = (x, z, parts ∙ ap (λ (t : List ℕ). x ++ t) after, key, form, rest)
 keyed_hop k b x y (Class n) z w parts key after form rest = tt
 keyed_hop k b x y (Instance n) z w parts key after form rest = tt
@@ -119,7 +122,8 @@ keyed_hop k b x y (Words d) z w parts key after form rest = tt
 keyed_hop k b x y (Symbol d) z w parts key after form rest = tt
 keyed_hop k b x y (Inhibit n) z w parts key after form rest = tt
 
-behind_the_key : (k : KeyFields) (t : List Segment) (b x y : List ℕ) → IsReadable y → b ≡ x ++ y → IsForm x (Key k) → Spells y t → IsHopOf b (port_in (Some k) (segments_of y) y)
+behind_the_key : (k : KeyFields) (t : List Segment) (b x y : List ℕ) → IsReadable y → b ≡ x ++ y → IsForm x (Key k) → Spells y t
+    → IsHopOf b (port_in (Some k) (segments_of y) y)
 behind_the_key k [] b x y read parts key none = subst (λ (s : List Segment). IsHopOf b (port_in (Some k) s y)) (sym (segments_of-Spells y [] read none)) tt
 behind_the_key k (g ∷ t) b x y read parts key (z, w, after, form, others) =
     let s : Splits y g w = (z, after, form) in
@@ -187,7 +191,8 @@ first_left (views.Words d) y none = tt
 first_left (views.Symbol d) y none = tt
 first_left (views.Inhibit n) y none = tt
 
-pub left_of_other : (b y : List ℕ) (v : SegmentView) → ((k : KeyFields) → v ≡ views.Key k → ⊥) → IsSplit b (segment_of v) y → IfSome (hop_of b) (λ hop. y ≡ hop.rest)
+pub left_of_other : (b y : List ℕ) (v : SegmentView) → ((k : KeyFields) → v ≡ views.Key k → ⊥) → IsSplit b (segment_of v) y
+    → IfSome (hop_of b) (λ hop. y ≡ hop.rest)
 left_of_other b y v none s = subst (λ (o : Option HopAt). Left o y) (sym (hop_of-split b y (segment_of v) s)) (first_left v y none)
 
 -- ---- the laws

@@ -36,7 +36,9 @@ number_least h n x (inr (inl (w, (lo, hi, pl, ph, d, v), e))) =
     (λ _. longer_least (h ∷ n ∷ []) x (rw len (omega arith)))
     (λ _. rw two (same_least ((h + 1) ∷ 0 ∷ word n) x (e ∙ ap (λ (z : List ℕ). (h + 1) ∷ 0 ∷ z) (word_is n w (lo, hi, pl, ph, d, v)))))
 number_least h n x (inr (inr (w, (low, high, u, v, iu, iv, d, parts), e))) =
-    let whole : x ≡ (h + 2) ∷ 0 ∷ word low ++ word high = e ∙ ap (λ (z : List ℕ). (h + 2) ∷ 0 ∷ z) (parts ∙ ap (λ (z : List ℕ). z ++ v) (word_is low u iu) ∙ ap (λ (z : List ℕ). word low ++ z) (word_is high v iv)) in
+    let whole : x ≡ (h + 2) ∷ 0 ∷ word low ++ word high =
+    e ∙ ap (λ (z : List ℕ). (h + 2) ∷ 0 ∷ z) (parts ∙ ap (λ (z : List ℕ). z ++ v) (word_is low u iu)
+    ∙ ap (λ (z : List ℕ). word low ++ z) (word_is high v iv)) in
     let len : length x ≡ 6 = ap (λ (z : List ℕ). length z) whole in
     let small : low < 65536 = (let a = iu.2 in let b = iu.3 in let c = iu.4 in omega arith) in
     let l : n % 65536 ≡ low = omega arith in
@@ -53,9 +55,11 @@ IsPortForm low w a x = ((length a ≡ 1) × (x ≡ low ∷ w ++ a)) ⊎ ((1 ≤ 
 pub plain_len : (low : ℕ) (w a x : List ℕ) → x ≡ low ∷ w ++ a → length x ≡ 1 + (length w + length a)
 plain_len low w a x e = ap (λ (z : List ℕ). length z) e ∙ rw (length-append (low ∷ w) a) (omega arith)
 
-pub sized_len : (low : ℕ) (w a x : List ℕ) → x ≡ (16 + low) ∷ length a ∷ w ++ a ++ pad (length a) → length x ≡ 2 + (length w + length a) + length (pad (length a))
+pub sized_len : (low : ℕ) (w a x : List ℕ) → x ≡ (16 + low) ∷ length a ∷ w ++ a ++ pad (length a)
+    → length x ≡ 2 + (length w + length a) + length (pad (length a))
 sized_len low w a x e =
-    ap (λ (z : List ℕ). length z) e ∙ length-append (((16 + low) ∷ length a ∷ w) ++ a) (pad (length a)) ∙ ap (λ (n : ℕ). n + length (pad (length a))) (length-append ((16 + low) ∷ length a ∷ w) a ∙ (omega arith))
+    ap (λ (z : List ℕ). length z) e ∙ length-append (((16 + low) ∷ length a ∷ w) ++ a) (pad (length a))
+    ∙ ap (λ (n : ℕ). n + length (pad (length a))) (length-append ((16 + low) ∷ length a ∷ w) a ∙ (omega arith))
 
 port_form_least : (low k : ℕ) (w v a x : List ℕ) → ((low ≡ k) × (w ≡ v)) ⊎ (length v < length w) → IsPortForm low w a x → IsLeast (short_port k v a) x
 port_form_least low k w v a x (inl (same, w_is)) (inl (one, e)) =
@@ -73,7 +77,8 @@ port_form_least low k w v a x which (inr (least, most, e)) =
     (λ _. let short_len : length (k ∷ v ++ a) ≡ 1 + (length v + length a) = plain_len k v a (k ∷ v ++ a) refl in longer_least (k ∷ v ++ a) x (omega arith))
     (λ _. elim which [
       | inl s ↦ same_least ((16 + k) ∷ length a ∷ v ++ a ++ pad (length a)) x (e ∙ rw (s.0, s.1) refl)
-      | inr more ↦ (let short_len = sized_len k v a ((16 + k) ∷ length a ∷ v ++ a ++ pad (length a)) refl in longer_least ((16 + k) ∷ length a ∷ v ++ a ++ pad (length a)) x (omega arith))
+      | inr more ↦ (let short_len = sized_len k v a ((16 + k) ∷ length a ∷ v ++ a ++ pad (length a)) refl in
+          longer_least ((16 + k) ∷ length a ∷ v ++ a ++ pad (length a)) x (omega arith))
     ])
 
 port_least : (q : ℕ) (a x : List ℕ) → IsPort q a x → IsLeast (short_form (Port q a)) x
@@ -143,8 +148,11 @@ least (g ∷ s) b (x, y, e, f, h) =
     let one = form_least g x f in
     let others = least s y h in
     let whole : length b ≡ length x + length y = ap (λ (z : List ℕ). length z) e ∙ length-append x y in
-    let parts : length (short_form g ++ short s) ≡ length (short_form g) + length (short s) = length-append (short_form g) (short s) in
-    (omega (arith, one.0, others.0), λ le. e ∙ ap (λ (z : List ℕ). z ++ y) (one.1 (omega (arith, one.0, others.0))) ∙ ap (λ (z : List ℕ). short_form g ++ z) (others.1 (omega (arith, one.0, others.0))))
+    let parts : length (short_form g ++ short s) ≡ length (short_form g) + length (short s) = length-append (short_form g) (short s) in (
+      omega (arith, one.0, others.0),
+      λ le. e ∙ ap (λ (z : List ℕ). z ++ y) (one.1 (omega (arith, one.0, others.0)))
+          ∙ ap (λ (z : List ℕ). short_form g ++ z) (others.1 (omega (arith, one.0, others.0))),
+    )
 
 pub one_shortest : (b : List ℕ) (s : List Segment) → Spells b s → IsShortest (short s) s
 one_shortest b s h = (spells_short b s h, λ c d. least s c d)

@@ -99,7 +99,8 @@ not_begins done s p v h refuses (more, t, spelled) =
     not_spelled (p ++ v ∷ more) no.0 r.0 no.1 (not_nil p v more) r.2
 
 -- the fault at a text whose front is spelled, and whose rest is not read
-pub fault : (b done rest : List ℕ) (s : List Segment) (f : PathFault) → length b ≤ 510 → b ≡ done ++ rest → (rest ≡ [] → ⊥) → Spells done s → segment_at rest ≡ Err f → Stops rest f → IsFault b f
+pub fault : (b done rest : List ℕ) (s : List Segment) (f : PathFault) → length b ≤ 510 → b ≡ done ++ rest → (rest ≡ [] → ⊥) → Spells done s
+    → segment_at rest ≡ Err f → Stops rest f → IsFault b f
 fault b done rest s Truncated len parts some h e begins = (
   len,
   subst Begins (sym parts) (begins_after done s rest h begins),
@@ -108,15 +109,31 @@ fault b done rest s Truncated len parts some h e begins = (
       not_spelled rest Truncated r.0 e some r.2),
 )
 fault b done rest s (Reserved v) len parts some h e (p, more, w, there, begins, other, refuses) =
-    let goes : Begins ((done ++ p) ++ w ∷ []) = subst Begins (sym (append_assoc done p (w ∷ []))) (begins_after done s (p ++ w ∷ []) h begins) in
-    (len, (done ++ p, (more, parts ∙ ap (λ (z : List ℕ). done ++ z) there ∙ sym (append_assoc done p (v ∷ more)), Begins-front (done ++ p) (w ∷ []) goes, not_begins done s p v h refuses), λ due. other (due.1 w goes)))
+    let goes : Begins ((done ++ p) ++ w ∷ []) = subst Begins (sym (append_assoc done p (w ∷ []))) (begins_after done s (p ++ w ∷ []) h begins) in (
+      len,
+      (
+        done ++ p,
+        (
+          more,
+          parts ∙ ap (λ (z : List ℕ). done ++ z) there ∙ sym (append_assoc done p (v ∷ more)),
+          Begins-front (done ++ p) (w ∷ []) goes,
+          not_begins done s p v h refuses,
+        ),
+        λ due. other (due.1 w goes),
+      ),
+    )
 fault b done rest s BadPad len parts some h e (p, more, v, there, begins, other, refuses) =
     let goes : Begins ((done ++ p) ++ 0 ∷ []) = subst Begins (sym (append_assoc done p (0 ∷ []))) (begins_after done s (p ++ 0 ∷ []) h begins) in (
       len,
       (
         done ++ p,
         v,
-        (more, parts ∙ ap (λ (z : List ℕ). done ++ z) there ∙ sym (append_assoc done p (v ∷ more)), Begins-front (done ++ p) (0 ∷ []) goes, not_begins done s p v h (refuses v other)),
+        (
+          more,
+          parts ∙ ap (λ (z : List ℕ). done ++ z) there ∙ sym (append_assoc done p (v ∷ more)),
+          Begins-front (done ++ p) (0 ∷ []) goes,
+          not_begins done s p v h (refuses v other),
+        ),
         (goes, λ w begun. elim (cases_eq w 0) [ inl zero_is ↦ zero_is | inr not_zero ↦ absurd (not_begins done s p w h (refuses w not_zero) begun) ]),
       ),
     )
@@ -136,11 +153,16 @@ unreadable b TooLong h r = omega (arith, h, r.0)
 unreadable b NoMemory h r = h
 
 -- one more segment is read
-pub read_on : (b done rest after : List ℕ) (s : List Segment) (g : Segment) → IsBytes rest → b ≡ done ++ rest → Spells done s → segment_at rest ≡ Ok (g, after) → Verdict rest (segment_at rest)
+pub read_on : (b done rest after : List ℕ) (s : List Segment) (g : Segment) → IsBytes rest → b ≡ done ++ rest → Spells done s
+    → segment_at rest ≡ Ok (g, after) → Verdict rest (segment_at rest)
     → (whole : List ℕ) × (t : List Segment) × (b ≡ whole ++ after) × Spells whole t
 read_on b done rest after s g fits parts h e v =
-    let form : Verdict rest (found g after) = subst (λ (z : At Segment). Verdict rest z) e v in
-    (done ++ form.0, s ++ g ∷ [], parts ∙ ap (λ (z : List ℕ). done ++ z) form.2 ∙ sym (append_assoc done form.0 after), Spells-append s (g ∷ []) done form.0 h (form.0, [], sym (append-nil form.0), form.1, refl))
+    let form : Verdict rest (found g after) = subst (λ (z : At Segment). Verdict rest z) e v in (
+      done ++ form.0,
+      s ++ g ∷ [],
+      parts ∙ ap (λ (z : List ℕ). done ++ z) form.2 ∙ sym (append_assoc done form.0 after),
+      Spells-append s (g ∷ []) done form.0 h (form.0, [], sym (append-nil form.0), form.1, refl),
+    )
 
 pub shorter : (rest after : List ℕ) (g : Segment) → segment_at rest ≡ Ok (g, after) → Verdict rest (segment_at rest) → length after < length rest
 shorter rest after g e v =
@@ -171,10 +193,12 @@ one_more b rest after g fits h e =
     let r = read_on b h.done rest after h.list g fit h.parts h.spelled e (verdict rest fit) in
     record { done = r.0; list = r.1; parts = r.2; spelled = r.3 }
 
-pub at_fault : (b rest : List ℕ) (f : PathFault) → IsBytes b → length b ≤ 510 → (length rest ≡ 0 → ⊥) → IsReadTo b rest → segment_at rest ≡ Err f → IsFault b f
+pub at_fault : (b rest : List ℕ) (f : PathFault) → IsBytes b → length b ≤ 510 → (length rest ≡ 0 → ⊥) → IsReadTo b rest → segment_at rest ≡ Err f
+    → IsFault b f
 at_fault b rest f fits len some h e =
     let fit = rest_bytes b rest h fits in
-    fault b h.done rest h.list f len h.parts (λ none. some (ap (λ (z : List ℕ). length z) none)) h.spelled e (subst (λ (z : At Segment). Verdict rest z) e (verdict rest fit))
+    fault b h.done rest h.list f len h.parts (λ none. some (ap (λ (z : List ℕ). length z) none)) h.spelled e
+    (subst (λ (z : At Segment). Verdict rest z) e (verdict rest fit))
 
 pub at_end : (b rest : List ℕ) → length b ≤ 510 → length rest ≡ 0 → IsReadTo b rest → IsReadable b
 at_end b [] len e h = (len, ∣ (h.list, subst (λ (z : List ℕ). Spells z h.list) (sym (h.parts ∙ append-nil h.done)) h.spelled) ∣₁)
@@ -204,6 +228,7 @@ pub never_fails : (b : List ℕ) (f : PathFault) → (length b ≡ 0 → ⊥) �
 never_fails b f some e h =
     ∥∥₁_elim h.1 (λ x y. absurd x) (λ r. not_spelled b f r.0 e (λ none. some (ap (λ (z : List ℕ). length z) none)) r.1)
 
-pub gives_splits : {X : Type 0} (view : X → Segment × List ℕ) (r : Result X PathFault) (b : List ℕ) → IsBytes b → Gives view r (segment_at b) → IfOk r (λ x. Splits b (view x).0 (view x).1)
+pub gives_splits : {X : Type 0} (view : X → Segment × List ℕ) (r : Result X PathFault) (b : List ℕ) → IsBytes b → Gives view r (segment_at b)
+    → IfOk r (λ x. Splits b (view x).0 (view x).1)
 gives_splits view (Ok x) b fits e = splits b (view x).1 (view x).0 fits e
 gives_splits view (Err f) b fits e = tt

@@ -93,10 +93,12 @@ more_steps n m [] s e le = within-nil m ∙ sym (within-nil n) ∙ e
 more_steps zero m (v ∷ b) s e le = absurd cc
 more_steps (suc n) zero (v ∷ b) s e le = absurd (omega arith)
 more_steps (suc n) (suc m) (v ∷ b) s e le =
-    elim (segment_at (v ∷ b)) as (λ (r : At Segment). (r >>= λ first. (segments_within n first.1 >>= λ others. Ok (first.0 ∷ others))) ≡ got s → (r >>= λ first. (segments_within m first.1 >>= λ others. Ok (first.0 ∷ others))) ≡ got s) [
+    elim (segment_at (v ∷ b)) as (λ (r : At Segment). (r >>= λ first. (segments_within n first.1 >>= λ others. Ok (first.0 ∷ others))) ≡ got s
+    → (r >>= λ first. (segments_within m first.1 >>= λ others. Ok (first.0 ∷ others))) ≡ got s) [
       | Err f ↦ λ d. d
       | Ok first ↦ λ d.
-          elim (segments_within n first.1) as (λ (r : Read). segments_within n first.1 ≡ r → with_first first.0 r ≡ got s → with_first first.0 (segments_within m first.1) ≡ got s) [
+          elim (segments_within n first.1) as (λ (r : Read). segments_within n first.1 ≡ r → with_first first.0 r ≡ got s
+          → with_first first.0 (segments_within m first.1) ≡ got s) [
             | Err f ↦ λ was h. absurd cc
             | Ok others ↦ λ was h. ap (with_first first.0) (more_steps n m first.1 others was (omega arith)) ∙ h
           ] refl d
@@ -124,7 +126,8 @@ pub segments_of-nil : segments_of [] ≡ []
 segments_of-nil = segments_of-Spells [] [] (omega arith, ∣ ([], refl) ∣₁) refl
 
 -- a text that is read to a fault has that fault
-fault_within : (s : List Segment) (b done rest : List ℕ) (f : PathFault) (n : ℕ) → length b ≤ n → b ≡ done ++ rest → (rest ≡ [] → ⊥) → Spells done s → segment_at rest ≡ Err f → segments_within n b ≡ failed f
+fault_within : (s : List Segment) (b done rest : List ℕ) (f : PathFault) (n : ℕ) → length b ≤ n → b ≡ done ++ rest → (rest ≡ [] → ⊥) → Spells done s
+    → segment_at rest ≡ Err f → segments_within n b ≡ failed f
 fault_within s [] done [] f n le parts some h e = absurd (some refl)
 fault_within s [] done (v ∷ rest) f n le parts some h e = absurd (omega (arith, ap (λ (z : List ℕ). length z) parts, length-append done (v ∷ rest)))
 fault_within s (v ∷ b) done rest f zero le parts some h e = absurd (omega arith)
@@ -136,9 +139,11 @@ fault_within (g ∷ s) (v ∷ b) done rest f (suc n) le parts some (x, y, d, for
     within-first n (v ∷ b) g (y ++ rest) (split_read (v ∷ b) (y ++ rest) g front)
     ∙ ap (with_first g) (fault_within s (y ++ rest) y rest f n (split_shorter (v ∷ b) (y ++ rest) g n front le) refl some h e)
 
-pub path_at-stops : (b rest : List ℕ) (f : PathFault) → length b ≤ 510 → (length rest ≡ 0 → ⊥) → IsReadTo b rest → segment_at rest ≡ Err f → path_at b ≡ failed f
+pub path_at-stops : (b rest : List ℕ) (f : PathFault) → length b ≤ 510 → (length rest ≡ 0 → ⊥) → IsReadTo b rest → segment_at rest ≡ Err f
+    → path_at b ≡ failed f
 path_at-stops b rest f le some h e =
-    path_at-within b le ∙ fault_within h.list b h.done rest f (length b) (omega arith) h.parts (λ none. some (ap (λ (z : List ℕ). length z) none)) h.spelled e
+    path_at-within b le
+    ∙ fault_within h.list b h.done rest f (length b) (omega arith) h.parts (λ none. some (ap (λ (z : List ℕ). length z) none)) h.spelled e
 
 pub path_at-TooLong : (b : List ℕ) → 510 < length b → path_at b ≡ failed TooLong
 path_at-TooLong b lt = path_at-long b lt
@@ -147,10 +152,12 @@ path_at-TooLong b lt = path_at-long b lt
 
 within_spells : (n : ℕ) (b : List ℕ) (s : List Segment) → IsBytes b → segments_within n b ≡ got s → Spells b s
 unfolding segments_within
-within_spells n [] s fits e = let none : got s ≡ got [] = sym e ∙ within-nil n in let is : s ≡ [] = cc in subst (λ (t : List Segment). Spells [] t) (sym is) refl
+within_spells n [] s fits e = let none : got s ≡ got [] = sym e ∙ within-nil n in let is : s ≡ [] = cc in
+    subst (λ (t : List Segment). Spells [] t) (sym is) refl
 within_spells zero (v ∷ b) s fits e = absurd cc
 within_spells (suc n) (v ∷ b) s fits e =
-    elim (segment_at (v ∷ b)) as (λ (r : At Segment). Verdict (v ∷ b) r → (r >>= λ first. (segments_within n first.1 >>= λ others. Ok (first.0 ∷ others))) ≡ got s → Spells (v ∷ b) s) [
+    elim (segment_at (v ∷ b)) as (λ (r : At Segment). Verdict (v ∷ b) r
+    → (r >>= λ first. (segments_within n first.1 >>= λ others. Ok (first.0 ∷ others))) ≡ got s → Spells (v ∷ b) s) [
       | Err f ↦ λ stops d. absurd cc
       | Ok first ↦ λ form d.
           elim (segments_within n first.1) as (λ (r : Read). segments_within n first.1 ≡ r → with_first first.0 r ≡ got s → Spells (v ∷ b) s) [
@@ -165,7 +172,8 @@ within_spells (suc n) (v ∷ b) s fits e =
 
 pub path_at-cases : (b : List ℕ) → ((length b ≤ 510) × (path_at b ≡ segments_within (length b) b)) ⊎ ((510 < length b) × (path_at b ≡ failed TooLong))
 path_at-cases b =
-    cond_both (ltb 510 (length b)) true false (λ z. ((length b ≤ 510) × (path_at b ≡ segments_within (length b) b)) ⊎ ((510 < length b) × (path_at b ≡ failed TooLong)))
+    cond_both (ltb 510 (length b)) true false
+    (λ z. ((length b ≤ 510) × (path_at b ≡ segments_within (length b) b)) ⊎ ((510 < length b) × (path_at b ≡ failed TooLong)))
     (λ e. let lt = ltb-true _ _ e in inr (lt, path_at-long b lt))
     (λ e. let le = ltb-false _ _ e in inl (le, path_at-within b le))
 
@@ -183,12 +191,14 @@ path_at-Ok-readable b s fits e = let h = path_at-Ok b s fits e in (h.0, ∣ (s, 
 pub segments_of-spelled : (b : List ℕ) → IsBytes b → IsReadable b → Spells b (segments_of b)
 segments_of-spelled b fits h = (path_at-Ok b (segments_of b) fits (path_at-readable b h)).1
 
-within_fault : (n : ℕ) (b rest : List ℕ) (f : PathFault) → IsBytes b → length b ≤ 510 → IsReadTo b rest → length rest ≤ n → segments_within n rest ≡ failed f → IsFault b f
+within_fault : (n : ℕ) (b rest : List ℕ) (f : PathFault) → IsBytes b → length b ≤ 510 → IsReadTo b rest → length rest ≤ n
+    → segments_within n rest ≡ failed f → IsFault b f
 unfolding segments_within
 within_fault n b [] f fits le h len e = absurd (let both : failed f ≡ got [] = sym e ∙ within-nil n in cc)
 within_fault zero b (v ∷ rest) f fits le h len e = absurd (omega arith)
 within_fault (suc n) b (v ∷ rest) f fits le h len e =
-    elim (segment_at (v ∷ rest)) as (λ (r : At Segment). segment_at (v ∷ rest) ≡ r → (r >>= λ first. (segments_within n first.1 >>= λ others. Ok (first.0 ∷ others))) ≡ failed f → IsFault b f) [
+    elim (segment_at (v ∷ rest)) as (λ (r : At Segment). segment_at (v ∷ rest) ≡ r
+    → (r >>= λ first. (segments_within n first.1 >>= λ others. Ok (first.0 ∷ others))) ≡ failed f → IsFault b f) [
       | Err g ↦ λ was d.
           let same : g ≡ f = cc in
           at_fault b (v ∷ rest) f fits le (λ none. omega arith) h (was ∙ ap (λ (k : PathFault). fails k) same)

@@ -20,7 +20,8 @@ one_all : (P : Segment → Type 0) (g : Segment) → P g → All P (g ∷ [])
 one_all P g h zero d lt = h
 one_all P g h (suc k) d lt = absurd (omega arith)
 
-pub all_more : (P : Segment → Type 0) (s : List Segment) (i : ℕ) (g : Segment) → i < length s → g ≡ get_or s i g → All P (take i s) → P g → All P (take (i + 1) s)
+pub all_more : (P : Segment → Type 0) (s : List Segment) (i : ℕ) (g : Segment) → i < length s → g ≡ get_or s i g → All P (take i s) → P g
+    → All P (take (i + 1) s)
 all_more P s i g lt e all here =
     subst (λ (t : List Segment). All P t) (sym (take_more s i g lt ∙ ap (λ (k : Segment). take i s ++ k ∷ []) (sym e)))
     (All-append P (take i s) (g ∷ []) all (one_all P g here))
@@ -30,17 +31,25 @@ word_of n lt = (n % 256, n / 256, omega arith, omega arith, omega arith, refl)
 
 short_class : (h n : ℕ) → n < 65536 → IsNarrow h n (short_number h n) ⊎ IsWide h n (short_number h n)
 short_class h n lt =
-    cond_both (ltb n 256) (h ∷ n ∷ []) (cond (ltb n 65536) ((h + 1) ∷ 0 ∷ word n) ((h + 2) ∷ 0 ∷ word (n % 65536) ++ word (n / 65536))) (λ z. IsNarrow h n z ⊎ IsWide h n z)
+    cond_both (ltb n 256) (h ∷ n ∷ []) (cond (ltb n 65536) ((h + 1) ∷ 0 ∷ word n) ((h + 2) ∷ 0 ∷ word (n % 65536) ++ word (n / 65536)))
+    (λ z. IsNarrow h n z ⊎ IsWide h n z)
     (λ e. inl (ltb-true _ _ e, refl))
     (λ e. let two : ltb n 65536 ≡ true = lt-ltb _ _ lt in inr (word n, word_of n lt, rw two refl))
 
 short_long : (h n : ℕ) → n < 4294967296 → IsNarrow h n (short_number h n) ⊎ (IsWide h n (short_number h n) ⊎ IsLong h n (short_number h n))
 short_long h n lt =
-    cond_both (ltb n 256) (h ∷ n ∷ []) (cond (ltb n 65536) ((h + 1) ∷ 0 ∷ word n) ((h + 2) ∷ 0 ∷ word (n % 65536) ++ word (n / 65536))) (λ z. IsNarrow h n z ⊎ (IsWide h n z ⊎ IsLong h n z))
+    cond_both (ltb n 256) (h ∷ n ∷ []) (cond (ltb n 65536) ((h + 1) ∷ 0 ∷ word n) ((h + 2) ∷ 0 ∷ word (n % 65536) ++ word (n / 65536)))
+    (λ z. IsNarrow h n z ⊎ (IsWide h n z ⊎ IsLong h n z))
     (λ e. inl (ltb-true _ _ e, refl))
-    (λ e. cond_both (ltb n 65536) ((h + 1) ∷ 0 ∷ word n) ((h + 2) ∷ 0 ∷ word (n % 65536) ++ word (n / 65536)) (λ z. IsNarrow h n z ⊎ (IsWide h n z ⊎ IsLong h n z))
+    (λ e. cond_both (ltb n 65536) ((h + 1) ∷ 0 ∷ word n) ((h + 2) ∷ 0 ∷ word (n % 65536) ++ word (n / 65536))
+    (λ z. IsNarrow h n z ⊎ (IsWide h n z ⊎ IsLong h n z))
     (λ d. inr (inl (word n, word_of n (ltb-true _ _ d), refl)))
-    (λ d. inr (inr (word (n % 65536) ++ word (n / 65536), (n % 65536, n / 65536, word (n % 65536), word (n / 65536), word_of _ (omega arith), word_of _ (omega arith), omega arith, refl), refl))))
+    (λ d. inr
+    (inr (
+      word (n % 65536) ++ word (n / 65536),
+      (n % 65536, n / 65536, word (n % 65536), word (n / 65536), word_of _ (omega arith), word_of _ (omega arith), omega arith, refl),
+      refl,
+    ))))
 
 short_port_form : (q low : ℕ) (w a : List ℕ) → IsPortNumber q low w → 1 ≤ length a → length a ≤ 16 → IsPort q a (short_port low w a)
 short_port_form q low w a num least most =
@@ -58,15 +67,21 @@ form_of (Instance n) r w = short_long 0x24 n r
 form_of (Member n) r w = short_class 0x28 n r
 form_of (Point n) r w = short_long 0x2C n r
 form_of (Attribute n) r w = short_class 0x30 n r
-form_of (Key k) r w = (word k.vendor, word k.device_type, word k.product, word_of k.vendor r.0, word_of k.device_type r.1, word_of k.product r.2, r.3, r.4, refl)
+form_of (Key k) r w =
+    (word k.vendor, word k.device_type, word k.product, word_of k.vendor r.0, word_of k.device_type r.1, word_of k.product r.2, r.3, r.4, refl)
 form_of (Words d) r w = (length d / 2, omega (arith, w), omega (arith, w), refl)
 form_of (Symbol d) r w = (omega (arith, w), refl)
 form_of (Inhibit n) r w = (r, refl)
 
 pub short_spells : (s : List Segment) → All IsRanged s → All IsWritable s → Spells (short s) s
 short_spells [] r w = refl
-short_spells (g ∷ s) r w =
-    (short_form g, short s, refl, form_of g (r 0 g (omega arith)) (w 0 g (omega arith)), short_spells s (λ k d lt. r (suc k) d (omega arith)) (λ k d lt. w (suc k) d (omega arith)))
+short_spells (g ∷ s) r w = (
+  short_form g,
+  short s,
+  refl,
+  form_of g (r 0 g (omega arith)) (w 0 g (omega arith)),
+  short_spells s (λ k d lt. r (suc k) d (omega arith)) (λ k d lt. w (suc k) d (omega arith)),
+)
 
 pub short_readable : (b : List ℕ) (s : List Segment) → b ≡ short s → length b ≤ 510 → All IsRanged s → All IsWritable s → IsReadable b
 short_readable b s e len r w = (len, ∣ (s, subst (λ (z : List ℕ). Spells z s) (sym e) (short_spells s r w)) ∣₁)

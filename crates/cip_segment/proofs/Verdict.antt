@@ -25,7 +25,8 @@ Refuses p v = (y : List ℕ) → (f : PathFault) × (segment_at (p ++ v ∷ y) �
 abbrev pub Stops : List ℕ → PathFault → Type 0
 Stops b Truncated = FormBegins b
 Stops b (Reserved v) = (p : List ℕ) × (more : List ℕ) × (w : ℕ) × (b ≡ p ++ v ∷ more) × FormBegins (p ++ w ∷ []) × (w ≡ 0 → ⊥) × Refuses p v
-Stops b BadPad = (p : List ℕ) × (more : List ℕ) × (v : ℕ) × (b ≡ p ++ v ∷ more) × FormBegins (p ++ 0 ∷ []) × (v ≡ 0 → ⊥) × ((w : ℕ) → (w ≡ 0 → ⊥) → Refuses p w)
+Stops b BadPad = (p : List ℕ) × (more : List ℕ) × (v : ℕ) × (b ≡ p ++ v ∷ more) × FormBegins (p ++ 0 ∷ []) × (v ≡ 0 → ⊥)
+    × ((w : ℕ) → (w ≡ 0 → ⊥) → Refuses p w)
 Stops b TooLong = ⊥
 Stops b NoMemory = ⊥
 
@@ -41,31 +42,50 @@ IsBytes-rest n b h i = h (suc i)
 
 -- ---- one byte
 
-byte_verdict : (g : ℕ → Segment) (h : ℕ) → ((n : ℕ) → n < 256 → IsForm (h ∷ n ∷ []) (g n)) → (r : List ℕ) → IsBytes r → Verdict (h ∷ r) (byte_at r >>= λ n. Ok (g n.0, n.1))
+byte_verdict : (g : ℕ → Segment) (h : ℕ) → ((n : ℕ) → n < 256 → IsForm (h ∷ n ∷ []) (g n)) → (r : List ℕ) → IsBytes r
+    → Verdict (h ∷ r) (byte_at r >>= λ n. Ok (g n.0, n.1))
 byte_verdict g h forms [] fits = (g 0, h ∷ 0 ∷ [], 0 ∷ [], forms 0 (omega arith), refl)
 byte_verdict g h forms (n ∷ r) fits = (h ∷ n ∷ [], forms n (fits 0), refl)
 
 -- ---- a pad, and two bytes or four
 
-word_verdict : (g : ℕ → Segment) (h : ℕ) → ((lo hi : ℕ) → lo < 256 → hi < 256 → IsForm (h ∷ 0 ∷ lo ∷ hi ∷ []) (g (lo + 256 * hi))) → (r : List ℕ) → IsBytes r → Verdict (h ∷ 0 ∷ r) (word_at r >>= λ n. Ok (g n.0, n.1))
+word_verdict : (g : ℕ → Segment) (h : ℕ) → ((lo hi : ℕ) → lo < 256 → hi < 256 → IsForm (h ∷ 0 ∷ lo ∷ hi ∷ []) (g (lo + 256 * hi))) → (r : List ℕ)
+    → IsBytes r → Verdict (h ∷ 0 ∷ r) (word_at r >>= λ n. Ok (g n.0, n.1))
 word_verdict g h forms [] fits = (g (0 + 256 * 0), h ∷ 0 ∷ 0 ∷ 0 ∷ [], 0 ∷ 0 ∷ [], forms 0 0 (omega arith) (omega arith), refl)
 word_verdict g h forms (lo ∷ []) fits = (g (lo + 256 * 0), h ∷ 0 ∷ lo ∷ 0 ∷ [], 0 ∷ [], forms lo 0 (fits 0) (omega arith), refl)
 word_verdict g h forms (lo ∷ hi ∷ r) fits = (h ∷ 0 ∷ lo ∷ hi ∷ [], forms lo hi (fits 0) (fits 1), refl)
 
 -- the pad, and what follows it
-after_pad_verdict : (h : ℕ) (k : List ℕ → At Segment) → FormBegins (h ∷ 0 ∷ []) → ((y : List ℕ) → segment_at (h ∷ y) ≡ (after_pad y >>= k)) → ((r : List ℕ) → IsBytes r → Verdict (h ∷ 0 ∷ r) (k r)) → (r : List ℕ) → IsBytes r → Verdict (h ∷ r) (after_pad r >>= k)
+after_pad_verdict : (h : ℕ) (k : List ℕ → At Segment) → FormBegins (h ∷ 0 ∷ []) → ((y : List ℕ) → segment_at (h ∷ y) ≡ (after_pad y >>= k))
+    → ((r : List ℕ) → IsBytes r → Verdict (h ∷ 0 ∷ r) (k r)) → (r : List ℕ) → IsBytes r → Verdict (h ∷ r) (after_pad r >>= k)
 after_pad_verdict h k begins scans rest [] fits = FormBegins-front (h ∷ []) (0 ∷ []) begins
 after_pad_verdict h k begins scans rest (p ∷ r) fits =
     cond_both (eqb p 0) (Ok r) (Err BadPad) (λ z. Verdict (h ∷ p ∷ r) (z >>= k))
     (λ e. subst (λ (q : ℕ). Verdict (h ∷ q ∷ r) (k r)) (sym (eqb-true p 0 e)) (rest r (IsBytes-rest p r fits)))
     (λ e. (h ∷ [], r, p, refl, begins, eqb-false p 0 e, λ w other y. (BadPad, scans (w ∷ y) ∙ rw (ne_eqb w 0 other) refl)))
 
-double_verdict : (g : ℕ → Segment) (h : ℕ) → ((a b c d : ℕ) → a < 256 → b < 256 → c < 256 → d < 256 → IsForm (h ∷ 0 ∷ a ∷ b ∷ c ∷ d ∷ []) (g ((a + 256 * b) + 65536 * (c + 256 * d)))) → (r : List ℕ) → IsBytes r → Verdict (h ∷ 0 ∷ r) (double_at r >>= λ n. Ok (g n.0, n.1))
+double_verdict : (g : ℕ → Segment) (h : ℕ)
+    → ((a b c d : ℕ) → a < 256 → b < 256 → c < 256 → d < 256 → IsForm (h ∷ 0 ∷ a ∷ b ∷ c ∷ d ∷ []) (g ((a + 256 * b) + 65536 * (c + 256 * d))))
+    → (r : List ℕ) → IsBytes r → Verdict (h ∷ 0 ∷ r) (double_at r >>= λ n. Ok (g n.0, n.1))
 unfolding double_at
-double_verdict g h forms [] fits = (g ((0 + 256 * 0) + 65536 * (0 + 256 * 0)), h ∷ 0 ∷ 0 ∷ 0 ∷ 0 ∷ 0 ∷ [], 0 ∷ 0 ∷ 0 ∷ 0 ∷ [], forms 0 0 0 0 (omega arith) (omega arith) (omega arith) (omega arith), refl)
-double_verdict g h forms (a ∷ []) fits = (g ((a + 256 * 0) + 65536 * (0 + 256 * 0)), h ∷ 0 ∷ a ∷ 0 ∷ 0 ∷ 0 ∷ [], 0 ∷ 0 ∷ 0 ∷ [], forms a 0 0 0 (fits 0) (omega arith) (omega arith) (omega arith), refl)
-double_verdict g h forms (a ∷ b ∷ []) fits = (g ((a + 256 * b) + 65536 * (0 + 256 * 0)), h ∷ 0 ∷ a ∷ b ∷ 0 ∷ 0 ∷ [], 0 ∷ 0 ∷ [], forms a b 0 0 (fits 0) (fits 1) (omega arith) (omega arith), refl)
-double_verdict g h forms (a ∷ b ∷ c ∷ []) fits = (g ((a + 256 * b) + 65536 * (c + 256 * 0)), h ∷ 0 ∷ a ∷ b ∷ c ∷ 0 ∷ [], 0 ∷ [], forms a b c 0 (fits 0) (fits 1) (fits 2) (omega arith), refl)
+double_verdict g h forms [] fits = (
+  g ((0 + 256 * 0) + 65536 * (0 + 256 * 0)),
+  h ∷ 0 ∷ 0 ∷ 0 ∷ 0 ∷ 0 ∷ [],
+  0 ∷ 0 ∷ 0 ∷ 0 ∷ [],
+  forms 0 0 0 0 (omega arith) (omega arith) (omega arith) (omega arith),
+  refl,
+)
+double_verdict g h forms (a ∷ []) fits = (
+  g ((a + 256 * 0) + 65536 * (0 + 256 * 0)),
+  h ∷ 0 ∷ a ∷ 0 ∷ 0 ∷ 0 ∷ [],
+  0 ∷ 0 ∷ 0 ∷ [],
+  forms a 0 0 0 (fits 0) (omega arith) (omega arith) (omega arith),
+  refl,
+)
+double_verdict g h forms (a ∷ b ∷ []) fits =
+    (g ((a + 256 * b) + 65536 * (0 + 256 * 0)), h ∷ 0 ∷ a ∷ b ∷ 0 ∷ 0 ∷ [], 0 ∷ 0 ∷ [], forms a b 0 0 (fits 0) (fits 1) (omega arith) (omega arith), refl)
+double_verdict g h forms (a ∷ b ∷ c ∷ []) fits =
+    (g ((a + 256 * b) + 65536 * (c + 256 * 0)), h ∷ 0 ∷ a ∷ b ∷ c ∷ 0 ∷ [], 0 ∷ [], forms a b c 0 (fits 0) (fits 1) (fits 2) (omega arith), refl)
 double_verdict g h forms (a ∷ b ∷ c ∷ d ∷ r) fits = (h ∷ 0 ∷ a ∷ b ∷ c ∷ d ∷ [], forms a b c d (fits 0) (fits 1) (fits 2) (fits 3), refl)
 
 pub word : (lo hi : ℕ) → lo < 256 → hi < 256 → IsWord (lo + 256 * hi) (lo ∷ hi ∷ [])
@@ -76,7 +96,8 @@ double a b c d pa pb pc pd = (a + 256 * b, c + 256 * d, a ∷ b ∷ [], c ∷ d 
 
 -- ---- counted bytes
 
-bytes_verdict : (n : ℕ) (g : List ℕ → Segment) (front : List ℕ) → ((d : List ℕ) → length d ≡ n → IsForm (front ++ d) (g d)) → (r : List ℕ) → Verdict (front ++ r) (bytes_at n r >>= λ d. Ok (g d.0, d.1))
+bytes_verdict : (n : ℕ) (g : List ℕ → Segment) (front : List ℕ) → ((d : List ℕ) → length d ≡ n → IsForm (front ++ d) (g d)) → (r : List ℕ)
+    → Verdict (front ++ r) (bytes_at n r >>= λ d. Ok (g d.0, d.1))
 unfolding bytes_at
 bytes_verdict n g front forms r =
     cond_both (ltb (length r) n) (Err Truncated) (Ok (take n r, drop n r)) (λ z. Verdict (front ++ r) (z >>= λ d. Ok (g d.0, d.1)))
@@ -84,19 +105,32 @@ bytes_verdict n g front forms r =
     let zeros : List ℕ = replicate (n - length r) 0 in
     let len : length (r ++ zeros) ≡ n = omega (arith, length-append r zeros, length-replicate {A = ℕ} (n - length r) 0) in
     (g (r ++ zeros), front ++ (r ++ zeros), zeros, forms (r ++ zeros) len, sym (append_assoc front r zeros)))
-    (λ e. let enough : n ≤ length r = ltb-false _ _ e in
-    (front ++ take n r, forms (take n r) (length-take-le n r enough), ap (λ (t : List ℕ). front ++ t) (sym (take-append-drop n r)) ∙ sym (append_assoc front (take n r) (drop n r))))
+    (λ e. let enough : n ≤ length r = ltb-false _ _ e in (
+      front ++ take n r,
+      forms (take n r) (length-take-le n r enough),
+      ap (λ (t : List ℕ). front ++ t) (sym (take-append-drop n r))
+          ∙ sym (append_assoc front (take n r) (drop n r)),
+    ))
 
 -- the pad after n bytes, where they are there
-tail_verdict : (n : ℕ) (g : List ℕ → Segment) (front : List ℕ) → ((d : List ℕ) → length d ≡ n → IsForm (front ++ (d ++ pad n)) (g d)) → ((y : List ℕ) → segment_at (front ++ y) ≡ (padded_at n y >>= λ d. Ok (g d.0, d.1))) → (d rest : List ℕ) → length d ≡ n → (odd : Bool) → eqb (n % 2) 1 ≡ odd
+tail_verdict : (n : ℕ) (g : List ℕ → Segment) (front : List ℕ) → ((d : List ℕ) → length d ≡ n → IsForm (front ++ (d ++ pad n)) (g d))
+    → ((y : List ℕ) → segment_at (front ++ y) ≡ (padded_at n y >>= λ d. Ok (g d.0, d.1))) → (d rest : List ℕ) → length d ≡ n → (odd : Bool)
+    → eqb (n % 2) 1 ≡ odd
     → Verdict (front ++ (d ++ rest)) (cond odd (after_pad rest >>= λ t. found d t) (found d rest) >>= λ d. Ok (g d.0, d.1))
 unfolding padded_at
 tail_verdict n g front forms scans d rest len false e =
     let no_pad : pad n ≡ [] = rw e refl in
-    let form : IsForm (front ++ d) (g d) = subst (λ (t : List ℕ). IsForm (front ++ t) (g d)) (ap (λ (t : List ℕ). d ++ t) no_pad ∙ append-nil d) (forms d len) in
+    let form : IsForm (front ++ d) (g d) =
+    subst (λ (t : List ℕ). IsForm (front ++ t) (g d)) (ap (λ (t : List ℕ). d ++ t) no_pad ∙ append-nil d) (forms d len) in
     (front ++ d, form, sym (append_assoc front d rest))
-tail_verdict n g front forms scans d [] len true e =
-    (g d, front ++ (d ++ pad n), pad n, forms d len, ap (λ (t : List ℕ). front ++ (t ++ pad n)) (sym (append-nil d)) ∙ sym (append_assoc front (d ++ []) (pad n)))
+tail_verdict n g front forms scans d [] len true e = (
+  g d,
+  front ++ (d ++ pad n),
+  pad n,
+  forms d len,
+  ap (λ (t : List ℕ). front ++ (t ++ pad n)) (sym (append-nil d))
+      ∙ sym (append_assoc front (d ++ []) (pad n)),
+)
 tail_verdict n g front forms scans d (p ∷ rest) len true e =
     let one_pad : pad n ≡ 0 ∷ [] = rw e refl in
     let form : IsForm (front ++ (d ++ 0 ∷ [])) (g d) = subst (λ (t : List ℕ). IsForm (front ++ (d ++ t)) (g d)) one_pad (forms d len) in
@@ -110,20 +144,33 @@ tail_verdict n g front forms scans d (p ∷ rest) len true e =
       sym (append_assoc front d (p ∷ rest)),
       (g d, front ++ (d ++ 0 ∷ []), [], form, sym (append_assoc front d (0 ∷ [])) ∙ sym (append-nil ((front ++ d) ++ 0 ∷ []))),
       eqb-false p 0 other,
-      λ w not_zero y. (BadPad, ap segment_at (append_assoc front d (w ∷ y)) ∙ scans (d ++ w ∷ y) ∙ rw (bytes_scans n d (w ∷ y) len, e, ne_eqb w 0 not_zero) refl),
+      λ w not_zero y. (
+        BadPad,
+        ap segment_at (append_assoc front d (w ∷ y)) ∙ scans (d ++ w ∷ y)
+            ∙ rw (bytes_scans n d (w ∷ y) len, e, ne_eqb w 0 not_zero) refl,
+      ),
     ))
 
-padded_verdict : (n : ℕ) (g : List ℕ → Segment) (front : List ℕ) → ((d : List ℕ) → length d ≡ n → IsForm (front ++ (d ++ pad n)) (g d)) → ((y : List ℕ) → segment_at (front ++ y) ≡ (padded_at n y >>= λ d. Ok (g d.0, d.1))) → (r : List ℕ)
+padded_verdict : (n : ℕ) (g : List ℕ → Segment) (front : List ℕ) → ((d : List ℕ) → length d ≡ n → IsForm (front ++ (d ++ pad n)) (g d))
+    → ((y : List ℕ) → segment_at (front ++ y) ≡ (padded_at n y >>= λ d. Ok (g d.0, d.1))) → (r : List ℕ)
     → Verdict (front ++ r) (padded_at n r >>= λ d. Ok (g d.0, d.1))
 unfolding padded_at bytes_at
 padded_verdict n g front forms scans r =
-    cond_both (ltb (length r) n) (Err Truncated) (found (take n r) (drop n r)) (λ z. Verdict (front ++ r) ((z >>= λ d. cond (eqb (n % 2) 1) (after_pad d.1 >>= λ t. found d.0 t) (Ok d)) >>= λ d. Ok (g d.0, d.1)))
+    cond_both (ltb (length r) n) (Err Truncated) (found (take n r) (drop n r))
+    (λ z. Verdict (front ++ r) ((z >>= λ d. cond (eqb (n % 2) 1) (after_pad d.1 >>= λ t. found d.0 t) (Ok d)) >>= λ d. Ok (g d.0, d.1)))
     (λ e. let short : length r < n = ltb-true _ _ e in
     let zeros : List ℕ = replicate (n - length r) 0 in
-    let len : length (r ++ zeros) ≡ n = omega (arith, length-append r zeros, length-replicate {A = ℕ} (n - length r) 0) in
-    (g (r ++ zeros), front ++ ((r ++ zeros) ++ pad n), zeros ++ pad n, forms (r ++ zeros) len, ap (λ (t : List ℕ). front ++ t) (append_assoc r zeros (pad n)) ∙ sym (append_assoc front r (zeros ++ pad n))))
+    let len : length (r ++ zeros) ≡ n = omega (arith, length-append r zeros, length-replicate {A = ℕ} (n - length r) 0) in (
+      g (r ++ zeros),
+      front ++ ((r ++ zeros) ++ pad n),
+      zeros ++ pad n,
+      forms (r ++ zeros) len,
+      ap (λ (t : List ℕ). front ++ t) (append_assoc r zeros (pad n)) ∙ sym (append_assoc front r (zeros ++ pad n)),
+    ))
     (λ e. let enough : n ≤ length r = ltb-false _ _ e in
-    subst (λ (t : List ℕ). Verdict (front ++ t) (cond (eqb (n % 2) 1) (after_pad (drop n r) >>= λ t. found (take n r) t) (found (take n r) (drop n r)) >>= λ d. Ok (g d.0, d.1))) (take-append-drop n r)
+    subst (λ (t : List ℕ). Verdict (front ++ t)
+    (cond (eqb (n % 2) 1) (after_pad (drop n r) >>= λ t. found (take n r) t) (found (take n r) (drop n r)) >>= λ d. Ok (g d.0, d.1)))
+    (take-append-drop n r)
     (tail_verdict n g front forms scans (take n r) (drop n r) (length-take-le n r enough) (eqb (n % 2) 1) refl))
 
 -- ---- a key
@@ -131,20 +178,73 @@ padded_verdict n g front forms scans r =
 abbrev fields_of : (a b c d e f g h : ℕ) → Segment
 fields_of a b c d e f g h = Key (record { vendor = a + 256 * b; device_type = c + 256 * d; product = e + 256 * f; major = g; minor = h })
 
-key_form : (a b c d e f g h : ℕ) → a < 256 → b < 256 → c < 256 → d < 256 → e < 256 → f < 256 → g < 256 → h < 256 → IsForm (0x34 ∷ 0x04 ∷ a ∷ b ∷ c ∷ d ∷ e ∷ f ∷ g ∷ h ∷ []) (fields_of a b c d e f g h)
+key_form : (a b c d e f g h : ℕ) → a < 256 → b < 256 → c < 256 → d < 256 → e < 256 → f < 256 → g < 256 → h < 256
+    → IsForm (0x34 ∷ 0x04 ∷ a ∷ b ∷ c ∷ d ∷ e ∷ f ∷ g ∷ h ∷ []) (fields_of a b c d e f g h)
 key_form a b c d e f g h pa pb pc pd pe pf pg ph = (a ∷ b ∷ [], c ∷ d ∷ [], e ∷ f ∷ [], word a b pa pb, word c d pc pd, word e f pe pf, pg, ph, refl)
 
 fields_verdict : (r : List ℕ) → IsBytes r → Verdict (0x34 ∷ 0x04 ∷ r) (fields_at r >>= λ k. Ok (Key k.0, k.1))
 unfolding fields_at
-fields_verdict [] fits = (fields_of 0 0 0 0 0 0 0 0, 0x34 ∷ 0x04 ∷ 0 ∷ 0 ∷ 0 ∷ 0 ∷ 0 ∷ 0 ∷ 0 ∷ 0 ∷ [], 0 ∷ 0 ∷ 0 ∷ 0 ∷ 0 ∷ 0 ∷ 0 ∷ 0 ∷ [], key_form 0 0 0 0 0 0 0 0 (omega arith) (omega arith) (omega arith) (omega arith) (omega arith) (omega arith) (omega arith) (omega arith), refl)
-fields_verdict (a ∷ []) fits = (fields_of a 0 0 0 0 0 0 0, 0x34 ∷ 0x04 ∷ a ∷ 0 ∷ 0 ∷ 0 ∷ 0 ∷ 0 ∷ 0 ∷ 0 ∷ [], 0 ∷ 0 ∷ 0 ∷ 0 ∷ 0 ∷ 0 ∷ 0 ∷ [], key_form a 0 0 0 0 0 0 0 (fits 0) (omega arith) (omega arith) (omega arith) (omega arith) (omega arith) (omega arith) (omega arith), refl)
-fields_verdict (a ∷ b ∷ []) fits = (fields_of a b 0 0 0 0 0 0, 0x34 ∷ 0x04 ∷ a ∷ b ∷ 0 ∷ 0 ∷ 0 ∷ 0 ∷ 0 ∷ 0 ∷ [], 0 ∷ 0 ∷ 0 ∷ 0 ∷ 0 ∷ 0 ∷ [], key_form a b 0 0 0 0 0 0 (fits 0) (fits 1) (omega arith) (omega arith) (omega arith) (omega arith) (omega arith) (omega arith), refl)
-fields_verdict (a ∷ b ∷ c ∷ []) fits = (fields_of a b c 0 0 0 0 0, 0x34 ∷ 0x04 ∷ a ∷ b ∷ c ∷ 0 ∷ 0 ∷ 0 ∷ 0 ∷ 0 ∷ [], 0 ∷ 0 ∷ 0 ∷ 0 ∷ 0 ∷ [], key_form a b c 0 0 0 0 0 (fits 0) (fits 1) (fits 2) (omega arith) (omega arith) (omega arith) (omega arith) (omega arith), refl)
-fields_verdict (a ∷ b ∷ c ∷ d ∷ []) fits = (fields_of a b c d 0 0 0 0, 0x34 ∷ 0x04 ∷ a ∷ b ∷ c ∷ d ∷ 0 ∷ 0 ∷ 0 ∷ 0 ∷ [], 0 ∷ 0 ∷ 0 ∷ 0 ∷ [], key_form a b c d 0 0 0 0 (fits 0) (fits 1) (fits 2) (fits 3) (omega arith) (omega arith) (omega arith) (omega arith), refl)
-fields_verdict (a ∷ b ∷ c ∷ d ∷ e ∷ []) fits = (fields_of a b c d e 0 0 0, 0x34 ∷ 0x04 ∷ a ∷ b ∷ c ∷ d ∷ e ∷ 0 ∷ 0 ∷ 0 ∷ [], 0 ∷ 0 ∷ 0 ∷ [], key_form a b c d e 0 0 0 (fits 0) (fits 1) (fits 2) (fits 3) (fits 4) (omega arith) (omega arith) (omega arith), refl)
-fields_verdict (a ∷ b ∷ c ∷ d ∷ e ∷ f ∷ []) fits = (fields_of a b c d e f 0 0, 0x34 ∷ 0x04 ∷ a ∷ b ∷ c ∷ d ∷ e ∷ f ∷ 0 ∷ 0 ∷ [], 0 ∷ 0 ∷ [], key_form a b c d e f 0 0 (fits 0) (fits 1) (fits 2) (fits 3) (fits 4) (fits 5) (omega arith) (omega arith), refl)
-fields_verdict (a ∷ b ∷ c ∷ d ∷ e ∷ f ∷ g ∷ []) fits = (fields_of a b c d e f g 0, 0x34 ∷ 0x04 ∷ a ∷ b ∷ c ∷ d ∷ e ∷ f ∷ g ∷ 0 ∷ [], 0 ∷ [], key_form a b c d e f g 0 (fits 0) (fits 1) (fits 2) (fits 3) (fits 4) (fits 5) (fits 6) (omega arith), refl)
-fields_verdict (a ∷ b ∷ c ∷ d ∷ e ∷ f ∷ g ∷ h ∷ r) fits = (0x34 ∷ 0x04 ∷ a ∷ b ∷ c ∷ d ∷ e ∷ f ∷ g ∷ h ∷ [], key_form a b c d e f g h (fits 0) (fits 1) (fits 2) (fits 3) (fits 4) (fits 5) (fits 6) (fits 7), refl)
+fields_verdict [] fits = (
+  fields_of 0 0 0 0 0 0 0 0,
+  0x34 ∷ 0x04 ∷ 0 ∷ 0 ∷ 0 ∷ 0 ∷ 0 ∷ 0 ∷ 0 ∷ 0 ∷ [],
+  0 ∷ 0 ∷ 0 ∷ 0 ∷ 0 ∷ 0 ∷ 0 ∷ 0 ∷ [],
+  key_form 0 0 0 0 0 0 0 0 (omega arith) (omega arith) (omega arith) (omega arith) (omega arith) (omega arith) (omega arith) (omega arith),
+  refl,
+)
+fields_verdict (a ∷ []) fits = (
+  fields_of a 0 0 0 0 0 0 0,
+  0x34 ∷ 0x04 ∷ a ∷ 0 ∷ 0 ∷ 0 ∷ 0 ∷ 0 ∷ 0 ∷ 0 ∷ [],
+  0 ∷ 0 ∷ 0 ∷ 0 ∷ 0 ∷ 0 ∷ 0 ∷ [],
+  key_form a 0 0 0 0 0 0 0 (fits 0) (omega arith) (omega arith) (omega arith) (omega arith) (omega arith) (omega arith) (omega arith),
+  refl,
+)
+fields_verdict (a ∷ b ∷ []) fits = (
+  fields_of a b 0 0 0 0 0 0,
+  0x34 ∷ 0x04 ∷ a ∷ b ∷ 0 ∷ 0 ∷ 0 ∷ 0 ∷ 0 ∷ 0 ∷ [],
+  0 ∷ 0 ∷ 0 ∷ 0 ∷ 0 ∷ 0 ∷ [],
+  key_form a b 0 0 0 0 0 0 (fits 0) (fits 1) (omega arith) (omega arith) (omega arith) (omega arith) (omega arith) (omega arith),
+  refl,
+)
+fields_verdict (a ∷ b ∷ c ∷ []) fits = (
+  fields_of a b c 0 0 0 0 0,
+  0x34 ∷ 0x04 ∷ a ∷ b ∷ c ∷ 0 ∷ 0 ∷ 0 ∷ 0 ∷ 0 ∷ [],
+  0 ∷ 0 ∷ 0 ∷ 0 ∷ 0 ∷ [],
+  key_form a b c 0 0 0 0 0 (fits 0) (fits 1) (fits 2) (omega arith) (omega arith) (omega arith) (omega arith) (omega arith),
+  refl,
+)
+fields_verdict (a ∷ b ∷ c ∷ d ∷ []) fits = (
+  fields_of a b c d 0 0 0 0,
+  0x34 ∷ 0x04 ∷ a ∷ b ∷ c ∷ d ∷ 0 ∷ 0 ∷ 0 ∷ 0 ∷ [],
+  0 ∷ 0 ∷ 0 ∷ 0 ∷ [],
+  key_form a b c d 0 0 0 0 (fits 0) (fits 1) (fits 2) (fits 3) (omega arith) (omega arith) (omega arith) (omega arith),
+  refl,
+)
+fields_verdict (a ∷ b ∷ c ∷ d ∷ e ∷ []) fits = (
+  fields_of a b c d e 0 0 0,
+  0x34 ∷ 0x04 ∷ a ∷ b ∷ c ∷ d ∷ e ∷ 0 ∷ 0 ∷ 0 ∷ [],
+  0 ∷ 0 ∷ 0 ∷ [],
+  key_form a b c d e 0 0 0 (fits 0) (fits 1) (fits 2) (fits 3) (fits 4) (omega arith) (omega arith) (omega arith),
+  refl,
+)
+fields_verdict (a ∷ b ∷ c ∷ d ∷ e ∷ f ∷ []) fits = (
+  fields_of a b c d e f 0 0,
+  0x34 ∷ 0x04 ∷ a ∷ b ∷ c ∷ d ∷ e ∷ f ∷ 0 ∷ 0 ∷ [],
+  0 ∷ 0 ∷ [],
+  key_form a b c d e f 0 0 (fits 0) (fits 1) (fits 2) (fits 3) (fits 4) (fits 5) (omega arith) (omega arith),
+  refl,
+)
+fields_verdict (a ∷ b ∷ c ∷ d ∷ e ∷ f ∷ g ∷ []) fits = (
+  fields_of a b c d e f g 0,
+  0x34 ∷ 0x04 ∷ a ∷ b ∷ c ∷ d ∷ e ∷ f ∷ g ∷ 0 ∷ [],
+  0 ∷ [],
+  key_form a b c d e f g 0 (fits 0) (fits 1) (fits 2) (fits 3) (fits 4) (fits 5) (fits 6) (omega arith),
+  refl,
+)
+fields_verdict (a ∷ b ∷ c ∷ d ∷ e ∷ f ∷ g ∷ h ∷ r) fits = (
+  0x34 ∷ 0x04 ∷ a ∷ b ∷ c ∷ d ∷ e ∷ f ∷ g ∷ h ∷ [],
+  key_form a b c d e f g h (fits 0) (fits 1) (fits 2) (fits 3) (fits 4) (fits 5) (fits 6) (fits 7),
+  refl,
+)
 
 key_begins : FormBegins (0x34 ∷ 0x04 ∷ [])
 unfolding fields_at
@@ -155,7 +255,8 @@ unfolding key_at segment_at logical_at other_at
 key_verdict [] fits = FormBegins-front (0x34 ∷ []) (0x04 ∷ []) key_begins
 key_verdict (f ∷ r) fits =
     cond_both (eqb f 4) (fields_at r >>= λ k. Ok (Key k.0, k.1)) (Err (Reserved f)) (λ z. Verdict (0x34 ∷ f ∷ r) z)
-    (λ e. subst (λ (q : ℕ). Verdict (0x34 ∷ q ∷ r) (fields_at r >>= λ k. Ok (Key k.0, k.1))) (sym (eqb-true f 4 e)) (fields_verdict r (IsBytes-rest f r fits)))
+    (λ e. subst (λ (q : ℕ). Verdict (0x34 ∷ q ∷ r) (fields_at r >>= λ k. Ok (Key k.0, k.1))) (sym (eqb-true f 4 e))
+    (fields_verdict r (IsBytes-rest f r fits)))
     (λ e. (0x34 ∷ [], r, 4, refl, key_begins, (λ bad. absurd cc), λ y. (Reserved f, rw e refl)))
 
 -- ---- a port
@@ -163,7 +264,8 @@ key_verdict (f ∷ r) fits =
 number_verdict : (low : ℕ) (front : List ℕ) (k : ℕ × List ℕ → At Segment) → 0 < low → low < 16
     → ((y : List ℕ) → segment_at (front ++ y) ≡ (number_at low y >>= k))
     → ((q : ℕ) (w : List ℕ) → IsPortNumber q low w → FormBegins (front ++ w))
-    → ((q : ℕ) (w rest : List ℕ) → IsPortNumber q low w → IsBytes rest → ((y : List ℕ) → segment_at ((front ++ w) ++ y) ≡ k (q, y)) → Verdict ((front ++ w) ++ rest) (k (q, rest)))
+    → ((q : ℕ) (w rest : List ℕ) → IsPortNumber q low w → IsBytes rest → ((y : List ℕ) → segment_at ((front ++ w) ++ y) ≡ k (q, y))
+    → Verdict ((front ++ w) ++ rest) (k (q, rest)))
     → (r : List ℕ) → IsBytes r → (wide : Bool) → eqb low 15 ≡ wide
     → Verdict (front ++ r) (cond wide (word_at r >>= λ q. cond (eqb q.0 0) (Err (Reserved 0)) (Ok q)) (Ok (low, r)) >>= k)
 unfolding number_at
@@ -174,7 +276,8 @@ number_verdict low front k pos fits16 scans begins then r fits false e =
     (then low [] r num fits (λ y. ap (λ (t : List ℕ). segment_at (t ++ y)) (append-nil front) ∙ scans y ∙ rw e refl))
 number_verdict low front k pos fits16 scans begins then [] fits true e =
     let num : IsPortNumber (1 + 256 * 0) low (1 ∷ 0 ∷ []) = (omega arith, inr (eqb-true low 15 e, word 1 0 (omega arith) (omega arith))) in
-    FormBegins-front (front ++ []) (1 ∷ 0 ∷ []) (subst FormBegins (ap (λ (t : List ℕ). t ++ 1 ∷ 0 ∷ []) (sym (append-nil front))) (begins (1 + 256 * 0) (1 ∷ 0 ∷ []) num))
+    FormBegins-front (front ++ []) (1 ∷ 0 ∷ [])
+    (subst FormBegins (ap (λ (t : List ℕ). t ++ 1 ∷ 0 ∷ []) (sym (append-nil front))) (begins (1 + 256 * 0) (1 ∷ 0 ∷ []) num))
 number_verdict low front k pos fits16 scans begins then (lo ∷ []) fits true e =
     let num : IsPortNumber (lo + 256 * 1) low (lo ∷ 1 ∷ []) = (omega arith, inr (eqb-true low 15 e, word lo 1 (fits 0) (omega arith))) in
     FormBegins-front (front ++ lo ∷ []) (1 ∷ []) (subst FormBegins (sym (append_assoc front (lo ∷ []) (1 ∷ []))) (begins (lo + 256 * 1) (lo ∷ 1 ∷ []) num))
@@ -198,14 +301,25 @@ number_verdict low front k pos fits16 scans begins then (lo ∷ hi ∷ r) fits t
     let not_zero : lo + 256 * hi ≡ 0 → ⊥ = eqb-false _ 0 some in
     let num : IsPortNumber (lo + 256 * hi) low (lo ∷ hi ∷ []) = (omega arith, inr (is15, word lo hi (fits 0) (fits 1))) in
     subst (λ (t : List ℕ). Verdict t (k (lo + 256 * hi, r))) (append_assoc front (lo ∷ hi ∷ []) r)
-    (then (lo + 256 * hi) (lo ∷ hi ∷ []) r num (IsBytes-rest hi r (IsBytes-rest lo (hi ∷ r) fits)) (λ y. ap segment_at (append_assoc front (lo ∷ hi ∷ []) y) ∙ scans (lo ∷ hi ∷ y) ∙ rw (e, some) refl)))
+    (then (lo + 256 * hi) (lo ∷ hi ∷ []) r num (IsBytes-rest hi r (IsBytes-rest lo (hi ∷ r) fits))
+    (λ y. ap segment_at (append_assoc front (lo ∷ hi ∷ []) y) ∙ scans (lo ∷ hi ∷ y) ∙ rw (e, some) refl)))
 
 plain_form : (q : ℕ) (a : List ℕ) (low : ℕ) (w : List ℕ) → IsPortNumber q low w → length a ≡ 1 → IsForm (low ∷ (w ++ a)) (Port q a)
 plain_form q a low w num one = (low, w, num, inl (one, refl))
 
-sized_form : (q : ℕ) (a : List ℕ) (low : ℕ) (w : List ℕ) (n : ℕ) → IsPortNumber q low w → 1 ≤ n → n ≤ 16 → length a ≡ n → IsForm ((16 + low) ∷ (n ∷ (w ++ (a ++ pad n)))) (Port q a)
-sized_form q a low w n num least most len =
-    (low, w, num, inr (omega arith, omega arith, ap (λ (m : ℕ). (16 + low) ∷ (m ∷ (w ++ (a ++ pad m)))) (sym len) ∙ sym (append_assoc ((16 + low) ∷ length a ∷ w) a (pad (length a)))))
+sized_form : (q : ℕ) (a : List ℕ) (low : ℕ) (w : List ℕ) (n : ℕ) → IsPortNumber q low w → 1 ≤ n → n ≤ 16 → length a ≡ n
+    → IsForm ((16 + low) ∷ (n ∷ (w ++ (a ++ pad n)))) (Port q a)
+sized_form q a low w n num least most len = (
+  low,
+  w,
+  num,
+  inr (
+    omega arith,
+    omega arith,
+    ap (λ (m : ℕ). (16 + low) ∷ (m ∷ (w ++ (a ++ pad m)))) (sym len)
+        ∙ sym (append_assoc ((16 + low) ∷ length a ∷ w) a (pad (length a))),
+  ),
+)
 
 plain_port_verdict : (low : ℕ) → 0 < low → low < 16 → (r : List ℕ) → IsBytes r → Verdict (low ∷ r) (plain_port_at low r)
 unfolding plain_port_at number_at segment_at port_at
@@ -219,7 +333,8 @@ plain_port_verdict low pos small r fits =
     (λ q w rest num fit scans. bytes_verdict 1 (λ a. Port q a) (low ∷ w) (λ d one. plain_form q d low w num one) rest)
     r fits (eqb low 15) refl
 
-sized_number_verdict : (low n : ℕ) → 0 < low → low < 16 → 1 ≤ n → n ≤ 16 → (r : List ℕ) → IsBytes r → Verdict ((16 + low) ∷ (n ∷ r)) (number_at low r >>= λ q. padded_at n q.1 >>= λ a. Ok (Port q.0 a.0, a.1))
+sized_number_verdict : (low n : ℕ) → 0 < low → low < 16 → 1 ≤ n → n ≤ 16 → (r : List ℕ) → IsBytes r
+    → Verdict ((16 + low) ∷ (n ∷ r)) (number_at low r >>= λ q. padded_at n q.1 >>= λ a. Ok (Port q.0 a.0, a.1))
 unfolding number_at sized_port_at segment_at port_at size_at
 sized_number_verdict low n pos small least most r fits =
     let logical : ltb (16 + low) 32 ≡ true = lt-ltb _ _ (omega arith) in
@@ -239,8 +354,21 @@ sized_number_verdict low n pos small least most r fits =
 one_begins : (low : ℕ) → 0 < low → low < 16 → FormBegins ((16 + low) ∷ 1 ∷ [])
 one_begins low pos small =
     elim (cases_lt low 15) [
-      | inl lt ↦ (Port low (0 ∷ []), (16 + low) ∷ 1 ∷ 0 ∷ 0 ∷ [], 0 ∷ 0 ∷ [], sized_form low (0 ∷ []) low [] 1 (pos, inl (lt, refl, refl)) (omega arith) (omega arith) refl, refl)
-      | inr ge ↦ (Port (1 + 256 * 0) (0 ∷ []), (16 + low) ∷ 1 ∷ 1 ∷ 0 ∷ 0 ∷ 0 ∷ [], 1 ∷ 0 ∷ 0 ∷ 0 ∷ [], sized_form (1 + 256 * 0) (0 ∷ []) low (1 ∷ 0 ∷ []) 1 (omega arith, inr (omega arith, word 1 0 (omega arith) (omega arith))) (omega arith) (omega arith) refl, refl)
+      | inl lt ↦ (
+        Port low (0 ∷ []),
+        (16 + low) ∷ 1 ∷ 0 ∷ 0 ∷ [],
+        0 ∷ 0 ∷ [],
+        sized_form low (0 ∷ []) low [] 1 (pos, inl (lt, refl, refl)) (omega arith) (omega arith) refl,
+        refl,
+      )
+      | inr ge ↦ (
+        Port (1 + 256 * 0) (0 ∷ []),
+        (16 + low) ∷ 1 ∷ 1 ∷ 0 ∷ 0 ∷ 0 ∷ [],
+        1 ∷ 0 ∷ 0 ∷ 0 ∷ [],
+        sized_form (1 + 256 * 0) (0 ∷ []) low (1 ∷ 0 ∷ []) 1 (omega arith, inr (omega arith, word 1 0 (omega arith) (omega arith))) (omega arith)
+            (omega arith) refl,
+        refl,
+      )
     ]
 
 sized_port_verdict : (low : ℕ) → 0 < low → low < 16 → (r : List ℕ) → IsBytes r → Verdict ((16 + low) ∷ r) (sized_port_at low r)
@@ -251,19 +379,36 @@ sized_port_verdict low pos small (n ∷ r) fits =
     let logical : ltb (16 + low) 32 ≡ true = lt-ltb _ _ (omega arith) in
     let nonzero : eqb ((16 + low) % 16) 0 ≡ false = ne_eqb _ _ (λ e. omega arith) in
     let sized : ltb (16 + low) 16 ≡ false = le-ltb _ _ (omega arith) in
-    cond_both (eqb n 0) (Err (Reserved n)) (cond (ltb 16 n) (Err (Reserved n)) (Ok (n, r))) (λ z. Verdict ((16 + low) ∷ n ∷ r) (z >>= λ n. number_at (low) n.1 >>= λ q. padded_at n.0 q.1 >>= λ a. Ok (Port q.0 a.0, a.1)))
+    cond_both (eqb n 0) (Err (Reserved n)) (cond (ltb 16 n) (Err (Reserved n)) (Ok (n, r)))
+    (λ z. Verdict ((16 + low) ∷ n ∷ r) (z >>= λ n. number_at (low) n.1 >>= λ q. padded_at n.0 q.1 >>= λ a. Ok (Port q.0 a.0, a.1)))
     (λ e. ((16 + low) ∷ [], r, 1, refl, one_begins low pos small, (λ bad. absurd (omega arith)), λ y. (Reserved n, rw (logical, nonzero, sized, e) refl)))
     (λ e. let some : n ≡ 0 → ⊥ = eqb-false n 0 e in
-    cond_both (ltb 16 n) (Err (Reserved n)) (Ok (n, r)) (λ z. Verdict ((16 + low) ∷ n ∷ r) (z >>= λ n. number_at (low) n.1 >>= λ q. padded_at n.0 q.1 >>= λ a. Ok (Port q.0 a.0, a.1)))
-    (λ over. ((16 + low) ∷ [], r, 1, refl, one_begins low pos small, (λ bad. absurd (omega arith)), λ y. (Reserved n, rw (logical, nonzero, sized, e, over) refl)))
+    cond_both (ltb 16 n) (Err (Reserved n)) (Ok (n, r))
+    (λ z. Verdict ((16 + low) ∷ n ∷ r) (z >>= λ n. number_at (low) n.1 >>= λ q. padded_at n.0 q.1 >>= λ a. Ok (Port q.0 a.0, a.1)))
+    (λ over. (
+      (16 + low) ∷ [],
+      r,
+      1,
+      refl,
+      one_begins low pos small,
+      (λ bad. absurd (omega arith)),
+      λ y. (Reserved n, rw (logical, nonzero, sized, e, over) refl),
+    ))
     (λ within. sized_number_verdict low n pos small (omega arith) (ltb-false _ _ within) r (IsBytes-rest n r fits)))
 
 -- ---- the first byte
 
 -- a text whose first byte begins no form
 refused : (h : ℕ) (r : List ℕ) → ((y : List ℕ) → segment_at (h ∷ y) ≡ Err (Reserved h)) → Stops (h ∷ r) (Reserved h)
-refused h r scans =
-    ([], r, 1, refl, (Port 1 (0 ∷ []), 1 ∷ 0 ∷ [], 0 ∷ [], plain_form 1 (0 ∷ []) 1 [] (omega arith, inl (omega arith, refl, refl)) refl, refl), (λ bad. absurd (omega arith)), λ y. (Reserved h, scans y))
+refused h r scans = (
+  [],
+  r,
+  1,
+  refl,
+  (Port 1 (0 ∷ []), 1 ∷ 0 ∷ [], 0 ∷ [], plain_form 1 (0 ∷ []) 1 [] (omega arith, inl (omega arith, refl, refl)) refl, refl),
+  (λ bad. absurd (omega arith)),
+  λ y. (Reserved h, scans y),
+)
 
 port_verdict : (h : ℕ) (r : List ℕ) → h < 32 → IsBytes r → Verdict (h ∷ r) (port_at h r)
 unfolding port_at segment_at
@@ -299,7 +444,8 @@ symbol_verdict (n ∷ r) fits =
 other_verdict : (h : ℕ) (r : List ℕ) → ((y : List ℕ) → segment_at (h ∷ y) ≡ other_at h y) → IsBytes r → Verdict (h ∷ r) (other_at h r)
 unfolding other_at
 other_verdict h r scans fits =
-    cond_both (eqb h 0x34) (key_at r) (cond (eqb h 0x43) (inhibit_at r) (cond (eqb h 0x80) (words_at r) (cond (eqb h 0x91) (symbol_at r) (Err (Reserved h))))) (λ z. Verdict (h ∷ r) z)
+    cond_both (eqb h 0x34) (key_at r)
+    (cond (eqb h 0x43) (inhibit_at r) (cond (eqb h 0x80) (words_at r) (cond (eqb h 0x91) (symbol_at r) (Err (Reserved h))))) (λ z. Verdict (h ∷ r) z)
     (λ e. subst (λ (k : ℕ). Verdict (k ∷ r) (key_at r)) (sym (eqb-true h 0x34 e)) (key_verdict r fits))
     (λ no0.
     cond_both (eqb h 0x43) (inhibit_at r) (cond (eqb h 0x80) (words_at r) (cond (eqb h 0x91) (symbol_at r) (Err (Reserved h)))) (λ z. Verdict (h ∷ r) z)
@@ -317,7 +463,8 @@ narrow_verdict : (k : Kind) (h : ℕ) → ((n : ℕ) → n < 256 → IsForm (h �
 unfolding narrow_at
 narrow_verdict k h forms r fits = byte_verdict (numbered k) h forms r fits
 
-wide_verdict : (k : Kind) (h : ℕ) → ((lo hi : ℕ) → lo < 256 → hi < 256 → IsForm (h ∷ 0 ∷ lo ∷ hi ∷ []) (numbered k (lo + 256 * hi))) → ((y : List ℕ) → segment_at (h ∷ y) ≡ wide_at k y) → (r : List ℕ) → IsBytes r → Verdict (h ∷ r) (wide_at k r)
+wide_verdict : (k : Kind) (h : ℕ) → ((lo hi : ℕ) → lo < 256 → hi < 256 → IsForm (h ∷ 0 ∷ lo ∷ hi ∷ []) (numbered k (lo + 256 * hi)))
+    → ((y : List ℕ) → segment_at (h ∷ y) ≡ wide_at k y) → (r : List ℕ) → IsBytes r → Verdict (h ∷ r) (wide_at k r)
 unfolding wide_at
 wide_verdict k h forms scans r fits =
     after_pad_verdict h (λ rest. word_at rest >>= λ n. Ok (numbered k n.0, n.1))
@@ -327,55 +474,133 @@ wide_verdict k h forms scans r fits =
 instance_verdict : (r : List ℕ) → IsBytes r → Verdict (0x26 ∷ r) (instance_at r)
 unfolding instance_at segment_at logical_at
 instance_verdict r fits =
-    after_pad_verdict 0x26 (λ rest. double_at rest >>= λ n. Ok (Instance n.0, n.1))
-    (Instance ((0 + 256 * 0) + 65536 * (0 + 256 * 0)), 0x26 ∷ 0 ∷ 0 ∷ 0 ∷ 0 ∷ 0 ∷ [], 0 ∷ 0 ∷ 0 ∷ 0 ∷ [], inr (inr (0 ∷ 0 ∷ 0 ∷ 0 ∷ [], double 0 0 0 0 (omega arith) (omega arith) (omega arith) (omega arith), refl)), refl)
-    (λ y. refl) (λ t fit. double_verdict (λ n. Instance n) 0x26 (λ a b c d pa pb pc pd. inr (inr (a ∷ b ∷ c ∷ d ∷ [], double a b c d pa pb pc pd, refl))) t fit) r fits
+    after_pad_verdict 0x26 (λ rest. double_at rest >>= λ n. Ok (Instance n.0, n.1)) (
+      Instance ((0 + 256 * 0) + 65536 * (0 + 256 * 0)),
+      0x26 ∷ 0 ∷ 0 ∷ 0 ∷ 0 ∷ 0 ∷ [],
+      0 ∷ 0 ∷ 0 ∷ 0 ∷ [],
+      inr (inr (0 ∷ 0 ∷ 0 ∷ 0 ∷ [], double 0 0 0 0 (omega arith) (omega arith) (omega arith) (omega arith), refl)),
+      refl,
+    )
+    (λ y. refl)
+    (λ t fit. double_verdict (λ n. Instance n) 0x26
+    (λ a b c d pa pb pc pd. inr (inr (a ∷ b ∷ c ∷ d ∷ [], double a b c d pa pb pc pd, refl))) t fit) r fits
 
 point_verdict : (r : List ℕ) → IsBytes r → Verdict (0x2E ∷ r) (point_at r)
 unfolding point_at segment_at logical_at
 point_verdict r fits =
-    after_pad_verdict 0x2E (λ rest. double_at rest >>= λ n. Ok (Point n.0, n.1))
-    (Point ((0 + 256 * 0) + 65536 * (0 + 256 * 0)), 0x2E ∷ 0 ∷ 0 ∷ 0 ∷ 0 ∷ 0 ∷ [], 0 ∷ 0 ∷ 0 ∷ 0 ∷ [], inr (inr (0 ∷ 0 ∷ 0 ∷ 0 ∷ [], double 0 0 0 0 (omega arith) (omega arith) (omega arith) (omega arith), refl)), refl)
-    (λ y. refl) (λ t fit. double_verdict (λ n. Point n) 0x2E (λ a b c d pa pb pc pd. inr (inr (a ∷ b ∷ c ∷ d ∷ [], double a b c d pa pb pc pd, refl))) t fit) r fits
+    after_pad_verdict 0x2E (λ rest. double_at rest >>= λ n. Ok (Point n.0, n.1)) (
+      Point ((0 + 256 * 0) + 65536 * (0 + 256 * 0)),
+      0x2E ∷ 0 ∷ 0 ∷ 0 ∷ 0 ∷ 0 ∷ [],
+      0 ∷ 0 ∷ 0 ∷ 0 ∷ [],
+      inr (inr (0 ∷ 0 ∷ 0 ∷ 0 ∷ [], double 0 0 0 0 (omega arith) (omega arith) (omega arith) (omega arith), refl)),
+      refl,
+    )
+    (λ y. refl)
+    (λ t fit. double_verdict (λ n. Point n) 0x2E (λ a b c d pa pb pc pd. inr (inr (a ∷ b ∷ c ∷ d ∷ [], double a b c d pa pb pc pd, refl))) t fit) r fits
 
 logical_verdict : (h : ℕ) (r : List ℕ) → ((y : List ℕ) → segment_at (h ∷ y) ≡ logical_at h y) → IsBytes r → Verdict (h ∷ r) (logical_at h r)
 unfolding logical_at segment_at
 logical_verdict h r scans fits =
-    cond_both (eqb h 0x20) (narrow_at kinds.Class r) (cond (eqb h 0x21) (wide_at kinds.Class r) (cond (eqb h 0x24) (narrow_at kinds.Instance r) (cond (eqb h 0x25) (wide_at kinds.Instance r) (cond (eqb h 0x26) (instance_at r) (cond (eqb h 0x28) (narrow_at kinds.Member r) (cond (eqb h 0x29) (wide_at kinds.Member r) (cond (eqb h 0x2C) (narrow_at kinds.Point r) (cond (eqb h 0x2D) (wide_at kinds.Point r) (cond (eqb h 0x2E) (point_at r) (cond (eqb h 0x30) (narrow_at kinds.Attribute r) (cond (eqb h 0x31) (wide_at kinds.Attribute r) (other_at h r)))))))))))) (λ z. Verdict (h ∷ r) z)
-    (λ e. subst (λ (k : ℕ). Verdict (k ∷ r) (narrow_at kinds.Class r)) (sym (eqb-true h 0x20 e)) (narrow_verdict kinds.Class 0x20 (λ n lt. inl (lt, refl)) r fits))
+    cond_both (eqb h 0x20) (narrow_at kinds.Class r)
+    (cond (eqb h 0x21) (wide_at kinds.Class r)
+    (cond (eqb h 0x24) (narrow_at kinds.Instance r)
+    (cond (eqb h 0x25) (wide_at kinds.Instance r)
+    (cond (eqb h 0x26) (instance_at r)
+    (cond (eqb h 0x28) (narrow_at kinds.Member r)
+    (cond (eqb h 0x29) (wide_at kinds.Member r)
+    (cond (eqb h 0x2C) (narrow_at kinds.Point r)
+    (cond (eqb h 0x2D) (wide_at kinds.Point r)
+    (cond (eqb h 0x2E) (point_at r)
+    (cond (eqb h 0x30) (narrow_at kinds.Attribute r) (cond (eqb h 0x31) (wide_at kinds.Attribute r) (other_at h r)))))))))))) (λ z. Verdict (h ∷ r) z)
+    (λ e. subst (λ (k : ℕ). Verdict (k ∷ r) (narrow_at kinds.Class r)) (sym (eqb-true h 0x20 e))
+    (narrow_verdict kinds.Class 0x20 (λ n lt. inl (lt, refl)) r fits))
     (λ no0.
-    cond_both (eqb h 0x21) (wide_at kinds.Class r) (cond (eqb h 0x24) (narrow_at kinds.Instance r) (cond (eqb h 0x25) (wide_at kinds.Instance r) (cond (eqb h 0x26) (instance_at r) (cond (eqb h 0x28) (narrow_at kinds.Member r) (cond (eqb h 0x29) (wide_at kinds.Member r) (cond (eqb h 0x2C) (narrow_at kinds.Point r) (cond (eqb h 0x2D) (wide_at kinds.Point r) (cond (eqb h 0x2E) (point_at r) (cond (eqb h 0x30) (narrow_at kinds.Attribute r) (cond (eqb h 0x31) (wide_at kinds.Attribute r) (other_at h r))))))))))) (λ z. Verdict (h ∷ r) z)
-    (λ e. subst (λ (k : ℕ). Verdict (k ∷ r) (wide_at kinds.Class r)) (sym (eqb-true h 0x21 e)) (wide_verdict kinds.Class 0x21 (λ lo hi p q. inr (lo ∷ hi ∷ [], word lo hi p q, refl)) (λ y. refl) r fits))
+    cond_both (eqb h 0x21) (wide_at kinds.Class r)
+    (cond (eqb h 0x24) (narrow_at kinds.Instance r)
+    (cond (eqb h 0x25) (wide_at kinds.Instance r)
+    (cond (eqb h 0x26) (instance_at r)
+    (cond (eqb h 0x28) (narrow_at kinds.Member r)
+    (cond (eqb h 0x29) (wide_at kinds.Member r)
+    (cond (eqb h 0x2C) (narrow_at kinds.Point r)
+    (cond (eqb h 0x2D) (wide_at kinds.Point r)
+    (cond (eqb h 0x2E) (point_at r)
+    (cond (eqb h 0x30) (narrow_at kinds.Attribute r) (cond (eqb h 0x31) (wide_at kinds.Attribute r) (other_at h r))))))))))) (λ z. Verdict (h ∷ r) z)
+    (λ e. subst (λ (k : ℕ). Verdict (k ∷ r) (wide_at kinds.Class r)) (sym (eqb-true h 0x21 e))
+    (wide_verdict kinds.Class 0x21 (λ lo hi p q. inr (lo ∷ hi ∷ [], word lo hi p q, refl)) (λ y. refl) r fits))
     (λ no1.
-    cond_both (eqb h 0x24) (narrow_at kinds.Instance r) (cond (eqb h 0x25) (wide_at kinds.Instance r) (cond (eqb h 0x26) (instance_at r) (cond (eqb h 0x28) (narrow_at kinds.Member r) (cond (eqb h 0x29) (wide_at kinds.Member r) (cond (eqb h 0x2C) (narrow_at kinds.Point r) (cond (eqb h 0x2D) (wide_at kinds.Point r) (cond (eqb h 0x2E) (point_at r) (cond (eqb h 0x30) (narrow_at kinds.Attribute r) (cond (eqb h 0x31) (wide_at kinds.Attribute r) (other_at h r)))))))))) (λ z. Verdict (h ∷ r) z)
-    (λ e. subst (λ (k : ℕ). Verdict (k ∷ r) (narrow_at kinds.Instance r)) (sym (eqb-true h 0x24 e)) (narrow_verdict kinds.Instance 0x24 (λ n lt. inl (lt, refl)) r fits))
+    cond_both (eqb h 0x24) (narrow_at kinds.Instance r)
+    (cond (eqb h 0x25) (wide_at kinds.Instance r)
+    (cond (eqb h 0x26) (instance_at r)
+    (cond (eqb h 0x28) (narrow_at kinds.Member r)
+    (cond (eqb h 0x29) (wide_at kinds.Member r)
+    (cond (eqb h 0x2C) (narrow_at kinds.Point r)
+    (cond (eqb h 0x2D) (wide_at kinds.Point r)
+    (cond (eqb h 0x2E) (point_at r)
+    (cond (eqb h 0x30) (narrow_at kinds.Attribute r) (cond (eqb h 0x31) (wide_at kinds.Attribute r) (other_at h r)))))))))) (λ z. Verdict (h ∷ r) z)
+    (λ e. subst (λ (k : ℕ). Verdict (k ∷ r) (narrow_at kinds.Instance r)) (sym (eqb-true h 0x24 e))
+    (narrow_verdict kinds.Instance 0x24 (λ n lt. inl (lt, refl)) r fits))
     (λ no2.
-    cond_both (eqb h 0x25) (wide_at kinds.Instance r) (cond (eqb h 0x26) (instance_at r) (cond (eqb h 0x28) (narrow_at kinds.Member r) (cond (eqb h 0x29) (wide_at kinds.Member r) (cond (eqb h 0x2C) (narrow_at kinds.Point r) (cond (eqb h 0x2D) (wide_at kinds.Point r) (cond (eqb h 0x2E) (point_at r) (cond (eqb h 0x30) (narrow_at kinds.Attribute r) (cond (eqb h 0x31) (wide_at kinds.Attribute r) (other_at h r))))))))) (λ z. Verdict (h ∷ r) z)
-    (λ e. subst (λ (k : ℕ). Verdict (k ∷ r) (wide_at kinds.Instance r)) (sym (eqb-true h 0x25 e)) (wide_verdict kinds.Instance 0x25 (λ lo hi p q. inr (inl (lo ∷ hi ∷ [], word lo hi p q, refl))) (λ y. refl) r fits))
+    cond_both (eqb h 0x25) (wide_at kinds.Instance r)
+    (cond (eqb h 0x26) (instance_at r)
+    (cond (eqb h 0x28) (narrow_at kinds.Member r)
+    (cond (eqb h 0x29) (wide_at kinds.Member r)
+    (cond (eqb h 0x2C) (narrow_at kinds.Point r)
+    (cond (eqb h 0x2D) (wide_at kinds.Point r)
+    (cond (eqb h 0x2E) (point_at r)
+    (cond (eqb h 0x30) (narrow_at kinds.Attribute r) (cond (eqb h 0x31) (wide_at kinds.Attribute r) (other_at h r))))))))) (λ z. Verdict (h ∷ r) z)
+    (λ e. subst (λ (k : ℕ). Verdict (k ∷ r) (wide_at kinds.Instance r)) (sym (eqb-true h 0x25 e))
+    (wide_verdict kinds.Instance 0x25 (λ lo hi p q. inr (inl (lo ∷ hi ∷ [], word lo hi p q, refl))) (λ y. refl) r fits))
     (λ no3.
-    cond_both (eqb h 0x26) (instance_at r) (cond (eqb h 0x28) (narrow_at kinds.Member r) (cond (eqb h 0x29) (wide_at kinds.Member r) (cond (eqb h 0x2C) (narrow_at kinds.Point r) (cond (eqb h 0x2D) (wide_at kinds.Point r) (cond (eqb h 0x2E) (point_at r) (cond (eqb h 0x30) (narrow_at kinds.Attribute r) (cond (eqb h 0x31) (wide_at kinds.Attribute r) (other_at h r)))))))) (λ z. Verdict (h ∷ r) z)
+    cond_both (eqb h 0x26) (instance_at r)
+    (cond (eqb h 0x28) (narrow_at kinds.Member r)
+    (cond (eqb h 0x29) (wide_at kinds.Member r)
+    (cond (eqb h 0x2C) (narrow_at kinds.Point r)
+    (cond (eqb h 0x2D) (wide_at kinds.Point r)
+    (cond (eqb h 0x2E) (point_at r)
+    (cond (eqb h 0x30) (narrow_at kinds.Attribute r) (cond (eqb h 0x31) (wide_at kinds.Attribute r) (other_at h r)))))))) (λ z. Verdict (h ∷ r) z)
     (λ e. subst (λ (k : ℕ). Verdict (k ∷ r) (instance_at r)) (sym (eqb-true h 0x26 e)) (instance_verdict r fits))
     (λ no4.
-    cond_both (eqb h 0x28) (narrow_at kinds.Member r) (cond (eqb h 0x29) (wide_at kinds.Member r) (cond (eqb h 0x2C) (narrow_at kinds.Point r) (cond (eqb h 0x2D) (wide_at kinds.Point r) (cond (eqb h 0x2E) (point_at r) (cond (eqb h 0x30) (narrow_at kinds.Attribute r) (cond (eqb h 0x31) (wide_at kinds.Attribute r) (other_at h r))))))) (λ z. Verdict (h ∷ r) z)
-    (λ e. subst (λ (k : ℕ). Verdict (k ∷ r) (narrow_at kinds.Member r)) (sym (eqb-true h 0x28 e)) (narrow_verdict kinds.Member 0x28 (λ n lt. inl (lt, refl)) r fits))
+    cond_both (eqb h 0x28) (narrow_at kinds.Member r)
+    (cond (eqb h 0x29) (wide_at kinds.Member r)
+    (cond (eqb h 0x2C) (narrow_at kinds.Point r)
+    (cond (eqb h 0x2D) (wide_at kinds.Point r)
+    (cond (eqb h 0x2E) (point_at r)
+    (cond (eqb h 0x30) (narrow_at kinds.Attribute r) (cond (eqb h 0x31) (wide_at kinds.Attribute r) (other_at h r))))))) (λ z. Verdict (h ∷ r) z)
+    (λ e. subst (λ (k : ℕ). Verdict (k ∷ r) (narrow_at kinds.Member r)) (sym (eqb-true h 0x28 e))
+    (narrow_verdict kinds.Member 0x28 (λ n lt. inl (lt, refl)) r fits))
     (λ no5.
-    cond_both (eqb h 0x29) (wide_at kinds.Member r) (cond (eqb h 0x2C) (narrow_at kinds.Point r) (cond (eqb h 0x2D) (wide_at kinds.Point r) (cond (eqb h 0x2E) (point_at r) (cond (eqb h 0x30) (narrow_at kinds.Attribute r) (cond (eqb h 0x31) (wide_at kinds.Attribute r) (other_at h r)))))) (λ z. Verdict (h ∷ r) z)
-    (λ e. subst (λ (k : ℕ). Verdict (k ∷ r) (wide_at kinds.Member r)) (sym (eqb-true h 0x29 e)) (wide_verdict kinds.Member 0x29 (λ lo hi p q. inr (lo ∷ hi ∷ [], word lo hi p q, refl)) (λ y. refl) r fits))
+    cond_both (eqb h 0x29) (wide_at kinds.Member r)
+    (cond (eqb h 0x2C) (narrow_at kinds.Point r)
+    (cond (eqb h 0x2D) (wide_at kinds.Point r)
+    (cond (eqb h 0x2E) (point_at r) (cond (eqb h 0x30) (narrow_at kinds.Attribute r) (cond (eqb h 0x31) (wide_at kinds.Attribute r) (other_at h r))))))
+    (λ z. Verdict (h ∷ r) z)
+    (λ e. subst (λ (k : ℕ). Verdict (k ∷ r) (wide_at kinds.Member r)) (sym (eqb-true h 0x29 e))
+    (wide_verdict kinds.Member 0x29 (λ lo hi p q. inr (lo ∷ hi ∷ [], word lo hi p q, refl)) (λ y. refl) r fits))
     (λ no6.
-    cond_both (eqb h 0x2C) (narrow_at kinds.Point r) (cond (eqb h 0x2D) (wide_at kinds.Point r) (cond (eqb h 0x2E) (point_at r) (cond (eqb h 0x30) (narrow_at kinds.Attribute r) (cond (eqb h 0x31) (wide_at kinds.Attribute r) (other_at h r))))) (λ z. Verdict (h ∷ r) z)
-    (λ e. subst (λ (k : ℕ). Verdict (k ∷ r) (narrow_at kinds.Point r)) (sym (eqb-true h 0x2C e)) (narrow_verdict kinds.Point 0x2C (λ n lt. inl (lt, refl)) r fits))
+    cond_both (eqb h 0x2C) (narrow_at kinds.Point r)
+    (cond (eqb h 0x2D) (wide_at kinds.Point r)
+    (cond (eqb h 0x2E) (point_at r) (cond (eqb h 0x30) (narrow_at kinds.Attribute r) (cond (eqb h 0x31) (wide_at kinds.Attribute r) (other_at h r)))))
+    (λ z. Verdict (h ∷ r) z)
+    (λ e. subst (λ (k : ℕ). Verdict (k ∷ r) (narrow_at kinds.Point r)) (sym (eqb-true h 0x2C e))
+    (narrow_verdict kinds.Point 0x2C (λ n lt. inl (lt, refl)) r fits))
     (λ no7.
-    cond_both (eqb h 0x2D) (wide_at kinds.Point r) (cond (eqb h 0x2E) (point_at r) (cond (eqb h 0x30) (narrow_at kinds.Attribute r) (cond (eqb h 0x31) (wide_at kinds.Attribute r) (other_at h r)))) (λ z. Verdict (h ∷ r) z)
-    (λ e. subst (λ (k : ℕ). Verdict (k ∷ r) (wide_at kinds.Point r)) (sym (eqb-true h 0x2D e)) (wide_verdict kinds.Point 0x2D (λ lo hi p q. inr (inl (lo ∷ hi ∷ [], word lo hi p q, refl))) (λ y. refl) r fits))
+    cond_both (eqb h 0x2D) (wide_at kinds.Point r)
+    (cond (eqb h 0x2E) (point_at r) (cond (eqb h 0x30) (narrow_at kinds.Attribute r) (cond (eqb h 0x31) (wide_at kinds.Attribute r) (other_at h r))))
+    (λ z. Verdict (h ∷ r) z)
+    (λ e. subst (λ (k : ℕ). Verdict (k ∷ r) (wide_at kinds.Point r)) (sym (eqb-true h 0x2D e))
+    (wide_verdict kinds.Point 0x2D (λ lo hi p q. inr (inl (lo ∷ hi ∷ [], word lo hi p q, refl))) (λ y. refl) r fits))
     (λ no8.
-    cond_both (eqb h 0x2E) (point_at r) (cond (eqb h 0x30) (narrow_at kinds.Attribute r) (cond (eqb h 0x31) (wide_at kinds.Attribute r) (other_at h r))) (λ z. Verdict (h ∷ r) z)
+    cond_both (eqb h 0x2E) (point_at r) (cond (eqb h 0x30) (narrow_at kinds.Attribute r) (cond (eqb h 0x31) (wide_at kinds.Attribute r) (other_at h r)))
+    (λ z. Verdict (h ∷ r) z)
     (λ e. subst (λ (k : ℕ). Verdict (k ∷ r) (point_at r)) (sym (eqb-true h 0x2E e)) (point_verdict r fits))
     (λ no9.
     cond_both (eqb h 0x30) (narrow_at kinds.Attribute r) (cond (eqb h 0x31) (wide_at kinds.Attribute r) (other_at h r)) (λ z. Verdict (h ∷ r) z)
-    (λ e. subst (λ (k : ℕ). Verdict (k ∷ r) (narrow_at kinds.Attribute r)) (sym (eqb-true h 0x30 e)) (narrow_verdict kinds.Attribute 0x30 (λ n lt. inl (lt, refl)) r fits))
+    (λ e. subst (λ (k : ℕ). Verdict (k ∷ r) (narrow_at kinds.Attribute r)) (sym (eqb-true h 0x30 e))
+    (narrow_verdict kinds.Attribute 0x30 (λ n lt. inl (lt, refl)) r fits))
     (λ no10.
     cond_both (eqb h 0x31) (wide_at kinds.Attribute r) (other_at h r) (λ z. Verdict (h ∷ r) z)
-    (λ e. subst (λ (k : ℕ). Verdict (k ∷ r) (wide_at kinds.Attribute r)) (sym (eqb-true h 0x31 e)) (wide_verdict kinds.Attribute 0x31 (λ lo hi p q. inr (lo ∷ hi ∷ [], word lo hi p q, refl)) (λ y. refl) r fits))
+    (λ e. subst (λ (k : ℕ). Verdict (k ∷ r) (wide_at kinds.Attribute r)) (sym (eqb-true h 0x31 e))
+    (wide_verdict kinds.Attribute 0x31 (λ lo hi p q. inr (lo ∷ hi ∷ [], word lo hi p q, refl)) (λ y. refl) r fits))
     (λ no11.
     other_verdict h r (λ y. scans y ∙ rw (no0, no1, no2, no3, no4, no5, no6, no7, no8, no9, no10, no11) refl) fits))))))))))))
 

@@ -13,7 +13,8 @@ use Rattle.cip_segment.proofs.Paths.{Begins-front}
 use Rattle.cip_segment.proofs.Least.{plain_len, sized_len}
 
 -- either the bytes before a place are the same, or one text stops within the other
-meets : (p q : List ℕ) (v w : ℕ) (m n : List ℕ) → p ++ v ∷ m ≡ q ++ w ∷ n → ((p ≡ q) × (v ≡ w)) ⊎ (((t : List ℕ) × (q ≡ (p ++ v ∷ []) ++ t)) ⊎ ((t : List ℕ) × (p ≡ (q ++ w ∷ []) ++ t)))
+meets : (p q : List ℕ) (v w : ℕ) (m n : List ℕ) → p ++ v ∷ m ≡ q ++ w ∷ n
+    → ((p ≡ q) × (v ≡ w)) ⊎ (((t : List ℕ) × (q ≡ (p ++ v ∷ []) ++ t)) ⊎ ((t : List ℕ) × (p ≡ (q ++ w ∷ []) ++ t)))
 meets [] [] v w m n e = inl (refl, cc)
 meets [] (y ∷ q) v w m n e = let hd : y ≡ v = cc in inr (inl (q, ap (λ (z : ℕ). z ∷ q) hd))
 meets (x ∷ p) [] v w m n e = let hd : x ≡ w = cc in inr (inr (p, ap (λ (z : ℕ). z ∷ p) hd))
@@ -53,7 +54,8 @@ one_fault b BadPad BadPad h k = refl
 one_fault b BadPad (Reserved w) (len, (p, v, stops, due)) (n, (q, ends, other)) = absurd (other (subst IsPadDue (same_stop b p q v w stops ends).0 due))
 one_fault b (Reserved v) TooLong h k = absurd (omega (arith, k, h.0))
 one_fault b (Reserved v) Truncated (len, (p, stops, due)) k = absurd (not_whole b p v stops k.1)
-one_fault b (Reserved v) BadPad (len, (p, stops, other)) (n, (q, w, ends, due)) = absurd (other (subst IsPadDue (sym (same_stop b p q v w stops ends).0) due))
+one_fault b (Reserved v) BadPad (len, (p, stops, other)) (n, (q, w, ends, due)) =
+    absurd (other (subst IsPadDue (sym (same_stop b p q v w stops ends).0) due))
 one_fault b (Reserved v) (Reserved w) (len, (p, stops, due)) (n, (q, ends, other)) = ap (λ (z : ℕ). Reserved z) (same_stop b p q v w stops ends).1
 one_fault b NoMemory g h k = absurd h
 one_fault b TooLong NoMemory h k = absurd k
@@ -101,7 +103,8 @@ port_even q a x (low, w, (pos, num), form) =
     let pads = padded_even (length a) (length a + length (pad (length a))) refl in
     elim form [
       | inl f ↦ (let len = plain_len low w a x f.1 in elim w_len [ inl z ↦ (1, omega (arith, f.0)) | inr z ↦ (2, omega (arith, f.0)) ])
-      | inr f ↦ (let len = sized_len low w a x f.2 in elim w_len [ inl z ↦ (1 + pads.0, omega (arith, pads.1)) | inr z ↦ (2 + pads.0, omega (arith, pads.1)) ])
+      | inr f ↦ (let len = sized_len low w a x f.2 in
+          elim w_len [ inl z ↦ (1 + pads.0, omega (arith, pads.1)) | inr z ↦ (2 + pads.0, omega (arith, pads.1)) ])
     ]
 
 form_even : (g : Segment) (x : List ℕ) → IsForm x g → IsEven (length x)
@@ -117,7 +120,8 @@ form_even (Key k) x (v, t, p, hv, ht, hp, major, minor, e) =
 form_even (Words d) x (n, lt, len, e) = (n + 1, ap (λ (z : List ℕ). length z) e ∙ omega (arith, len))
 form_even (Symbol d) x (lt, e) =
     let pads = padded_even (length d) (length d + length (pad (length d))) refl in
-    let len : length x ≡ 2 + (length d + length (pad (length d))) = ap (λ (z : List ℕ). length z) e ∙ length-append (0x91 ∷ length d ∷ d) (pad (length d)) ∙ omega arith in
+    let len : length x ≡ 2 + (length d + length (pad (length d))) = ap (λ (z : List ℕ). length z) e ∙ length-append (0x91 ∷ length d ∷ d) (pad (length d))
+    ∙ omega arith in
     (1 + pads.0, omega (arith, pads.1))
 form_even (Inhibit n) x f = narrow_even 0x43 n x f
 

@@ -1,24 +1,15 @@
 //! Writing segments in their shortest forms.
-ghost use Rattle.std.specs.Prelude.{◌≡◌, ◌<◌, ◌≤◌, ◌++◌, ◌∷◌, [], ◌⊎◌, length, OnOk, IfOk, IfErr, IsTrue, ◌↔◌, All, IsOk};
+ghost use Rattle.std.specs.Prelude.{◌≡◌, ◌<◌, ◌≤◌, ◌++◌, ◌∷◌, length, OnOk, IfOk, IfErr, IsTrue, ◌↔◌, All, IsOk};
 ghost use Rattle.cip_segment.specs.Spelling.{IsForm, Spells};
-ghost use Rattle.cip_base.specs.Fields.{pad, word};
+ghost use Rattle.cip_base.specs.Fields.{pad};
 ghost use Rattle.cip_segment.specs.Reading.{path_at};
-ghost use Rattle.cip_segment.specs.Short.{short_number, short_port, short_form, short, IsWritable, IsRanged};
+ghost use Rattle.cip_segment.specs.Short.{short_number, short, IsPut, IsWritable, IsRanged, IsWriteFault};
 
 use crate::fault::PathFault;
 use crate::path::Path;
 use crate::segment::Segment;
-use byteorder::{ByteOrder, LittleEndian};
-use cip_base::{KeyFields, MAX_PATH};
+use cip_base::{KeyFields, MAX_PATH, put_double, put_word};
 use std::alloc::{AllocError, Global};
-
-fn put_word(out: &mut Vec<u8>, number: u16) -> Result<(), AllocError>
-    ensures { OnOk result (out.new.items ≡ out.old.items ++ word number) }
-{
-    let mut bytes = [0; 2];
-    LittleEndian::write_u16(&mut bytes, number);
-    out.extend_from_slice(&bytes)
-}
 
 fn put_number(out: &mut Vec<u8>, head: u8, number: u32) -> Result<(), AllocError>
     requires { head < 128 }
@@ -36,8 +27,7 @@ fn put_number(out: &mut Vec<u8>, head: u8, number: u32) -> Result<(), AllocError
     }
     out.push(head + 2)?;
     out.push(0)?;
-    put_word(out, (number % 65536) as u16)?;
-    put_word(out, (number / 65536) as u16)
+    put_double(out, number)
 }
 
 fn put_padded(out: &mut Vec<u8>, bytes: &[u8]) -> Result<(), AllocError>
@@ -53,7 +43,7 @@ fn put_padded(out: &mut Vec<u8>, bytes: &[u8]) -> Result<(), AllocError>
 fn put_port(out: &mut Vec<u8>, number: u16, address: &[u8]) -> Result<(), AllocError>
     requires least { 1 ≤ length address.now }
     requires most { length address.now ≤ 16 }
-    ensures { OnOk result (out.new.items ≡ out.old.items ++ short_form (Segment.Port number address.now)) }
+    ensures { OnOk result (IsPut (Segment.Port number address.now) out.old.items out.new.items) }
 {
     let low = if number < 15 { number as u8 } else { 15 };
     if address.len() == 1 {
@@ -73,7 +63,7 @@ fn put_port(out: &mut Vec<u8>, number: u16, address: &[u8]) -> Result<(), AllocE
 }
 
 fn put_key(out: &mut Vec<u8>, key: &KeyFields) -> Result<(), AllocError>
-    ensures bytes { OnOk result (out.new.items ≡ out.old.items ++ short_form (Segment.Key key.now)) }
+    ensures bytes { OnOk result (IsPut (Segment.Key key.now) out.old.items out.new.items) }
     ensures ranged { OnOk result (IsRanged (Segment.Key key.now)) }
 {
     out.push(0x34)?;
@@ -88,7 +78,7 @@ fn put_key(out: &mut Vec<u8>, key: &KeyFields) -> Result<(), AllocError>
 
 fn put_words(out: &mut Vec<u8>, content: &[u8]) -> Result<(), AllocError>
     requires { length content.now ≤ 510 }
-    ensures { OnOk result (out.new.items ≡ out.old.items ++ short_form (Segment.Words content.now)) }
+    ensures { OnOk result (IsPut (Segment.Words content.now) out.old.items out.new.items) }
 {
     out.push(0x80)?;
     out.push((content.len() / 2) as u8)?;
@@ -97,7 +87,7 @@ fn put_words(out: &mut Vec<u8>, content: &[u8]) -> Result<(), AllocError>
 
 fn put_symbol(out: &mut Vec<u8>, name: &[u8]) -> Result<(), AllocError>
     requires { length name.now ≤ 255 }
-    ensures { OnOk result (out.new.items ≡ out.old.items ++ short_form (Segment.Symbol name.now)) }
+    ensures { OnOk result (IsPut (Segment.Symbol name.now) out.old.items out.new.items) }
 {
     out.push(0x91)?;
     out.push(name.len() as u8)?;
@@ -106,7 +96,7 @@ fn put_symbol(out: &mut Vec<u8>, name: &[u8]) -> Result<(), AllocError>
 
 fn put(out: &mut Vec<u8>, segment: &Segment) -> Result<(), AllocError>
     requires { IsWritable segment.now }
-    ensures bytes { OnOk result (out.new.items ≡ out.old.items ++ short_form segment.now) }
+    ensures bytes { OnOk result (IsPut segment.now out.old.items out.new.items) }
     ensures ranged { OnOk result (IsRanged segment.now) }
 {
     match segment {
@@ -127,7 +117,8 @@ fn put(out: &mut Vec<u8>, segment: &Segment) -> Result<(), AllocError>
     }
 }
 
-/// Whether the segment can be written: simple data of whole words and at most 510 bytes, a symbol of at most 255 bytes.
+/// Whether the segment can be written: simple data of whole words and at most 510 bytes, a symbol
+/// of at most 255 bytes.
 pub fn segment_ok(segment: &Segment) -> bool
     ensures { IsTrue result ↔ IsWritable segment.now }
 {
@@ -159,15 +150,16 @@ fn short_bytes(alloc: Global, segments: &[Segment]) -> Result<Vec<u8>, AllocErro
     Ok(bytes)
 }
 
-/// The path that spells the segments, each in its shortest form (Volume 1, Appendix C): numbers in the fewest bits, an
-/// address of one byte without its size. TooLong where that passes 510 bytes. The condition is `segment_ok` of each.
+/// The path that spells the segments, each in its shortest form (Volume 1, Appendix C): numbers in
+/// the fewest bits, an address of one byte without its size. TooLong where that passes 510 bytes.
+/// The condition is `segment_ok` of each.
 pub fn write_path(alloc: Global, segments: &[Segment]) -> Result<Path, PathFault>
     requires { All IsWritable segments.now }
     ensures ok { IfOk result (λ path. path ≡ short segments.now) }
     ensures spells { IfOk result (λ path. Spells path segments.now) }
     ensures reads { IfOk result (λ path. path_at path ≡ Ok segments.now) }
     ensures fits { IsOk result → length (short segments.now) ≤ 510 }
-    ensures fault { IfErr result (λ f. (f ≡ PathFault.NoMemory) ⊎ ((f ≡ PathFault.TooLong) × (510 < length (short segments.now)))) }
+    ensures fault { IfErr result (IsWriteFault segments.now) }
 {
     match short_bytes(alloc, segments) {
         Err(_) => Err(PathFault::NoMemory),

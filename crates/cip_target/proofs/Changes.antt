@@ -22,15 +22,19 @@ put_in m k a i = record { bytes = bytes-insert m k a i; owners = owners-insert m
 
 -- ---- a new assembly
 
-pub hold_push : (es : List Entry) (k : ℕ) (a : Assembly) (h : Holdings) → IsHeld es → position (λ e. nat_le k e.0) es ≡ None → holdings (the_map es) ≡ h → holdings (the_map (es ++ (k, a) ∷ [])) ≡ with_assembly h k a
+pub hold_push : (es : List Entry) (k : ℕ) (a : Assembly) (h : Holdings) → IsHeld es → position (λ e. nat_le k e.0) es ≡ None → holdings (the_map es) ≡ h
+    → holdings (the_map (es ++ (k, a) ∷ [])) ≡ with_assembly h k a
 hold_push es k a h kept none is = ap holdings (view_push es k a kept none) ∙ put_in (the_map es) k a ∙ ap (λ (h : Holdings). with_assembly h k a) is
 
-pub hold_insert : (es : List Entry) (k i : ℕ) (x : Entry) (a : Assembly) (h : Holdings) → IsHeld es → position (λ e. nat_le k e.0) es ≡ Some i → x ≡ get_or es i x → (x.0 ≡ k → ⊥) → holdings (the_map es) ≡ h → holdings (the_map (insert es i (k, a))) ≡ with_assembly h k a
-hold_insert es k i x a h kept at stands other is = ap holdings (view_insert es k i x a kept at stands other) ∙ put_in (the_map es) k a ∙ ap (λ (h : Holdings). with_assembly h k a) is
+pub hold_insert : (es : List Entry) (k i : ℕ) (x : Entry) (a : Assembly) (h : Holdings) → IsHeld es → position (λ e. nat_le k e.0) es ≡ Some i
+    → x ≡ get_or es i x → (x.0 ≡ k → ⊥) → holdings (the_map es) ≡ h → holdings (the_map (insert es i (k, a))) ≡ with_assembly h k a
+hold_insert es k i x a h kept at stands other is = ap holdings (view_insert es k i x a kept at stands other) ∙ put_in (the_map es) k a
+    ∙ ap (λ (h : Holdings). with_assembly h k a) is
 
 -- ---- an assembly that stands there
 
-pub put_over : (es : List Entry) (i : ℕ) (x : Entry) (k : ℕ) (a : Assembly) (h : Holdings) → IsHeld es → i < length es → x ≡ get_or es i x → x.0 ≡ k → holdings (the_map es) ≡ h → holdings (the_map (set es i (x.0, a))) ≡ with_assembly h k a
+pub put_over : (es : List Entry) (i : ℕ) (x : Entry) (k : ℕ) (a : Assembly) (h : Holdings) → IsHeld es → i < length es → x ≡ get_or es i x → x.0 ≡ k
+    → holdings (the_map es) ≡ h → holdings (the_map (set es i (x.0, a))) ≡ with_assembly h k a
 put_over es i x k a h kept lt stands key is =
     ap holdings (view_set es i x (x.0, a) kept lt stands refl) ∙ put_in (the_map es) x.0 a
     ∙ ap (λ (h : Holdings). with_assembly h x.0 a) is ∙ ap (λ (k : ℕ). with_assembly h k a) key
@@ -46,7 +50,8 @@ owner_at : (es : List Entry) (k i : ℕ) (x : Entry) → IsHeld es → Stands es
 owner_at es k i x kept at = owners-same (the_map es) k x.1.owner (ap (option_and_then (λ (a : Assembly). a.owner)) (get_is es k i x kept at.0 at.1))
 
 -- with other bytes
-pub write_over : (es : List Entry) (k i : ℕ) (x : Entry) (v w : List ℕ) (h : Holdings) → IsHeld es → Stands es k i x → v ≡ w → holdings (the_map es) ≡ h → holdings (the_map (set es i (x.0, record { bytes = v; owner = x.1.owner }))) ≡ record { bytes = map.insert h.bytes k w; owners = h.owners }
+pub write_over : (es : List Entry) (k i : ℕ) (x : Entry) (v w : List ℕ) (h : Holdings) → IsHeld es → Stands es k i x → v ≡ w → holdings (the_map es) ≡ h
+    → holdings (the_map (set es i (x.0, record { bytes = v; owner = x.1.owner }))) ≡ record { bytes = map.insert h.bytes k w; owners = h.owners }
 write_over es k i x v w h kept at same is =
     let there = key_is es k i x at.0 at.1 in
     let a : Assembly = record { bytes = v; owner = x.1.owner } in
@@ -56,7 +61,8 @@ write_over es k i x v w h kept at same is =
     ∙ ap (λ (v : List ℕ). record { bytes = map.insert h.bytes k v; owners = h.owners }) same
 
 -- with another owner, or none
-own_over : (es : List Entry) (k i : ℕ) (x : Entry) (o : Option Triad) (h : Holdings) → IsHeld es → Stands es k i x → holdings (the_map es) ≡ h → holdings (the_map (set es i (x.0, record { bytes = x.1.bytes; owner = o }))) ≡ record { bytes = h.bytes; owners = with_owner h.owners k o }
+own_over : (es : List Entry) (k i : ℕ) (x : Entry) (o : Option Triad) (h : Holdings) → IsHeld es → Stands es k i x → holdings (the_map es) ≡ h
+    → holdings (the_map (set es i (x.0, record { bytes = x.1.bytes; owner = o }))) ≡ record { bytes = h.bytes; owners = with_owner h.owners k o }
 own_over es k i x o h kept at is =
     let there = key_is es k i x at.0 at.1 in
     let a : Assembly = record { bytes = x.1.bytes; owner = o } in
@@ -66,55 +72,76 @@ own_over es k i x o h kept at is =
 
 -- ---- what is found
 
-pub bytes_found : (es : List Entry) (k i : ℕ) (x : Entry) (h : Holdings) → IsHeld es → Stands es k i x → holdings (the_map es) ≡ h → map.get h.bytes k ≡ Some x.1.bytes
+pub bytes_found : (es : List Entry) (k i : ℕ) (x : Entry) (h : Holdings) → IsHeld es → Stands es k i x → holdings (the_map es) ≡ h
+    → map.get h.bytes k ≡ Some x.1.bytes
 bytes_found es k i x h kept at is =
-    ap (λ (h : Holdings). map.get h.bytes k) (sym is) ∙ get-bytes (the_map es) k ∙ ap (option_map (λ (a : Assembly). a.bytes)) (get_is es k i x kept at.0 at.1)
+    ap (λ (h : Holdings). map.get h.bytes k) (sym is) ∙ get-bytes (the_map es) k
+    ∙ ap (option_map (λ (a : Assembly). a.bytes)) (get_is es k i x kept at.0 at.1)
 
-pub bytes_missing : (es : List Entry) (k : ℕ) (h : Holdings) → IsHeld es → position (λ e. e.0 == k) es ≡ None → holdings (the_map es) ≡ h → map.get h.bytes k ≡ None
+pub bytes_missing : (es : List Entry) (k : ℕ) (h : Holdings) → IsHeld es → position (λ e. e.0 == k) es ≡ None → holdings (the_map es) ≡ h
+    → map.get h.bytes k ≡ None
 bytes_missing es k h kept none is =
     ap (λ (h : Holdings). map.get h.bytes k) (sym is) ∙ get-bytes (the_map es) k ∙ ap (option_map (λ (a : Assembly). a.bytes)) (get_none es k kept none)
 
-pub owner_found : (es : List Entry) (k i : ℕ) (x : Entry) (h : Holdings) → IsHeld es → Stands es k i x → holdings (the_map es) ≡ h → map.get h.owners k ≡ x.1.owner
+pub owner_found : (es : List Entry) (k i : ℕ) (x : Entry) (h : Holdings) → IsHeld es → Stands es k i x → holdings (the_map es) ≡ h
+    → map.get h.owners k ≡ x.1.owner
 owner_found es k i x h kept at is =
-    ap (λ (h : Holdings). map.get h.owners k) (sym is) ∙ get-owners (the_map es) k ∙ ap (option_and_then (λ (a : Assembly). a.owner)) (get_is es k i x kept at.0 at.1)
+    ap (λ (h : Holdings). map.get h.owners k) (sym is) ∙ get-owners (the_map es) k
+    ∙ ap (option_and_then (λ (a : Assembly). a.owner)) (get_is es k i x kept at.0 at.1)
 
-pub owner_missing : (es : List Entry) (k : ℕ) (h : Holdings) → IsHeld es → position (λ e. e.0 == k) es ≡ None → holdings (the_map es) ≡ h → map.get h.owners k ≡ None
+pub owner_missing : (es : List Entry) (k : ℕ) (h : Holdings) → IsHeld es → position (λ e. e.0 == k) es ≡ None → holdings (the_map es) ≡ h
+    → map.get h.owners k ≡ None
 owner_missing es k h kept none is =
-    ap (λ (h : Holdings). map.get h.owners k) (sym is) ∙ get-owners (the_map es) k ∙ ap (option_and_then (λ (a : Assembly). a.owner)) (get_none es k kept none)
+    ap (λ (h : Holdings). map.get h.owners k) (sym is) ∙ get-owners (the_map es) k
+    ∙ ap (option_and_then (λ (a : Assembly). a.owner)) (get_none es k kept none)
 
-pub first_found : (es : List Entry) (after : Option ℕ) (i : ℕ) (x : Entry) (h : Holdings) → IsHeld es → position (λ e. is_above after e.0) es ≡ Some i → x ≡ get_or es i x → holdings (the_map es) ≡ h → first_above after h.bytes ≡ Some (x.0, x.1.bytes)
+pub first_found : (es : List Entry) (after : Option ℕ) (i : ℕ) (x : Entry) (h : Holdings) → IsHeld es → position (λ e. is_above after e.0) es ≡ Some i
+    → x ≡ get_or es i x → holdings (the_map es) ≡ h → first_above after h.bytes ≡ Some (x.0, x.1.bytes)
 first_found es after i x h kept at stands is =
-    ap (λ (h : Holdings). first_above after h.bytes) (sym is) ∙ first-bytes after (the_map es) ∙ ap (option_map (λ (e : Entry). (e.0, e.1.bytes))) (above_is es after i x kept at stands)
+    ap (λ (h : Holdings). first_above after h.bytes) (sym is) ∙ first-bytes after (the_map es)
+    ∙ ap (option_map (λ (e : Entry). (e.0, e.1.bytes))) (above_is es after i x kept at stands)
 
-pub first_missing : (es : List Entry) (after : Option ℕ) (h : Holdings) → IsHeld es → position (λ e. is_above after e.0) es ≡ None → holdings (the_map es) ≡ h → first_above after h.bytes ≡ None
+pub first_missing : (es : List Entry) (after : Option ℕ) (h : Holdings) → IsHeld es → position (λ e. is_above after e.0) es ≡ None
+    → holdings (the_map es) ≡ h → first_above after h.bytes ≡ None
 first_missing es after h kept none is =
-    ap (λ (h : Holdings). first_above after h.bytes) (sym is) ∙ first-bytes after (the_map es) ∙ ap (option_map (λ (e : Entry). (e.0, e.1.bytes))) (above_none es after kept none)
+    ap (λ (h : Holdings). first_above after h.bytes) (sym is) ∙ first-bytes after (the_map es)
+    ∙ ap (option_map (λ (e : Entry). (e.0, e.1.bytes))) (above_none es after kept none)
 
 -- ---- owners
 
 -- an instance that has bytes is owned
-pub own_with : (es : List Entry) (k i : ℕ) (x : Entry) (t : Triad) (h : Holdings) → IsHeld es → Stands es k i x → (length x.1.bytes ≡ 0 → ⊥) → holdings (the_map es) ≡ h → holdings (the_map (set es i (x.0, record { bytes = x.1.bytes; owner = Some t }))) ≡ record { bytes = h.bytes; owners = owned_with h.owners k t (size_in h.bytes k) }
+pub own_with : (es : List Entry) (k i : ℕ) (x : Entry) (t : Triad) (h : Holdings) → IsHeld es → Stands es k i x → (length x.1.bytes ≡ 0 → ⊥)
+    → holdings (the_map es) ≡ h
+    → holdings (the_map (set es i (x.0, record { bytes = x.1.bytes; owner = Some t })))
+    ≡ record { bytes = h.bytes; owners = owned_with h.owners k t (size_in h.bytes k) }
 own_with es k i x t h kept at some is =
     let long : nat_lt 0 (length x.1.bytes) ≡ true = grind (arith, nat_tests) in
     own_over es k i x (Some t) h kept at is
     ∙ ap (λ (b : Bool). record { bytes = h.bytes; owners = cond b (map.insert h.owners k t) h.owners }) (sym long)
-    ∙ ap (λ (o : Option (List ℕ)). record { bytes = h.bytes; owners = owned_with h.owners k t (option_map length o) }) (sym (bytes_found es k i x h kept at is))
+    ∙ ap (λ (o : Option (List ℕ)). record { bytes = h.bytes; owners = owned_with h.owners k t (option_map length o) })
+    (sym (bytes_found es k i x h kept at is))
 
 -- and one without is not
-pub own_nothing : (es : List Entry) (k i : ℕ) (x : Entry) (t : Triad) (h : Holdings) → IsHeld es → Stands es k i x → length x.1.bytes ≡ 0 → holdings (the_map es) ≡ h → h ≡ record { bytes = h.bytes; owners = owned_with h.owners k t (size_in h.bytes k) }
+pub own_nothing : (es : List Entry) (k i : ℕ) (x : Entry) (t : Triad) (h : Holdings) → IsHeld es → Stands es k i x → length x.1.bytes ≡ 0
+    → holdings (the_map es) ≡ h → h ≡ record { bytes = h.bytes; owners = owned_with h.owners k t (size_in h.bytes k) }
 own_nothing es k i x t h kept at none is =
     let short : nat_lt 0 (length x.1.bytes) ≡ false = grind (arith, nat_tests) in
     ap (λ (b : Bool). record { bytes = h.bytes; owners = cond b (map.insert h.owners k t) h.owners }) (sym short)
-    ∙ ap (λ (o : Option (List ℕ)). record { bytes = h.bytes; owners = owned_with h.owners k t (option_map length o) }) (sym (bytes_found es k i x h kept at is))
+    ∙ ap (λ (o : Option (List ℕ)). record { bytes = h.bytes; owners = owned_with h.owners k t (option_map length o) })
+    (sym (bytes_found es k i x h kept at is))
 
-pub own_missing : (es : List Entry) (k : ℕ) (t : Triad) (h : Holdings) → IsHeld es → position (λ e. e.0 == k) es ≡ None → holdings (the_map es) ≡ h → h ≡ record { bytes = h.bytes; owners = owned_with h.owners k t (size_in h.bytes k) }
+pub own_missing : (es : List Entry) (k : ℕ) (t : Triad) (h : Holdings) → IsHeld es → position (λ e. e.0 == k) es ≡ None → holdings (the_map es) ≡ h
+    → h ≡ record { bytes = h.bytes; owners = owned_with h.owners k t (size_in h.bytes k) }
 own_missing es k t h kept none is =
-    ap (λ (o : Option (List ℕ)). record { bytes = h.bytes; owners = owned_with h.owners k t (option_map length o) }) (sym (bytes_missing es k h kept none is))
+    ap (λ (o : Option (List ℕ)). record { bytes = h.bytes; owners = owned_with h.owners k t (option_map length o) })
+    (sym (bytes_missing es k h kept none is))
 
-pub disown_over : (es : List Entry) (k i : ℕ) (x : Entry) (h : Holdings) → IsHeld es → Stands es k i x → holdings (the_map es) ≡ h → holdings (the_map (set es i (x.0, record { bytes = x.1.bytes; owner = None }))) ≡ record { bytes = h.bytes; owners = map.remove h.owners k }
+pub disown_over : (es : List Entry) (k i : ℕ) (x : Entry) (h : Holdings) → IsHeld es → Stands es k i x → holdings (the_map es) ≡ h
+    → holdings (the_map (set es i (x.0, record { bytes = x.1.bytes; owner = None }))) ≡ record { bytes = h.bytes; owners = map.remove h.owners k }
 disown_over es k i x h kept at is = own_over es k i x None h kept at is
 
-pub disown_missing : (es : List Entry) (k : ℕ) (h : Holdings) → IsHeld es → position (λ e. e.0 == k) es ≡ None → holdings (the_map es) ≡ h → h ≡ record { bytes = h.bytes; owners = map.remove h.owners k }
+pub disown_missing : (es : List Entry) (k : ℕ) (h : Holdings) → IsHeld es → position (λ e. e.0 == k) es ≡ None → holdings (the_map es) ≡ h
+    → h ≡ record { bytes = h.bytes; owners = map.remove h.owners k }
 disown_missing es k h kept none is =
     let same = owners-same (the_map es) k None (ap (option_and_then (λ (a : Assembly). a.owner)) (get_none es k kept none)) in
     sym is ∙ ap (λ (o : Owners). record { bytes = bytes_of (the_map es); owners = o }) (sym same)
@@ -125,10 +152,13 @@ holdings-none i = record { bytes = bytes-none i; owners = owners-none i }
 
 -- ---- what a write asks
 
-pub same_length : (es : List Entry) (k i : ℕ) (x : Entry) (b : List ℕ) (h : Holdings) → IsHeld es → Stands es k i x → holdings (the_map es) ≡ h → IsSomeAnd (map.get h.bytes k) (λ d. length b ≡ length d) → length b ≡ length x.1.bytes
-same_length es k i x b h kept at is asked = subst (λ (o : Option (List ℕ)). IsSomeAnd o (λ d. length b ≡ length d)) (bytes_found es k i x h kept at is) asked
+pub same_length : (es : List Entry) (k i : ℕ) (x : Entry) (b : List ℕ) (h : Holdings) → IsHeld es → Stands es k i x → holdings (the_map es) ≡ h
+    → IsSomeAnd (map.get h.bytes k) (λ d. length b ≡ length d) → length b ≡ length x.1.bytes
+same_length es k i x b h kept at is asked =
+    subst (λ (o : Option (List ℕ)). IsSomeAnd o (λ d. length b ≡ length d)) (bytes_found es k i x h kept at is) asked
 
-pub always_there : (es : List Entry) (k : ℕ) (b : List ℕ) (h : Holdings) → IsHeld es → position (λ e. e.0 == k) es ≡ None → holdings (the_map es) ≡ h → IsSomeAnd (map.get h.bytes k) (λ d. length b ≡ length d) → ⊥
+pub always_there : (es : List Entry) (k : ℕ) (b : List ℕ) (h : Holdings) → IsHeld es → position (λ e. e.0 == k) es ≡ None → holdings (the_map es) ≡ h
+    → IsSomeAnd (map.get h.bytes k) (λ d. length b ≡ length d) → ⊥
 always_there es k b h kept none is asked = subst (λ (o : Option (List ℕ)). IsSomeAnd o (λ d. length b ≡ length d)) (bytes_missing es k h kept none is) asked
 
 -- where nothing stands

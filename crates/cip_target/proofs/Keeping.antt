@@ -35,9 +35,11 @@ same_at (x ∷ xs) (suc i) c d lt = same_at xs i c d (omega arith)
 pub get_none : (es : List Entry) (q : ℕ) → IsHeld es → position (λ e. e.0 == q) es ≡ None → map.get (the_map es) q ≡ None
 get_none es q h e = map.get-from_sorted nat_cmp _ q h.sorted ∙ find-number q _ ∙ ap (option_map (λ (f : Entry). f.1)) (find-None (λ f. f.0 == q) es e)
 
-pub get_is : (es : List Entry) (q i : ℕ) (x : Entry) → IsHeld es → position (λ e. e.0 == q) es ≡ Some i → x ≡ get_or es i x → map.get (the_map es) q ≡ Some x.1
+pub get_is : (es : List Entry) (q i : ℕ) (x : Entry) → IsHeld es → position (λ e. e.0 == q) es ≡ Some i → x ≡ get_or es i x
+    → map.get (the_map es) q ≡ Some x.1
 get_is es q i x h e stands =
-    map.get-from_sorted nat_cmp _ q h.sorted ∙ find-number q _ ∙ ap (option_map (λ (f : Entry). f.1)) (find-Some _ _ i x e) ∙ ap (λ (f : Entry). Some f.1) (sym stands)
+    map.get-from_sorted nat_cmp _ q h.sorted ∙ find-number q _ ∙ ap (option_map (λ (f : Entry). f.1)) (find-Some _ _ i x e)
+    ∙ ap (λ (f : Entry). Some f.1) (sym stands)
 
 pub key_is : (es : List Entry) (q i : ℕ) (x : Entry) → position (λ e. e.0 == q) es ≡ Some i → x ≡ get_or es i x → (i < length es) × (x.0 ≡ q)
 key_is es q i x e stands =
@@ -47,10 +49,13 @@ key_is es q i x e stands =
 pub fits_at : (es : List Entry) (i : ℕ) (x : Entry) → IsHeld es → i < length es → x ≡ get_or es i x → length x.1.bytes ≤ 511
 fits_at es i x h lt stands = subst (λ (f : Entry). length f.1.bytes ≤ 511) (sym (stands ∙ same_at es i x nothing lt)) (h.fits i)
 
-pub above_none : (es : List Entry) (after : Option ℕ) → IsHeld es → position (λ e. is_above after e.0) es ≡ None → find (λ e. is_above after e.0) (map.entries (the_map es)) ≡ None
-above_none es after h e = ap (find (λ (e : Entry). is_above after e.0)) (map.entries-from_sorted nat_cmp _ h.sorted) ∙ find-None (λ f. is_above after f.0) es e
+pub above_none : (es : List Entry) (after : Option ℕ) → IsHeld es → position (λ e. is_above after e.0) es ≡ None
+    → find (λ e. is_above after e.0) (map.entries (the_map es)) ≡ None
+above_none es after h e = ap (find (λ (e : Entry). is_above after e.0)) (map.entries-from_sorted nat_cmp _ h.sorted)
+    ∙ find-None (λ f. is_above after f.0) es e
 
-pub above_is : (es : List Entry) (after : Option ℕ) (i : ℕ) (x : Entry) → IsHeld es → position (λ e. is_above after e.0) es ≡ Some i → x ≡ get_or es i x → find (λ e. is_above after e.0) (map.entries (the_map es)) ≡ Some x
+pub above_is : (es : List Entry) (after : Option ℕ) (i : ℕ) (x : Entry) → IsHeld es → position (λ e. is_above after e.0) es ≡ Some i → x ≡ get_or es i x
+    → find (λ e. is_above after e.0) (map.entries (the_map es)) ≡ Some x
 above_is es after i x h e stands =
     ap (find (λ (e : Entry). is_above after e.0)) (map.entries-from_sorted nat_cmp _ h.sorted) ∙ find-Some _ _ i x e ∙ ap (λ y. Some y) (sym stands)
 
@@ -67,18 +72,23 @@ Fits es = (i : ℕ) → length (get_or es i nothing).1.bytes ≤ 511
 fits_set : (es : List Entry) (i : ℕ) (x : Entry) → i < length es → Fits es → length x.1.bytes ≤ 511 → Fits (set es i x)
 fits_set es i x lt h p k =
     elim (cases_eq k i) [
-      | inl same ↦ subst (λ (f : Entry). length f.1.bytes ≤ 511) (sym (ap (λ (j : ℕ). get_or (set es i x) j nothing) same ∙ get_or-set_same es i x nothing lt)) p
+      | inl same ↦ subst (λ (f : Entry). length f.1.bytes ≤ 511)
+          (sym (ap (λ (j : ℕ). get_or (set es i x) j nothing) same ∙ get_or-set_same es i x nothing lt)) p
       | inr other ↦ subst (λ (f : Entry). length f.1.bytes ≤ 511) (sym (get_or-set_other es i k x nothing other)) (h k)
     ]
 
-pub kept_set : (es : List Entry) (i : ℕ) (x y : Entry) → IsHeld es → i < length es → x ≡ get_or es i x → y.0 ≡ x.0 → length y.1.bytes ≤ 511 → IsHeld (set es i y)
+pub kept_set : (es : List Entry) (i : ℕ) (x y : Entry) → IsHeld es → i < length es → x ≡ get_or es i x → y.0 ≡ x.0 → length y.1.bytes ≤ 511
+    → IsHeld (set es i y)
 kept_set es i x y h lt stands key p = record {
-  sorted = subst (λ t. T (map.is_sorted nat_cmp t)) (sym (set_is es i y lt ∙ ap (λ (k : ℕ). insert (remove es i) i (k, y.1)) (key ∙ ap (λ (f : Entry). f.0) stands)))
+  sorted =
+      subst (λ t. T (map.is_sorted nat_cmp t))
+      (sym (set_is es i y lt ∙ ap (λ (k : ℕ). insert (remove es i) i (k, y.1)) (key ∙ ap (λ (f : Entry). f.0) stands)))
       (sorted_at nat_cmp nat_cmp_total es i x y.1 h.sorted lt);
   fits = fits_set es i y lt h.fits p;
 }
 
-pub view_set : (es : List Entry) (i : ℕ) (x y : Entry) → IsHeld es → i < length es → x ≡ get_or es i x → y.0 ≡ x.0 → the_map (set es i y) ≡ map.insert (the_map es) x.0 y.1
+pub view_set : (es : List Entry) (i : ℕ) (x y : Entry) → IsHeld es → i < length es → x ≡ get_or es i x → y.0 ≡ x.0
+    → the_map (set es i y) ≡ map.insert (the_map es) x.0 y.1
 view_set es i x y h lt stands key =
     ap the_map (set_is es i y lt ∙ ap (λ (k : ℕ). insert (remove es i) i (k, y.1)) (key ∙ ap (λ (f : Entry). f.0) stands))
     ∙ from_sorted-at nat_cmp nat_cmp_total es i x y.1 h.sorted lt
@@ -111,19 +121,22 @@ fits_insert (e ∷ es) (suc i) x le h p (suc k) = fits_insert es i x (omega arit
 above_all : (es : List Entry) (k : ℕ) → position (λ e. nat_le k e.0) es ≡ None → (i : ℕ) (d : Entry) → i < length es → nat_cmp (get_or es i d).0 k ≡ Less
 above_all es k e i d lt = less_is _ _ (all_miss (λ (f : Entry). nat_le k f.0) es e i d lt)
 
-pub kept_push : (es : List Entry) (k : ℕ) (v : Assembly) → IsHeld es → position (λ e. nat_le k e.0) es ≡ None → length v.bytes ≤ 511 → IsHeld (es ++ (k, v) ∷ [])
+pub kept_push : (es : List Entry) (k : ℕ) (v : Assembly) → IsHeld es → position (λ e. nat_le k e.0) es ≡ None → length v.bytes ≤ 511
+    → IsHeld (es ++ (k, v) ∷ [])
 kept_push es k v h e p = record {
   sorted = sorted_push nat_cmp es k v h.sorted (above_all es k e);
   fits = fits_push es (k, v) h.fits p;
 }
 
-pub view_push : (es : List Entry) (k : ℕ) (v : Assembly) → IsHeld es → position (λ e. nat_le k e.0) es ≡ None → the_map (es ++ (k, v) ∷ []) ≡ map.insert (the_map es) k v
+pub view_push : (es : List Entry) (k : ℕ) (v : Assembly) → IsHeld es → position (λ e. nat_le k e.0) es ≡ None
+    → the_map (es ++ (k, v) ∷ []) ≡ map.insert (the_map es) k v
 view_push es k v h e = from_sorted-push nat_cmp nat_cmp_total nat_cmp-IsAntisymmetric es k v h.sorted (above_all es k e)
 
 low : (es : List Entry) (k i : ℕ) → position (λ e. nat_le k e.0) es ≡ Some i → (j : ℕ) (d : Entry) → j < i → nat_cmp k (get_or es j d).0 ≡ Greater
 low es k i e j d lt = greater_is _ _ ((position-Some (λ (f : Entry). nat_le k f.0) es i d e).2 j lt)
 
-high : (es : List Entry) (k i : ℕ) (x : Entry) → position (λ e. nat_le k e.0) es ≡ Some i → x ≡ get_or es i x → (x.0 ≡ k → ⊥) → (d : Entry) → i < length es → nat_cmp k (get_or es i d).0 ≡ Less
+high : (es : List Entry) (k i : ℕ) (x : Entry) → position (λ e. nat_le k e.0) es ≡ Some i → x ≡ get_or es i x → (x.0 ≡ k → ⊥) → (d : Entry) → i < length es
+    → nat_cmp k (get_or es i d).0 ≡ Less
 high es k i x e stands other d lt =
     let h = position-Some (λ (f : Entry). nat_le k f.0) es i d e in
     let same : x.0 ≡ (get_or es i d).0 = ap (λ (f : Entry). f.0) (stands ∙ same_at es i x d lt) in
@@ -132,7 +145,8 @@ high es k i x e stands other d lt =
 pub within : (es : List Entry) (k i : ℕ) → position (λ e. nat_le k e.0) es ≡ Some i → i < length es
 within es k i e = (position-Some (λ (f : Entry). nat_le k f.0) es i nothing e).0
 
-pub kept_insert : (es : List Entry) (k i : ℕ) (x : Entry) (v : Assembly) → IsHeld es → position (λ e. nat_le k e.0) es ≡ Some i → x ≡ get_or es i x → (x.0 ≡ k → ⊥) → length v.bytes ≤ 511 → IsHeld (insert es i (k, v))
+pub kept_insert : (es : List Entry) (k i : ℕ) (x : Entry) (v : Assembly) → IsHeld es → position (λ e. nat_le k e.0) es ≡ Some i → x ≡ get_or es i x
+    → (x.0 ≡ k → ⊥) → length v.bytes ≤ 511 → IsHeld (insert es i (k, v))
 kept_insert es k i x v h e stands other p =
     let lt = within es k i e in
     record {
@@ -140,7 +154,8 @@ kept_insert es k i x v h e stands other p =
       fits = fits_insert es i (k, v) (omega arith) h.fits p;
     }
 
-pub view_insert : (es : List Entry) (k i : ℕ) (x : Entry) (v : Assembly) → IsHeld es → position (λ e. nat_le k e.0) es ≡ Some i → x ≡ get_or es i x → (x.0 ≡ k → ⊥) → the_map (insert es i (k, v)) ≡ map.insert (the_map es) k v
+pub view_insert : (es : List Entry) (k i : ℕ) (x : Entry) (v : Assembly) → IsHeld es → position (λ e. nat_le k e.0) es ≡ Some i → x ≡ get_or es i x
+    → (x.0 ≡ k → ⊥) → the_map (insert es i (k, v)) ≡ map.insert (the_map es) k v
 view_insert es k i x v h e stands other =
     let lt = within es k i e in
     from_sorted-insert nat_cmp nat_cmp_total es i k v h.sorted (low es k i e) (high es k i x e stands other) (omega arith)

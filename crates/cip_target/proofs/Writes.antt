@@ -31,31 +31,40 @@ set_identity_there m (Some found) = tt
 
 identity_there : (m : AssemblyMap) (f : IdentityFields) (service : ℕ) (a : Option ℕ) (d : List ℕ) → IsThere m (identity_row f service a d)
 identity_there m f service a d =
-    cond_both (eqb service 0x01) (read_row (identity_bytes f) d) (cond (eqb service 0x0E) (get_row (identity_attribute f a) d) (cond (eqb service 0x10) (set_identity_row (identity_attribute f a)) (Refused ServiceNotSupported))) (IsThere m)
+    cond_both (eqb service 0x01) (read_row (identity_bytes f) d)
+    (cond (eqb service 0x0E) (get_row (identity_attribute f a) d)
+    (cond (eqb service 0x10) (set_identity_row (identity_attribute f a)) (Refused ServiceNotSupported))) (IsThere m)
     (λ e. read_there m (identity_bytes f) d)
-    (λ e. cond_both (eqb service 0x0E) (get_row (identity_attribute f a) d) (cond (eqb service 0x10) (set_identity_row (identity_attribute f a)) (Refused ServiceNotSupported)) (IsThere m)
+    (λ e. cond_both (eqb service 0x0E) (get_row (identity_attribute f a) d)
+    (cond (eqb service 0x10) (set_identity_row (identity_attribute f a)) (Refused ServiceNotSupported)) (IsThere m)
     (λ e. get_there m (identity_attribute f a) d)
-    (λ e. cond_both (eqb service 0x10) (set_identity_row (identity_attribute f a)) (Refused ServiceNotSupported) (IsThere m) (λ e. set_identity_there m (identity_attribute f a)) (λ e. tt)))
+    (λ e. cond_both (eqb service 0x10) (set_identity_row (identity_attribute f a)) (Refused ServiceNotSupported) (IsThere m)
+    (λ e. set_identity_there m (identity_attribute f a)) (λ e. tt)))
 
 -- the attribute of an assembly is its data, or there is none
 set_there : (m : AssemblyMap) (i : ℕ) (held d : List ℕ) → map.get m i ≡ Some held → IsThere m (set_assembly_row i (Some held) d)
 set_there m i held d found =
-    cond_both (ltb (length d) (length held)) (Refused DataShort) (cond (ltb (length held) (length d)) (Refused DataLong) (Written i d)) (IsThere m) (λ e. tt)
+    cond_both (ltb (length d) (length held)) (Refused DataShort) (cond (ltb (length held) (length d)) (Refused DataLong) (Written i d)) (IsThere m)
+    (λ e. tt)
     (λ short. cond_both (ltb (length held) (length d)) (Refused DataLong) (Written i d) (IsThere m) (λ e. tt)
     (λ long.
     let same : length d ≡ length held = omega (arith, ltb-false _ _ short, ltb-false _ _ long) in
     subst (λ (o : Option (List ℕ)). IsSomeAnd o (λ h. length d ≡ length h)) (sym found) same))
 
-data_there : (m : AssemblyMap) (i : ℕ) (held : List ℕ) (a : Option ℕ) (d : List ℕ) → map.get m i ≡ Some held → IsThere m (set_assembly_row i (assembly_attribute held a) d)
+data_there : (m : AssemblyMap) (i : ℕ) (held : List ℕ) (a : Option ℕ) (d : List ℕ) → map.get m i ≡ Some held
+    → IsThere m (set_assembly_row i (assembly_attribute held a) d)
 data_there m i held None d found = tt
 data_there m i held (Some a) d found =
     cond_both (eqb a 3) (Some held) None (λ o. IsThere m (set_assembly_row i o d)) (λ e. set_there m i held d found) (λ e. tt)
 
-held_there : (m : AssemblyMap) (i : ℕ) (held : List ℕ) (service : ℕ) (a : Option ℕ) (d : List ℕ) → map.get m i ≡ Some held → IsThere m (assembly_row i (Some held) service a d)
+held_there : (m : AssemblyMap) (i : ℕ) (held : List ℕ) (service : ℕ) (a : Option ℕ) (d : List ℕ) → map.get m i ≡ Some held
+    → IsThere m (assembly_row i (Some held) service a d)
 held_there m i held service a d found =
-    cond_both (eqb service 0x0E) (get_row (assembly_attribute held a) d) (cond (eqb service 0x10) (set_assembly_row i (assembly_attribute held a) d) (Refused ServiceNotSupported)) (IsThere m)
+    cond_both (eqb service 0x0E) (get_row (assembly_attribute held a) d)
+    (cond (eqb service 0x10) (set_assembly_row i (assembly_attribute held a) d) (Refused ServiceNotSupported)) (IsThere m)
     (λ e. get_there m (assembly_attribute held a) d)
-    (λ e. cond_both (eqb service 0x10) (set_assembly_row i (assembly_attribute held a) d) (Refused ServiceNotSupported) (IsThere m) (λ e. data_there m i held a d found) (λ e. tt))
+    (λ e. cond_both (eqb service 0x10) (set_assembly_row i (assembly_attribute held a) d) (Refused ServiceNotSupported) (IsThere m)
+    (λ e. data_there m i held a d found) (λ e. tt))
 
 assembly_there : (m : AssemblyMap) (i service : ℕ) (a : Option ℕ) (d : List ℕ) → IsThere m (assembly_row i (map.get m i) service a d)
 assembly_there m i service a d =
@@ -66,9 +75,12 @@ assembly_there m i service a d =
 
 object_there : (f : IdentityFields) (m : AssemblyMap) (o : ObjectPath) (service : ℕ) (d : List ℕ) → IsThere m (object_row f m o service d)
 object_there f m o service d =
-    cond_both (eqb o.class_ 1) (cond (eqb o.instance 1) (identity_row f service o.attribute d) (Refused NoSuchInstance)) (cond (eqb o.class_ 4) (assembly_row o.instance (map.get m o.instance) service o.attribute d) (Refused ClassNotSupported)) (IsThere m)
-    (λ e. cond_both (eqb o.instance 1) (identity_row f service o.attribute d) (Refused NoSuchInstance) (IsThere m) (λ e. identity_there m f service o.attribute d) (λ e. tt))
-    (λ e. cond_both (eqb o.class_ 4) (assembly_row o.instance (map.get m o.instance) service o.attribute d) (Refused ClassNotSupported) (IsThere m) (λ e. assembly_there m o.instance service o.attribute d) (λ e. tt))
+    cond_both (eqb o.class_ 1) (cond (eqb o.instance 1) (identity_row f service o.attribute d) (Refused NoSuchInstance))
+    (cond (eqb o.class_ 4) (assembly_row o.instance (map.get m o.instance) service o.attribute d) (Refused ClassNotSupported)) (IsThere m)
+    (λ e. cond_both (eqb o.instance 1) (identity_row f service o.attribute d) (Refused NoSuchInstance) (IsThere m)
+    (λ e. identity_there m f service o.attribute d) (λ e. tt))
+    (λ e. cond_both (eqb o.class_ 4) (assembly_row o.instance (map.get m o.instance) service o.attribute d) (Refused ClassNotSupported) (IsThere m)
+    (λ e. assembly_there m o.instance service o.attribute d) (λ e. tt))
 
 path_there : (f : IdentityFields) (m : AssemblyMap) (o : Option ObjectPath) (service : ℕ) (d : List ℕ) → IsThere m (path_row f m o service d)
 path_there f m None service d = tt

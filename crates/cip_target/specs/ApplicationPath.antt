@@ -1,14 +1,16 @@
--- The application path of an open (Volume 1, chapter 3, Forward_Open, connection path): what it names at the end.
-use Rattle.std.specs.Prelude.{ℕ, ◌==◌, if◌then◌else◌, List, [], ◌∷◌, Option, Some, None}
+-- The application path of an open (Volume 1, chapter 3, Forward_Open, connection path): what it
+-- names at the end.
+use Rattle.std.specs.Prelude.{◌==◌, if◌then◌else◌, List, [], ◌∷◌, Option, Some, None}
+use Rattle.cip_base.specs.Words.{Octets, InstanceNumber}
 use Rattle.cip_segment.specs.declared.segment.Segment.{Segment}
 use Rattle.cip_segment.specs.declared.segment.Segment.TheVariants.{Class, Instance, Point, Key, Words, Inhibit}
 
 -- the instances for configuration, O→T and T→O, and the configuration bytes
 pub record Application : Type 0 where
-  pub config : ℕ
-  pub consume : ℕ
-  pub produce : ℕ
-  pub bytes : List ℕ
+  pub config : InstanceNumber
+  pub consume : InstanceNumber
+  pub produce : InstanceNumber
+  pub bytes : Octets
 
 -- behind a leading key, if there is one
 abbrev pub behind_key : List Segment → List Segment
@@ -22,18 +24,19 @@ without_inhibits (Inhibit n ∷ s) = without_inhibits s
 without_inhibits (g ∷ s) = g ∷ without_inhibits s
 
 -- an instance or a connection point
-abbrev pub point_of : Segment → Option ℕ
+abbrev pub point_of : Segment → Option InstanceNumber
 point_of (Instance n) = Some n
 point_of (Point n) = Some n
 point_of g = None
 
 -- behind the three points: nothing, which is no configuration bytes, or one simple data segment
-abbrev pub bytes_in : List Segment → Option (List ℕ)
+abbrev pub bytes_in : List Segment → Option Octets
 bytes_in [] = Some []
 bytes_in (Words d ∷ []) = Some d
 bytes_in s = None
 
-abbrev pub application_with : Option ℕ → Option ℕ → Option ℕ → Option (List ℕ) → Option Application
+abbrev pub application_with : Option InstanceNumber → Option InstanceNumber
+    → Option InstanceNumber → Option Octets → Option Application
 application_with (Some config) (Some consume) (Some produce) (Some bytes) =
     Some (record { config = config; consume = consume; produce = produce; bytes = bytes })
 application_with a b c d = None

@@ -2,31 +2,61 @@
 use Rattle.std.specs.Prelude.{ℕ, ◌≤◌, T, List, [], ◌∷◌, length, slice_index_or, Option, Some, None}
 use Rattle.std.specs.Ordering.{nat_cmp}
 use Rattle.std.specs.FinMap as map
+use Rattle.cip_base.specs.Words.{Octets, InstanceNumber}
 use Rattle.cip_base.specs.declared.triad.Triad.{Triad}
 use Rattle.cip_target.specs.declared.assembly.Assembly.{Assembly}
-use Rattle.cip_target.specs.Assemblies.{AssemblyMap, Owners}
+use Rattle.cip_target.specs.Assemblies.{AssemblyMap, Owners, size_in, written_over, owned_with}
 
 -- the bytes of each instance, and the owners of those that have one
 pub record Holdings : Type 0 where
   pub bytes : AssemblyMap
   pub owners : Owners
 
+-- with these assemblies, none of which has an owner
+abbrev pub unowned : AssemblyMap → Holdings
+unowned m = record { bytes = m; owners = map.empty }
+
+-- with a fresh assembly, which has no owner
+abbrev pub with_fresh : Holdings → InstanceNumber → Octets → Holdings
+with_fresh h i b = record { bytes = map.insert h.bytes i b; owners = map.remove h.owners i }
+
+-- with these bytes in an assembly
+abbrev pub with_bytes : Holdings → InstanceNumber → Octets → Holdings
+with_bytes h i b = record { bytes = map.insert h.bytes i b; owners = h.owners }
+
+-- with as much of the bytes in an assembly as it has
+abbrev pub with_front : Holdings → InstanceNumber → Octets → Holdings
+with_front h i b = record {
+  bytes = written_over h.bytes i b (map.get h.bytes i);
+  owners = h.owners;
+}
+
+-- with the owner of an assembly that has bytes
+abbrev pub with_output : Holdings → InstanceNumber → Triad → Holdings
+with_output h i triad = record {
+  bytes = h.bytes;
+  owners = owned_with h.owners i triad (size_in h.bytes i);
+}
+
+abbrev pub without_owner : Holdings → InstanceNumber → Holdings
+without_owner h i = record { bytes = h.bytes; owners = map.remove h.owners i }
+
 -- each assembly under its instance
 abbrev pub Kept : Type 0
 Kept = map.FinMap nat_cmp Assembly
 
-abbrev pub bytes_in : List (ℕ × Assembly) → List (ℕ × List ℕ)
+abbrev pub bytes_in : List (InstanceNumber × Assembly) → List (InstanceNumber × Octets)
 bytes_in [] = []
 bytes_in (e ∷ es) = (e.0, e.1.bytes) ∷ bytes_in es
 
 unfoldable pub bytes_of : Kept → AssemblyMap
 bytes_of m = map.from_sorted (bytes_in (map.entries m))
 
-abbrev pub with_owner : Owners → ℕ → Option Triad → Owners
+abbrev pub with_owner : Owners → InstanceNumber → Option Triad → Owners
 with_owner owners i None = map.remove owners i
 with_owner owners i (Some triad) = map.insert owners i triad
 
-abbrev pub owners_in : List (ℕ × Assembly) → Owners
+abbrev pub owners_in : List (InstanceNumber × Assembly) → Owners
 owners_in [] = map.empty
 owners_in (e ∷ es) = with_owner (owners_in es) e.0 e.1.owner
 
@@ -37,9 +67,9 @@ abbrev pub holdings : Kept → Holdings
 holdings m = record { bytes = bytes_of m; owners = owners_of m }
 
 -- stands for what is past the end of the list
-abbrev pub nothing : ℕ × Assembly
+abbrev pub nothing : InstanceNumber × Assembly
 nothing = (0, record { bytes = []; owner = None })
 
-pub record IsHeld (held : List (ℕ × Assembly)) : Type 0 where
+pub record IsHeld (held : List (InstanceNumber × Assembly)) : Type 0 where
   pub sorted : T (map.is_sorted nat_cmp held)
   pub fits : (i : ℕ) → length (slice_index_or held i nothing).1.bytes ≤ 511

@@ -1,7 +1,8 @@
 -- The Identity object: its attributes in bytes (Volume 1, chapter 5, Identity object).
-use Rattle.std.specs.Prelude.{ℕ, Bool, ◌&&◌, nat_le, ◌==◌, if◌then◌else◌, List, [], ◌∷◌, ◌++◌, length, Option, Some, None}
+use Rattle.std.specs.Prelude.{ℕ, Bool, ◌&&◌, nat_le, ◌==◌, if◌then◌else◌, [], ◌∷◌, ◌++◌, length, Option, Some, None}
 use Rattle.std.specs.List.{list_all}
 use Rattle.cip_base.specs.Fields.{word, double}
+use Rattle.cip_base.specs.Words.{Octets}
 use Rattle.cip_target.specs.declared.identity.IdentityFields.{IdentityFields}
 
 -- a character from 20 to 7E
@@ -13,19 +14,21 @@ abbrev pub is_identity : IdentityFields → Bool
 is_identity f = nat_le f.major 127 && (nat_le (length f.name) 32 && list_all is_printable f.name)
 
 -- the attributes that are numbers
-abbrev pub number_bytes : IdentityFields → List ℕ
-number_bytes f = word f.vendor ++ (word f.device_type ++ (word f.product ++ (f.major ∷ f.minor ∷ (word f.status ++ double f.serial))))
+abbrev pub number_bytes : IdentityFields → Octets
+number_bytes f =
+    word f.vendor ++ (word f.device_type ++ (word f.product
+    ++ (f.major ∷ f.minor ∷ (word f.status ++ double f.serial))))
 
 -- the product name: its length, and its characters
-abbrev pub name_bytes : IdentityFields → List ℕ
+abbrev pub name_bytes : IdentityFields → Octets
 name_bytes f = length f.name ∷ f.name
 
 -- attributes 1 to 7, one after the other
-abbrev pub identity_bytes : IdentityFields → List ℕ
+abbrev pub identity_bytes : IdentityFields → Octets
 identity_bytes f = number_bytes f ++ name_bytes f
 
 -- an attribute: vendor, device type, product code, revision, status, serial number, product name
-abbrev pub attribute_of : IdentityFields → ℕ → Option (List ℕ)
+abbrev pub attribute_of : IdentityFields → ℕ → Option Octets
 attribute_of f a =
     if a == 1 then Some (word f.vendor)
     else if a == 2 then Some (word f.device_type)

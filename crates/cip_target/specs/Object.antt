@@ -1,5 +1,7 @@
--- The object that a request names: a class, an instance and perhaps an attribute (Volume 1, Appendix C, logical segments).
+-- The object that a request names: a class, an instance and perhaps an attribute (Volume 1,
+-- Appendix C, logical segments).
 use Rattle.std.specs.Prelude.{ℕ, Option, Some, None, List, [], ◌∷◌}
+use Rattle.cip_base.specs.Words.{InstanceNumber}
 use Rattle.cip_segment.specs.declared.segment.Segment.{Segment}
 use Rattle.cip_segment.specs.declared.segment.Segment.TheVariants.{Class, Instance, Attribute}
 use Rattle.cip_target.specs.declared.object.ObjectPath.{ObjectPath}
@@ -10,7 +12,7 @@ attribute_in [] = Some None
 attribute_in (Attribute a ∷ []) = Some (Some a)
 attribute_in s = None
 
-abbrev pub with_attribute : ℕ → ℕ → Option (Option ℕ) → Option ObjectPath
+abbrev pub with_attribute : ℕ → InstanceNumber → Option (Option ℕ) → Option ObjectPath
 with_attribute c i None = None
 with_attribute c i (Some a) = Some (record { class_ = c; instance = i; attribute = a })
 

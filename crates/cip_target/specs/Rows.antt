@@ -1,6 +1,8 @@
--- What the target answers: the first row that fits (Volume 1, chapter 5, Identity and Assembly objects; Appendix B, general status).
-use Rattle.std.specs.Prelude.{ℕ, ◌+◌, ◌==◌, nat_lt, if◌then◌else◌, List, [], length, Option, Some, None}
+-- What the target answers: the first row that fits (Volume 1, chapter 5, Identity and Assembly
+-- objects; Appendix B, general status).
+use Rattle.std.specs.Prelude.{ℕ, ◌+◌, ◌==◌, nat_lt, if◌then◌else◌, [], length, Option, Some, None}
 use Rattle.std.specs.FinMap as map
+use Rattle.cip_base.specs.Words.{Octets, InstanceNumber}
 use Rattle.cip_segment.specs.Reading.{segments_of}
 use Rattle.cip_message.specs.Request.{Request}
 use Rattle.cip_message.specs.Reply.{Reply}
@@ -15,25 +17,25 @@ use Rattle.cip_target.specs.Assemblies.{AssemblyMap}
 -- a row that refuses, one that reads these bytes, or one that writes these bytes to this instance
 pub data TargetRow : Type 0 where
   Refused : TargetRefusal → TargetRow
-  Read : List ℕ → TargetRow
-  Written : ℕ → List ℕ → TargetRow
+  Read : Octets → TargetRow
+  Written : InstanceNumber → Octets → TargetRow
 
 -- reading takes no data
-abbrev pub read_row : List ℕ → List ℕ → TargetRow
+abbrev pub read_row : Octets → Octets → TargetRow
 read_row found d = if length d == 0 then Read found else Refused DataLong
 
 -- reading an attribute, if there is one
-abbrev pub get_row : Option (List ℕ) → List ℕ → TargetRow
+abbrev pub get_row : Option Octets → Octets → TargetRow
 get_row None d = Refused NoSuchAttribute
 get_row (Some found) d = read_row found d
 
 -- no attribute of the Identity can be set
-abbrev pub set_identity_row : Option (List ℕ) → TargetRow
+abbrev pub set_identity_row : Option Octets → TargetRow
 set_identity_row None = Refused NoSuchAttribute
 set_identity_row (Some found) = Refused NotSettable
 
 -- an assembly is set whole
-abbrev pub set_assembly_row : ℕ → Option (List ℕ) → List ℕ → TargetRow
+abbrev pub set_assembly_row : InstanceNumber → Option Octets → Octets → TargetRow
 set_assembly_row i None d = Refused NoSuchAttribute
 set_assembly_row i (Some held) d =
     if nat_lt (length d) (length held) then Refused DataShort
@@ -41,17 +43,17 @@ set_assembly_row i (Some held) d =
     else Written i d
 
 -- the attribute of the Identity that a path names
-abbrev pub identity_attribute : IdentityFields → Option ℕ → Option (List ℕ)
+abbrev pub identity_attribute : IdentityFields → Option ℕ → Option Octets
 identity_attribute f None = None
 identity_attribute f (Some a) = attribute_of f a
 
 -- the attribute of an assembly that a path names: 3 is its data
-abbrev pub assembly_attribute : List ℕ → Option ℕ → Option (List ℕ)
+abbrev pub assembly_attribute : Octets → Option ℕ → Option Octets
 assembly_attribute held None = None
 assembly_attribute held (Some a) = if a == 3 then Some held else None
 
 -- the Identity's services: Get_Attributes_All, Get_Attribute_Single, Set_Attribute_Single
-abbrev pub identity_row : IdentityFields → ℕ → Option ℕ → List ℕ → TargetRow
+abbrev pub identity_row : IdentityFields → ℕ → Option ℕ → Octets → TargetRow
 identity_row f service a d =
     if service == 0x01 then read_row (identity_bytes f) d
     else if service == 0x0E then get_row (identity_attribute f a) d
@@ -59,7 +61,7 @@ identity_row f service a d =
     else Refused ServiceNotSupported
 
 -- an assembly's services: Get_Attribute_Single, Set_Attribute_Single
-abbrev pub assembly_row : ℕ → Option (List ℕ) → ℕ → Option ℕ → List ℕ → TargetRow
+abbrev pub assembly_row : InstanceNumber → Option Octets → ℕ → Option ℕ → Octets → TargetRow
 assembly_row i None service a d = Refused NoSuchInstance
 assembly_row i (Some held) service a d =
     if service == 0x0E then get_row (assembly_attribute held a) d
@@ -67,13 +69,15 @@ assembly_row i (Some held) service a d =
     else Refused ServiceNotSupported
 
 -- the Identity has instance 1 alone
-abbrev pub object_row : IdentityFields → AssemblyMap → ObjectPath → ℕ → List ℕ → TargetRow
+abbrev pub object_row : IdentityFields → AssemblyMap → ObjectPath → ℕ → Octets → TargetRow
 object_row f m o service d =
-    if o.class_ == 1 then (if o.instance == 1 then identity_row f service o.attribute d else Refused NoSuchInstance)
+    if o.class_ == 1 then (
+    if o.instance == 1 then identity_row f service o.attribute d else Refused NoSuchInstance
+    )
     else if o.class_ == 4 then assembly_row o.instance (map.get m o.instance) service o.attribute d
     else Refused ClassNotSupported
 
-abbrev pub path_row : IdentityFields → AssemblyMap → Option ObjectPath → ℕ → List ℕ → TargetRow
+abbrev pub path_row : IdentityFields → AssemblyMap → Option ObjectPath → ℕ → Octets → TargetRow
 path_row f m None service d = Refused PathFormNotSupported
 path_row f m (Some o) service d = object_row f m o service d
 
@@ -98,7 +102,7 @@ status_of (Refused refusal) = refusal_status refusal
 status_of (Read found) = 0
 status_of (Written i d) = 0
 
-abbrev pub data_of : TargetRow → List ℕ
+abbrev pub data_of : TargetRow → Octets
 data_of (Refused refusal) = []
 data_of (Read found) = found
 data_of (Written i d) = []
@@ -107,9 +111,18 @@ data_of (Written i d) = []
 abbrev pub reply_service : ℕ → ℕ
 reply_service s = if nat_lt s 128 then 128 + s else s
 
+-- a reply without additional status
+abbrev pub plain_reply : ℕ → ℕ → Octets → Reply
+plain_reply service general d = record {
+  service = reply_service service;
+  general = general;
+  extra = [];
+  data_ = d;
+}
+
 -- the reply of a row
 abbrev pub answer_of : ℕ → TargetRow → Reply
-answer_of service row = record { service = reply_service service; general = status_of row; extra = []; data_ = data_of row }
+answer_of service row = plain_reply service (status_of row) (data_of row)
 
 -- the assemblies after a row
 abbrev pub assemblies_after : AssemblyMap → TargetRow → AssemblyMap

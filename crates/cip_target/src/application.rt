@@ -1,17 +1,17 @@
 //! The application path of an open.
-ghost use Rattle.std.specs.Prelude.{◌≡◌, option_map};
+ghost use Rattle.std.specs.Prelude.{◌≡◌};
 ghost use Rattle.cip_segment.specs.Reading.{segments_of};
-ghost use Rattle.cip_segment.specs.Seen.{segment_of};
-ghost use Rattle.cip_target.specs.ApplicationPath.{behind_key, without_inhibits, point_of, bytes_in, application_with, points_in, application_in, application_of};
-ghost use Rattle.cip_target.specs.Viewed.{application_seen, IsFirst, IsFirstPoint};
+ghost use Rattle.cip_target.specs.ApplicationPath.{behind_key, bytes_in, application_with, points_in, application_of};
+ghost use Rattle.cip_target.specs.Seen.{bytes_seen};
+ghost use Rattle.cip_target.specs.Viewed.{application_found, parts_of, first_seen, point_seen, IsFirst, IsFirstPoint};
 
 use cip_segment::{PathView, SegmentView, split_first};
 
 /// The Assembly class.
 const ASSEMBLY: u16 = 4;
 
-/// What an application path names (Volume 1, chapter 3, Forward_Open, connection path): the instances for configuration,
-/// O→T and T→O, and the configuration bytes, borrowed.
+/// What an application path names (Volume 1, chapter 3, Forward_Open, connection path): the
+/// instances for configuration, O→T and T→O, and the configuration bytes, borrowed.
 #[derive(Clone, Copy)]
 pub(crate) struct ApplicationView<'a> {
     pub(crate) config: u32,
@@ -35,7 +35,7 @@ fn behind_key(path: PathView<'_>) -> PathView<'_>
 
 // The first segment that is no production inhibit, and what stands behind it.
 fn split(path: PathView<'_>) -> Option<(SegmentView<'_>, PathView<'_>)>
-    ensures { IsFirst (without_inhibits (segments_of path.entry.bytes.now)) (option_map (λ found. (segment_of found.0, segments_of found.1.bytes.now)) result) }
+    ensures { IsFirst (parts_of path.entry) (first_seen result) }
 {
     let mut left = path;
     while let Some((first, rest)) = split_first(left) {
@@ -47,9 +47,10 @@ fn split(path: PathView<'_>) -> Option<(SegmentView<'_>, PathView<'_>)>
     None
 }
 
-// The point that stands first, if it is an instance or a connection point, and what stands behind it.
+// The point that stands first, if it is an instance or a connection point, and what stands behind
+// it.
 fn split_point(path: PathView<'_>) -> Option<(Option<u32>, PathView<'_>)>
-    ensures { IsFirstPoint (without_inhibits (segments_of path.entry.bytes.now)) (option_map (λ found. (found.0, segments_of found.1.bytes.now)) result) }
+    ensures { IsFirstPoint (parts_of path.entry) (point_seen result) }
 {
     match split(path) {
         None => None,
@@ -63,7 +64,7 @@ fn split_point(path: PathView<'_>) -> Option<(Option<u32>, PathView<'_>)>
 
 // What stands behind the three points: nothing, or one simple data segment.
 fn bytes_in(path: PathView<'_>) -> Option<&[u8]>
-    ensures { option_map (λ d. d.now) result ≡ bytes_in (without_inhibits (segments_of path.entry.bytes.now)) }
+    ensures { bytes_seen result ≡ bytes_in (parts_of path.entry) }
 {
     match split(path) {
         None => Some(&[]),
@@ -83,7 +84,8 @@ fn application_with(
     produce: Option<u32>,
     bytes: Option<&[u8]>,
 ) -> Option<ApplicationView<'_>>
-    ensures { option_map application_seen result ≡ application_with config consume produce (option_map (λ d. d.now) bytes.entry) }
+    ensures { application_found result
+        ≡ application_with config consume produce (bytes_seen bytes.entry) }
 {
     Some(ApplicationView {
         config: config?,
@@ -95,7 +97,7 @@ fn application_with(
 
 // Behind the class: the three points, and what stands behind them.
 fn points_in(path: PathView<'_>) -> Option<ApplicationView<'_>>
-    ensures { option_map application_seen result ≡ points_in (without_inhibits (segments_of path.entry.bytes.now)) }
+    ensures { application_found result ≡ points_in (parts_of path.entry) }
 {
     let Some((config, rest)) = split_point(path) else {
         return None;
@@ -109,10 +111,11 @@ fn points_in(path: PathView<'_>) -> Option<ApplicationView<'_>>
     application_with(config, consume, produce, bytes_in(rest))
 }
 
-/// What a path names, if it is an application path: after a leading key, class 4, three points, each an instance or a
-/// connection point, and perhaps one simple data segment. Production inhibit segments are skipped wherever they stand.
+/// What a path names, if it is an application path: after a leading key, class 4, three points,
+/// each an instance or a connection point, and perhaps one simple data segment. Production inhibit
+/// segments are skipped wherever they stand.
 pub(crate) fn application(path: PathView<'_>) -> Option<ApplicationView<'_>>
-    ensures { option_map application_seen result ≡ application_of (segments_of path.entry.bytes.now) }
+    ensures { application_found result ≡ application_of (segments_of path.entry.bytes.now) }
 {
     match split(behind_key(path)) {
         None => None,

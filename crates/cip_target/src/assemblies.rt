@@ -1,8 +1,10 @@
 //! The assemblies of a target, in rising instance.
-ghost use Rattle.std.specs.Prelude.{◌≡◌, ◌≤◌, ◌==◌, nat_le, length, IfSome, IsSomeAnd, is_ok, is_some, if◌then◌else◌, option_map};
+ghost use Rattle.std.specs.Prelude.{◌≡◌, ◌≤◌, ◌==◌, nat_le, length, IfSome, IsSomeAnd, is_ok, is_some, if◌then◌else◌};
 ghost use Rattle.std.specs.List.{position};
 ghost use Rattle.std.specs.FinMap as map;
-ghost use Rattle.cip_target.specs.Assemblies.{config_in, size_in, owned_with, written_over, first_above, is_above};
+ghost use Rattle.cip_target.specs.Assemblies.{HasSize, config_in, first_above, is_above};
+ghost use Rattle.cip_target.specs.Held.{unowned, with_fresh, with_bytes, with_front, with_output, without_owner};
+ghost use Rattle.cip_target.specs.Seen.{bytes_seen, assembly_seen};
 
 use crate::assembly::Assembly;
 use crate::config::AssemblyConfig;
@@ -17,15 +19,14 @@ pub(crate) struct Assemblies {
 }
 
 impl Model for Assemblies {
-    ghost use Rattle.std.specs.Coded.{codes, coded_list, coded_ℕ};
+    ghost use Rattle.std.specs.Coded.{codes};
     ghost use Rattle.std.specs.FinMap as map;
-    ghost use Rattle.std.specs.Ordering.{nat_cmp};
-    ghost use Rattle.cip_base.specs.Triads.{coded_triad};
+    ghost use Rattle.cip_target.specs.Assemblies.{coded_assemblies, coded_owners};
     ghost use Rattle.cip_target.specs.Held.{Holdings, IsHeld, holdings};
 
     ghost Value = { Holdings };
 
-    ghost coded = { Prim.hlevel (codes, map.code {R = nat_cmp} coded_ℕ (coded_list coded_ℕ), map.code {R = nat_cmp} coded_ℕ coded_triad) };
+    ghost coded = { Prim.hlevel (codes, coded_assemblies, coded_owners) };
 
     ghost view = { λ a. holdings (map.from_sorted a.held.items) };
 
@@ -65,7 +66,7 @@ fn place_above(held: &[(u16, Assembly)], after: Option<u16>) -> Option<usize>
 impl Assemblies {
     /// No assembly.
     pub(crate) fn new(alloc: Global) -> Assemblies
-        ensures { result ≡ record { bytes = map.empty; owners = map.empty } }
+        ensures { result ≡ unowned map.empty }
     {
         Assemblies {
             held: Vec::new(alloc),
@@ -75,7 +76,8 @@ impl Assemblies {
     /// Keeps an assembly without an owner, in the place of one of the same instance.
     pub(crate) fn hold(&mut self, instance: u16, bytes: Bytes) -> Result<(), NoMemory>
         requires { length bytes ≤ 511 }
-        ensures { self.new ≡ (if is_ok result then record { bytes = map.insert self.old.bytes instance bytes; owners = map.remove self.old.owners instance } else self.old) }
+        ensures { self.new
+            ≡ (if is_ok result then with_fresh self.old instance bytes else self.old) }
     {
         let assembly = Assembly { bytes, owner: None };
         match place_from(&self.held, instance) {
@@ -93,7 +95,7 @@ impl Assemblies {
 
     /// The bytes of an instance.
     pub(crate) fn get(&self, instance: u32) -> Option<&[u8]>
-        ensures value { option_map (λ d. d.now) result ≡ map.get self.now.bytes instance }
+        ensures value { bytes_seen result ≡ map.get self.now.bytes instance }
         ensures fits { IfSome result (λ d. length d.now ≤ 511) }
     {
         let at = place_of(&self.held, instance)?;
@@ -125,8 +127,8 @@ impl Assemblies {
 
     /// Writes the bytes of an instance that is there.
     pub(crate) fn write(&mut self, instance: u32, bytes: &[u8])
-        requires { IsSomeAnd (map.get self.old.bytes instance) (λ d. length bytes.now ≡ length d) }
-        ensures { self.new ≡ record { bytes = map.insert self.old.bytes instance bytes.now; owners = self.old.owners } }
+        requires { HasSize self.old.bytes instance (length bytes.now) }
+        ensures { self.new ≡ with_bytes self.old instance bytes.now }
     {
         if let Some(at) = place_of(&self.held, instance) {
             self.held[at].1.bytes.overwrite(bytes);
@@ -136,7 +138,7 @@ impl Assemblies {
     /// Writes as much of the bytes as an instance that is there has.
     pub(crate) fn configure(&mut self, instance: u32, bytes: &[u8])
         requires { IsSomeAnd (map.get self.old.bytes instance) (λ d. length d ≤ length bytes.now) }
-        ensures { self.new ≡ record { bytes = written_over self.old.bytes instance bytes.now (map.get self.old.bytes instance); owners = self.old.owners } }
+        ensures { self.new ≡ with_front self.old instance bytes.now }
     {
         let Some(held) = self.get(instance) else {
             unreachable!()
@@ -147,7 +149,7 @@ impl Assemblies {
 
     /// Enters the owner of an instance that has bytes.
     pub(crate) fn own(&mut self, instance: u32, triad: Triad)
-        ensures { self.new ≡ record { bytes = self.old.bytes; owners = owned_with self.old.owners instance triad (size_in self.old.bytes instance) } }
+        ensures { self.new ≡ with_output self.old instance triad }
     {
         if let Some(at) = place_of(&self.held, instance) {
             if !self.held[at].1.bytes.as_slice().is_empty() {
@@ -158,7 +160,7 @@ impl Assemblies {
 
     /// Takes out the owner of an instance, if it has one.
     pub(crate) fn disown(&mut self, instance: u32)
-        ensures { self.new ≡ record { bytes = self.old.bytes; owners = map.remove self.old.owners instance } }
+        ensures { self.new ≡ without_owner self.old instance }
     {
         if let Some(at) = place_of(&self.held, instance) {
             self.held[at].1.owner = None;
@@ -167,7 +169,7 @@ impl Assemblies {
 
     /// The assembly of the least instance above, or of all.
     pub(crate) fn next_above(&self, after: Option<u16>) -> Option<(u16, &[u8])>
-        ensures { option_map (λ e. (e.0, e.1.now)) result ≡ first_above after self.now.bytes }
+        ensures { assembly_seen result ≡ first_above after self.now.bytes }
     {
         let at = place_above(&self.held, after)?;
         let found = &self.held[at];

@@ -1,4 +1,5 @@
-//! Opens that end at a target whose assemblies are 100 of no bytes, 101 of 4, 102 of 2 and 103 of 3.
+//! Opens that end at a target whose assemblies are 100 of no bytes, 101 of 4, 102 of 2 and 103 of
+//! 3.
 use crate::{AssemblyConfig, Identity, IdentityFields, Target};
 use cip_base::{Bytes, NoMemory, Timing, Triad};
 use cip_open::{OpenFields, OpenView};

@@ -3,12 +3,12 @@ ghost use Rattle.std.specs.Prelude.{◌≡◌, ◌≤◌, ◌++◌, ◌↔◌, �
 ghost use Rattle.std.specs.List.{list_all};
 ghost use Rattle.cip_target.specs.Identity.{is_printable, is_identity, number_bytes, identity_bytes};
 
-use cip_base::{Bytes, NoMemory};
-use cip_message::{put_double, put_word};
+use cip_base::{Bytes, NoMemory, put_double, put_word};
 use std::alloc::{AllocError, Global};
 use std::marker::Model;
 
-/// The fields of the Identity object (Volume 1, chapter 5, Identity object, class attributes 1 to 7 of instance 1).
+/// The fields of the Identity object (Volume 1, chapter 5, Identity object, class attributes 1 to 7
+/// of instance 1).
 #[derive(Debug, Drop, PartialEq, Eq)]
 pub struct IdentityFields {
     pub vendor: u16,
@@ -44,17 +44,12 @@ impl Model for Identity {
 fn are_printable(bytes: &[u8]) -> bool
     ensures { result ≡ list_all is_printable bytes.now }
 {
-    for byte in bytes {
-        if *byte < 0x20 || *byte > 0x7E {
-            return false;
-        }
-    }
-    true
+    bytes.iter().all(|byte| 0x20 <= *byte && *byte <= 0x7E)
 }
 
 impl Identity {
-    /// The identity of these fields; None where the major revision passes 127, or the name is longer than 32 characters or
-    /// has one that is not from 20 to 7E.
+    /// The identity of these fields; None where the major revision passes 127, or the name is
+    /// longer than 32 characters or has one that is not from 20 to 7E.
     pub fn new(fields: IdentityFields) -> Option<Identity>
         ensures legal { IsSome result ↔ IsTrue (is_identity fields) }
         ensures value { IfSome result (λ identity. identity ≡ fields) }

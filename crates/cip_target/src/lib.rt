@@ -1,5 +1,5 @@
-//! The target: the Identity object and the Assembly objects that a module has itself, and what they answer
-//! (Volume 1, chapter 5, object library).
+//! The target: the Identity object and the Assembly objects that a module has itself, and what they
+//! answer (Volume 1, chapter 5, object library).
 #![tactic(auto)]
 
 mod application;
@@ -15,6 +15,7 @@ mod rows;
 mod target;
 
 pub use config::AssemblyConfig;
+pub use ends::EndRefusal;
 pub use identity::{Identity, IdentityFields};
 pub use link::EndLink;
 pub use object::{ObjectPath, object_path};

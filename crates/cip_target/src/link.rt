@@ -1,7 +1,7 @@
 //! A connection that ends here.
 
-/// What a connection joins at its end (Volume 1, chapter 3, Forward_Open, connection path): the instances of three assemblies,
-/// and the transport class.
+/// What a connection joins at its end (Volume 1, chapter 3, Forward_Open, connection path): the
+/// instances of three assemblies, and the transport class.
 #[derive(Clone, Copy, Debug, PartialEq, Eq)]
 pub struct EndLink {
     /// The instance for the configuration.

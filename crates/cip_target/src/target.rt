@@ -1,16 +1,16 @@
 //! The target of a module.
-ghost use Rattle.std.specs.Prelude.{◌≡◌, ◌≤◌, [], length, IfOk, IsTrue, is_ok, if◌then◌else◌, option_map};
+ghost use Rattle.std.specs.Prelude.{◌≡◌, ◌≤◌, length, IfOk, IsTrue, is_ok};
 ghost use Rattle.std.specs.Option.{ForSome};
 ghost use Rattle.std.specs.List.{list_all};
-ghost use Rattle.std.specs.FinMap as map;
 ghost use Rattle.cip_message.specs.Reading.{request_of};
 ghost use Rattle.cip_message.specs.Reply.{reply_bytes};
 ghost use Rattle.cip_target.specs.Assemblies.{is_assembly, zeroed, first_above};
 ghost use Rattle.cip_target.specs.Identity.{is_identity, identity_bytes};
-ghost use Rattle.cip_target.specs.Rows.{read_row, get_row, set_identity_row, set_assembly_row, identity_attribute, assembly_attribute, identity_row, assembly_row, object_row, target_row, reply_service};
-ghost use Rattle.cip_target.specs.Objects.{target_answer};
-ghost use Rattle.cip_target.specs.Ends.{fresh, ends_after};
-ghost use Rattle.cip_target.specs.Seen.{seen, IsSmall};
+ghost use Rattle.cip_target.specs.Rows.{read_row, get_row, set_identity_row, set_assembly_row, identity_attribute, assembly_attribute, identity_row, assembly_row, plain_reply};
+ghost use Rattle.cip_target.specs.Objects.{row_of_object, row_of, answer_bytes};
+ghost use Rattle.cip_target.specs.Ends.{fresh, ends_if};
+ghost use Rattle.cip_target.specs.Held.{unowned};
+ghost use Rattle.cip_target.specs.Seen.{bytes_seen, assembly_seen, seen, IsSmall};
 
 use crate::assemblies::Assemblies;
 use crate::config::AssemblyConfig;
@@ -22,9 +22,10 @@ use cip_message::{RequestView, WriteFault, write_reply};
 use std::alloc::Global;
 use std::marker::Model;
 
-/// The Identity object and the Assembly objects of a module, which answer requests to classes 1 and 4, and are the end of
-/// connections (Volume 1, chapters 3 and 5). A contract sees the fields of the identity, and the finite maps from instances
-/// to bytes and to the triads of the connections that own them as outputs.
+/// The Identity object and the Assembly objects of a module, which answer requests to classes 1 and
+/// 4, and are the end of connections (Volume 1, chapters 3 and 5). A contract sees the fields of
+/// the identity, and the finite maps from instances to bytes and to the triads of the connections
+/// that own them as outputs.
 #[derive(Drop)]
 pub struct Target {
     identity: Identity,
@@ -34,21 +35,20 @@ pub struct Target {
 
 impl Model for Target {
     ghost use Rattle.std.specs.Prelude.{◌≡◌, ◌≤◌, length};
-    ghost use Rattle.std.specs.Coded.{codes, coded_list, coded_ℕ};
-    ghost use Rattle.std.specs.FinMap as map;
-    ghost use Rattle.std.specs.Ordering.{nat_cmp};
-    ghost use Rattle.cip_base.specs.Triads.{coded_triad};
+    ghost use Rattle.std.specs.Coded.{codes};
+    ghost use Rattle.cip_target.specs.Assemblies.{coded_assemblies, coded_owners};
     ghost use Rattle.cip_target.specs.contracts.identity.IdentityFields as fields;
     ghost use Rattle.cip_target.specs.Identity.{identity_bytes};
-    ghost use Rattle.cip_target.specs.Ends.{Ends};
+    ghost use Rattle.cip_target.specs.Ends.{Ends, ends_with};
 
     ghost Value = { Ends };
 
-    ghost coded = { Prim.hlevel (codes, fields.the_row.coded, map.code {R = nat_cmp} coded_ℕ (coded_list coded_ℕ), map.code {R = nat_cmp} coded_ℕ coded_triad) };
+    ghost coded = { Prim.hlevel (codes, fields.the_row.coded, coded_assemblies, coded_owners) };
 
-    ghost view = { λ t. record { objects = record { identity = t.identity; assemblies = t.assemblies.bytes }; owners = t.assemblies.owners } };
+    ghost view = { λ t. ends_with t.identity t.assemblies };
 
-    ghost invariant = { λ t. (t.attributes ≡ identity_bytes t.identity) × (length t.attributes ≤ 511) };
+    ghost invariant = { λ t.
+        (t.attributes ≡ identity_bytes t.identity) × (length t.attributes ≤ 511) };
 }
 
 // Reading takes no data.
@@ -67,7 +67,7 @@ fn read<'a>(found: &'a [u8], data_: &[u8]) -> Row<'a>
 // Reading an attribute, if there is one.
 fn get<'a>(found: Option<&'a [u8]>, data_: &[u8]) -> Row<'a>
     requires { ForSome found (λ d. length d.now ≤ 511) }
-    ensures is { seen data_.now result ≡ get_row (option_map (λ d. d.now) found.entry) data_.now }
+    ensures is { seen data_.now result ≡ get_row (bytes_seen found.entry) data_.now }
     ensures fits { IsSmall result }
 {
     match found {
@@ -78,7 +78,7 @@ fn get<'a>(found: Option<&'a [u8]>, data_: &[u8]) -> Row<'a>
 
 // No attribute of the Identity can be set.
 fn set_identity<'a>(found: Option<&[u8]>, data_: &[u8]) -> Row<'a>
-    ensures is { seen data_.now result ≡ set_identity_row (option_map (λ d. d.now) found.entry) }
+    ensures is { seen data_.now result ≡ set_identity_row (bytes_seen found.entry) }
     ensures fits { IsSmall result }
 {
     match found {
@@ -89,7 +89,8 @@ fn set_identity<'a>(found: Option<&[u8]>, data_: &[u8]) -> Row<'a>
 
 // An assembly is set whole.
 fn set_assembly<'a>(instance: u32, found: Option<&[u8]>, data_: &[u8]) -> Row<'a>
-    ensures is { seen data_.now result ≡ set_assembly_row instance (option_map (λ d. d.now) found.entry) data_.now }
+    ensures is { seen data_.now result
+        ≡ set_assembly_row instance (bytes_seen found.entry) data_.now }
     ensures fits { IsSmall result }
 {
     match found {
@@ -109,7 +110,7 @@ fn set_assembly<'a>(instance: u32, found: Option<&[u8]>, data_: &[u8]) -> Row<'a
 // Attribute 3 of an assembly is its data.
 fn assembly_attribute(held: &[u8], attribute: Option<u16>) -> Option<&[u8]>
     requires { length held.now ≤ 511 }
-    ensures is { option_map (λ d. d.now) result ≡ assembly_attribute held.now attribute }
+    ensures is { bytes_seen result ≡ assembly_attribute held.now attribute }
     ensures fits { ForSome result (λ d. length d.now ≤ 511) }
 {
     match attribute {
@@ -127,7 +128,8 @@ fn assembly_service<'a>(
     data_: &[u8],
 ) -> Row<'a>
     requires { ForSome held (λ d. length d.now ≤ 511) }
-    ensures is { seen data_.now result ≡ assembly_row instance (option_map (λ d. d.now) held.entry) service attribute data_.now }
+    ensures is { seen data_.now result
+        ≡ assembly_row instance (bytes_seen held.entry) service attribute data_.now }
     ensures fits { IsSmall result }
 {
     match held {
@@ -141,8 +143,8 @@ fn assembly_service<'a>(
 }
 
 impl Target {
-    /// A target of this identity, with these assemblies, all of whose bytes are 00. Where an instance stands twice, the last
-    /// size counts.
+    /// A target of this identity, with these assemblies, all of whose bytes are 00. Where an
+    /// instance stands twice, the last size counts.
     pub fn new(
         alloc: Global,
         identity: Identity,
@@ -162,7 +164,7 @@ impl Target {
 
     // An attribute of the Identity.
     fn identity_attribute(&self, attribute: Option<u16>) -> Option<&[u8]>
-        ensures is { option_map (λ d. d.now) result ≡ identity_attribute self.now.objects.identity attribute }
+        ensures is { bytes_seen result ≡ identity_attribute self.now.objects.identity attribute }
         ensures fits { ForSome result (λ d. length d.now ≤ 511) }
     {
         let attributes = self.attributes.as_slice();
@@ -180,7 +182,8 @@ impl Target {
 
     // The services of the Identity.
     fn identity_service(&self, service: u8, attribute: Option<u16>, data_: &[u8]) -> Row<'_>
-        ensures is { seen data_.now result ≡ identity_row self.now.objects.identity service attribute data_.now }
+        ensures is { seen data_.now result
+            ≡ identity_row self.now.objects.identity service attribute data_.now }
         ensures fits { IsSmall result }
     {
         match service {
@@ -193,7 +196,8 @@ impl Target {
 
     // The services of the object that a path names.
     fn object_service(&self, object: ObjectPath, service: u8, data_: &[u8]) -> Row<'_>
-        ensures is { seen data_.now result ≡ object_row self.now.objects.identity self.now.objects.assemblies object service data_.now }
+        ensures is { seen data_.now result
+            ≡ row_of_object self.now.objects object service data_.now }
         ensures fits { IsSmall result }
     {
         match object.class_ {
@@ -215,7 +219,8 @@ impl Target {
     // The first row that fits.
     #[tactic(auto, unfolding(crate::specs::Rows::target_row))]
     fn row(&self, request: RequestView<'_>) -> Row<'_>
-        ensures is { seen request.entry.data_.now result ≡ target_row self.now.objects.identity self.now.objects.assemblies (request_of request.entry) }
+        ensures is { seen request.entry.data_.now result
+            ≡ row_of self.now.objects (request_of request.entry) }
         ensures fits { IsSmall result }
     {
         match object_path(request.path) {
@@ -224,15 +229,18 @@ impl Target {
         }
     }
 
-    /// The whole reply to a request (Volume 1, chapter 2, Message Router; chapter 5, Identity and Assembly objects). The
-    /// request's path names a class, an instance and perhaps an attribute, in any spelling.
+    /// The whole reply to a request (Volume 1, chapter 2, Message Router; chapter 5, Identity and
+    /// Assembly objects). The request's path names a class, an instance and perhaps an attribute,
+    /// in any spelling.
     ///
-    /// Identity, class 1, instance 1: Get_Attributes_All 01, Get_Attribute_Single 0E of attributes 1 to 7, none of which
-    /// can be set. Assembly, class 4: Get_Attribute_Single 0E and Set_Attribute_Single 10 of attribute 3, its data, set
-    /// whole. Otherwise the reply has the general status of the first `TargetRefusal` that fits. NoMemory changes nothing.
+    /// Identity, class 1, instance 1: Get_Attributes_All 01, Get_Attribute_Single 0E of attributes
+    /// 1 to 7, none of which can be set. Assembly, class 4: Get_Attribute_Single 0E and
+    /// Set_Attribute_Single 10 of attribute 3, its data, set whole. Otherwise the reply has the
+    /// general status of the first `TargetRefusal` that fits. NoMemory changes nothing.
     pub fn answer(&mut self, alloc: Global, request: RequestView<'_>) -> Result<Bytes, NoMemory>
-        ensures ok { IfOk result (λ reply. reply ≡ reply_bytes (target_answer self.old.objects (request_of request.entry))) }
-        ensures after { self.new ≡ (if is_ok result then ends_after self.old (request_of request.entry) else self.old) }
+        ensures ok { IfOk result
+            (λ b. b ≡ answer_bytes self.old.objects (request_of request.entry)) }
+        ensures after { self.new ≡ ends_if (is_ok result) self.old (request_of request.entry) }
     {
         match self.row(request) {
             Row::Refused(refusal) => reply(alloc, request.service, refusal.status(), &[]),
@@ -255,7 +263,7 @@ impl Target {
 
     /// The assembly of the least instance above this one, or of all, with its bytes.
     pub fn next_after(&self, after: Option<u16>) -> Option<(u16, &[u8])>
-        ensures { option_map (λ e. (e.0, e.1.now)) result ≡ first_above after self.now.objects.assemblies }
+        ensures { assembly_seen result ≡ first_above after self.now.objects.assemblies }
     {
         self.assemblies.next_above(after)
     }
@@ -263,7 +271,7 @@ impl Target {
 
 fn zeroed_assemblies(alloc: Global, configs: &[AssemblyConfig]) -> Result<Assemblies, NoMemory>
     requires { IsTrue (list_all is_assembly configs.now) }
-    ensures { IfOk result (λ assemblies. assemblies ≡ record { bytes = zeroed configs.now; owners = map.empty }) }
+    ensures { IfOk result (λ assemblies. assemblies ≡ unowned (zeroed configs.now)) }
 {
     let mut assemblies = Assemblies::new(alloc);
     for config in configs {
@@ -276,7 +284,7 @@ fn zeroed_assemblies(alloc: Global, configs: &[AssemblyConfig]) -> Result<Assemb
 // The reply of a general status alone, with data.
 fn reply(alloc: Global, service: u8, general: u8, data_: &[u8]) -> Result<Bytes, NoMemory>
     requires { length data_.now ≤ 511 }
-    ensures { IfOk result (λ bytes. bytes ≡ reply_bytes (record { service = reply_service service; general = general; extra = []; data_ = data_.now })) }
+    ensures { IfOk result (λ bytes. bytes ≡ reply_bytes (plain_reply service general data_.now)) }
 {
     let service = if service < 0x80 {
         0x80 + service

@@ -26,7 +26,8 @@ whole b = whole_length (route_place b) (route_place b + 2) b
 
 -- the record that the fields say
 abbrev record_at : List ℕ → Unconnected
-record_at b = record { timing = record { tick = get_or b 0 0; ticks = get_or b 1 0 }; request = take (word_in b 2) (drop 4 b); route = drop (route_place b + 2) b }
+record_at b =
+    record { timing = record { tick = get_or b 0 0; ticks = get_or b 1 0 }; request = take (word_in b 2) (drop 4 b); route = drop (route_place b + 2) b }
 
 pub unconnected_at-Short : (b : List ℕ) → length b < 4 → unconnected_at b ≡ Err Short
 unfolding unconnected_at
@@ -38,44 +39,54 @@ unconnected_at-Short b lt = ap (with_route b) (counted_path_at-Short (route_plac
 abbrev front : List ℕ → Unconnected → List ℕ
 front padding u = u.timing.tick ∷ u.timing.ticks ∷ word (length u.request) ++ (u.request ++ padding)
 
-front-len : (padding : List ℕ) (u : Unconnected) → length padding ≡ length u.request % 2 → length (front padding u) ≡ 4 + (length u.request + length u.request % 2)
+front-len : (padding : List ℕ) (u : Unconnected) → length padding ≡ length u.request % 2
+    → length (front padding u) ≡ 4 + (length u.request + length u.request % 2)
 front-len padding u len = omega (arith, length-append u.request padding, len)
 
 layout-front : (padding : List ℕ) (n x : ℕ) (u : Unconnected) → unconnected_layout padding n x u ≡ front padding u ++ (n ∷ x ∷ u.route)
-layout-front padding n x u = ap (λ (z : List ℕ). u.timing.tick ∷ u.timing.ticks ∷ word (length u.request) ++ z) (sym (append_assoc u.request padding (n ∷ x ∷ u.route)))
+layout-front padding n x u =
+    ap (λ (z : List ℕ). u.timing.tick ∷ u.timing.ticks ∷ word (length u.request) ++ z) (sym (append_assoc u.request padding (n ∷ x ∷ u.route)))
 
 layout_size : (padding : List ℕ) (n x : ℕ) (u : Unconnected) → word_in (unconnected_layout padding n x u) 2 ≡ length u.request
 layout_size padding n x u = word_again (length u.request)
 
 -- the route size stands behind the front
-layout_place : (padding : List ℕ) (n x : ℕ) (u : Unconnected) → length padding ≡ length u.request % 2 → route_place (unconnected_layout padding n x u) ≡ length (front padding u)
+layout_place : (padding : List ℕ) (n x : ℕ) (u : Unconnected) → length padding ≡ length u.request % 2
+    → route_place (unconnected_layout padding n x u) ≡ length (front padding u)
 layout_place padding n x u plen = ap (λ (z : ℕ). 4 + (z + z % 2)) (layout_size padding n x u) ∙ sym (front-len padding u plen)
 
-layout_words : (padding : List ℕ) (n x : ℕ) (u : Unconnected) → length padding ≡ length u.request % 2 → get_or (unconnected_layout padding n x u) (route_place (unconnected_layout padding n x u)) 0 ≡ n
+layout_words : (padding : List ℕ) (n x : ℕ) (u : Unconnected) → length padding ≡ length u.request % 2
+    → get_or (unconnected_layout padding n x u) (route_place (unconnected_layout padding n x u)) 0 ≡ n
 layout_words padding n x u plen =
     let b : List ℕ = unconnected_layout padding n x u in
     let tail : List ℕ = n ∷ x ∷ u.route in
     let place : route_place b ≡ length (front padding u) + 0 = omega (arith, layout_place padding n x u plen) in
-    ap (λ (z : List ℕ). get_or z (route_place b) 0) (layout-front padding n x u) ∙ (ap (λ (i : ℕ). get_or (front padding u ++ tail) i 0) place ∙ get_or-append-add (front padding u) tail 0 0)
+    ap (λ (z : List ℕ). get_or z (route_place b) 0) (layout-front padding n x u)
+    ∙ (ap (λ (i : ℕ). get_or (front padding u ++ tail) i 0) place ∙ get_or-append-add (front padding u) tail 0 0)
 
-layout_long : (padding : List ℕ) (n x : ℕ) (u : Unconnected) → length padding ≡ length u.request % 2 → length u.route ≡ 2 * n → length (unconnected_layout padding n x u) ≡ whole (unconnected_layout padding n x u)
+layout_long : (padding : List ℕ) (n x : ℕ) (u : Unconnected) → length padding ≡ length u.request % 2 → length u.route ≡ 2 * n
+    → length (unconnected_layout padding n x u) ≡ whole (unconnected_layout padding n x u)
 layout_long padding n x u plen rlen =
     let tail : List ℕ = n ∷ x ∷ u.route in
-    let len : length (unconnected_layout padding n x u) ≡ length (front padding u) + length tail = ap (λ (z : List ℕ). length z) (layout-front padding n x u) ∙ length-append (front padding u) tail in
+    let len : length (unconnected_layout padding n x u) ≡ length (front padding u) + length tail =
+    ap (λ (z : List ℕ). length z) (layout-front padding n x u) ∙ length-append (front padding u) tail in
     omega (arith, len, layout_place padding n x u plen, layout_words padding n x u plen, rlen)
 
-layout_behind : (padding : List ℕ) (n x : ℕ) (u : Unconnected) → length padding ≡ length u.request % 2 → drop (route_place (unconnected_layout padding n x u) + 2) (unconnected_layout padding n x u) ≡ u.route
+layout_behind : (padding : List ℕ) (n x : ℕ) (u : Unconnected) → length padding ≡ length u.request % 2
+    → drop (route_place (unconnected_layout padding n x u) + 2) (unconnected_layout padding n x u) ≡ u.route
 layout_behind padding n x u plen =
     let b : List ℕ = unconnected_layout padding n x u in
     let tail : List ℕ = n ∷ x ∷ u.route in
-    let rest : drop (route_place b) b ≡ tail = ap (λ (z : List ℕ). drop (route_place b) z) (layout-front padding n x u) ∙ drop_at (front padding u) tail (route_place b) (sym (layout_place padding n x u plen)) in
+    let rest : drop (route_place b) b ≡ tail = ap (λ (z : List ℕ). drop (route_place b) z) (layout-front padding n x u)
+    ∙ drop_at (front padding u) tail (route_place b) (sym (layout_place padding n x u plen)) in
     sym (drop-drop 2 (route_place b) b) ∙ ap (λ (z : List ℕ). drop 2 z) rest
 
 same_record : (b : List ℕ) (u : Unconnected) → take (word_in b 2) (drop 4 b) ≡ u.request → drop (route_place b + 2) b ≡ u.route
     → get_or b 0 0 ≡ u.timing.tick → get_or b 1 0 ≡ u.timing.ticks → with_route b (Ok (drop (route_place b + 2) b)) ≡ Ok u
 same_record b u inside behind tick ticks = rw (inside, behind, tick, ticks) refl
 
-layout_read : (padding : List ℕ) (n x : ℕ) (u : Unconnected) → IsReadable u.route → length padding ≡ length u.request % 2 → length u.route ≡ 2 * n → unconnected_at (unconnected_layout padding n x u) ≡ Ok u
+layout_read : (padding : List ℕ) (n x : ℕ) (u : Unconnected) → IsReadable u.route → length padding ≡ length u.request % 2 → length u.route ≡ 2 * n
+    → unconnected_at (unconnected_layout padding n x u) ≡ Ok u
 unfolding unconnected_at
 layout_read padding n x u readable plen rlen =
     let b : List ℕ = unconnected_layout padding n x u in
@@ -83,7 +94,8 @@ layout_read padding n x u readable plen rlen =
     let inside : take (word_in b 2) (drop 4 b) ≡ u.request =
     ap (λ (j : ℕ). take j (drop 4 b)) (layout_size padding n x u) ∙ take_at u.request (padding ++ (n ∷ x ∷ u.route)) (length u.request) refl in
     let readable_behind : IsReadable (drop (route_place b + 2) b) = subst IsReadable (sym behind) readable in
-    ap (with_route b) (counted_path_at-whole (route_place b) (route_place b + 2) b (layout_long padding n x u plen rlen) readable_behind) ∙ same_record b u inside behind refl refl
+    ap (with_route b) (counted_path_at-whole (route_place b) (route_place b + 2) b (layout_long padding n x u plen rlen) readable_behind)
+    ∙ same_record b u inside behind refl refl
 
 pub unconnected_read : (b : List ℕ) (u : Unconnected) → ReadsUnconnected b u → unconnected_at b ≡ Ok u
 unconnected_read b u (readable, (padding, n, x, plen, rlen, e)) =
@@ -116,20 +128,27 @@ lays (t ∷ s ∷ lo ∷ hi ∷ rest) fits len =
     let plen : length padding ≡ j = length-take-le j (drop k rest) (omega (arith, long, length-drop k rest)) in
     let llen : 2 ≤ length l = omega (arith, long, length-drop (k + j) rest, ap (λ (z : List ℕ). length z) l_is) in
     let words : get_or b (route_place b) 0 ≡ get_or l 0 0 =
-    sym (get_or-drop 4 b (k + j) 0) ∙ (ap (λ (i : ℕ). get_or rest i 0) (omega arith) ∙ (sym (get_or-drop (k + j) rest 0 0) ∙ ap (λ (z : List ℕ). get_or z 0 0) (sym l_is))) in
+    sym (get_or-drop 4 b (k + j) 0)
+    ∙ (ap (λ (i : ℕ). get_or rest i 0) (omega arith) ∙ (sym (get_or-drop (k + j) rest 0 0) ∙ ap (λ (z : List ℕ). get_or z 0 0) (sym l_is))) in
     let behind : drop (route_place b + 2) b ≡ drop 2 l =
-    ap (λ (i : ℕ). drop i b) (omega arith) ∙ (sym (drop-drop ((k + j) + 2) 4 b) ∙ (sym (drop-drop 2 (k + j) rest) ∙ ap (λ (z : List ℕ). drop 2 z) (sym l_is))) in
+    ap (λ (i : ℕ). drop i b) (omega arith)
+    ∙ (sym (drop-drop ((k + j) + 2) 4 b) ∙ (sym (drop-drop 2 (k + j) rest) ∙ ap (λ (z : List ℕ). drop 2 z) (sym l_is))) in
     let route_len : length (drop (route_place b + 2) b) ≡ 2 * get_or l 0 0 = omega (arith, length-drop (route_place b + 2) b, len, words) in
     let rest_is : rest ≡ take k rest ++ (padding ++ (get_or l 0 0 ∷ get_or l 1 0 ∷ drop 2 l)) =
-    sym (take-append-drop k rest) ∙ ap (λ (z : List ℕ). take k rest ++ z) (sym (take-append-drop j (drop k rest)) ∙ ap (λ (z : List ℕ). padding ++ z) (two_front l llen)) in
-    let parts : b ≡ unconnected_layout padding (get_or l 0 0) (get_or l 1 0) (record { timing = record { tick = t; ticks = s }; request = take k rest; route = drop 2 l }) =
-    ap (λ (z : List ℕ). t ∷ s ∷ lo ∷ hi ∷ z) rest_is ∙ ap (λ (w : List ℕ). t ∷ s ∷ w ++ (take k rest ++ (padding ++ (get_or l 0 0 ∷ get_or l 1 0 ∷ drop 2 l)))) (sym (word_is lo hi (length (take k rest)) (fits 2) size)) in (
+    sym (take-append-drop k rest)
+    ∙ ap (λ (z : List ℕ). take k rest ++ z) (sym (take-append-drop j (drop k rest)) ∙ ap (λ (z : List ℕ). padding ++ z) (two_front l llen)) in
+    let parts : b ≡ unconnected_layout padding (get_or l 0 0) (get_or l 1 0)
+    (record { timing = record { tick = t; ticks = s }; request = take k rest; route = drop 2 l }) =
+    ap (λ (z : List ℕ). t ∷ s ∷ lo ∷ hi ∷ z) rest_is
+    ∙ ap (λ (w : List ℕ). t ∷ s ∷ w ++ (take k rest ++ (padding ++ (get_or l 0 0 ∷ get_or l 1 0 ∷ drop 2 l))))
+    (sym (word_is lo hi (length (take k rest)) (fits 2) size)) in (
       padding,
       get_or l 0 0,
       get_or l 1 0,
       plen ∙ ap (λ (z : ℕ). z % 2) (sym size),
       route_len,
-      parts ∙ ap (λ (r : List ℕ). unconnected_layout padding (get_or l 0 0) (get_or l 1 0) (record { timing = record { tick = t; ticks = s }; request = take k rest; route = r })) (sym behind),
+      parts ∙ ap (λ (r : List ℕ). unconnected_layout padding (get_or l 0 0) (get_or l 1 0)
+          (record { timing = record { tick = t; ticks = s }; request = take k rest; route = r })) (sym behind),
     )
 
 has_layout : (b : List ℕ) → IsBytes b → length b ≡ whole b → HasLayout b
@@ -143,7 +162,8 @@ whole-zeros b k =
 whole-take : (b : List ℕ) → whole b < length b → whole (take (whole b) b) ≡ whole b
 whole-take b lt =
     let place : route_place (take (whole b) b) ≡ route_place b = ap (λ (z : ℕ). 4 + (z + z % 2)) (word_in-take (whole b) b 2 (omega arith)) in
-    ap (λ (p : ℕ). whole_length p (p + 2) (take (whole b) b)) place ∙ ap (λ (n : ℕ). (route_place b + 2) + 2 * n) (get_or-take (whole b) b (route_place b) 0 (omega arith))
+    ap (λ (p : ℕ). whole_length p (p + 2) (take (whole b) b)) place
+    ∙ ap (λ (n : ℕ). (route_place b + 2) + 2 * n) (get_or-take (whole b) b (route_place b) 0 (omega arith))
 
 pub unconnected_verdict : (b : List ℕ) → IsBytes b → MatchResult (unconnected_at b) (ReadsUnconnected b) (IsUnconnectedFault b)
 unfolding unconnected_at
@@ -163,7 +183,8 @@ pad-len n =
     (λ even. let h : n % 2 ≡ 1 → ⊥ = eqb-false _ _ even in omega arith)
 
 pub unconnected_back : (u : Unconnected) → IsReadable u.route → unconnected_at (unconnected_data u) ≡ Ok u
-unconnected_back u readable = layout_read (pad (length u.request)) (length u.route / 2) 0 u readable (pad-len (length u.request)) (whole_words u.route readable)
+unconnected_back u readable =
+    layout_read (pad (length u.request)) (length u.route / 2) 0 u readable (pad-len (length u.request)) (whole_words u.route readable)
 
 -- ---- a fault that fits is the one that is answered
 
@@ -175,7 +196,8 @@ place_front xs ys le = rw (index_front xs ys 2 (omega arith), index_front xs ys 
 
 whole_front : (xs ys : List ℕ) → 4 ≤ length xs → route_place xs < length xs → whole (xs ++ ys) ≡ whole xs
 whole_front xs ys le lt =
-    ap (λ (p : ℕ). whole_length p (p + 2) (xs ++ ys)) (place_front xs ys le) ∙ ap (λ (n : ℕ). (route_place xs + 2) + 2 * n) (index_front xs ys (route_place xs) lt)
+    ap (λ (p : ℕ). whole_length p (p + 2) (xs ++ ys)) (place_front xs ys le)
+    ∙ ap (λ (n : ℕ). (route_place xs + 2) + 2 * n) (index_front xs ys (route_place xs) lt)
 
 cut_short : (b : List ℕ) → IsCutOff HasLayout b → length b < whole b
 cut_short b (more, some, h) =
@@ -205,4 +227,6 @@ unconnected_faults b Long fits h = ap (with_route b) (counted_path_at-Long (rout
 unconnected_faults b (Route f) fits (u, lays_u, fault) =
     let behind : drop (route_place b + 2) b ≡ u.route = route_is b u lays_u in
     let route_fits : IsBytes u.route = subst IsBytes behind (IsBytes-drop (route_place b + 2) b fits) in
-    ap (with_route b) (counted_path_at-Path (route_place b) (route_place b + 2) b f (layout_len b (u, lays_u)) (ap path_at behind ∙ path_at-IsFault u.route f route_fits fault))
+    ap (with_route b)
+    (counted_path_at-Path (route_place b) (route_place b + 2) b f (layout_len b (u, lays_u))
+    (ap path_at behind ∙ path_at-IsFault u.route f route_fits fault))

@@ -1,4 +1,5 @@
-//! Unconnected_Send: a request that carries another one along a route (Volume 1, chapter 3, Unconnected_Send).
+//! Unconnected_Send: a request that carries another one along a route (Volume 1, chapter 3,
+//! Unconnected_Send).
 #![tactic(auto)]
 
 mod fault;

@@ -1,15 +1,16 @@
 //! The data of Unconnected_Send, read and written.
-ghost use Rattle.std.specs.Prelude.{◌≡◌, ◌+◌, ◌<◌, ◌≤◌, ◌↔◌, ◌++◌, length, IfOk, IfErr, IsErrOf, IsOkAnd, OnOk, IfSome, IsNone, take, drop};
+ghost use Rattle.std.specs.Prelude.{◌≡◌, ◌+◌, ◌<◌, ◌≤◌, ◌↔◌, ◌++◌, length, IfOk, IfErr, IsErrOf, OnOk, IfSome, IsNone, take, drop};
 ghost use Rattle.cip_base.specs.Fields.{pad};
 ghost use Rattle.cip_message.specs.Gives.{Gives};
+ghost use Rattle.cip_message.specs.Exact.{GivesOnly};
 ghost use Rattle.cip_message.specs.Numbers.{word_in};
-ghost use Rattle.cip_unconnected.specs.Unconnected.{Unconnected as Send, ReadsUnconnected, IsUnconnectedFault, unconnected_with, unconnected_bytes};
+ghost use Rattle.cip_unconnected.specs.Unconnected.{ReadsUnconnected, IsUnconnectedFault};
 ghost use Rattle.cip_unconnected.specs.UnconnectedAt.{route_place, unconnected_at, route_words_of};
-ghost use Rattle.cip_unconnected.specs.Reading.{unconnected_of};
+ghost use Rattle.cip_unconnected.specs.Reading.{unconnected_of, sent_along};
 
 use crate::fault::UnconnectedFault;
-use cip_base::{Bytes, MAX_MESSAGE, Timing};
-use cip_message::{DataFault, WriteFault, counted_path, put_manager_header, put_word, word_at};
+use cip_base::{Bytes, MAX_MESSAGE, Timing, put_word};
+use cip_message::{DataFault, WriteFault, counted_path, put_manager_header, word_at};
 use cip_segment::PathView;
 use std::alloc::{AllocError, Global};
 
@@ -71,14 +72,15 @@ fn unconnected(data_: &[u8]) -> Result<UnconnectedView<'_>, UnconnectedFault>
     }
 }
 
-/// The Unconnected_Send that the data is, all of it; the data is what follows the path of the request
-/// (Volume 1, chapter 3, Unconnected_Send). The pad and the reserved byte have any value. It takes no memory.
+/// The Unconnected_Send that the data is, all of it; the data is what follows the path of the
+/// request (Volume 1, chapter 3, Unconnected_Send). The pad and the reserved byte have any value.
+/// It takes no memory.
 ///
-/// Otherwise the first that fits: Short where bytes are missing, Long where bytes stand after the route, Route of the
-/// route's fault.
+/// Otherwise the first that fits: Short where bytes are missing, Long where bytes stand after the
+/// route, Route of the route's fault.
 pub fn read_unconnected(data_: &[u8]) -> Result<UnconnectedView<'_>, UnconnectedFault>
     ensures found { IfOk result (λ view. ReadsUnconnected data_.now (unconnected_of view)) }
-    ensures only { (u : Send) → ReadsUnconnected data_.now u → IsOkAnd result (λ view. unconnected_of view ≡ u) }
+    ensures only { GivesOnly unconnected_of result (ReadsUnconnected data_.now) }
     ensures fault { IfErr result (IsUnconnectedFault data_.now) }
     ensures gives { Gives unconnected_of result (unconnected_at data_.now) }
 {
@@ -92,8 +94,8 @@ pub fn inner<'a>(view: &UnconnectedView<'a>) -> &'a [u8]
     view.request
 }
 
-/// The route size of the data of an Unconnected_Send, in words; None exactly where that byte is missing. The data may be cut
-/// after it.
+/// The route size of the data of an Unconnected_Send, in words; None exactly where that byte is
+/// missing. The data may be cut after it.
 pub fn route_words(data_: &[u8]) -> Option<u8>
     ensures { result ≡ route_words_of data_.now }
 {
@@ -110,8 +112,7 @@ fn joined(
     route: PathView<'_>,
 ) -> Result<Vec<u8>, AllocError>
     requires { length request.now ≤ 1400 }
-    ensures { IfOk result (λ v. v.items
-        ≡ unconnected_bytes (unconnected_with timing request.now route.entry.bytes.now)) }
+    ensures { IfOk result (λ v. v.items ≡ sent_along timing request.now route.entry) }
 {
     let mut bytes = Vec::new(alloc);
     put_manager_header(&mut bytes, UNCONNECTED_SEND)?;
@@ -128,9 +129,9 @@ fn joined(
     Ok(bytes)
 }
 
-/// The whole message of an Unconnected_Send to the Connection Manager: header, priority/time tick, time-out ticks, size of
-/// the embedded request in bytes, that request, a pad 00 where its size is odd, route size in 16-bit words, a reserved 00,
-/// route (Volume 1, chapter 3, Unconnected_Send).
+/// The whole message of an Unconnected_Send to the Connection Manager: header, priority/time tick,
+/// time-out ticks, size of the embedded request in bytes, that request, a pad 00 where its size is
+/// odd, route size in 16-bit words, a reserved 00, route (Volume 1, chapter 3, Unconnected_Send).
 ///
 /// TooLong past 1,400 bytes in all, NoMemory where a growth is refused.
 pub fn write_unconnected(
@@ -139,9 +140,9 @@ pub fn write_unconnected(
     request: &[u8],
     route: PathView<'_>,
 ) -> Result<Bytes, WriteFault>
-    ensures ok { IfOk result (λ b. b ≡ unconnected_bytes (unconnected_with timing request.now route.entry.bytes.now)) }
+    ensures ok { IfOk result (λ b. b ≡ sent_along timing request.now route.entry) }
     ensures too_long { IsErrOf result WriteFault.TooLong
-        ↔ (1400 < length (unconnected_bytes (unconnected_with timing request.now route.entry.bytes.now))) }
+        ↔ (1400 < length (sent_along timing request.now route.entry)) }
 {
     // All but the embedded request and its pad.
     let others = 12 + route.bytes.len();

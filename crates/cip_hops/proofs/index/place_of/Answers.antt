@@ -2,10 +2,11 @@ use Rattle.std.proofs.Common.{ℕ, rules}
 use Rattle.std.specs.Cmp.{nat_cmp_total}
 use Rattle.std.specs.FinMap.{nat_cmp-IsAntisymmetric}
 use Rattle.std.proofs.lemmas.List.Sorted.{answers_always}
-use Rattle.cip_hops.proofs.Search.{searched}
+use Rattle.cip_base.proofs.Search.{searched}
 use Rattle.cip_hops.proofs.index.place_of.Goals as goal
 
 pub returns : goal.returns
 returns c =
     let facts = c.binary_search_by_key.ensures in
-    searched nat_cmp_total nat_cmp-IsAntisymmetric c.args.pairs.now c.args.number c.binary_search_by_key.result c.requires facts.bound (facts.position (λ (p : ℕ × ℕ). p.0) (answers_always _ _ _ (λ f a r g called. search rules)))
+    searched nat_cmp_total nat_cmp-IsAntisymmetric c.args.pairs.now c.args.number c.binary_search_by_key.result c.requires facts.bound
+    (facts.position (λ (p : ℕ × ℕ). p.0) (answers_always _ _ _ (λ f a r g called. search rules)))

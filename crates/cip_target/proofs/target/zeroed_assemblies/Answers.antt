@@ -7,5 +7,6 @@ use Rattle.cip_target.proofs.target.zeroed_assemblies.Goals as goal
 
 pub loop-config-preserved : goal.loop-config-preserved
 loop-config-preserved c =
-    let none : c.hold.new.self.owners ≡ map.empty = ap (λ (h : Holdings). h.owners) c.in_ok-hold.ensures ∙ none-removed c.loop-config.assemblies.owners _ c.loop-config.invariant.2 in
+    let none : c.hold.new.self.owners ≡ map.empty = ap (λ (h : Holdings). h.owners) c.in_ok-hold.ensures
+    ∙ none-removed c.loop-config.assemblies.owners _ c.loop-config.invariant.2 in
     (grind (arith, common_steps), grind (arith, common_steps), none)

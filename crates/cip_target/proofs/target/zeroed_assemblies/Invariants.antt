@@ -7,4 +7,5 @@ use Rattle.cip_target.proofs.target.zeroed_assemblies.Given as goal
 
 abbrev pub invariant-loop-config : goal.invariant-loop-config
 invariant-loop-config l =
-    (zeroed_onto l.assemblies.bytes (drop l.config-index l.configs) ≡ zeroed l.configs) × IsTrue (list_all is_assembly (drop l.config-index l.configs)) × (l.assemblies.owners ≡ map.empty)
+    (zeroed_onto l.assemblies.bytes (drop l.config-index l.configs) ≡ zeroed l.configs) × IsTrue (list_all is_assembly (drop l.config-index l.configs))
+    × (l.assemblies.owners ≡ map.empty)

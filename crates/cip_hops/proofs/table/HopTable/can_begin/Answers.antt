@@ -5,16 +5,22 @@ use Rattle.cip_hops.proofs.table.HopTable.can_begin.Goals as goal
 
 pub returns-then-is_some : goal.returns-then-is_some
 returns-then-is_some c =
-    sym (refusal_used c.self.inside c.self.invariant c.args.triad.now c.args.ids (ap is_some (sym c.find.ensures) ∙ sym c.if-is_some.ensures)) ∙ ap (λ p. refusal p c.args.triad.now c.args.ids) c.self.view_is
+    sym (refusal_used c.self.inside c.self.invariant c.args.triad.now c.args.ids (ap is_some (sym c.find.ensures) ∙ sym c.if-is_some.ensures))
+    ∙ ap (λ p. refusal p c.args.triad.now c.args.ids) c.self.view_is
 
 pub returns-then-len-self : goal.returns-then-len-self
 returns-then-len-self c =
-    sym (refusal_full c.self.inside c.self.invariant c.args.triad.now c.args.ids (ap is_some (sym c.find.ensures) ∙ sym c.if-is_some.ensures) (omega (arith, c.len.ensures, c.if-len-self.true))) ∙ ap (λ p. refusal p c.args.triad.now c.args.ids) c.self.view_is
+    sym (refusal_full c.self.inside c.self.invariant c.args.triad.now c.args.ids (ap is_some (sym c.find.ensures) ∙ sym c.if-is_some.ensures)
+    (omega (arith, c.len.ensures, c.if-len-self.true))) ∙ ap (λ p. refusal p c.args.triad.now c.args.ids) c.self.view_is
 
 pub returns-then-self-from-gt4294967296 : goal.returns-then-self-from-gt4294967296
 returns-then-self-from-gt4294967296 c =
-    sym (refusal_spent c.self.inside c.self.invariant c.args.triad.now c.args.ids (ap is_some (sym c.find.ensures) ∙ sym c.if-is_some.ensures) (omega (arith, c.len.ensures, c.if-len-self.false)) (omega (arith, c.from.ensures, c.if-self-from-gt4294967296.true))) ∙ ap (λ p. refusal p c.args.triad.now c.args.ids) c.self.view_is
+    sym (refusal_spent c.self.inside c.self.invariant c.args.triad.now c.args.ids (ap is_some (sym c.find.ensures) ∙ sym c.if-is_some.ensures)
+    (omega (arith, c.len.ensures, c.if-len-self.false)) (omega (arith, c.from.ensures, c.if-self-from-gt4294967296.true)))
+    ∙ ap (λ p. refusal p c.args.triad.now c.args.ids) c.self.view_is
 
 pub returns-else-self-from-gt4294967296 : goal.returns-else-self-from-gt4294967296
 returns-else-self-from-gt4294967296 c =
-    sym (refusal_none c.self.inside c.self.invariant c.args.triad.now c.args.ids (ap is_some (sym c.find.ensures) ∙ sym c.if-is_some.ensures) (omega (arith, c.len.ensures, c.if-len-self.false)) (omega (arith, c.from.ensures, c.if-self-from-gt4294967296.false))) ∙ ap (λ p. refusal p c.args.triad.now c.args.ids) c.self.view_is
+    sym (refusal_none c.self.inside c.self.invariant c.args.triad.now c.args.ids (ap is_some (sym c.find.ensures) ∙ sym c.if-is_some.ensures)
+    (omega (arith, c.len.ensures, c.if-len-self.false)) (omega (arith, c.from.ensures, c.if-self-from-gt4294967296.false)))
+    ∙ ap (λ p. refusal p c.args.triad.now c.args.ids) c.self.view_is

@@ -12,7 +12,8 @@ use Rattle.cip_hops.proofs.table.HopTable.take_out.Goals as goal
 
 pub unreachable-requires : goal.unreachable-requires
 unreachable-requires c =
-    let none : map.get c.args.self.now.held c.args.triad.now ≡ None = ap (λ (p : Hops). map.get p.held c.args.triad.now) (sym c.self.view_is) ∙ held_none c.self.inside c.self.invariant c.args.triad.now (sym c.in_default.ensures) in
+    let none : map.get c.args.self.now.held c.args.triad.now ≡ None = ap (λ (p : Hops). map.get p.held c.args.triad.now) (sym c.self.view_is)
+    ∙ held_none c.self.inside c.self.invariant c.args.triad.now (sym c.in_default.ensures) in
     let some : IsSome {T = Held} None = subst (λ (o : Option Held). IsSome o) none c.requires in cc
 
 pub remove-held-requires : goal.remove-held-requires
@@ -21,7 +22,16 @@ remove-held-requires c = finds c.self.inside c.self.invariant c.args.triad.now c
 pub invariant_of-self : goal.invariant_of-self
 invariant_of-self c =
     let t = c.self.inside in
-    let made : after_drop t c.self.invariant c.args.triad.now c.in-Some.key c.remove-held.result c.remove-held.new.self (sym c.in-Some.ensures) c.remove-held.ensures.value c.remove-held.ensures.updates ≡ record { room = t.room; next = t.next; triads = c.forget.new.self; ups = c.forget-2.new.self; downs = c.forget-3.new.self; ops = c.forget-4.new.self; records = c.remove-held.new.self } =
+    let made : after_drop t c.self.invariant c.args.triad.now c.in-Some.key c.remove-held.result c.remove-held.new.self
+    (sym c.in-Some.ensures) c.remove-held.ensures.value c.remove-held.ensures.updates ≡ record {
+      room = t.room;
+      next = t.next;
+      triads = c.forget.new.self;
+      ups = c.forget-2.new.self;
+      downs = c.forget-3.new.self;
+      ops = c.forget-4.new.self;
+      records = c.remove-held.new.self;
+    } =
     λ i. record {
       room = t.room;
       next = t.next;
@@ -31,7 +41,9 @@ invariant_of-self c =
       ops = sym (c.forget-4.ensures ∙ ap (forgot t.ops) (c.op-op.ensures ∙ ap (λ (o : Opening). op_of o.up) c.opening.ensures)) i;
       records = c.remove-held.new.self;
     } in
-    subst IsKept made (kept_dropped t c.self.invariant c.args.triad.now c.in-Some.key c.remove-held.result c.remove-held.new.self (sym c.in-Some.ensures) c.remove-held.ensures.value c.remove-held.ensures.updates c.remove-held.ensures.len c.remove-held.ensures.capacity)
+    subst IsKept made
+    (kept_dropped t c.self.invariant c.args.triad.now c.in-Some.key c.remove-held.result c.remove-held.new.self
+    (sym c.in-Some.ensures) c.remove-held.ensures.value c.remove-held.ensures.updates c.remove-held.ensures.len c.remove-held.ensures.capacity)
 
 pub returns-clause-value : goal.returns-clause-value
 returns-clause-value c =
@@ -41,7 +53,16 @@ returns-clause-value c =
 pub returns-clause-after : goal.returns-clause-after
 returns-clause-after c =
     let t = c.self.inside in
-    let made : after_drop t c.self.invariant c.args.triad.now c.in-Some.key c.remove-held.result c.remove-held.new.self (sym c.in-Some.ensures) c.remove-held.ensures.value c.remove-held.ensures.updates ≡ record { room = t.room; next = t.next; triads = c.forget.new.self; ups = c.forget-2.new.self; downs = c.forget-3.new.self; ops = c.forget-4.new.self; records = c.remove-held.new.self } =
+    let made : after_drop t c.self.invariant c.args.triad.now c.in-Some.key c.remove-held.result c.remove-held.new.self
+    (sym c.in-Some.ensures) c.remove-held.ensures.value c.remove-held.ensures.updates ≡ record {
+      room = t.room;
+      next = t.next;
+      triads = c.forget.new.self;
+      ups = c.forget-2.new.self;
+      downs = c.forget-3.new.self;
+      ops = c.forget-4.new.self;
+      records = c.remove-held.new.self;
+    } =
     λ i. record {
       room = t.room;
       next = t.next;
@@ -51,5 +72,7 @@ returns-clause-after c =
       ops = sym (c.forget-4.ensures ∙ ap (forgot t.ops) (c.op-op.ensures ∙ ap (λ (o : Opening). op_of o.up) c.opening.ensures)) i;
       records = c.remove-held.new.self;
     } in
-    ap hops (sym made) ∙ view_dropped t c.self.invariant c.args.triad.now c.in-Some.key c.remove-held.result c.remove-held.new.self (sym c.in-Some.ensures) c.remove-held.ensures.value c.remove-held.ensures.updates
+    ap hops (sym made)
+    ∙ view_dropped t c.self.invariant c.args.triad.now c.in-Some.key c.remove-held.result c.remove-held.new.self
+    (sym c.in-Some.ensures) c.remove-held.ensures.value c.remove-held.ensures.updates
     ∙ ap (λ p. without p c.args.triad.now) c.self.view_is

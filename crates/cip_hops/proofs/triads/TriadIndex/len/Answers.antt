@@ -7,4 +7,5 @@ use Rattle.cip_hops.proofs.Places.{len_of}
 use Rattle.cip_hops.proofs.triads.TriadIndex.len.Goals as goal
 
 pub returns : goal.returns
-returns c = let len = len_of triad_cmp triads_total c.self.inside.pairs.items c.self.invariant.rising in let is = ap (λ (m : Index triad_cmp). map.len m.keys) c.self.view_is in omega (arith, len, is, c.len.ensures)
+returns c = let len = len_of triad_cmp triads_total c.self.inside.pairs.items c.self.invariant.rising in let is =
+    ap (λ (m : Index triad_cmp). map.len m.keys) c.self.view_is in omega (arith, len, is, c.len.ensures)

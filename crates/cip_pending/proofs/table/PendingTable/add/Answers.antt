@@ -16,8 +16,10 @@ unreachable-requires c =
 pub invariant_of-self : goal.invariant_of-self
 invariant_of-self c =
     let left = room_left c.self.inside c.self.invariant (ap refusal c.self.view_is ∙ sym c.can_add.ensures ∙ c.in-None.is) in
-    kept_push c.self.inside c.self.invariant c.push.new.self c.insert_reserved-key.new.self c.insert_reserved-key.result c.args.entry c.in-Ok.ensures.items c.in-Ok.ensures.capacity c.in-Ok.ensures.len
-    c.insert_reserved-key.ensures.was_vacant c.insert_reserved-key.ensures.updates c.insert_reserved-key.ensures.len c.insert_reserved-key.ensures.capacity left.0 left.1
+    kept_push c.self.inside c.self.invariant c.push.new.self c.insert_reserved-key.new.self c.insert_reserved-key.result c.args.entry c.in-Ok.ensures.items
+    c.in-Ok.ensures.capacity c.in-Ok.ensures.len
+    c.insert_reserved-key.ensures.was_vacant c.insert_reserved-key.ensures.updates c.insert_reserved-key.ensures.len
+    c.insert_reserved-key.ensures.capacity left.0 left.1
 
 pub returns-in-Ok-clause-after : goal.returns-in-Ok-clause-after
 returns-in-Ok-clause-after c =
