@@ -109,8 +109,11 @@ fn faulty(alloc: Global, bytes: &[u8]) -> Option<String> {
     fault_name(alloc, view_path(bytes).err()?)
 }
 
-// The bytes of these segments, or why they are not written.
+// The bytes of these segments, each of which can be written, or why they are not written.
 fn spelled(alloc: Global, list: &[Segment]) -> Option<String> {
+    if !list.iter().all(|segment| segment_ok(segment)) {
+        return None;
+    }
     match write_path(alloc, list) {
         Ok(path) => format!(in alloc; "{}", Pairs(path.view().bytes())).ok(),
         Err(fault) => fault_name(alloc, fault),
@@ -155,9 +158,6 @@ fn classes(alloc: Global, count: u16) -> Option<String> {
 // `BYTES`: a segment of this data.
 fn data_alone(alloc: Global, bytes: Vec<u8>) -> Option<String> {
     let words = Segment::Words(Bytes::of(bytes));
-    if !segment_ok(&words) {
-        return None;
-    }
     spelled(alloc, [words].as_slice())
 }
 
@@ -316,24 +316,14 @@ fn each_fault_of_each_form(rt: HostRuntime) -> Result<(), Fail> {
     )
 }
 
-// How many bytes begin a segment, and how many are reserved.
-fn heads() -> (usize, usize) {
-    let mut begun = 0;
-    let mut reserved = 0;
-    for head in 0..=255u8 {
-        match view_path(&[head]).err() {
-            Some(PathFault::Truncated) => begun += 1,
-            Some(PathFault::Reserved(byte)) if byte == head => reserved += 1,
-            _ => {}
-        }
-    }
-    (begun, reserved)
-}
-
 #[test]
 fn every_other_segment_byte_is_reserved(rt: HostRuntime) {
     // 30 of ports, 12 of numbers, and one each of a key, an inhibit time, simple data and a symbol.
-    assert_eq!(rt; heads(), (46, 210));
+    let begun = (0..=255u8).filter(|head| view_path(&[*head]).err() == Some(PathFault::Truncated));
+    assert_eq!(rt; begun.count(), 46);
+    let reserved = (0..=255u8).filter(|head| view_path(&[*head]).err()
+        == Some(PathFault::Reserved(*head)));
+    assert_eq!(rt; reserved.count(), 210);
 }
 
 #[test]
