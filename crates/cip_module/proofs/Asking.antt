@@ -14,7 +14,7 @@ use Rattle.cip_module.specs.State.{State}
 use Rattle.cip_module.specs.Tells.{asker, Tells}
 use Rattle.cip_module.proofs.TellsAskers.{forwards_asker, begins_asker}
 use Rattle.cip_module.specs.Histories.{Turn, state_after, IsHistory}
-use Rattle.cip_module.specs.Words.{Has, Some_turn}
+use Rattle.cip_module.specs.Words.{Has, Some_turn, AskedIn}
 use Rattle.cip_module.proofs.Puts.{puts, pending_cases}
 use Rattle.cip_module.proofs.Turns.{by_turn, newest}
 
@@ -26,12 +26,6 @@ has_left (x ∷ xs) ys o (inr h) = inr (has_left xs ys o h)
 pub has_right : (xs ys : List Output) (o : Output) → Has ys o → Has (xs ++ ys) o
 has_right [] ys o h = h
 has_right (x ∷ xs) ys o h = inr (has_right xs ys o h)
-
--- the turn in which a request under this number was asked and sent
-pub record AskedIn (turn : Turn) (n : ℕ) (p : Entry) : Type 0 where
-  pub bytes : List ℕ
-  pub asks : asker turn.event ≡ Some p.up
-  pub sent : Has turn.outputs (outputs.Send p.port p.address (bodies.Request n bytes))
 
 -- what an effect puts among the requests that wait, it sends
 record PutSent (config : ModuleSettings) (event : Event) (s : State) (e : Effect) (p : Entry) : Type 0 where

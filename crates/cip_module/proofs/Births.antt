@@ -11,6 +11,7 @@ use Rattle.cip_hops.specs.declared.hop.Held.{Held}
 use Rattle.cip_hops.specs.declared.hop.Held.TheVariants.{Opening as IsOpening}
 use Rattle.cip_hops.specs.Sides.{up_is_link, down_is_link, own_ids, ids_drawn}
 use Rattle.cip_hops.specs.Hops.{opening_of, ids_of}
+use Rattle.cip_module.specs.EffectLists.{gain, births, IsLight, IsBounded}
 use Rattle.cip_module.specs.declared.config.ModuleSettings.{ModuleSettings}
 use Rattle.cip_module.specs.declared.event.Event.{Event}
 use Rattle.cip_module.specs.declared.event.Output.{Output}
@@ -22,17 +23,11 @@ use Rattle.cip_module.proofs.Tells.{decide_tells}
 use Rattle.cip_module.proofs.TellsAskers.{begins_asker, open_asker}
 use Rattle.cip_module.specs.Births.{opened_by, or_else, first_opened, Past, IsBirth, HasId}
 use Rattle.cip_module.specs.Histories.{Turn, state_after, IsHistory}
-use Rattle.cip_module.proofs.Light.{IsLight, IsBounded, light_once}
+use Rattle.cip_module.proofs.Light.{light_once}
 use Rattle.cip_module.proofs.Puts.{drawn_ids}
 use Rattle.cip_module.proofs.Rises.{ids_after, ids_rise}
 use Rattle.cip_module.proofs.Stands.{same_opening, same_ids, HeldCase, Stands, Begun, Ended, Finished, held_cases}
 use Rattle.cip_module.proofs.Turns.{Turned, newest, by_places}
-use Rattle.cip_module.proofs.Weighing.{gain}
-
-abbrev pub births : Effect → ℕ
-births (Begins sending opening) = 1
-births (Accepts opening o link) = 1
-births e = 0
 
 pub births_light : IsLight births (λ v. 1)
 births_light = record {

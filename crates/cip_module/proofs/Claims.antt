@@ -19,6 +19,7 @@ use Rattle.cip_hops.specs.Hops.{hop_at}
 use Rattle.cip_hops.proofs.Counts.{tally, one_if, tally-insert, tally-remove}
 use Rattle.cip_message.specs.Reply.{reply_bytes}
 use Rattle.cip_target.specs.Objects.{target_answer}
+use Rattle.cip_module.specs.EffectLists.{takes_up}
 use Rattle.cip_module.specs.declared.config.ModuleSettings.{ModuleSettings}
 use Rattle.cip_module.specs.declared.event.Output.{Output}
 use Rattle.cip_module.specs.Effects.{Effect, Replies, Answers, Forwards, Begins, Finishes, Takes, PendingTimesOut, Passes, objects_of, entry_for, apply, output_of, reply_up, replied, timed_out_reply, late_bytes, datum_up, datum_down, datum_by, passed, succeeded}
@@ -27,14 +28,6 @@ use Rattle.cip_module.proofs.Fits.{numbers_apart}
 use Rattle.cip_module.proofs.Points.{one_or_apart, gone_here, gone_apart}
 use Rattle.cip_module.specs.Weights.{mark, same_up, replies_to, is_to, is_reply, weight_in}
 use Rattle.cip_module.proofs.Puts.{AreBelow, no_number}
-
--- a request is taken up: it is answered, or something else is asked for it
-abbrev pub takes_up : UpSide → Effect → ℕ
-takes_up up (Replies v bytes) = mark (same_up v up)
-takes_up up (Answers v request) = mark (same_up v up)
-takes_up up (Forwards sending kind) = mark (same_up sending.up up)
-takes_up up (Begins sending opening) = mark (same_up sending.up up)
-takes_up up e = 0
 
 -- how many requests wait for this up side
 abbrev pub waits_for : UpSide → State → ℕ

@@ -5,6 +5,7 @@ use Rattle.cip_hops.specs.declared.hop.Hop.{Hop}
 use Rattle.cip_hops.specs.Hops.{hop_by_op}
 use Rattle.cip_base.specs.declared.timing.Timing.{Timing}
 use Rattle.cip_pending.specs.declared.entry.UpSide.TheVariants.{Local}
+use Rattle.cip_module.specs.EffectLists.{gain, takes_up}
 use Rattle.cip_module.specs.declared.config.ModuleSettings.{ModuleSettings}
 use Rattle.cip_module.specs.declared.event.Body.TheVariants as bodies
 use Rattle.cip_module.specs.declared.event.Command.TheVariants as commands
@@ -20,12 +21,12 @@ use Rattle.cip_module.specs.Tells.{AllTell}
 use Rattle.cip_module.proofs.Kept.{spent_now, spent_still}
 use Rattle.cip_module.specs.Histories.{Turn, state_after, IsHistory}
 use Rattle.cip_module.specs.Weights.{mark, is_reply, is_asked_by, weight, weight_in}
-use Rattle.cip_module.proofs.Claims.{takes_up, waits_for, claims_each}
+use Rattle.cip_module.proofs.Claims.{waits_for, claims_each}
 use Rattle.cip_module.proofs.Puts.{below_after}
 use Rattle.cip_module.proofs.OneReply.{claims, none_wait}
 use Rattle.cip_module.proofs.TakenUp.{takes_once}
 use Rattle.cip_module.proofs.Turns.{Turned, newest}
-use Rattle.cip_module.proofs.Weighing.{gain, conserved}
+use Rattle.cip_module.proofs.Weighing.{conserved}
 
 module _ (op : ℕ) where
   -- whether the op is still to be used

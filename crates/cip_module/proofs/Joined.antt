@@ -22,6 +22,7 @@ use Rattle.cip_hops.specs.Hops.{Hops, opening_at, hop_at, open_in, opened, finis
 use Rattle.cip_open.specs.Open.{Open as OpenRequest}
 use Rattle.cip_open.specs.Success.{OpenSuccess}
 use Rattle.cip_target.specs.declared.link.EndLink.{EndLink}
+use Rattle.cip_module.specs.EffectLists.{IsStill}
 use Rattle.cip_module.specs.declared.config.ModuleSettings.{ModuleSettings}
 use Rattle.cip_module.specs.declared.event.Body.TheVariants as bodies
 use Rattle.cip_module.specs.declared.event.Event.{Event}
@@ -41,7 +42,7 @@ use Rattle.cip_module.specs.Words.{Has}
 use Rattle.cip_module.proofs.Asking.{has_left, has_right}
 use Rattle.cip_module.proofs.MapCases.{remove_cases}
 use Rattle.cip_module.proofs.Puts.{puts, pending_cases}
-use Rattle.cip_module.proofs.Quiet.{IsStill, alone, reply_alone}
+use Rattle.cip_module.proofs.Quiet.{alone, reply_alone}
 use Rattle.cip_module.proofs.Turns.{Turned, newest, by_places, outputs-append}
 
 -- ---- what is opening stays so

@@ -21,6 +21,7 @@ use Rattle.cip_hops.specs.declared.opening.HopUp.TheVariants.{Local as UpLocal}
 use Rattle.cip_hops.specs.declared.opening.HopDown.TheVariants.{Link as DownLink}
 use Rattle.cip_hops.specs.Hops.{hop_by_op}
 use Rattle.cip_target.specs.declared.link.EndLink.{EndLink}
+use Rattle.cip_module.specs.EffectLists.{gain, IsLight, IsBounded}
 use Rattle.cip_module.specs.declared.config.ModuleSettings.{ModuleSettings}
 use Rattle.cip_module.specs.declared.event.Body.TheVariants as bodies
 use Rattle.cip_module.specs.declared.event.Command.TheVariants as commands
@@ -43,25 +44,6 @@ use Rattle.cip_module.specs.CommandRows.{op_row, close_command_row, send_row}
 use Rattle.cip_module.specs.State.{State}
 use Rattle.cip_module.specs.Table.{opener, send_below, unconnected_effects, unconnected_data_effects, open_below, open_effects, open_data_effects, close_effects, close_below, close_data_effects, request_effects, refused_effects, with_spending, send_effects, open_command_effects, closed_effects, close_command_effects, close_of, open_of, sent, decide}
 use Rattle.cip_module.specs.Tells.{asker}
-use Rattle.cip_module.proofs.Weighing.{gain}
-
--- A weight of effects that is light: one thing of those that answer a request has its weight, the others have none.
-pub record IsLight (d : Effect → ℕ) (b : UpSide → ℕ) : Type 0 where
-  pub replies : (v : UpSide) (bytes : List ℕ) → d (Replies v bytes) ≤ b v
-  pub answers : (v : UpSide) (asked : Request) → d (Answers v asked) ≤ b v
-  pub forwards : (sending : Sending) (kind : Kind) → d (Forwards sending kind) ≤ b sending.up
-  pub begins : (sending : Sending) (opening : Opening) → d (Begins sending opening) ≤ b sending.up
-  pub accepts : (opening : Opening) (o : Open) (link : EndLink) (v : UpSide) (bytes : List ℕ) → d (Accepts opening o link) + d (Replies v bytes) ≤ b v
-  pub spends : (op : ℕ) → d (Spends op) ≡ 0
-  pub closes_on : (triad : Triad) (sending : Sending) (kind : Kind) → d (Removes triad) + d (Forwards sending kind) ≤ b sending.up
-  pub closes : (triad : Triad) (v : UpSide) (bytes : List ℕ) → d (Removes triad) + d (Replies v bytes) ≤ b v
-  pub refuses : (fault : Refused) → d (RefusesCommand fault) ≡ 0
-  pub drops : (reason : Dropped) → d (Drops reason) ≡ 0
-
--- of what asks something, the bound of whom it asks for
-abbrev pub IsBounded : (UpSide → ℕ) → Option UpSide → ℕ → Type 0
-IsBounded b None n = Unit {0}
-IsBounded b (Some v) n = n ≤ b v
 
 module _ (d : Effect → ℕ) (b : UpSide → ℕ) (light : IsLight d b) where
   abbrev taken_up : List Effect → ℕ

@@ -3,6 +3,7 @@ use Rattle.std.proofs.Common.{◌≡◌, ℕ, ◌+◌, ◌≤◌, Bool, true, fa
 use Rattle.std.proofs.lemmas.Bool.{cases_order, eq-eqb, ne_eqb, le-leb, lt-leb}
 use Rattle.cip_message.specs.Reply.{reply_bytes}
 use Rattle.cip_target.specs.Objects.{target_answer}
+use Rattle.cip_module.specs.EffectLists.{gain}
 use Rattle.cip_module.specs.declared.config.ModuleSettings.{ModuleSettings}
 use Rattle.cip_module.specs.Effects.{Effect, Replies, Answers, Forwards, Begins, Finishes, Takes, PendingTimesOut, Passes, objects_of, apply, output_of, reply_up, replied, timed_out_reply, late_bytes, datum_up, datum_down, datum_by, passed, succeeded}
 use Rattle.cip_pending.specs.declared.entry.Entry.{Entry}
@@ -20,7 +21,7 @@ use Rattle.std.specs.FinMap as map
 use Rattle.cip_module.specs.State.{State, initial_state}
 use Rattle.cip_module.specs.Histories.{Turn, state_after, IsHistory}
 use Rattle.cip_module.specs.Weights.{mark, is_request, weight_in, weight, came}
-use Rattle.cip_module.proofs.Weighing.{gain, history_conserved}
+use Rattle.cip_module.proofs.Weighing.{history_conserved}
 
 -- whether a number is still to be drawn
 abbrev pub undrawn : ℕ → State → ℕ

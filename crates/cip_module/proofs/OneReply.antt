@@ -6,12 +6,13 @@ use Rattle.std.specs.Ordering.{nat_cmp}
 use Rattle.cip_pending.specs.declared.entry.Entry as entries
 use Rattle.cip_pending.specs.declared.entry.UpSide.{UpSide}
 use Rattle.cip_hops.proofs.Counts.{one_if, tally-le, tally-remove}
+use Rattle.cip_module.specs.EffectLists.{takes_up}
 use Rattle.cip_module.specs.declared.config.ModuleSettings.{ModuleSettings}
 use Rattle.cip_module.specs.State.{State, initial_state}
 use Rattle.cip_module.proofs.Fits.{numbers_apart}
 use Rattle.cip_module.specs.Histories.{Turn, state_after, IsHistory}
 use Rattle.cip_module.specs.Weights.{same_up, is_reply, is_asked_by, weight, came}
-use Rattle.cip_module.proofs.Claims.{takes_up, waits_for, claims_each}
+use Rattle.cip_module.proofs.Claims.{waits_for, claims_each}
 use Rattle.cip_module.proofs.Puts.{AreBelow, below_after}
 use Rattle.cip_module.proofs.TakenUp.{takes_once}
 use Rattle.cip_module.proofs.Weighing.{history_conserved}

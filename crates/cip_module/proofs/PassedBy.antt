@@ -26,6 +26,7 @@ use Rattle.cip_hops.specs.declared.hop.Side.TheVariants.{Down}
 use Rattle.cip_hops.specs.Sides.{op_of, up_is}
 use Rattle.cip_hops.specs.Hops.{Hops, as_hop, is_hop, is_id, first_hop, hop_at, triad_of, is_hop_by_up, hop_by_op}
 use Rattle.cip_target.specs.Objects.{target_answer}
+use Rattle.cip_module.specs.EffectLists.{gain}
 use Rattle.cip_module.specs.declared.config.ModuleSettings.{ModuleSettings}
 use Rattle.cip_module.specs.declared.event.Body.{Body}
 use Rattle.cip_module.specs.declared.event.Body.TheVariants as bodies
@@ -48,7 +49,6 @@ use Rattle.cip_module.specs.Words.{Has}
 use Rattle.cip_module.proofs.Births.{gain-append}
 use Rattle.cip_module.proofs.Triads.{HasOwnTriads, own_triads}
 use Rattle.cip_module.proofs.Turns.{Turned, newest}
-use Rattle.cip_module.proofs.Weighing.{gain}
 
 -- ---- a connection that is found
 

@@ -1,6 +1,7 @@
 -- Before the effect that opens a connection, or that a reply has, nothing else touches the tables.
 use Rattle.std.proofs.Common.{◌≡◌, ℕ, ◌≤◌, List, [], ◌∷◌, ◌++◌, length, Option, Some, None, refl, sym, ap, ◌∙◌, arith, length-append}
 use Rattle.cip_pending.specs.declared.entry.UpSide.{UpSide}
+use Rattle.cip_module.specs.EffectLists.{gain, stirs, IsStill, IsLight, IsBounded}
 use Rattle.cip_module.specs.declared.config.ModuleSettings.{ModuleSettings}
 use Rattle.cip_module.specs.declared.event.Body.TheVariants as bodies
 use Rattle.cip_module.specs.declared.event.Event.{Event}
@@ -12,21 +13,7 @@ use Rattle.cip_module.specs.State.{State}
 use Rattle.cip_module.specs.Table.{decide, reply_effects}
 use Rattle.cip_module.specs.Tells.{asker}
 use Rattle.cip_module.proofs.Births.{gain-append}
-use Rattle.cip_module.proofs.Light.{IsLight, IsBounded, light_once}
-use Rattle.cip_module.proofs.Weighing.{gain}
-
--- 0 of an effect that leaves the requests that wait and the connections as they are
-abbrev pub stirs : Effect → ℕ
-stirs (Spends op) = 0
-stirs (Replies up bytes) = 0
-stirs (Answers up asked) = 0
-stirs (Passes triad side bytes) = 0
-stirs (Writes instance bytes) = 0
-stirs (RefusesCommand fault) = 0
-stirs (Drops reason) = 0
-stirs (Forwards sending kind) = 1
-stirs (Removes triad) = 1
-stirs e = 2
+use Rattle.cip_module.proofs.Light.{light_once}
 
 stirs_light : IsLight stirs (λ v. 2)
 stirs_light = record {
@@ -41,10 +28,6 @@ stirs_light = record {
   refuses = λ fault. refl;
   drops = λ reason. refl;
 }
-
--- the tables are as they were
-abbrev pub IsStill : State → State → Type 0
-IsStill s new = (new.hops ≡ s.hops) × (new.pendings ≡ s.pendings)
 
 still : (config : ModuleSettings) (s : State) (e : Effect) → stirs e ≡ 0 → IsStill s (apply config s e)
 still config s (Spends op) h = (refl, refl)

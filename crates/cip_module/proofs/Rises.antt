@@ -1,12 +1,12 @@
 -- What is held has a number or an id below the next, and the next never falls.
 use Rattle.std.proofs.Common.{◌≡◌, ◌+◌, ◌≤◌, List, [], ◌∷◌, ap, arith}
+use Rattle.cip_module.specs.EffectLists.{gain}
 use Rattle.cip_module.specs.declared.config.ModuleSettings.{ModuleSettings}
 use Rattle.cip_module.specs.Effects.{Effect, apply, applied}
 use Rattle.cip_module.specs.State.{State}
 use Rattle.cip_module.specs.Histories.{Turn, state_after, IsHistory}
 use Rattle.cip_module.proofs.Puts.{numbers_drawn, next_number, drawn_ids, next_id}
 use Rattle.cip_module.proofs.Turns.{newest}
-use Rattle.cip_module.proofs.Weighing.{gain}
 
 pub numbers_after : (config : ModuleSettings) (s : State) (es : List Effect) → (applied config s es).pendings.next ≡ s.pendings.next + gain numbers_drawn es
 numbers_after config s [] = omega arith

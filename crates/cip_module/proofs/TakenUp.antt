@@ -1,6 +1,7 @@
 -- An event takes up at most what it asks.
 use Rattle.std.proofs.Common.{◌≡◌, ℕ, ◌≤◌, List, [], ◌∷◌, Option, Some, None, refl, sym, ◌∙◌, arith}
 use Rattle.cip_pending.specs.declared.entry.UpSide.{UpSide}
+use Rattle.cip_module.specs.EffectLists.{gain, takes_up, IsLight, IsBounded}
 use Rattle.cip_module.specs.declared.config.ModuleSettings.{ModuleSettings}
 use Rattle.cip_module.specs.declared.event.Event.{Event}
 use Rattle.cip_module.specs.Effects.{Effect, Replies, Answers, Forwards, Begins}
@@ -10,9 +11,7 @@ use Rattle.cip_module.specs.Tells.{asker, Tells, AllTell}
 use Rattle.cip_module.proofs.Tells.{decide_tells}
 use Rattle.cip_module.proofs.TellsAskers.{replies_asker, answers_asker, forwards_asker, begins_asker}
 use Rattle.cip_module.specs.Weights.{mark, same_up, is_to, is_asked_by}
-use Rattle.cip_module.proofs.Claims.{takes_up}
-use Rattle.cip_module.proofs.Light.{IsLight, IsBounded, light_once}
-use Rattle.cip_module.proofs.Weighing.{gain}
+use Rattle.cip_module.proofs.Light.{light_once}
 
 -- what asks nothing takes nothing up
 none_asked : (up : UpSide) (config : ModuleSettings) (s : State) (event : Event) (e : Effect) → asker event ≡ None → Tells config s event e

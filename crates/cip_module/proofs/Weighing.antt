@@ -1,6 +1,7 @@
 -- Weights of outputs, and what a turn conserves.
 use Rattle.std.proofs.Common.{◌≡◌, ℕ, ◌+◌, ◌≤◌, List, [], ◌∷◌, ◌++◌, Some, zero, suc, inl, inr, refl, ap, subst, arith}
 use Rattle.std.specs.Prelude.{slice_get}
+use Rattle.cip_module.specs.EffectLists.{gain}
 use Rattle.cip_module.specs.declared.config.ModuleSettings.{ModuleSettings}
 use Rattle.cip_module.specs.declared.event.Event.{Event}
 use Rattle.cip_module.specs.declared.event.Output.{Output}
@@ -42,10 +43,6 @@ one_place w (x ∷ os) zero (suc k) o p l a b e f =
 one_place w (x ∷ os) (suc i) zero o p l a b e f =
     let same : x ≡ p = cc in let here = ap w same in let there = weight_at w os i o e in absurd (omega (arith, here, there))
 one_place w (x ∷ os) (suc i) (suc k) o p l a b e f = ap suc (one_place w os i k o p (omega arith) a b e f)
-
-abbrev pub gain : (Effect → ℕ) → List Effect → ℕ
-gain d [] = 0
-gain d (e ∷ es) = d e + gain d es
 
 -- Where each effect conserves what is given and what is kept, beside what it gains, so does a turn.
 module _ (config : ModuleSettings) (w : Output → ℕ) (kept : State → ℕ) (d : Effect → ℕ) (Good : State → Type 0)

@@ -24,3 +24,4 @@ pub mod Histories
 pub mod Births
 pub mod Weights
 pub mod Words
+pub mod EffectLists
