@@ -20,7 +20,7 @@ use Rattle.cip_hops.proofs.Changes.{finished_is}
 use Rattle.cip_target.specs.ApplicationPath.{Application, application_of}
 use Rattle.cip_target.specs.Assemblies.{AssemblyMap, Owners, size_in, owned_with}
 use Rattle.cip_target.specs.declared.ends.EndRefusal.TheVariants.{NotAnApplicationPath, NoSuchInstanceOrConfiguration, TransportClassNotSupported, SizeMismatch, OutputOwned}
-use Rattle.cip_target.specs.Ends.{Ends, EndRow, sized_row, application_row, end_row, row_at, is_configuration, are_sizes, class_of, link_of, configuration_of, configured, accepted}
+use Rattle.cip_target.specs.Ends.{Ends, sized_row, application_row, end_row, row_at, is_configuration, are_sizes, class_of, link_of, configuration_of, configured, accepted}
 use Rattle.cip_target.specs.declared.link.EndLink.{EndLink}
 use Rattle.cip_target.proofs.Fitting.{FitsWith, fitting}
 use Rattle.cip_module.specs.declared.config.ModuleSettings.{ModuleSettings}

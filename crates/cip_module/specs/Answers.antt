@@ -1,5 +1,5 @@
 -- The replies that rows answer.
-use Rattle.std.specs.Prelude.{ℕ, ◌+◌, List, [], ◌∷◌, Option, Some, None}
+use Rattle.std.specs.Prelude.{ℕ, ◌+◌, [], ◌∷◌, Option, Some, None}
 use Rattle.cip_base.specs.Words.{Octets, WordCount}
 use Rattle.cip_base.specs.declared.timing.Status.{Status}
 use Rattle.cip_base.specs.declared.triad.Triad.{Triad}

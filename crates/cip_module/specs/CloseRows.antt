@@ -11,7 +11,7 @@
 --     no pending left               Refuses (NotSentOn NoPendingLeft)
 --     forwarded                     Forwarded
 --     closed at the end             ClosedAtTheEnd
-use Rattle.std.specs.Prelude.{ℕ, ◌==◌, Bool, not, ◌&&◌, nat_lt, if◌then◌else◌, Option, Some, None, List, length, is_some}
+use Rattle.std.specs.Prelude.{◌==◌, Bool, not, ◌&&◌, nat_lt, if◌then◌else◌, Option, Some, None, length, is_some}
 use Rattle.std.specs.Str.{bytes_eq}
 use Rattle.cip_base.specs.Words.{LinkAddress, Octets, PortIdentifier}
 use Rattle.cip_close.specs.declared.request.TheConstants.{CLOSE_FIXED_PART}

@@ -7,7 +7,7 @@
 --     consumed                             Consumed
 --     repeated, looked at before consumed  Repeated
 --     arrived                              Arrived
-use Rattle.std.specs.Prelude.{ℕ, ◌==◌, Bool, not, false, if◌then◌else◌, Option, Some, None, List, length, drop, is_some}
+use Rattle.std.specs.Prelude.{ℕ, ◌==◌, Bool, not, false, if◌then◌else◌, Option, Some, None, length, drop, is_some}
 use Rattle.std.specs.Option.{option_map_or}
 use Rattle.cip_base.specs.Words.{ConnectionId, InstanceNumber, LinkAddress, Octets, PortIdentifier}
 use Rattle.cip_base.specs.declared.triad.Triad.{Triad}

@@ -20,3 +20,8 @@ pub mod Steps
 pub mod Paired
 pub mod Views
 pub mod Code
+pub mod Histories
+pub mod Births
+pub mod Weights
+pub mod Words
+pub mod EffectLists

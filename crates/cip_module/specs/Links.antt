@@ -1,5 +1,5 @@
 -- Whether a message can be sent on by a link, which the groups of requests share.
-use Rattle.std.specs.Prelude.{◌≡◌, ℕ, ◌≤◌, nat_lt, not, if◌then◌else◌, Option, Some, None, List, is_some}
+use Rattle.std.specs.Prelude.{◌≡◌, ◌≤◌, nat_lt, not, if◌then◌else◌, Option, Some, None, is_some}
 use Rattle.cip_base.specs.Words.{LinkAddress, PortIdentifier}
 use Rattle.cip_base.specs.declared.timing.Timing.{Timing}
 use Rattle.cip_pending.specs.Pendings.{Pendings, refusal}

@@ -24,7 +24,7 @@
 --     output owned                       Refuses (NotAccepted OutputOwned)
 --     no room or id left                 Refuses NoRoomToEndHere
 --     accepted                           Accepted
-use Rattle.std.specs.Prelude.{ℕ, ◌==◌, Bool, true, false, not, ◌&&◌, ◌||◌, nat_lt, nat_le, if◌then◌else◌, Option, Some, None, Ok, Err, List, length, is_some}
+use Rattle.std.specs.Prelude.{ℕ, ◌==◌, Bool, true, false, not, ◌&&◌, ◌||◌, nat_lt, nat_le, if◌then◌else◌, Option, Some, None, Ok, Err, length, is_some}
 use Rattle.std.specs.FinMap as map
 use Rattle.cip_base.specs.Words.{InstanceNumber, LinkAddress, Octets, PortIdentifier}
 use Rattle.cip_open.specs.declared.request.TheConstants.{OPEN_FIXED_PART}

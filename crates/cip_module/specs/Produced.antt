@@ -1,6 +1,6 @@
 -- What an end sends of an assembly: a datum by each connection that takes its data from it, in
 -- rising triad.
-use Rattle.std.specs.Prelude.{ℕ, ◌+◌, ◌%◌, ◌==◌, Bool, false, if◌then◌else◌, List, [], ◌∷◌, ◌++◌, map, filter, filter_map, Option, Some, None}
+use Rattle.std.specs.Prelude.{ℕ, ◌+◌, ◌%◌, ◌==◌, Bool, false, if◌then◌else◌, List, [], ◌∷◌, ◌++◌, Option}
 use Rattle.std.specs.Option.{option_map_or}
 use Rattle.std.specs.FinMap as finite
 use Rattle.cip_base.specs.Words.{InstanceNumber, Octets}
@@ -12,9 +12,8 @@ use Rattle.cip_hops.specs.declared.hop.Hop.{Hop}
 use Rattle.cip_hops.specs.declared.hop.Held.{Held}
 use Rattle.cip_hops.specs.declared.hop.Held.TheVariants.{Opening as IsOpening, Open}
 use Rattle.cip_hops.specs.declared.hop.Side.TheVariants.{Up, Down}
-use Rattle.cip_hops.specs.Hops.{Hops, as_hop}
-use Rattle.cip_module.specs.declared.event.Output.{Output}
-use Rattle.cip_module.specs.Effects.{Effect, Counts, Passes, datum_up, recounted}
+use Rattle.cip_hops.specs.Hops.{Hops}
+use Rattle.cip_module.specs.Effects.{Effect, Counts, Passes}
 
 -- whether a connection takes its data from this assembly
 abbrev pub reads_from : InstanceNumber → HopDown → Bool

@@ -6,7 +6,7 @@
 --     malformed for its kind    MalformedForItsKind
 --     open succeeded            OpenSucceeded
 --     passed up                 PassedUp
-use Rattle.std.specs.Prelude.{ℕ, ◌==◌, ◌&&◌, Bool, true, if◌then◌else◌, Option, Some, None, Result, Ok, Err, List, is_some, slice_get}
+use Rattle.std.specs.Prelude.{◌==◌, ◌&&◌, Bool, true, if◌then◌else◌, Option, Some, None, Result, Ok, Err, is_some, slice_get}
 use Rattle.cip_base.specs.Words.{LinkAddress, Octets, PortIdentifier, RequestNumber}
 use Rattle.cip_base.specs.declared.triad.Triad.{Triad}
 use Rattle.cip_close.specs.declared.request.TheConstants.{FORWARD_CLOSE_REPLY}

@@ -11,7 +11,7 @@
 --     service not supported                Refuses service ServiceNotSupported
 --     Connection Manager                   UnconnectedSend, ForwardOpen, ForwardClose
 --     target                               Target
-use Rattle.std.specs.Prelude.{ℕ, ◌==◌, ◌||◌, nat_lt, not, if◌then◌else◌, Option, Some, None, Result, Ok, Err, List, length, slice_index, is_some, Bool}
+use Rattle.std.specs.Prelude.{ℕ, ◌==◌, ◌||◌, nat_lt, not, if◌then◌else◌, Option, Some, None, Result, Ok, Err, length, slice_index, is_some, Bool}
 use Rattle.cip_base.specs.Words.{Octets, PortIdentifier}
 use Rattle.cip_base.specs.declared.limits.TheConstants.{MAX_MESSAGE}
 use Rattle.cip_message.specs.declared.request.TheConstants.{CONNECTION_MANAGER}

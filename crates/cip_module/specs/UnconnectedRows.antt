@@ -15,7 +15,7 @@
 --     time-out ticks spent          Refuses (NotSentOn TicksSpent)
 --     no pending left               Refuses (NotSentOn NoPendingLeft)
 --     forwarded                     Forwarded
-use Rattle.std.specs.Prelude.{ℕ, ◌==◌, if◌then◌else◌, Option, Some, None, Result, Ok, Err, List, length}
+use Rattle.std.specs.Prelude.{ℕ, ◌==◌, if◌then◌else◌, Option, Some, None, Result, Ok, Err, length}
 use Rattle.cip_base.specs.Words.{LinkAddress, Octets, PortIdentifier}
 use Rattle.cip_segment.specs.Reading.{HopAt, hop_of, segments_of}
 use Rattle.cip_message.specs.Request.{Request}

@@ -15,6 +15,7 @@ mod datum_rows;
 mod effects;
 mod event;
 mod keys;
+mod laws;
 mod legal;
 mod links;
 mod lists;
@@ -44,6 +45,10 @@ pub use adapter::AdapterModule;
 pub use config::{LegalAddresses, ModuleConfig, ModuleKind, ModuleSettings, PortConfig};
 pub use contract::{Module, StepFault};
 pub use event::{Body, Command, Dropped, Event, OpenParams, Output, Refused};
+pub use laws::{
+    effects_tell, ids_are_born_once, numbers_are_born_once, ops_are_done_once,
+    requests_are_replied_once, requests_stem_from_turns, tables_stay_in_order,
+};
 pub use lists::{Assemblies, Ports};
 pub use plain::PlainModule;
 pub use refusals::{

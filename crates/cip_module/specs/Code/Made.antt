@@ -1,19 +1,13 @@
 -- What an end sends of an assembly, connection by connection, as the code makes it.
-use Rattle.std.specs.Prelude.{ℕ, ◌+◌, ◌%◌, ◌==◌, Bool, false, if◌then◌else◌, List, [], ◌∷◌, ◌++◌, map, filter, filter_map, Option, Some, None}
-use Rattle.std.specs.Option.{option_map_or}
+use Rattle.std.specs.Prelude.{ℕ, ◌==◌, Bool, if◌then◌else◌, List, [], ◌∷◌, map, filter, filter_map, Option, Some, None}
 use Rattle.std.specs.FinMap as finite
 use Rattle.cip_base.specs.Words.{InstanceNumber, Octets}
-use Rattle.cip_base.specs.Fields.{word}
 use Rattle.cip_base.specs.declared.triad.Triad.{Triad}
-use Rattle.cip_hops.specs.declared.opening.HopDown.{HopDown}
-use Rattle.cip_hops.specs.declared.opening.HopDown.TheVariants.{Link as DownLink, End}
 use Rattle.cip_hops.specs.declared.hop.Hop.{Hop}
-use Rattle.cip_hops.specs.declared.hop.Held.{Held}
-use Rattle.cip_hops.specs.declared.hop.Held.TheVariants.{Opening as IsOpening, Open}
-use Rattle.cip_hops.specs.declared.hop.Side.TheVariants.{Up, Down}
+use Rattle.cip_hops.specs.declared.hop.Side.TheVariants.{Down}
 use Rattle.cip_hops.specs.Hops.{Hops, as_hop}
 use Rattle.cip_module.specs.declared.event.Output.{Output}
-use Rattle.cip_module.specs.Effects.{Effect, Counts, Passes, datum_up, recounted}
+use Rattle.cip_module.specs.Effects.{datum_up, recounted}
 use Rattle.cip_module.specs.Produced.{reads_from, next_count, datum_bytes}
 
 abbrev pub made_of : Octets → Hop → Output

@@ -1,5 +1,5 @@
 -- What an opening may rely on before it begins.
-use Rattle.std.specs.Prelude.{◌≡◌, ℕ, ◌<◌, true, false, None, Some}
+use Rattle.std.specs.Prelude.{◌≡◌, ◌<◌, true, false, None, Some}
 use Rattle.std.specs.Vec.{vec_len, vec_capacity}
 use Rattle.cip_base.specs.Words.{OpNumber}
 use Rattle.cip_pending.specs.declared.entry.UpSide.{UpSide}

@@ -1,9 +1,7 @@
-use Rattle.std.proofs.Common.{subst, refl, ◌∷◌, []}
-use Rattle.std.specs.Prelude.{IfOk}
+use Rattle.std.proofs.Common.{subst, refl}
 use Rattle.cip_close.specs.Reading.{close_of}
 use Rattle.cip_module.specs.CloseRows.{CloseRow}
 use Rattle.cip_module.specs.Code.Does.{Handles}
-use Rattle.cip_module.specs.Code.Node.{state_of_node}
 use Rattle.cip_module.specs.Table.{close_effects, with_spending}
 use Rattle.cip_module.proofs.node.Node.close.Goals as goal
 
