@@ -54,3 +54,4 @@ pub mod OpenedBelow
 pub mod GaveBy
 pub mod RequestBy
 pub mod PassedBy
+pub mod Standing

@@ -12,7 +12,7 @@ ghost use Rattle.cip_hops.specs.Hops.{opening_of, ids_of, triad_of};
 ghost use Rattle.cip_module.specs.declared.config.ModuleSettings.{ModuleSettings as Settings};
 ghost use Rattle.cip_module.specs.declared.event.Event.{Event as Input};
 ghost use Rattle.cip_module.specs.Births.{Past, IsBirth, HasId};
-ghost use Rattle.cip_module.specs.EffectLists.{gain, takes_up, births, IsLight, IsBounded};
+ghost use Rattle.cip_module.specs.EffectLists.{gain, takes_up, births, IsLight, IsBounded, AllStand};
 ghost use Rattle.cip_module.specs.Effects.{Effect};
 ghost use Rattle.cip_module.specs.Histories.{Turn, state_after, IsHistory};
 ghost use Rattle.cip_module.specs.State.{State};
@@ -22,7 +22,8 @@ ghost use Rattle.cip_module.specs.Weights.{is_request, is_reply, is_asked_by, sa
 ghost use Rattle.cip_module.specs.Words.{Some_turn, AskedIn};
 
 /// What the effects of an event tell: each of them of the event and of the state before it, and all
-/// together that one thing is done for whom the event asks, and one connection at most is born.
+/// together that one thing is done for whom the event asks, that one connection at most is born, and
+/// which tables still stand where an effect is applied.
 pub fn effects_tell()
     ensures each { (config : Settings) (s : State) (event : Input) (es : List Effect)
         → decide config s event ≡ Some es → AllTell config s event es }
@@ -34,6 +35,8 @@ pub fn effects_tell()
         → gain (takes_up up) es ≤ is_asked_by up event }
     ensures born { (config : Settings) (s : State) (event : Input) (es : List Effect)
         → decide config s event ≡ Some es → gain births es ≤ 1 }
+    ensures standing { (config : Settings) (s : State) (event : Input) (es : List Effect)
+        → decide config s event ≡ Some es → AllStand config s es }
 {}
 
 /// A module sends one request at most under each number.
