@@ -80,7 +80,8 @@ module _ (config : ModuleSettings) (s : State) (event : Event) (es : List Effect
   stands_at (Accepts opening o link) is tells =
       alone config s event es before after (Accepts opening o link) tells.up (open_asker config s event tells.up o tells.asks) d is refl
   stands_at (Finishes number triad bytes success) is tells =
-      first (reply_alone config s event es before after (Finishes number triad bytes success) tells.came.port number tells.came.from bytes tells.came.event_is d is)
+      first (reply_alone config s event es before after (Finishes number triad bytes success) tells.came.port number tells.came.from bytes
+      tells.came.event_is d is)
   stands_at (Takes number bytes) is tells =
       first (reply_alone config s event es before after (Takes number bytes) tells.came.port number tells.came.from bytes tells.came.event_is d is)
   stands_at (Forwards sending kind) is tells =

@@ -19,6 +19,7 @@ pub mod Tells
 pub mod Steps
 pub mod Paired
 pub mod Rooms
+pub mod Rising
 pub mod Views
 pub mod Code
 pub mod Histories
