@@ -55,3 +55,4 @@ pub mod GaveBy
 pub mod RequestBy
 pub mod PassedBy
 pub mod Standing
+pub mod Shown
