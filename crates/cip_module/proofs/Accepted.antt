@@ -168,6 +168,8 @@ fit_accepts config p h new t after ops o asked link now f free down named fits s
     λ j. ap (λ (y : Ends). size_in y.objects.assemblies j) gives ∙ configured_sizes t asked link fits j in
     record {
       identity = ap (λ (y : Ends). y.objects.identity) gives ∙ f.identity;
+      pending_room = f.pending_room;
+      hop_room = ap (λ (y : Hops). y.room) is_with ∙ f.hop_room;
       paired = paired_becomes h new o.triad (Some x) b p f.paired (ap (λ y. is_some (option_and_then as_opening y)) (sym free));
       spent = spent_becomes h new o.triad (Some x) b ops f.spent (λ y op at by. spent op (ap held_op_of (some_held x y at) ∙ by));
       links = links_becomes h new o.triad (Some x) b f.links (λ q none. absurd (cc));

@@ -55,6 +55,8 @@ pub fit_spent : (config : ModuleSettings) (p : Pendings) (h : Hops) (t : Ends) (
     → Fit config p h t new
 fit_spent config p h t ops new op f e = record {
   identity = f.identity;
+  pending_room = f.pending_room;
+  hop_room = f.hop_room;
   paired = f.paired;
   spent = λ q x o at named. ap (is_spent o) e ∙ spent_still o op ops (f.spent q x o at named);
   links = f.links;
@@ -69,9 +71,11 @@ nothing h q e = ap (λ m. map.get m q) e ∙ map.get-empty triad_cmp q
 
 -- as a module begins
 pub fresh_fit : (config : ModuleSettings) (p : Pendings) (h : Hops) (t : Ends) (ops : List ℕ) → p.entries ≡ empty → h.held ≡ empty → t.owners ≡ empty
-    → t.objects.identity ≡ config.identity → Fit config p h t ops
-fresh_fit config p h t ops no_pendings no_hops no_owners identity = record {
+    → t.objects.identity ≡ config.identity → p.room ≡ config.pending_room → h.room ≡ config.hop_room → Fit config p h t ops
+fresh_fit config p h t ops no_pendings no_hops no_owners identity pending_room hop_room = record {
   identity = identity;
+  pending_room = pending_room;
+  hop_room = hop_room;
   paired = record {
     each = λ q n a. absurd (no_entry p.entries n a.entry no_pendings a.waits);
     one = λ q m n a b. absurd (no_entry p.entries m a.entry no_pendings a.waits);
@@ -99,6 +103,8 @@ pub fit_forwards : (config : ModuleSettings) (p after : Pendings) (h : Hops) (t 
     → Fit config p h t ops → IsPendings p → after ≡ added p entry → IsOther entry.kind → Fit config after h t ops
 fit_forwards config p after h t ops entry f w e other = record {
   identity = f.identity;
+  pending_room = ap (λ (y : Pendings). y.room) e ∙ f.pending_room;
+  hop_room = f.hop_room;
   paired = paired_added p after h p.next entry f.paired (fresh_number p w) (ap (λ (x : Pendings). x.entries) e) other;
   spent = f.spent;
   links = f.links;
@@ -129,6 +135,8 @@ fit_begins config p after h new t ops entry o f w e g kind link spent room =
     let free = free_if h o.triad (ids_drawn o) room in
     record {
       identity = f.identity;
+      pending_room = ap (λ (y : Pendings). y.room) e ∙ f.pending_room;
+      hop_room = ap (λ (y : Hops). y.room) g ∙ f.hop_room;
       paired = paired_begun h new o.triad (Some x) b p after p.next entry f.paired (ap (option_and_then as_opening) free) refl (fresh_number p w)
           (ap (λ (y : Pendings). y.entries) e) kind;
       spent = spent_becomes h new o.triad (Some x) b ops f.spent (λ y op at named. spent op (ap held_op_of (some_held x y at) ∙ named));
@@ -159,6 +167,8 @@ fit_finishes config p after h new t ops n their_id now triad o ids f a e at g =
     let link : down_is_link o.down ≡ true = f.links triad o (ap (option_and_then as_opening) at) in
     record {
       identity = f.identity;
+      pending_room = ap (λ (y : Pendings). y.room) e ∙ f.pending_room;
+      hop_room = ap (λ (y : Hops). y.room) is ∙ f.hop_room;
       paired = paired_ended h new triad (Some x) b p after n f.paired a refl (ap (λ (y : Pendings). y.entries) e);
       spent = spent_becomes h new triad (Some x) b ops f.spent
           (λ y op is named. f.spent triad (IsOpening o ids) op at (ap held_op_of (some_held x y is) ∙ named));
@@ -173,6 +183,8 @@ same_hops : (config : ModuleSettings) (p after : Pendings) (h new : Hops) (t : E
 same_hops config p after h new t ops n entry f at e other g =
     let kept : Fit config after h t ops = record {
       identity = f.identity;
+      pending_room = ap (λ (y : Pendings). y.room) e ∙ f.pending_room;
+      hop_room = f.hop_room;
       paired = paired_dropped p after h n entry f.paired at (ap (λ (y : Pendings). y.entries) e) other;
       spent = f.spent;
       links = f.links;
@@ -188,6 +200,8 @@ opening_gone config p after h new t ops n triad f a e g =
     let b : Becomes h new triad None = becomes_gone h new triad (ap (λ (y : Hops). y.held) is) in
     record {
       identity = f.identity;
+      pending_room = ap (λ (y : Pendings). y.room) e ∙ f.pending_room;
+      hop_room = ap (λ (y : Hops). y.room) is ∙ f.hop_room;
       paired = paired_ended h new triad None b p after n f.paired a refl (ap (λ (y : Pendings). y.entries) e);
       spent = spent_becomes h new triad None b ops f.spent (λ y op none named. absurd (cc));
       links = links_becomes h new triad None b f.links (λ q none. absurd (cc));
@@ -215,6 +229,8 @@ fit_changes config p h new t ops triad hop other f at g same =
     let b : Becomes h new triad (Some (Open other)) = becomes_put h new triad (Open other) (ap (λ (y : Hops). y.held) g) in
     record {
       identity = f.identity;
+      pending_room = f.pending_room;
+      hop_room = ap (λ (y : Hops). y.room) g ∙ f.hop_room;
       paired = paired_becomes h new triad (Some (Open other)) b p f.paired (ap (λ x. is_some (option_and_then as_opening x)) (sym at));
       spent = spent_becomes h new triad (Some (Open other)) b ops f.spent
           (λ y op is named. f.spent triad (Open hop) op at (ap (λ (o : Opening). op_of o.up) (sym same) ∙ ap held_op_of (some_held (Open other) y is) ∙ named));

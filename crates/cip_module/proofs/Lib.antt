@@ -54,3 +54,5 @@ pub mod OpenedBelow
 pub mod GaveBy
 pub mod RequestBy
 pub mod PassedBy
+pub mod Standing
+pub mod Shown

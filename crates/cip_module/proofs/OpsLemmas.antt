@@ -6,7 +6,7 @@ use Rattle.std.proofs.lemmas.List.{get_or_default}
 use Rattle.std.proofs.lemmas.Bool.{eq-eqb, ne_eqb, lt-ltb, le-ltb, cases_lt}
 use Rattle.std.proofs.lemmas.List.Sorted.{IsNonDecreasingBy-insert, IsNonDecreasingBy-from_default}
 use Rattle.cip_module.specs.State.{is_spent, spent_with}
-use Rattle.cip_module.specs.Code.Rising.{IsRising, IsPlace}
+use Rattle.cip_module.specs.Rising.{IsRising, IsPlace}
 
 or_true : (b : Bool) → (b || true) ≡ true
 or_true true = refl

@@ -189,7 +189,7 @@ refused_first command.NoInstance bytes hop before after triad side b e = first_o
 refused_first command.Taken bytes None before after triad side b e = none_first before after (Passes triad side b) e
 refused_first command.Taken bytes (Some hop) before after triad side b e = first_only before after triad side b _ [] e refl
 
-frame_alone : (config : ModuleSettings) (s : State) (event : Event) (es before after : List Effect) (triad : Triad) (side : Side) (b bytes from : List ℕ)
+pub frame_alone : (config : ModuleSettings) (s : State) (event : Event) (es before after : List Effect) (triad : Triad) (side : Side) (b bytes from : List ℕ)
     (port id : ℕ) → event ≡ events.Frame port from (bodies.Data id bytes)
     → decide config s event ≡ Some es → before ++ (Passes triad side b ∷ after) ≡ es → before ≡ []
 frame_alone config s event es before after triad side b bytes from port id event_is decided is =
@@ -197,7 +197,7 @@ frame_alone config s event es before after triad side b bytes from port id event
     let same : datum_effects bytes (data_row config s port from id bytes) ≡ es = cc in
     frame_first bytes (data_row config s port from id bytes) before after triad side b (is ∙ sym same)
 
-enter_alone : (config : ModuleSettings) (s : State) (event : Event) (es before after : List Effect) (triad : Triad) (side : Side) (b bytes : List ℕ) (of : ℕ)
+pub enter_alone : (config : ModuleSettings) (s : State) (event : Event) (es before after : List Effect) (triad : Triad) (side : Side) (b bytes : List ℕ) (of : ℕ)
     → event ≡ events.Command (commands.Enter of bytes)
     → decide config s event ≡ Some es → before ++ (Passes triad side b ∷ after) ≡ es → before ≡ []
 enter_alone config s event es before after triad side b bytes of event_is decided is =

@@ -52,6 +52,8 @@ pub fit_sizes : (config : ModuleSettings) (p : Pendings) (h : Hops) (t after : E
     → ((j : ℕ) → size_in after.objects.assemblies j ≡ size_in t.objects.assemblies j) → Fit config p h after ops
 fit_sizes config p h t after ops f same owners sizes = record {
   identity = same ∙ f.identity;
+  pending_room = f.pending_room;
+  hop_room = f.hop_room;
   paired = f.paired;
   spent = f.spent;
   links = f.links;

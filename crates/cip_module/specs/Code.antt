@@ -1,6 +1,5 @@
 -- What the code alone speaks of: its decisions and plans, what its tables keep, and what it carries
 -- out.
-pub mod Rising
 pub mod Does
 pub mod Node
 pub mod Ready

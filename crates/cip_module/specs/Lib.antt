@@ -18,6 +18,8 @@ pub mod Table
 pub mod Tells
 pub mod Steps
 pub mod Paired
+pub mod Rooms
+pub mod Rising
 pub mod Views
 pub mod Code
 pub mod Histories

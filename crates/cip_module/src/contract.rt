@@ -5,6 +5,7 @@ ghost use Rattle.cip_module.specs.State.{State};
 ghost use Rattle.cip_module.specs.Steps.{IsStep, IsStepFault};
 ghost use Rattle.cip_module.specs.Views.{ShowsState};
 ghost use Rattle.cip_module.specs.Paired.{IsPaired};
+ghost use Rattle.cip_module.specs.Rooms.{HasRooms};
 
 use crate::config::ModuleConfig;
 use crate::event::{Event, Output};
@@ -28,13 +29,15 @@ pub enum StepFault {
 /// routing table says.
 /// In every state each connection that is opening waits for the reply to one request, and each
 /// request that opens for one
-/// connection: the law `paired`.
+/// connection: the law `paired`. The rooms of its tables are those of its config: the law `rooms`.
 pub trait Module: Drop {
     ghost config_of: { Self → Settings };
 
     ghost state_of: { Self → State };
 
     ghost paired: { (m : Self) → IsPaired (state_of m).pendings (state_of m).hops };
+
+    ghost rooms: { (m : Self) → HasRooms (config_of m) (state_of m) };
 
     /// The module's config.
     fn config(&self) -> &ModuleConfig
@@ -60,6 +63,8 @@ impl Module for Box<dyn Module + Send> {
     ghost state_of = { λ b. (Module-box b).state_of b.value };
 
     ghost paired = { λ b. (Module-box b).paired b.value };
+
+    ghost rooms = { λ b. (Module-box b).rooms b.value };
 
     fn config(&self) -> &ModuleConfig {
         let inner = self.as_ref();

@@ -11,18 +11,23 @@ ghost use Rattle.cip_hops.specs.declared.hop.Held.{Held};
 ghost use Rattle.cip_hops.specs.Hops.{opening_of, ids_of, triad_of};
 ghost use Rattle.cip_module.specs.declared.config.ModuleSettings.{ModuleSettings as Settings};
 ghost use Rattle.cip_module.specs.declared.event.Event.{Event as Input};
+ghost use Rattle.cip_module.specs.declared.tables.Tables.{Tables as Shown};
 ghost use Rattle.cip_module.specs.Births.{Past, IsBirth, HasId};
-ghost use Rattle.cip_module.specs.EffectLists.{gain, takes_up, births, IsLight, IsBounded};
+ghost use Rattle.cip_module.specs.EffectLists.{gain, takes_up, births, IsLight, IsBounded, AllStand};
 ghost use Rattle.cip_module.specs.Effects.{Effect};
 ghost use Rattle.cip_module.specs.Histories.{Turn, state_after, IsHistory};
-ghost use Rattle.cip_module.specs.State.{State};
+ghost use Rattle.cip_module.specs.Paired.{IsPaired};
+ghost use Rattle.cip_module.specs.Rooms.{HasRooms};
+ghost use Rattle.cip_module.specs.State.{State, initial_state};
 ghost use Rattle.cip_module.specs.Table.{decide};
 ghost use Rattle.cip_module.specs.Tells.{asker, AllTell};
+ghost use Rattle.cip_module.specs.Views.{ShowsState};
 ghost use Rattle.cip_module.specs.Weights.{is_request, is_reply, is_asked_by, same_up, weight, came};
 ghost use Rattle.cip_module.specs.Words.{Some_turn, AskedIn};
 
 /// What the effects of an event tell: each of them of the event and of the state before it, and all
-/// together that one thing is done for whom the event asks, and one connection at most is born.
+/// together that one thing is done for whom the event asks, that one connection at most is born, and
+/// which tables still stand where an effect is applied.
 pub fn effects_tell()
     ensures each { (config : Settings) (s : State) (event : Input) (es : List Effect)
         → decide config s event ≡ Some es → AllTell config s event es }
@@ -34,6 +39,8 @@ pub fn effects_tell()
         → gain (takes_up up) es ≤ is_asked_by up event }
     ensures born { (config : Settings) (s : State) (event : Input) (es : List Effect)
         → decide config s event ≡ Some es → gain births es ≤ 1 }
+    ensures standing { (config : Settings) (s : State) (event : Input) (es : List Effect)
+        → decide config s event ≡ Some es → AllStand config s es }
 {}
 
 /// A module sends one request at most under each number.
@@ -93,4 +100,12 @@ pub fn tables_stay_in_order()
     ensures ids { (config : Settings) (turn : Turn) (turns : List Turn)
         → IsHistory config (turn ∷ turns) → (state_after config turns).hops.next
         ≤ (state_after config (turn ∷ turns)).hops.next }
+{}
+
+/// Tables that look as at the beginning are those of the first state of the config alone, where the
+/// rooms are the config's and each connection that is opening waits for a reply.
+pub fn fresh_tables_are_of_the_first_state()
+    ensures { (config : Settings) (s : State) (tables : Shown) → HasRooms config s
+        → IsPaired s.pendings s.hops → ShowsState s tables
+        → ShowsState (initial_state config) tables → s ≡ initial_state config }
 {}

@@ -2,7 +2,7 @@
 ghost use Rattle.std.specs.Prelude.{◌≡◌, ◌<◌, OnOk, [], false};
 ghost use Rattle.std.specs.Vec.{vec_len, vec_capacity};
 ghost use Rattle.cip_module.specs.State.{is_spent, spent_with};
-ghost use Rattle.cip_module.specs.Code.Rising.{IsRising, IsPlace};
+ghost use Rattle.cip_module.specs.Rising.{IsRising, IsPlace};
 
 use cip_base::NoMemory;
 use std::alloc::Global;

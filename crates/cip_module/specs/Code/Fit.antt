@@ -52,6 +52,8 @@ given_back (End config consume produce) t =
 pub record Fit (config : ModuleSettings) (p : Pendings) (h : Hops) (t : Ends) (ops : List ℕ) : Type
     0 where
   pub identity : t.objects.identity ≡ config.identity
+  pub pending_room : p.room ≡ config.pending_room
+  pub hop_room : h.room ≡ config.hop_room
   pub paired : IsPaired p h
   pub spent : AreSpent h ops
   pub links : AreLinks h

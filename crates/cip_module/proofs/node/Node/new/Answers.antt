@@ -21,5 +21,7 @@ invariant_of-result c = record {
       (ap (λ (p : Pendings). p.entries) c.in_ok-pendings.ensures) (ap (λ (h : Hops). h.held) c.in_ok-hops.ensures)
       (ap (λ (t : Ends). t.owners) c.in_ok-target.ensures)
       (ap (λ (t : Ends). t.objects.identity) c.in_ok-target.ensures ∙ c.in_ok-identity.ensures
-      ∙ ap (λ (z : ModuleSettings). z.identity) c.settings-settings.ensures.value);
+      ∙ ap (λ (z : ModuleSettings). z.identity) c.settings-settings.ensures.value)
+      (ap (λ (p : Pendings). p.room) c.in_ok-pendings.ensures ∙ ap (λ (z : ModuleSettings). z.pending_room) c.settings-settings.ensures.value)
+      (ap (λ (h : Hops). h.room) c.in_ok-hops.ensures ∙ ap (λ (z : ModuleSettings). z.hop_room) c.settings-settings.ensures.value);
 }

@@ -1,6 +1,6 @@
 use Rattle.std.proofs.Common.{◌∙◌, sym, subst, ℕ, List, Err}
 use Rattle.std.specs.Prelude.{is_ok}
-use Rattle.cip_module.specs.Code.Rising.{IsRising, IsPlace}
+use Rattle.cip_module.specs.Rising.{IsRising, IsPlace}
 use Rattle.cip_module.proofs.OpsLemmas.{insert_is, rising_insert, either_rising}
 use Rattle.cip_module.proofs.spent.SpentOps.spend.Goals as goal
 
