@@ -1,21 +1,16 @@
 //! The bench with the modules of the chassis, and the scripts that are played on it.
 //!
 //! A script has a line for each event, `M EVENT ..` with the module's name first, and below it a
-//! line `> OUTPUT` for each
-//! output, in their order. Spaces before a line, empty lines and lines that begin with `#` mean
-//! nothing. Numbers are decimal,
-//! or hexadecimal after `0x`. Bytes are pairs of hexadecimal digits, `-` for none; `_` between them
-//! means nothing, and a plus
-//! and a number after them stand for so many zeros.
+//! line `> OUTPUT` for each output, in their order. Spaces before a line, empty lines and lines
+//! that begin with `#` mean nothing. Numbers are decimal, or hexadecimal after `0x`. Bytes are
+//! pairs of hexadecimal digits, `-` for none; `_` between them means nothing, and a plus and a
+//! number after them stand for so many zeros.
 //!
 //! - `M send OP TICK TICKS PATH REQUEST`, `M open OP TICK TICKS PATH SERIAL MULT TRANSPORT OT_RPI
-//! OT_PARAMS TO_RPI TO_PARAMS`,
-//! `M close OP OF TICK TICKS`, `M enter OF BYTES`, `M set INSTANCE BYTES` and `M produce INSTANCE`
-//! are the commands,
-//! `M request PORT FROM NUMBER BYTES`, `M reply PORT FROM NUMBER BYTES` and `M data PORT FROM ID
-//! BYTES` the frames, and
-//! `M tick MS` is the tick. No frame is carried from one module to another: each that arrives has a
-//! line.
+//! OT_PARAMS TO_RPI TO_PARAMS`, `M close OP OF TICK TICKS`, `M enter OF BYTES`, `M set INSTANCE
+//! BYTES` and `M produce INSTANCE` are the commands, `M request PORT FROM NUMBER BYTES`, `M reply
+//! PORT FROM NUMBER BYTES` and `M data PORT FROM ID BYTES` the frames, and `M tick MS` is the tick.
+//! No frame is carried from one module to another: each that arrives has a line.
 //! - `times N M EVENT ..` plays an event N times. A line `>> OUTPUT` below it is the one output of
 //! each time. `(K)` in both
 //!   stands for K and the number of times before, as two bytes, the lower first.
@@ -42,8 +37,7 @@ struct Named {
 }
 
 /// The modules, of which the last of a name is played on, the lines that the last event gave, and
-/// those that the script tells
-/// of it.
+/// those that the script tells of it.
 #[derive(Drop)]
 struct Bench {
     alloc: Global,

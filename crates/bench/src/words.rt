@@ -5,8 +5,7 @@ use std::alloc::Global;
 use std::str::SplitAsciiWhitespace;
 
 /// The words of a line that were not read yet. Each call reads the next one; None where there is
-/// none, or where it is not what
-/// is asked for.
+/// none, or where it is not what is asked for.
 #[derive(Drop)]
 pub struct Words<'a> {
     alloc: Global,
@@ -59,8 +58,7 @@ impl<'a> Words<'a> {
     }
 
     /// Bytes: pairs of hexadecimal digits, with `_` between fields, or a dash for none. Pairs, a
-    /// plus and a number are the bytes
-    /// of the pairs and then so many zeros.
+    /// plus and a number are the bytes of the pairs and then so many zeros.
     pub fn bytes(&mut self) -> Option<Vec<u8>> {
         let word = self.word()?;
         match word.split_once('+') {

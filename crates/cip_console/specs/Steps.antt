@@ -1,6 +1,5 @@
 -- The steps of a script, or its first faulty line. Faults of a line: not text, its first word, the
--- number of its words, and
--- then its words from the left.
+-- number of its words, and then its words from the left.
 use Rattle.std.specs.Prelude.{◌≡◌, ℕ, ◌+◌, ◌^◌, List, [], ◌∷◌, map, length, codes, nat_lt, ◌==◌, slice_index, slice_index_or, if◌then◌else◌, Option, Some, None, Result, Ok, Err}
 use Rattle.std.specs.Str.{bytes_eq}
 use Rattle.std.specs.Str.Lines.{lines}

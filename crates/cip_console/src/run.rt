@@ -25,8 +25,7 @@ use thiserror::Error;
 #[derive(Clone, Copy, Debug, PartialEq, Eq, Error)]
 pub enum ConsoleFault {
     /// The first faulty line, from 1, and its fault. Nothing was written, but for ClockFull: that
-    /// comes in the run, after the
-    /// transcript so far.
+    /// comes in the run, after the transcript so far.
     #[error("line {0}: {1}")]
     Script(usize, ScriptFault),
     /// The script can't be read, or has more than 1,048,576 bytes. Nothing was written.
@@ -261,8 +260,8 @@ fn run_script<W: Sink>(alloc: Global, script: &[u8], writer: &mut W) -> Result<(
 }
 
 /// Reads a whole script of the words `send` and `run`, runs it over the fixed chassis of the
-/// scanner S and the bridges A
-/// and B, and writes the transcript. The reader is asked at most 1,048,577 times.
+/// scanner S and the bridges A and B, and writes the transcript. The reader is asked at most
+/// 1,048,577 times.
 pub fn run_fixed<R: Source, W: Sink>(
     alloc: Global,
     reader: &mut R,

@@ -11,8 +11,7 @@ pub(crate) struct FrameName {
 }
 
 /// A frame that waits: its name, the module that it goes to, by its place from 0, the port that it
-/// comes in by there, and
-/// the address of the port that sent it.
+/// comes in by there, and the address of the port that sent it.
 #[derive(Drop)]
 pub(crate) struct Waiting {
     pub name: FrameName,

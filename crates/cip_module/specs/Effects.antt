@@ -44,8 +44,7 @@ use Rattle.cip_module.specs.Answers.{unconnected_failed, open_failed, close_fail
 use Rattle.cip_module.specs.State.{State, spent_with}
 
 -- what goes on by a link, and what waits for its reply: whom the reply goes to, the port and the
--- address below, the bytes,
--- how long the reply may take, and the words of the path as received
+-- address below, the bytes, how long the reply may take, and the words of the path as received
 pub record Sending : Type 0 where
   pub up : UpSide
   pub port : PortIdentifier

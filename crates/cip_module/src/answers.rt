@@ -35,8 +35,7 @@ pub(crate) fn failure(alloc: Global, service: u8, status: Status) -> Result<Byte
 }
 
 /// The failure of an Unconnected_Send: its status, and the words of the path as received, where
-/// they are known
-/// (Volume 1, chapter 3, Unconnected_Send's unsuccessful response).
+/// they are known (Volume 1, chapter 3, Unconnected_Send's unsuccessful response).
 pub(crate) fn unconnected_failed(
     alloc: Global,
     status: Status,

@@ -27,8 +27,7 @@ pub enum LegalAddresses {
 }
 
 /// A port of a module: its number, the place of its link in the topology, the addresses that are
-/// legal there, and the
-/// module's own address there.
+/// legal there, and the module's own address there.
 #[derive(Drop)]
 pub struct PortConfig {
     pub number: PortNumber,

@@ -26,10 +26,9 @@ pub enum StepFault {
 }
 
 /// A module of a chassis: a config that never changes, and a state that each event changes as the
-/// routing table says.
-/// In every state each connection that is opening waits for the reply to one request, and each
-/// request that opens for one
-/// connection: the law `paired`. The rooms of its tables are those of its config: the law `rooms`.
+/// routing table says. In every state each connection that is opening waits for the reply to one
+/// request, and each request that opens for one connection: the law `paired`. The rooms of its
+/// tables are those of its config: the law `rooms`.
 pub trait Module: Drop {
     ghost config_of: { Self → Settings };
 

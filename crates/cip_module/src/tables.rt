@@ -165,10 +165,8 @@ impl AssemblyRows {
 }
 
 /// The state of a module: its time in microseconds, the last connection id and the last pending
-/// number (one less than the
-/// next), the requests that wait, the connections that are open, the assemblies and the ops that
-/// were used, each list in
-/// rising key.
+/// number (one less than the next), the requests that wait, the connections that are open, the
+/// assemblies and the ops that were used, each list in rising key.
 #[derive(Drop)]
 pub struct Tables {
     pub now: u64,

@@ -71,8 +71,7 @@ fn hops_out(outputs: &mut Vec<Output>, hops: &HopTable, now: u64) -> Result<(), 
 }
 
 /// What a tick puts out: the pendings whose time ran out, in rising number, then the connections
-/// that were silent for too
-/// long, in rising triad.
+/// that were silent for too long, in rising triad.
 pub(crate) fn timed_out_all(
     alloc: Global,
     pendings: &PendingTable,

@@ -46,8 +46,7 @@ impl Target {
     }
 
     /// Whether an open can end here (Volume 1, chapter 3, Forward_Open): what it joins, or the
-    /// first
-    /// row that fits, in the order of `EndRefusal`. It takes no memory.
+    /// first row that fits, in the order of `EndRefusal`. It takes no memory.
     #[tactic(auto, unfolding(crate::specs::Ends::end_row))]
     pub fn end_row(&self, asked: &OpenView<'_>) -> Result<EndLink, EndRefusal>
         ensures { result ≡ row_at self.now (open_of asked.now) }
