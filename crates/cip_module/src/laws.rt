@@ -26,8 +26,8 @@ ghost use Rattle.cip_module.specs.Weights.{is_request, is_reply, is_asked_by, sa
 ghost use Rattle.cip_module.specs.Words.{Some_turn, AskedIn};
 
 /// What the effects of an event tell: each of them of the event and of the state before it, and all
-/// together that one thing is done for whom the event asks, that one connection at most is born, and
-/// which tables still stand where an effect is applied.
+/// together that one thing is done for whom the event asks, that one connection at most is born,
+/// and which tables still stand where an effect is applied.
 pub fn effects_tell()
     ensures each { (config : Settings) (s : State) (event : Input) (es : List Effect)
         → decide config s event ≡ Some es → AllTell config s event es }

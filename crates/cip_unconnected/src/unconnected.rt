@@ -79,7 +79,8 @@ fn unconnected(data_: &[u8]) -> Result<UnconnectedView<'_>, UnconnectedFault>
 /// Otherwise the first that fits: Short where bytes are missing, Long where bytes stand after the
 /// route, Route of the route's fault.
 pub fn read_unconnected(data_: &[u8]) -> Result<UnconnectedView<'_>, UnconnectedFault>
-    ensures { IsRead unconnected_of unconnected_at ReadsUnconnected IsUnconnectedFault data_.now result }
+    ensures { IsRead unconnected_of unconnected_at ReadsUnconnected IsUnconnectedFault data_.now
+        result }
 {
     unconnected(data_)
 }
