@@ -5,7 +5,9 @@ ghost use Rattle.cip_hops.specs.Sides.{op_of};
 
 use crate::rows::{Part, Words, play};
 use cip_base::{Address, PortNumber, Triad};
-use cip_hops::{BeginFault, Hop, HopDown, HopTable, HopUp, Opening, OwnIds, Side};
+use cip_hops::{
+    BeginFault, BeginReason, Held, Hop, HopDown, HopTable, HopUp, Opening, OwnIds, Side,
+};
 use cip_segment::read_path;
 use std::alloc::Global;
 use std::test::Fail;
@@ -90,43 +92,26 @@ fn empty_table(alloc: Global, room: usize, first: u32) -> Option<HopTable>
     }
 }
 
-// A command's own hop in an empty table.
+// A table in which a connection of this command alone is opening.
 fn table_of_command(alloc: Global, op: u32) -> Option<HopTable> {
     let mut table = empty_table(alloc, 1, 1)?;
     let opening = opening(alloc, 9, HopUp::Local { op }, link_down()?)?;
-    let triad = opening.triad;
     match table.begin(opening) {
-        Ok(_) => table.finish(&triad, 0x32, 1_000),
-        Err(_) => return None,
+        Ok(_) => Some(table),
+        Err(_) => None,
     }
-    Some(table)
 }
 
 #[tactic(auto, using(cip_hops::proofs::Callers::no_op))]
-fn begin(table: &mut HopTable, opening: Opening) -> Result<OwnIds, &'static str>
+fn begin(table: &mut HopTable, opening: Opening) -> Result<OwnIds, BeginReason>
     requires up { op_of opening.up ≡ None }
     requires multiplier { opening.multiplier ≡ 0 }
 {
     match table.begin(opening) {
         Ok(ids) => Ok(ids),
-        Err(BeginFault::Duplicate(_)) => Err("Duplicate"),
-        Err(BeginFault::Full(_)) => Err("Full"),
-        Err(BeginFault::IdsSpent(_)) => Err("IdsSpent"),
-    }
-}
-
-#[tactic(auto, using(cip_hops::proofs::Callers::no_op))]
-fn open(table: &mut HopTable, opening: Opening) -> bool
-    requires up { op_of opening.up ≡ None }
-    requires multiplier { opening.multiplier ≡ 0 }
-{
-    let triad = opening.triad;
-    match table.begin(opening) {
-        Ok(_) => {
-            table.finish(&triad, 0x32, 1_000);
-            true
-        }
-        Err(_) => false,
+        Err(BeginFault::Duplicate(_)) => Err(BeginReason::Duplicate),
+        Err(BeginFault::Full(_)) => Err(BeginReason::Full),
+        Err(BeginFault::IdsSpent(_)) => Err(BeginReason::IdsSpent),
     }
 }
 
@@ -163,13 +148,18 @@ impl Connections {
                 let up = number_text(alloc, ids.up)?;
                 format!(in alloc; "{down} {up}").ok()
             }
-            Err(reason) => String::from_str(alloc, reason).ok(),
+            Err(reason) => format!(in alloc; "{reason:?}").ok(),
         }
     }
 
-    fn opened(&mut self, words: &mut Words) -> Option<String> {
-        let opening = routed(self.alloc, words)?;
-        truth(self.alloc, open(&mut self.table, opening))
+    // `SERIAL`: whether it was opening, and is open from 1 ms on.
+    fn finished(&mut self, words: &mut Words) -> Option<String> {
+        let triad = triad(words.u16()?);
+        let is_opening = matches!(self.table.held(&triad), Some(Held::Opening(_, _)));
+        if is_opening {
+            self.table.finish(&triad, 0x32, 1_000);
+        }
+        truth(self.alloc, is_opening)
     }
 
     // `SERIAL IDS`
@@ -251,7 +241,7 @@ impl Part for Connections {
         let alloc = self.alloc;
         match name {
             "begin" => self.begun(words),
-            "open" => self.opened(words),
+            "finish" => self.finished(words),
             "abandon" => truth(alloc, self.table.abandon(&triad(words.u16()?)).is_some()),
             "remove" => truth(alloc, self.table.remove(&triad(words.u16()?)).is_some()),
             "touch" => self.touched(words),
@@ -302,8 +292,10 @@ fn hops_by_their_names(rt: HostRuntime) -> Result<(), Fail> {
         3,
         0x31,
         "
-        open 2 through = true
-        open 1 end = true
+        begin 2 through = 49 50
+        finish 2 = true
+        begin 1 end = none 51
+        finish 1 = true
         begin 3 through = 52 53
         by_up 0x32 2 01 = 2
         by_down 0x31 1 03 = 2
@@ -337,6 +329,9 @@ fn hops_of_commands(rt: HostRuntime) -> Result<(), Fail> {
         alloc,
         Connections { alloc, table },
         "
+        by_op 5 = none
+        finish 9 = true
+        finish 9 = false
         by_op 5 = 9
         by_op 6 = none
         last = 1
@@ -352,7 +347,8 @@ fn hops_that_fall_silent(rt: HostRuntime) -> Result<(), Fail> {
         1,
         "
         # 40 ms by the O to T side, 80 ms by the T to O side, from 1 ms on.
-        open 1 through = true
+        begin 1 through = 1 2
+        finish 1 = true
         expire 40999 = none
         touch 1 40999 = true
         expire 80998 = none
@@ -371,8 +367,10 @@ fn counts_of_an_end(rt: HostRuntime) -> Result<(), Fail> {
         2,
         1,
         "
-        open 1 end = true
-        open 2 through = true
+        begin 1 end = none 1
+        finish 1 = true
+        begin 2 through = 2 3
+        finish 2 = true
         count 1 7 = 7
         count 2 7 = none
         ",
