@@ -56,3 +56,5 @@ pub mod RequestBy
 pub mod PassedBy
 pub mod Standing
 pub mod Shown
+pub mod PathsShorten
+pub mod ReadBackOthers
