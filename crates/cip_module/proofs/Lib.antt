@@ -58,3 +58,7 @@ pub mod Standing
 pub mod Shown
 pub mod PathsShorten
 pub mod ReadBackOthers
+pub mod ReadBackSends
+pub mod NextRows
+pub mod DataMet
+pub mod AtHand

@@ -54,7 +54,8 @@ padded_falls : (n : ℕ) (b : List ℕ) → Falls b (padded_at n b)
 unfolding padded_at
 padded_falls n b =
     then_falls b (bytes_at n b) _ (bytes_falls n b)
-    (λ d. either (eqb (n % 2) 1) d.1 (after_pad d.1 >>= λ rest. Ok (d.0, rest)) (Ok d) (pad_falls d.1 (λ rest. Ok (d.0, rest)) (λ c. omega arith)) (omega arith))
+    (λ d. either (eqb (n % 2) 1) d.1 (after_pad d.1 >>= λ rest. Ok (d.0, rest)) (Ok d) (pad_falls d.1 (λ rest. Ok (d.0, rest)) (λ c. omega arith))
+    (omega arith))
 
 narrow_falls : (k : _) (b : List ℕ) → Falls b (narrow_at k b)
 unfolding narrow_at
