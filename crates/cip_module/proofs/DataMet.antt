@@ -50,7 +50,8 @@ module _ (config : ModuleSettings) (s : State) (own : HasOwnTriads s) (port id :
       (cond (is_last (word_in bytes 0) hop.consumed) (Repeated hop.opening.triad)
       (Consumed hop.opening.triad consume (Some (word_in bytes 0)) (drop 2 bytes))))) ≡ datum_by Down hop bytes ∷ []) [
         | true ↦ elim (is_last (word_in bytes 0) hop.consumed) as (λ b. outputs_of config s (datum_effects bytes
-            (cond b (Repeated hop.opening.triad) (Consumed hop.opening.triad consume (Some (word_in bytes 0)) (drop 2 bytes)))) ≡ datum_by Down hop bytes ∷ []) [
+            (cond b (Repeated hop.opening.triad) (Consumed hop.opening.triad consume (Some (word_in bytes 0)) (drop 2 bytes)))) ≡ datum_by Down hop bytes
+            ∷ []) [
               | true ↦ ap (λ x. passed Down x bytes ++ []) stands
               | false ↦ ap (λ x. passed Down x bytes ++ []) stands
             ]

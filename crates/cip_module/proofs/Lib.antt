@@ -62,3 +62,4 @@ pub mod ReadBackSends
 pub mod NextRows
 pub mod DataMet
 pub mod AtHand
+pub mod GivenBy

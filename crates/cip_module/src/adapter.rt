@@ -39,7 +39,8 @@ impl Module for AdapterModule {
 
     ghost paired = { λ m. m.node.fit.paired };
 
-    ghost rooms = { λ m. record { pendings = m.node.fit.pending_room; hops = m.node.fit.hop_room } };
+    ghost rooms = { λ m. record
+        { pendings = m.node.fit.pending_room; hops = m.node.fit.hop_room } };
 
     fn config(&self) -> &ModuleConfig {
         &self.node.config
