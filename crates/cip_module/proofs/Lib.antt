@@ -63,3 +63,4 @@ pub mod NextRows
 pub mod DataMet
 pub mod AtHand
 pub mod GivenBy
+pub mod Runs
