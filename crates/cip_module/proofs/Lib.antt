@@ -64,3 +64,4 @@ pub mod DataMet
 pub mod AtHand
 pub mod GivenBy
 pub mod Runs
+pub mod ProducedStand

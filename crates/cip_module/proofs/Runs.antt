@@ -4,6 +4,7 @@ pub use Rattle.cip_module.proofs.Tells.{decide_tells}
 pub use Rattle.cip_module.proofs.Standing.{all_stand}
 pub use Rattle.cip_module.proofs.Quiet.{alone, reply_alone}
 pub use Rattle.cip_module.proofs.PassedBy.{frame_alone, enter_alone}
+pub use Rattle.cip_module.proofs.ProducedStand.{produced_stood}
 -- One thing for whom an event asks.
 pub use Rattle.cip_module.proofs.Light.{light_once}
 pub use Rattle.cip_module.proofs.TakenUp.{takes_once}

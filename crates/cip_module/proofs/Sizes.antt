@@ -42,7 +42,8 @@ row_sizes : (m : AssemblyMap) (row : TargetRow) → IsThere m row → (j : ℕ) 
 row_sizes m (Refused refusal) there j = refl
 row_sizes m (Read found) there j = refl
 row_sizes m (Written i d) there j =
-    elim (map.get m i) as (λ (o : Option (List ℕ)). map.get m i ≡ o → IsSomeAnd o (λ held. length d ≡ length held) → size_in (map.insert m i d) j ≡ size_in m j) [
+    elim (map.get m i) as (λ (o : Option (List ℕ)). map.get m i ≡ o → IsSomeAnd o (λ held. length d ≡ length held)
+    → size_in (map.insert m i d) j ≡ size_in m j) [
       | None ↦ λ at h. absurd h
       | Some held ↦ λ at h. insert_sizes m i held d at h j
     ] refl there
