@@ -1,16 +1,14 @@
 -- What the rows know and the effects do not carry: the application path of an open that ends here, and what an embedded request cannot be.
-use Rattle.std.proofs.Common.{◌≡◌, ◌<◌, ◌≤◌, ℕ, Bool, true, false, cond, not, ◌&&◌, List, Result, Ok, Err, Option, Some, None, refl, sym, ap, ◌∙◌, eqb, ltb, get_or}
+use Rattle.std.proofs.Common.{◌≡◌, ℕ, Bool, true, false, cond, not, ◌&&◌, Ok, Err, Option, Some, None, refl, eqb, get_or}
 use Rattle.cip_segment.specs.Reading.{segments_of}
 use Rattle.cip_open.specs.declared.request.OpenFields.{OpenFields}
 use Rattle.cip_open.specs.Open.{Open}
 use Rattle.cip_unconnected.specs.Unconnected.{Unconnected, unconnected_bytes}
 use Rattle.cip_target.specs.declared.link.EndLink.{EndLink}
-use Rattle.cip_target.specs.declared.ends.EndRefusal.{EndRefusal}
 use Rattle.cip_target.specs.declared.ends.EndRefusal.TheVariants as ends
 use Rattle.cip_target.specs.ApplicationPath.{Application, application_of}
 use Rattle.cip_target.specs.Assemblies.{AssemblyMap, size_in}
 use Rattle.cip_target.specs.Ends.{EndRow, class_of, is_configuration, are_sizes, link_of, sized_row, application_row, end_row}
-use Rattle.cip_module.specs.declared.command_rows.CommandRow.{CommandRow}
 use Rattle.cip_module.specs.declared.command_rows.CommandRow.TheVariants as command
 use Rattle.cip_module.specs.CommandRows.{send_row}
 use Rattle.cip_module.specs.State.{State, is_spent}

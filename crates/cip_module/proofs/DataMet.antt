@@ -1,5 +1,5 @@
 -- A datum of the size of a connection that is found gives exactly the output of that connection: it is passed on, consumed or arrived.
-use Rattle.std.proofs.Common.{◌≡◌, ℕ, true, false, cond, not, is_some, List, [], ◌∷◌, ◌++◌, length, drop, eqb, Option, Some, None, refl, sym, ap, ◌∙◌}
+use Rattle.std.proofs.Common.{◌≡◌, ℕ, true, false, cond, not, is_some, List, [], ◌∷◌, ◌++◌, length, drop, eqb, Some, None, sym, ap, ◌∙◌}
 use Rattle.std.proofs.lemmas.Bool.{eq-eqb}
 use Rattle.cip_message.specs.Numbers.{word_in}
 use Rattle.cip_hops.specs.declared.opening.HopDown.{HopDown}

@@ -1,14 +1,12 @@
 -- Which effect gave a reply to an up side, the end of a connection, a refusal or a drop.
-use Rattle.std.proofs.Common.{◌≡◌, ℕ, ◌+◌, ◌≤◌, true, List, [], ◌∷◌, Option, Some, None, refl, sym, ap, subst, ◌∙◌, inl, inr, arith}
+use Rattle.std.proofs.Common.{◌≡◌, ℕ, true, List, [], ◌∷◌, Option, Some, None, refl, sym, ap, subst, inl, inr, arith}
 use Rattle.std.specs.FinMap as map
 use Rattle.std.proofs.lemmas.Bool.{eq-eqb, and_from}
 use Rattle.std.proofs.lemmas.Slice.Eq.{bytes_eq-Decides}
 use Rattle.std.specs.Str.{bytes_eq}
 use Rattle.std.proofs.Common.{eqb, ◌&&◌}
 use Rattle.cip_base.specs.declared.triad.Triad.{Triad}
-use Rattle.cip_message.specs.Request.{Request}
 use Rattle.cip_message.specs.Reply.{reply_bytes}
-use Rattle.cip_open.specs.Success.{OpenSuccess}
 use Rattle.cip_pending.specs.declared.entry.Entry.{Entry}
 use Rattle.cip_pending.specs.declared.entry.UpSide.{UpSide}
 use Rattle.cip_pending.specs.declared.entry.UpSide.TheVariants.{Link, Local}

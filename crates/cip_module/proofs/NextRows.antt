@@ -1,6 +1,6 @@
 -- What is sent on meets the group that it is meant for, at any module that has the port, or is dropped there as too long.
 use Rattle.std.proofs.Common.{◌≡◌, ℕ, true, false, cond, List, ap, ◌∙◌, ◌⊎◌, inl, inr, refl, arith}
-use Rattle.cip_message.specs.Manager.{manager_request, manager_bytes}
+use Rattle.cip_message.specs.Manager.{manager_request}
 use Rattle.cip_message.specs.RequestAt.{request_at}
 use Rattle.cip_message.proofs.Managers.{manager_is_read}
 use Rattle.cip_unconnected.specs.Unconnected.{Unconnected, unconnected_bytes, unconnected_data}

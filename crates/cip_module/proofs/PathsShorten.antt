@@ -1,5 +1,5 @@
 -- What is left of a path behind its first hop is shorter than the path, whatever its bytes are.
-use Rattle.std.proofs.Common.{◌≡◌, ℕ, ◌*◌, ◌-◌, ◌≤◌, ◌<◌, Bool, true, false, cond, List, [], ◌∷◌, length, drop, eqb, ltb, Option, Some, None, Result, Ok, Err, refl, sym, ap, ◌∙◌, arith}
+use Rattle.std.proofs.Common.{◌≡◌, ℕ, ◌*◌, ◌-◌, ◌≤◌, ◌<◌, Bool, true, false, cond, List, [], ◌∷◌, length, eqb, ltb, Option, Some, None, Ok, Err, refl, ap, arith}
 use Rattle.std.specs.Prelude.{◌%◌}
 use Rattle.std.proofs.lemmas.List.{length-drop}
 use Rattle.cip_base.specs.declared.key.KeyFields.{KeyFields}

@@ -1,5 +1,5 @@
 -- Where a datum that an assembly makes is passed, only counts have changed: each connection stood before the event with the same core.
-use Rattle.std.proofs.Common.{◌≡◌, ℕ, ◌+◌, true, false, cond, List, [], ◌∷◌, ◌++◌, Option, Some, None, eqb, refl, sym, ap, ◌∙◌, arith}
+use Rattle.std.proofs.Common.{◌≡◌, ℕ, true, false, cond, List, [], ◌∷◌, ◌++◌, Option, Some, None, eqb, refl, sym, ap, ◌∙◌, arith}
 use Rattle.std.specs.FinMap as map
 use Rattle.cip_base.specs.Fields.{word}
 use Rattle.cip_base.specs.declared.triad.Triad.{Triad}
@@ -7,7 +7,6 @@ use Rattle.cip_hops.specs.declared.hop.Hop.{Hop}
 use Rattle.cip_hops.specs.declared.hop.Held.{Held}
 use Rattle.cip_hops.specs.declared.hop.Held.TheVariants.{Opening as IsOpening, Open}
 use Rattle.cip_hops.specs.declared.hop.Side.TheVariants.{Up, Down}
-use Rattle.cip_hops.specs.Hops.{Hops}
 use Rattle.cip_module.specs.declared.config.ModuleSettings.{ModuleSettings}
 use Rattle.cip_module.specs.declared.event.Command.TheVariants as commands
 use Rattle.cip_module.specs.declared.event.Event.TheVariants as events

@@ -1,5 +1,5 @@
 -- What is read of the bytes of an Unconnected_Send, of a close and of its success is what was written, whatever the route, the path or the reply is.
-use Rattle.std.proofs.Common.{◌≡◌, ℕ, ◌+◌, ◌*◌, ◌≤◌, Bool, true, false, cond, List, [], ◌∷◌, ◌++◌, length, take, drop, get_or, ltb, Result, Ok, Err, refl, sym, ap, ◌∙◌, arith}
+use Rattle.std.proofs.Common.{◌≡◌, ℕ, Bool, true, false, cond, List, [], length, drop, ltb, Result, Ok, Err, refl, sym, ap, ◌∙◌, arith}
 use Rattle.cip_segment.specs.declared.segment.Segment.{Segment}
 use Rattle.cip_segment.specs.declared.fault.PathFault.{PathFault}
 use Rattle.cip_segment.specs.Reading.{path_at}
@@ -9,7 +9,6 @@ use Rattle.cip_message.specs.declared.fault.DataFault.TheVariants.{Short, Long}
 use Rattle.cip_message.specs.Reply.{Reply, done_with}
 use Rattle.cip_message.specs.ReplyAt.{reply_at}
 use Rattle.cip_message.proofs.Words.{triad_again}
-use Rattle.cip_close.specs.declared.request.CloseFields.{CloseFields}
 use Rattle.cip_close.specs.Close.{Close, close_data}
 use Rattle.cip_close.specs.CloseAt.{close_at, close_fields_in, close_in}
 use Rattle.cip_close.specs.Success.{CloseSuccess, close_reply_data, close_reply_bytes}
