@@ -59,7 +59,7 @@ no_manager r (Class c ∷ others) d other e = behind_class r c others d other e
 no_manager r s d other e = cc
 
 -- what is sent on does not begin with the Connection Manager
-allowed : (config : ModuleSettings) (p : Pendings) (u : Unconnected) (r : Request) (port : ℕ) (address rest : List ℕ) → request_at u.request ≡ Ok r
+pub allowed : (config : ModuleSettings) (p : Pendings) (u : Unconnected) (r : Request) (port : ℕ) (address rest : List ℕ) → request_at u.request ≡ Ok r
     → unconnected_row config p u ≡ unconnected.Forwarded port address rest
     → begins_with_manager (segments_of r.path) ≡ false
 unfolding unconnected_row

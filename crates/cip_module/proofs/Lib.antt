@@ -56,3 +56,12 @@ pub mod RequestBy
 pub mod PassedBy
 pub mod Standing
 pub mod Shown
+pub mod PathsShorten
+pub mod ReadBackOthers
+pub mod ReadBackSends
+pub mod NextRows
+pub mod DataMet
+pub mod AtHand
+pub mod GivenBy
+pub mod Runs
+pub mod ProducedStand

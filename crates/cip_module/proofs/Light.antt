@@ -31,7 +31,7 @@ use Rattle.cip_module.specs.declared.event.Dropped.{Dropped}
 use Rattle.cip_module.specs.declared.event.Refused.{Refused}
 use Rattle.cip_module.specs.declared.command_rows.CommandRow.{CommandRow}
 use Rattle.cip_module.specs.declared.command_rows.CommandRow.TheVariants as command
-use Rattle.cip_module.specs.Effects.{Sending, Effect, Spends, Replies, Answers, Forwards, Begins, Accepts, Removes, RefusesCommand, Drops}
+use Rattle.cip_module.specs.Effects.{Sending, Effect, Replies, Answers, Forwards, Begins, Accepts, Removes, RefusesCommand, Drops}
 use Rattle.cip_module.specs.CloseRows.{CloseRow, close_row}
 use Rattle.cip_module.specs.CloseRows as closes
 use Rattle.cip_module.specs.OpenRows.{OpenRow, open_row, opening_with}

@@ -197,8 +197,8 @@ frame_alone config s event es before after triad side b bytes from port id event
     let same : datum_effects bytes (data_row config s port from id bytes) ≡ es = cc in
     frame_first bytes (data_row config s port from id bytes) before after triad side b (is ∙ sym same)
 
-pub enter_alone : (config : ModuleSettings) (s : State) (event : Event) (es before after : List Effect) (triad : Triad) (side : Side)
-    (b bytes : List ℕ) (of : ℕ)
+pub enter_alone : (config : ModuleSettings) (s : State) (event : Event) (es before after : List Effect) (triad : Triad) (side : Side) (b bytes : List ℕ)
+    (of : ℕ)
     → event ≡ events.Command (commands.Enter of bytes)
     → decide config s event ≡ Some es → before ++ (Passes triad side b ∷ after) ≡ es → before ≡ []
 enter_alone config s event es before after triad side b bytes of event_is decided is =

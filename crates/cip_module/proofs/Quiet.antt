@@ -6,7 +6,7 @@ use Rattle.cip_module.specs.declared.config.ModuleSettings.{ModuleSettings}
 use Rattle.cip_module.specs.declared.event.Body.TheVariants as bodies
 use Rattle.cip_module.specs.declared.event.Event.{Event}
 use Rattle.cip_module.specs.declared.event.Event.TheVariants as events
-use Rattle.cip_module.specs.Effects.{Effect, Spends, Replies, Answers, Forwards, Removes, Passes, Writes, RefusesCommand, Drops, apply, applied}
+use Rattle.cip_module.specs.Effects.{Effect, Spends, Replies, Answers, Passes, Writes, RefusesCommand, Drops, apply, applied}
 use Rattle.cip_module.specs.ReplyRows.{ReplyRow, reply_row}
 use Rattle.cip_module.specs.ReplyRows as reply
 use Rattle.cip_module.specs.State.{State}

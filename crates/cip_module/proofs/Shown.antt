@@ -13,11 +13,7 @@ use Rattle.cip_hops.specs.declared.hop.Held.{Held}
 use Rattle.cip_hops.specs.declared.hop.Held.TheVariants.{Opening as IsOpening, Open}
 use Rattle.cip_hops.specs.Hops.{as_hop, as_opening}
 use Rattle.cip_pending.specs.declared.entry.Entry.{Entry}
-use Rattle.cip_pending.specs.Pendings.{Pendings}
 use Rattle.cip_module.specs.declared.config.ModuleSettings.{ModuleSettings}
-use Rattle.cip_module.specs.declared.tables.AssemblyRow.{AssemblyRow}
-use Rattle.cip_module.specs.declared.tables.HopRow.{HopRow}
-use Rattle.cip_module.specs.declared.tables.PendingRow.{PendingRow}
 use Rattle.cip_module.specs.declared.tables.Tables.{Tables}
 use Rattle.cip_module.specs.Paired.{IsPaired}
 use Rattle.cip_module.specs.Rooms.{HasRooms}

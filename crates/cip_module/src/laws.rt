@@ -1,7 +1,18 @@
 //! What holds of every event, and of all that a module ever did.
-ghost use Rattle.std.specs.Prelude.{◌≡◌, ℕ, ◌+◌, ◌≤◌, List, ◌∷◌, Some, true};
+ghost use Rattle.std.specs.Prelude.{◌≡◌, ◌⊎◌, ℕ, ◌+◌, ◌≤◌, ◌<◌, List, ◌∷◌, length, Some, Ok, true};
 ghost use Rattle.std.specs.FinMap as map;
 ghost use Rattle.cip_base.specs.declared.triad.Triad.{Triad};
+ghost use Rattle.cip_segment.specs.Reading.{HopAt, hop_of};
+ghost use Rattle.cip_unconnected.specs.Unconnected.{Unconnected, unconnected_data, unconnected_bytes};
+ghost use Rattle.cip_unconnected.specs.UnconnectedAt.{unconnected_at};
+ghost use Rattle.cip_open.specs.Open.{Open, open_data, open_bytes};
+ghost use Rattle.cip_open.specs.OpenAt.{open_at};
+ghost use Rattle.cip_open.specs.Success.{OpenSuccess, open_reply_data};
+ghost use Rattle.cip_open.specs.SuccessAt.{open_reply_at};
+ghost use Rattle.cip_close.specs.Close.{Close, close_data, close_bytes};
+ghost use Rattle.cip_close.specs.CloseAt.{close_at};
+ghost use Rattle.cip_close.specs.Success.{CloseSuccess, close_reply_data};
+ghost use Rattle.cip_close.specs.SuccessAt.{close_reply_at};
 ghost use Rattle.cip_pending.specs.declared.entry.Entry.{Entry};
 ghost use Rattle.cip_pending.specs.declared.entry.UpSide.{UpSide};
 ghost use Rattle.cip_pending.specs.declared.entry.UpSide.TheVariants.{Local};
@@ -17,6 +28,7 @@ ghost use Rattle.cip_module.specs.EffectLists.{gain, takes_up, births, IsLight, 
 ghost use Rattle.cip_module.specs.Effects.{Effect};
 ghost use Rattle.cip_module.specs.Histories.{Turn, state_after, IsHistory};
 ghost use Rattle.cip_module.specs.Paired.{IsPaired};
+ghost use Rattle.cip_module.specs.RequestRows.{UnknownPortOrTooLong, UnconnectedSend, ForwardOpen, ForwardClose, request_row};
 ghost use Rattle.cip_module.specs.Rooms.{HasRooms};
 ghost use Rattle.cip_module.specs.State.{State, initial_state};
 ghost use Rattle.cip_module.specs.Table.{decide};
@@ -108,4 +120,34 @@ pub fn fresh_tables_are_of_the_first_state()
     ensures { (config : Settings) (s : State) (tables : Shown) → HasRooms config s
         → IsPaired s.pendings s.hops → ShowsState s tables
         → ShowsState (initial_state config) tables → s ≡ initial_state config }
+{}
+
+/// What is written is read back, whatever its path, its route or its reply is.
+pub fn what_is_written_is_read()
+    ensures opens { (o p : Open) → open_at (open_data o) ≡ Ok p → p ≡ o }
+    ensures sends { (u v : Unconnected) → unconnected_at (unconnected_data u) ≡ Ok v → v ≡ u }
+    ensures closes { (c d : Close) → close_at (close_data c) ≡ Ok d → d ≡ c }
+    ensures open_replies { (s t : OpenSuccess) → open_reply_at (open_reply_data s) ≡ Ok t → t ≡ s }
+    ensures close_replies { (s t : CloseSuccess) → close_reply_at (close_reply_data s) ≡ Ok t
+        → t ≡ s }
+{}
+
+/// What is sent on meets the group that it is meant for at any module that has the port, or is
+/// dropped there as too long.
+pub fn what_goes_on_meets_its_group()
+    ensures opens { (config : Settings) (port : ℕ) (o : Open)
+        → (request_row config port (open_bytes o) ≡ UnknownPortOrTooLong)
+        ⊎ (request_row config port (open_bytes o) ≡ ForwardOpen (open_data o)) }
+    ensures sends { (config : Settings) (port : ℕ) (u : Unconnected)
+        → (request_row config port (unconnected_bytes u) ≡ UnknownPortOrTooLong)
+        ⊎ (request_row config port (unconnected_bytes u) ≡ UnconnectedSend (unconnected_data u)) }
+    ensures closes { (config : Settings) (port : ℕ) (c : Close)
+        → (request_row config port (close_bytes c) ≡ UnknownPortOrTooLong)
+        ⊎ (request_row config port (close_bytes c) ≡ ForwardClose (close_data c)) }
+{}
+
+/// What is left of a path behind its first hop is shorter than the path.
+pub fn paths_shorten()
+    ensures { (path : List ℕ) (hop : HopAt) → hop_of path ≡ Some hop
+        → length hop.rest < length path }
 {}
