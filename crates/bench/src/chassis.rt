@@ -238,8 +238,8 @@ impl AnyModule {
     }
 }
 
-/// The module of a device. It is made of a copy of its config. None where a growth is refused or a
-/// setting is out of its range.
+/// The module of a device. It is made of a copy of its config. None where an allocation is refused
+/// or a setting is out of its range.
 pub fn make(alloc: Global, device: &Device) -> Option<AnyModule> {
     let config = config(alloc, device)?;
     match config.settings().kind {

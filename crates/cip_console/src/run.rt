@@ -34,7 +34,7 @@ pub enum ConsoleFault {
     /// The writer failed or took no byte. A front of the transcript was written.
     #[error("the transcript can't be written")]
     Write,
-    /// A growth was refused. A front of the transcript was written.
+    /// An allocation was refused. A front of the transcript was written.
     #[error("out of memory")]
     NoMemory,
 }

@@ -130,7 +130,7 @@ fn joined(alloc: Global, service: u8, status: Status, data_: &[u8]) -> Result<Ve
 /// chapter 2, Message Router reply format). The condition is that bit 7 of the service is set, so
 /// that what is written is read back.
 ///
-/// TooLong past 1,400 bytes in all, NoMemory where a growth is refused.
+/// TooLong past 1,400 bytes in all, NoMemory where an allocation is refused.
 pub fn write_reply(
     alloc: Global,
     service: u8,

@@ -19,7 +19,7 @@ pub struct AdapterModule {
 }
 
 impl AdapterModule {
-    /// Such a module in the initial state of its config; NoMemory where a growth is refused.
+    /// Such a module in the initial state of its config; NoMemory where an allocation is refused.
     pub fn new(alloc: Global, config: ModuleConfig) -> Result<AdapterModule, NoMemory>
         requires { config.kind ≡ ModuleKind.Adapter }
         ensures config { IfOk result (λ m. config_of_adapter m ≡ config) }

@@ -16,7 +16,7 @@ use thiserror::Error;
 /// A step that did not happen: the module is as it was, and the event comes back whole.
 #[derive(Debug, Drop, Error)]
 pub enum StepFault {
-    /// A growth was refused.
+    /// An allocation was refused.
     #[error("out of memory")]
     NoMemory(Event),
     /// The tick would lead past the last time, 9,223,372,036,854,775,807 microseconds. It is looked

@@ -38,7 +38,7 @@ fn copy_ports(alloc: Global, ports: &[PortConfig]) -> Result<Vec<PortConfig>, No
 }
 
 impl ModuleSettings {
-    /// The same settings once more; NoMemory where a growth is refused.
+    /// The same settings once more; NoMemory where an allocation is refused.
     pub fn copy(&self, alloc: Global) -> Result<ModuleSettings, NoMemory>
         ensures { IfOk result (λ s. s ≡ self.now) }
     {
@@ -62,7 +62,7 @@ impl ModuleSettings {
 }
 
 impl ModuleConfig {
-    /// The same config once more; NoMemory where a growth is refused.
+    /// The same config once more; NoMemory where an allocation is refused.
     pub fn copy(&self, alloc: Global) -> Result<ModuleConfig, NoMemory>
         ensures { IfOk result (λ c. c ≡ self.now) }
     {
@@ -72,7 +72,7 @@ impl ModuleConfig {
 }
 
 impl Body {
-    /// The same body once more; NoMemory where a growth is refused.
+    /// The same body once more; NoMemory where an allocation is refused.
     pub fn copy(&self, alloc: Global) -> Result<Body, NoMemory>
         ensures { IfOk result (λ b. b ≡ self.now) }
     {
@@ -94,7 +94,7 @@ impl Body {
 }
 
 impl Command {
-    /// The same command once more; NoMemory where a growth is refused.
+    /// The same command once more; NoMemory where an allocation is refused.
     pub fn copy(&self, alloc: Global) -> Result<Command, NoMemory>
         ensures { IfOk result (λ c. c ≡ self.now) }
     {
@@ -152,7 +152,7 @@ impl Command {
 }
 
 impl Event {
-    /// The same event once more; NoMemory where a growth is refused.
+    /// The same event once more; NoMemory where an allocation is refused.
     pub fn copy(&self, alloc: Global) -> Result<Event, NoMemory>
         ensures { IfOk result (λ e. e ≡ self.now) }
     {
@@ -175,7 +175,7 @@ impl Event {
 }
 
 impl Output {
-    /// The same output once more; NoMemory where a growth is refused.
+    /// The same output once more; NoMemory where an allocation is refused.
     pub fn copy(&self, alloc: Global) -> Result<Output, NoMemory>
         ensures { IfOk result (λ o. o ≡ self.now) }
     {

@@ -21,7 +21,7 @@ pub struct PlainModule {
 }
 
 impl PlainModule {
-    /// Such a module in the initial state of its config; NoMemory where a growth is refused.
+    /// Such a module in the initial state of its config; NoMemory where an allocation is refused.
     pub fn new(alloc: Global, config: ModuleConfig) -> Result<PlainModule, NoMemory>
         requires { config.kind ≡ ModuleKind.Plain }
         ensures config { IfOk result (λ m. config_of_plain m ≡ config) }

@@ -131,7 +131,7 @@ fn joined(
 /// time-out ticks, size of the embedded request in bytes, that request, a pad 00 where its size is
 /// odd, route size in 16-bit words, a reserved 00, route (Volume 1, chapter 3, Unconnected_Send).
 ///
-/// TooLong past 1,400 bytes in all, NoMemory where a growth is refused.
+/// TooLong past 1,400 bytes in all, NoMemory where an allocation is refused.
 pub fn write_unconnected(
     alloc: Global,
     timing: Timing,

@@ -1,5 +1,6 @@
-//! The console over readers and writers that fail or are slow: whole transcripts, and the first fault of a script. Each test
-//! passes too where one growth, whichever, is refused.
+//! The console over readers and writers that fail or are slow: whole transcripts, and the first
+//! fault of a script. Each test
+//! passes too where one allocation, whichever, is refused.
 ghost use Rattle.std.specs.Prelude.{None};
 
 use cip_console::{ConsoleFault, Out, Plain, SCRIPT_LIMIT, ScriptFault, Sink, Source, run_fixed};
@@ -116,7 +117,7 @@ fn once(alloc: Global, script: &[u8], whole: &[u8], trial: Trial) -> Outcome {
     }
 }
 
-// Once more where a growth was refused, and a front of the transcript was written.
+// Once more where an allocation was refused, and a front of the transcript was written.
 fn tried(alloc: Global, script: &[u8], whole: &[u8], trial: Trial) -> Outcome {
     let first = once(alloc, script, whole, trial);
     if first.result == Err(ConsoleFault::NoMemory) && first.is_front {
@@ -286,7 +287,8 @@ fn is_unread(alloc: Global, failing_read: usize) -> bool {
     is_unwritten(alloc, SEND, ConsoleFault::Read, trial)
 }
 
-// The first read that never comes, after which the whole transcript is written; 0 where each of a thousand fails.
+// The first read that never comes, after which the whole transcript is written; 0 where each of a
+// thousand fails.
 fn read_too_many(alloc: Global) -> usize {
     for failing_read in 1..1000 {
         if !is_unread(alloc, failing_read) {
@@ -320,7 +322,8 @@ fn is_cut(alloc: Global, failing_write: usize) -> bool {
     outcome.result == Err(ConsoleFault::Write) && outcome.is_front && outcome.count < SENT.len()
 }
 
-// The first write that never comes, after which the whole transcript is written; 0 where each of a thousand fails.
+// The first write that never comes, after which the whole transcript is written; 0 where each of a
+// thousand fails.
 fn write_too_many(alloc: Global) -> usize {
     for failing_write in 1..1000 {
         if !is_cut(alloc, failing_write) {
@@ -343,7 +346,8 @@ fn each_write_fails(rt: HostRuntime) -> Result<(), Fail> {
     Ok(())
 }
 
-// Whether a script of so many empty lines does nothing; None where the growth for it is refused.
+// Whether a script of so many empty lines does nothing; None where the allocation for it is
+// refused.
 fn does_nothing(alloc: Global, count: usize) -> Option<Outcome> {
     let Ok(script) = vec![in alloc; b'\n'; count] else {
         return None;
