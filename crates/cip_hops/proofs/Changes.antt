@@ -20,7 +20,7 @@ use Rattle.cip_hops.specs.Sides.{up_is_link, down_is_link}
 use Rattle.cip_hops.specs.Changes.{Suits, change_of}
 use Rattle.cip_hops.specs.Hops.{Hops, as_opening, as_hop, opened, open_in, finished, with_held, with_hop, ends_here, change_in, changed, is_link, touched, counted, IsHop, IsHeld}
 use Rattle.cip_hops.specs.Kept.{hops, IsKept}
-use Rattle.cip_hops.proofs.Counts.{one_if}
+use Rattle.cip_base.proofs.Lengths.{one_if}
 use Rattle.cip_hops.proofs.Ids.{is_some-if}
 use Rattle.cip_hops.proofs.Steps.{SameNames, held_at, kept_changed, view_changed}
 

@@ -11,10 +11,9 @@ ghost use Rattle.cip_hops.specs.Changes.{Suits, IsChanged};
 ghost use Rattle.cip_hops.specs.Hops.{refusal, begin_gives, begun, IsOpFree, opening_at, hop_at, without, without_if, IsWithout, finished, changed, is_link, ends_here, touched, counted, hop_by_up, hop_by_down, hop_by_op, first_due, due, rest, first_after, as_hop, is_hop_due, is_entry_due, is_entry_open, IsWithin};
 
 use crate::hop::{Change, Held, Hop, Side};
-use crate::index::NumberIndex;
 use crate::opening::{BeginFault, BeginReason, Opening, OwnIds};
 use crate::triads::{TriadIndex, place_after};
-use cip_base::{Address, NoMemory, PortNumber, Triad};
+use cip_base::{Address, NoMemory, NumberIndex, PortNumber, Triad};
 use core::mem::replace_with;
 use slab::Slab;
 use std::alloc::Global;
