@@ -70,7 +70,8 @@ module _ {K X : Type 0} (R : K → K → Ordering) (o : IsTotalOrder R) (same : 
 
   -- a record under a new key
   pub view-insert : (m : FinMap R ℕ) (found new : ℕ → Option X) (name : K) (key : ℕ) (x : X) → Finds m found → Finds (map.insert m name key) new
-      → new key ≡ Some x → ((q : K) (k : ℕ) → map.get m q ≡ Some k → new k ≡ found k) → joined_map (map.insert m name key) new ≡ map.insert (joined_map m found) name x
+      → new key ≡ Some x → ((q : K) (k : ℕ) → map.get m q ≡ Some k → new k ≡ found k)
+      → joined_map (map.insert m name key) new ≡ map.insert (joined_map m found) name x
   view-insert m found new name key x h h' is others =
       map.same_map o same _ _ (λ q. get-view (map.insert m name key) new h' q ∙ ap (option_and_then new) (map.get-insert o m name key q)
       ∙ elim (eq_by_cmp R q name) as (λ b. option_and_then new (cond b (Some key) (map.get m q)) ≡ cond b (Some x) (option_and_then found (map.get m q))) [
