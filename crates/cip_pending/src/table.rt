@@ -1,11 +1,11 @@
 //! The table: records in a slab, and an index of their keys by number. All room is reserved.
-ghost use Rattle.std.specs.Prelude.{◌≡◌, ◌+◌, ◌++◌, ◌<◌, ◌≤◌, true, false, length, IfOk, ◌==◌, is_ok, is_some, if◌then◌else◌, MatchOption, option_map};
+ghost use Rattle.std.specs.Prelude.{◌≡◌, ◌+◌, ◌++◌, ◌<◌, ◌≤◌, false, length, IfOk, ◌==◌, is_ok, is_some, if◌then◌else◌, option_map};
 ghost use Rattle.std.specs.List.{position};
 ghost use Rattle.std.specs.Ordering.{nat_cmp};
 ghost use Rattle.std.specs.Option.{option_copied, option_to_list};
 ghost use Rattle.std.specs.FinMap as map;
 ghost use Rattle.slab.specs.Slab.{get as get_record};
-ghost use Rattle.cip_pending.specs.Pendings.{refusal, add_gives, added, waiting_at, without, without_if, IsWithout, is_due, first_due, due, rest, first_after, is_after, IsWithin};
+ghost use Rattle.cip_pending.specs.Pendings.{refusal, add_gives, added, waiting_at, without_if, IsWithout, is_due, first_due, due, rest, first_after, is_after, IsWithin};
 ghost use Rattle.cip_base.specs.Joined.{passes};
 ghost use Rattle.cip_base.specs.Rising.{IsRising, Divides};
 
