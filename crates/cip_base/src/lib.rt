@@ -25,15 +25,13 @@ pub use index::NumberIndex;
 pub use key::KeyFields;
 pub use laws::{triad_order, triads_are_ordered};
 pub use limits::{
-    MAX_ADDRESS, MAX_ASSEMBLIES, MAX_DATUM, MAX_HOPS, MAX_MESSAGE, MAX_PATH, MAX_PORTS,
+    LAST_COUNT, MAX_ADDRESS, MAX_ASSEMBLIES, MAX_DATUM, MAX_HOPS, MAX_MESSAGE, MAX_PATH,
+    MAX_PENDINGS, MAX_PORTS,
 };
 pub use memory::NoMemory;
 pub use numbers::{ModuleId, Ms, PortNumber};
 pub use timing::{Status, Timing};
 pub use triad::Triad;
-
-#[cfg(test)]
-mod tests;
 
 /// No memory at all: what stands on it has to lie in the value itself.
 #[derive(Clone, Copy)]

@@ -12,6 +12,9 @@ pub const MAX_DATUM: usize = 511;
 pub const MAX_PORTS: usize = 8;
 /// The most assemblies of a module.
 pub const MAX_ASSEMBLIES: usize = 64;
-/// The most connections of one module, open and opening together, and the most of its requests
-/// that wait for their replies.
+/// The last connection id and the last request number of a module: neither comes back.
+pub const LAST_COUNT: u64 = 4_294_967_295;
+/// The most requests of one module that wait for their replies.
+pub const MAX_PENDINGS: usize = 256;
+/// The most connections of one module, open and opening together.
 pub const MAX_HOPS: usize = 256;

@@ -8,9 +8,6 @@ use cip_base::Ms;
 use std::marker::Model;
 use thiserror::Error;
 
-#[cfg(test)]
-mod tests;
-
 /// The last time that a clock shows, in microseconds.
 pub const LAST: u64 = 9_223_372_036_854_775_807;
 

@@ -1,6 +1,7 @@
 -- Forward_Close, service 4E of the Connection Manager (Volume 1, chapter 3, Forward_Close).
 use Rattle.std.specs.Prelude.{◌≡◌, ℕ, ◌*◌, ◌/◌, ◌∷◌, ◌++◌, length}
 use Rattle.cip_base.specs.Words.{Octets, WordCount}
+use Rattle.cip_close.specs.declared.request.TheConstants.{FORWARD_CLOSE}
 use Rattle.cip_segment.specs.Spelling.{IsReadable}
 use Rattle.cip_message.specs.declared.fault.DataFault.{DataFault}
 use Rattle.cip_message.specs.Numbers.{triad_bytes}
@@ -45,4 +46,4 @@ close_data o = close_layout (length o.path / 2) 0 o
 
 -- the whole message, with the header of a request to the Connection Manager
 abbrev pub close_bytes : Close → Octets
-close_bytes o = manager_bytes 0x4E (close_data o)
+close_bytes o = manager_bytes FORWARD_CLOSE (close_data o)

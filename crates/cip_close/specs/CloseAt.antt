@@ -4,6 +4,7 @@
 use Rattle.std.specs.Prelude.{slice_index, slice_get, Option, Result}
 use Rattle.cip_base.specs.Words.{Octets, WordCount}
 use Rattle.cip_base.specs.declared.triad.Triad.{Triad}
+use Rattle.cip_close.specs.declared.request.TheConstants.{CLOSE_FIXED_PART}
 use Rattle.cip_message.specs.declared.fault.DataFault.{DataFault}
 use Rattle.cip_message.specs.Numbers.{triad_in, triad_within}
 use Rattle.cip_message.specs.Counted.{counted_path_at, with_part}
@@ -22,7 +23,7 @@ close_in b path = close_with (close_fields_in b) path
 -- the record, or the first fault that fits: the path size is byte 10, and the path begins at byte
 -- 12
 unfoldable pub close_at : Octets → Result Close DataFault
-close_at b = with_part (close_in b) (counted_path_at 10 12 b)
+close_at b = with_part (close_in b) (counted_path_at 10 CLOSE_FIXED_PART b)
 
 -- the triad and the path size, each where its bytes are there
 abbrev pub close_triad_of : Octets → Option Triad

@@ -3,6 +3,7 @@
 use Rattle.std.specs.Prelude.{◌≡◌, ℕ, ◌*◌, ◌/◌, ◌∷◌, ◌++◌, length}
 use Rattle.cip_base.specs.Words.{Octets, WordCount}
 use Rattle.cip_base.specs.declared.triad.Triad.{Triad}
+use Rattle.cip_close.specs.declared.request.TheConstants.{FORWARD_CLOSE_REPLY}
 use Rattle.cip_message.specs.declared.fault.DataFault.{DataFault}
 use Rattle.cip_message.specs.Numbers.{triad_bytes}
 use Rattle.cip_message.specs.Cut.{IsPartFault}
@@ -35,4 +36,4 @@ close_reply_data s = close_reply_layout (length s.reply / 2) 0 s
 
 -- the whole message: a reply of Forward_Close with status 00
 abbrev pub close_reply_bytes : CloseSuccess → Octets
-close_reply_bytes s = reply_bytes (done_with 0xCE (close_reply_data s))
+close_reply_bytes s = reply_bytes (done_with FORWARD_CLOSE_REPLY (close_reply_data s))

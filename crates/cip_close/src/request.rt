@@ -12,9 +12,11 @@ use cip_segment::PathView;
 use std::alloc::{AllocError, Global};
 
 /// The service Forward_Close of the Connection Manager.
-const FORWARD_CLOSE: u8 = 0x4E;
+pub const FORWARD_CLOSE: u8 = 0x4E;
 /// The service of its reply.
-pub(crate) const FORWARD_CLOSE_REPLY: u8 = 0xCE;
+pub const FORWARD_CLOSE_REPLY: u8 = 0xCE;
+/// The bytes of its data before the path.
+pub const CLOSE_FIXED_PART: usize = 12;
 
 /// The fixed fields of Forward_Close (Volume 1, chapter 3, Forward_Close).
 #[derive(Clone, Copy, Debug, PartialEq, Eq)]
@@ -35,7 +37,7 @@ pub struct CloseView<'a> {
 fn view(data_: &[u8]) -> Result<CloseView<'_>, DataFault>
     ensures { Gives close_of result (close_at data_.now) }
 {
-    match counted_path(data_, 10, 12) {
+    match counted_path(data_, 10, CLOSE_FIXED_PART) {
         Ok(path) => Ok(CloseView {
             fields: CloseFields {
                 timing: Timing {

@@ -15,7 +15,8 @@ use Rattle.cip_console.specs.Worlds.{Standing, StandsAt, without, HappensAs}
 use Rattle.cip_console.proofs.Waits.{waits_fed, waits_arrived, waiting_earlier, Each, IsOfEarlier}
 
 -- the run goes on by an event, and its entry went behind a text
-pub record Enters (configs : List ModuleSettings) (run : Run) (m : ℕ) (arrived : Option FrameName) (event : Event) (standing : Standing) (before after : List ℕ) : Type 0 where
+pub record Enters (configs : List ModuleSettings) (run : Run) (m : ℕ) (arrived : Option FrameName) (event : Event) (standing : Standing) (before after : List ℕ)
+    : Type 0 where
   pub next : Run
   pub is : happened configs run m arrived event ≡ Some next
   pub stands : StandsAt configs standing next
@@ -24,7 +25,8 @@ pub record Enters (configs : List ModuleSettings) (run : Run) (m : ℕ) (arrived
 one_more : (n k : ℕ) → n ≡ k → n + 1 ≡ suc k
 one_more n k e = omega arith
 
-enters : (configs : List ModuleSettings) (s : Standing) (run : Run) (m : ℕ) (arrived : Option FrameName) (event : Event) (new : Standing) (before after : List ℕ)
+enters : (configs : List ModuleSettings) (s : Standing) (run : Run) (m : ℕ) (arrived : Option FrameName) (event : Event) (new : Standing)
+    (before after : List ℕ)
     → s.states ≡ run.states → s.entries ≡ length run.journal
     → ((outputs : List Output) → waiting configs (Happened m arrived event outputs ∷ run.journal) ≡ s.waiting ++ sent configs m (length run.journal) 0 outputs)
     → IsBefore (length run.journal) arrived → NamesEarlier run.journal → HappensAs configs s m arrived event new before after
@@ -49,9 +51,11 @@ pub enters_fed : (configs : List ModuleSettings) (s : Standing) (run : Run) (m :
     → StandsAt configs s run → HappensAs configs s m None event new before after → Enters configs run m None event new before after
 enters_fed configs s run m event new before after st h =
     enters configs s run m None event new before after st.states st.entries
-    (λ outputs. waits_fed configs m event outputs run.journal st.earlier ∙ ap (λ l. l ++ sent configs m (length run.journal) 0 outputs) (sym st.waiting)) tt st.earlier h
+    (λ outputs. waits_fed configs m event outputs run.journal st.earlier ∙ ap (λ l. l ++ sent configs m (length run.journal) 0 outputs) (sym st.waiting)) tt
+    st.earlier h
 
-pub enters_arrived : (configs : List ModuleSettings) (s : Standing) (run : Run) (first : Waiting) (others : List Waiting) (new : Standing) (before after : List ℕ)
+pub enters_arrived : (configs : List ModuleSettings) (s : Standing) (run : Run) (first : Waiting) (others : List Waiting) (new : Standing)
+    (before after : List ℕ)
     → StandsAt configs s run → s.waiting ≡ first ∷ others
     → HappensAs configs (without s others) first.place (Some first.name) (arrival first) new before after
     → Enters configs run first.place (Some first.name) (arrival first) new before after

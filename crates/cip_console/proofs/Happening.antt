@@ -11,7 +11,8 @@ use Rattle.cip_console.specs.Show.{name_of, head_text, event_text, outputs_text}
 use Rattle.cip_console.specs.Transcript.{names_of}
 use Rattle.cip_console.specs.Worlds.{Standing, IsStepAt, HappensAs}
 
-pub happens_so : (configs : List ModuleSettings) (old : Standing) (m : ℕ) (arrived : Option FrameName) (event : Event) (states : List State) (entries : ℕ) (waiting : List Waiting)
+pub happens_so : (configs : List ModuleSettings) (old : Standing) (m : ℕ) (arrived : Option FrameName) (event : Event) (states : List State) (entries : ℕ)
+    (waiting : List Waiting)
     (outputs : List Output) (before mid after name what : List ℕ) → IsStepAt configs old.states m event states outputs → entries ≡ old.entries + 1
     → waiting ≡ old.waiting ++ sent configs m old.entries 0 outputs → name ≡ name_of (names_of configs) m → what ≡ event_text arrived event
     → mid ≡ before ++ head_text old.entries name what → after ≡ mid ++ outputs_text 0 outputs

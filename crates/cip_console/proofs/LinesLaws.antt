@@ -29,7 +29,8 @@ pub word_skipped : (items found : List (Bor (List ℕ))) (i : ℕ) (all : List (
 word_skipped items found i all h empty e = rw (drop_more items i unread h, empty) at e
 
 -- a part before another one
-pub line_more : (items found : List (Bor (List ℕ))) (i : ℕ) (y : Bor (List ℕ)) (all : List (List ℕ)) → i + 1 < length items → y.now ≡ strip_carriage_return (get_or items i unread).now
+pub line_more : (items found : List (Bor (List ℕ))) (i : ℕ) (y : Bor (List ℕ)) (all : List (List ℕ)) → i + 1 < length items
+    → y.now ≡ strip_carriage_return (get_or items i unread).now
     → texts found ++ lines_of_parts (texts (drop i items)) ≡ all → texts (found ++ y ∷ []) ++ lines_of_parts (texts (drop (i + 1) items)) ≡ all
 line_more items found i y all h stripped e =
     let i_in : i < length items = omega arith in
@@ -37,13 +38,16 @@ line_more items found i y all h stripped e =
     rw (texts_push found y, append_assoc, stripped, drop_more items (i + 1) unread h) before
 
 -- the last part
-pub line_last : (items found : List (Bor (List ℕ))) (i : ℕ) (all : List (List ℕ)) → i < length items → length items ≤ i + 1 → (length (get_or items i unread).now == 0) ≡ false
-    → texts found ++ lines_of_parts (texts (drop i items)) ≡ all → texts (found ++ get_or items i unread ∷ []) ++ lines_of_parts (texts (drop (i + 1) items)) ≡ all
+pub line_last : (items found : List (Bor (List ℕ))) (i : ℕ) (all : List (List ℕ)) → i < length items → length items ≤ i + 1
+    → (length (get_or items i unread).now == 0) ≡ false
+    → texts found ++ lines_of_parts (texts (drop i items)) ≡ all
+    → texts (found ++ get_or items i unread ∷ []) ++ lines_of_parts (texts (drop (i + 1) items)) ≡ all
 line_last items found i all h last full e =
     let before = rw (drop_more items i unread h, drop_all (i + 1) items last, full) at e in
     rw (texts_push found (get_or items i unread), drop_all (i + 1) items last, append-nil) before
 
-pub line_none : (items found : List (Bor (List ℕ))) (i : ℕ) (all : List (List ℕ)) → i < length items → length items ≤ i + 1 → (length (get_or items i unread).now == 0) ≡ true
+pub line_none : (items found : List (Bor (List ℕ))) (i : ℕ) (all : List (List ℕ)) → i < length items → length items ≤ i + 1
+    → (length (get_or items i unread).now == 0) ≡ true
     → texts found ++ lines_of_parts (texts (drop i items)) ≡ all → texts found ++ lines_of_parts (texts (drop (i + 1) items)) ≡ all
 line_none items found i all h last empty e =
     let before = rw (drop_more items i unread h, drop_all (i + 1) items last, empty) at e in

@@ -42,7 +42,8 @@ none_first radix bound ds h = rw h
 none_second : (radix bound : ℕ) (ds : List ℕ) → nat_lt 0 (length ds) ≡ true → list_all (test radix) ds ≡ false → below bound (numeral radix ds) ≡ None
 none_second radix bound ds h k = rw (h, k)
 
-none_third : (radix bound : ℕ) (ds : List ℕ) → nat_lt 0 (length ds) ≡ true → list_all (test radix) ds ≡ true → nat_lt (digits_value radix ds) bound ≡ false → below bound (numeral radix ds) ≡ None
+none_third : (radix bound : ℕ) (ds : List ℕ) → nat_lt 0 (length ds) ≡ true → list_all (test radix) ds ≡ true → nat_lt (digits_value radix ds) bound ≡ false
+    → below bound (numeral radix ds) ≡ None
 none_third radix bound ds h k l = rw (h, k, l)
 
 -- the number is there and below the bound, or there is none
@@ -58,7 +59,8 @@ numeral_cases radix bound ds = elim (cases_Bool (nat_lt 0 (length ds))) [
   ]
 ]
 
-pub from_parse : {E : Type 0} (radix : ℕ) (bs : List ℕ) (r : Result ℕ E) → ParsesUnsigned 64 radix bs r → without_leading_plus bs ≡ bs → result_ok r ≡ below (2 ^ 64) (numeral radix bs)
+pub from_parse : {E : Type 0} (radix : ℕ) (bs : List ℕ) (r : Result ℕ E) → ParsesUnsigned 64 radix bs r → without_leading_plus bs ≡ bs
+    → result_ok r ≡ below (2 ^ 64) (numeral radix bs)
 from_parse radix bs (Ok x) h plain =
     let g = rw plain at h in
     rw (numeral_some radix bs g.0.0, lt_true (digits_value radix bs) (2 ^ 64) g.0.1) (ap Some g.1)

@@ -27,4 +27,9 @@ pub none_read : (configs : List ModuleSettings) (left old : Option (List ℕ)) �
 none_read configs left old = record { script = left_of left; read = is_left left; wrote = Keeps-refl old }
 
 pub no_memory_to_read : (configs : List ModuleSettings) (left old : Option (List ℕ)) → WroteOf configs left old old (Err NoMemory)
-no_memory_to_read configs left old = record { script = left_of left; read = is_left left; wrote = nothing_written configs old (steps (names_of configs) (left_of left)) }
+no_memory_to_read configs left old = record {
+  script = left_of left;
+  read = is_left left;
+  wrote =
+      nothing_written configs old (steps (names_of configs) (left_of left));
+}

@@ -5,7 +5,7 @@ use Rattle.cip_module.specs.declared.event.Command.{Command}
 use Rattle.cip_module.specs.declared.event.Event.{Event}
 use Rattle.cip_module.specs.declared.event.Event.TheVariants as events
 use Rattle.cip_console.specs.declared.run.PlayFault.{PlayFault}
-use Rattle.cip_console.specs.declared.run.PlayFault.TheVariants.{Full, Write, NoMemory}
+use Rattle.cip_console.specs.declared.run.PlayFault.TheVariants.{NoStep, Write, NoMemory}
 use Rattle.cip_console.specs.declared.waiting.FrameName.{FrameName}
 use Rattle.cip_console.specs.declared.waiting.Waiting.{Waiting}
 use Rattle.cip_console.specs.declared.world.HappenFault.{HappenFault}
@@ -19,19 +19,22 @@ use Rattle.cip_console.proofs.Entering.{enters_fed, enters_arrived, not_entered}
 use Rattle.cip_console.proofs.Prints.{prints_nothing, prints_more, prints_then, front_more, front_of_prints, front_then}
 
 -- what was printed so far, the run that it came to, and what the rest prints
-pub record Playing (configs : List ModuleSettings) (all : Part) (old new : Option (List ℕ)) (before after : List ℕ) (standing : Standing) (rest : Run → Part) : Type 0 where
+pub record Playing (configs : List ModuleSettings) (all : Part) (old new : Option (List ℕ)) (before after : List ℕ) (standing : Standing) (rest : Run → Part) :
+    Type 0 where
   pub run : Run
   pub done : List ℕ
   pub stands : StandsAt configs standing run
   pub prints : Prints old new before after done
   pub is : all ≡ printed done (rest run)
 
-pub playing_start : (configs : List ModuleSettings) (run : Run) (old : Option (List ℕ)) (before : List ℕ) (s : Standing) (rest : Run → Part) → StandsAt configs s run
+pub playing_start : (configs : List ModuleSettings) (run : Run) (old : Option (List ℕ)) (before : List ℕ) (s : Standing) (rest : Run → Part)
+    → StandsAt configs s run
     → Playing configs (rest run) old old before before s rest
 playing_start configs run old before s rest st = record { run = run; done = []; stands = st; prints = prints_nothing old before; is = refl }
 
 -- the same, said of equal configs and of an equal standing
-pub happens_at : (configs configs' : List ModuleSettings) (s s' : Standing) (m : ℕ) (arrived : Option FrameName) (event : Event) (new : Standing) (before after : List ℕ) (r : Result (Unit {0}) HappenFault)
+pub happens_at : (configs configs' : List ModuleSettings) (s s' : Standing) (m : ℕ) (arrived : Option FrameName) (event : Event) (new : Standing)
+    (before after : List ℕ) (r : Result (Unit {0}) HappenFault)
     → configs' ≡ configs → s' ≡ s → Happens configs' s' m arrived event new before after r → Happens configs s m arrived event new before after r
 happens_at configs configs' s s' m arrived event new before after r same stands h =
     subst (λ cs. Happens cs s m arrived event new before after r) same (subst (λ x. Happens configs' x m arrived event new before after r) stands h)
@@ -45,12 +48,14 @@ none_of limit i h = omega arith
 
 -- ---- deliveries
 
-none_delivered : (configs : List ModuleSettings) (n : ℕ) (run : Run) → waiting configs run.journal ≡ [] → deliveries configs n run ≡ record { text = []; after = Some run }
+none_delivered : (configs : List ModuleSettings) (n : ℕ) (run : Run) → waiting configs run.journal ≡ []
+    → deliveries configs n run ≡ record { text = []; after = Some run }
 unfolding deliveries
 none_delivered configs zero run e = refl
 none_delivered configs (suc n) run e = ap (λ all. first_delivered configs run all (deliveries configs n)) e
 
-one_delivered : (configs : List ModuleSettings) (n : ℕ) (run next : Run) (first : Waiting) (others : List Waiting) → waiting configs run.journal ≡ first ∷ others
+one_delivered : (configs : List ModuleSettings) (n : ℕ) (run next : Run) (first : Waiting) (others : List Waiting)
+    → waiting configs run.journal ≡ first ∷ others
     → delivered configs run first ≡ Some next → deliveries configs (suc n) run ≡ printed (newest (names_of configs) next.journal) (deliveries configs n next)
 unfolding deliveries
 one_delivered configs n run next first others e d =
@@ -68,7 +73,8 @@ printed_twice : (text more : List ℕ) (part : Part) → printed text (printed m
 printed_twice text more part = ap (λ l. record { text = l; after = part.after }) (sym (append_assoc text more part.text))
 
 -- the first that waited arrived, and what was gathered may have been written
-pub one_played : (configs : List ModuleSettings) (all : Part) (old mid new : Option (List ℕ)) (before between text after : List ℕ) (s s' : Standing) (n : ℕ) (first : Waiting) (others : List Waiting)
+pub one_played : (configs : List ModuleSettings) (all : Part) (old mid new : Option (List ℕ)) (before between text after : List ℕ) (s s' : Standing) (n : ℕ)
+    (first : Waiting) (others : List Waiting)
     → Playing configs all old mid before between s (deliveries configs (suc n)) → s.waiting ≡ first ∷ others
     → HappensAs configs (without s others) first.place (Some first.name) (arrival first) s' between text
     → Prints mid new text after []
@@ -87,7 +93,8 @@ one_played configs all old mid new before between text after s s' n first others
     }
 
 -- the entry of an arrival could not be written
-pub one_unwritten : (configs : List ModuleSettings) (all : Part) (old mid new : Option (List ℕ)) (before between text : List ℕ) (s s' : Standing) (n : ℕ) (first : Waiting) (others : List Waiting)
+pub one_unwritten : (configs : List ModuleSettings) (all : Part) (old mid new : Option (List ℕ)) (before between text : List ℕ) (s s' : Standing) (n : ℕ)
+    (first : Waiting) (others : List Waiting)
     → Playing configs all old mid before between s (deliveries configs (suc n)) → s.waiting ≡ first ∷ others
     → HappensAs configs (without s others) first.place (Some first.name) (arrival first) s' between text
     → AppendsFront mid new text
@@ -103,20 +110,23 @@ front_so_far configs all old new before after s rest p =
     subst (λ (part : Part). AppendsFront old new (before ++ part.text)) (sym p.is) (front_of_prints old new before after p.done (rest p.run).text p.prints)
 
 -- a clock was full at the arrival
-pub one_stopped : (configs : List ModuleSettings) (all : Part) (old new : Option (List ℕ)) (before between after : List ℕ) (s : Standing) (n : ℕ) (first : Waiting) (others : List Waiting)
+pub one_stopped : (configs : List ModuleSettings) (all : Part) (old new : Option (List ℕ)) (before between after : List ℕ) (s : Standing) (n : ℕ)
+    (first : Waiting) (others : List Waiting)
     → Playing configs all old new before between s (deliveries configs (suc n)) → s.waiting ≡ first ∷ others
     → step_at configs s.states first.place (arrival first) ≡ None → after ≡ between
     → (all.after ≡ None) × Prints old new before after all.text
 one_stopped configs all old new before between after s n first others p e full same =
     let is : all ≡ record { text = p.done ++ []; after = None } =
-    p.is ∙ ap (printed p.done) (stopped configs n p.run first others (sym p.stands.waiting ∙ e) (not_entered configs s p.run first.place (Some first.name) (arrival first) p.stands.states full)) in (
+    p.is ∙ ap (printed p.done) (stopped configs n p.run first others (sym p.stands.waiting ∙ e)
+    (not_entered configs s p.run first.place (Some first.name) (arrival first) p.stands.states full)) in (
       ap (λ (part : Part). part.after) is,
       subst (Prints old new before after) (sym (ap (λ (part : Part). part.text) is)) (prints_more _ _ _ _ _ _ _ p.prints (same ∙ sym (append-nil between))),
     )
 
 -- one of the deliveries that are left
 pub one_more_of : (configs : List ModuleSettings) (all : Part) (old new : Option (List ℕ)) (before after : List ℕ) (s : Standing) (limit i : ℕ) → i < limit
-    → Playing configs all old new before after s (deliveries configs (limit - i)) → Playing configs all old new before after s (deliveries configs (suc (limit - (i + 1))))
+    → Playing configs all old new before after s (deliveries configs (limit - i))
+    → Playing configs all old new before after s (deliveries configs (suc (limit - (i + 1))))
 one_more_of configs all old new before after s limit i h p = subst (λ n. Playing configs all old new before after s (deliveries configs n)) (one_of limit i h) p
 
 -- nothing waits any more, or so many were delivered
@@ -132,8 +142,10 @@ over configs all old new before after s n p e =
       prints = subst (Prints old new before after) (sym (ap (λ (part : Part). part.text) is ∙ append-nil p.done)) p.prints;
     }
 
-pub none_waits : (configs : List ModuleSettings) (all : Part) (old new : Option (List ℕ)) (before after : List ℕ) (s s' : Standing) (n : ℕ) (rest : List Waiting)
-    → Playing configs all old new before after s (deliveries configs n) → s.waiting ≡ [] → s.waiting ≡ rest → s' ≡ without s rest → Played configs all old new before after s'
+pub none_waits : (configs : List ModuleSettings) (all : Part) (old new : Option (List ℕ)) (before after : List ℕ) (s s' : Standing) (n : ℕ)
+    (rest : List Waiting)
+    → Playing configs all old new before after s (deliveries configs n) → s.waiting ≡ [] → s.waiting ≡ rest → s' ≡ without s rest
+    → Played configs all old new before after s'
 none_waits configs all old new before after s s' n rest p e same still =
     let there : without s rest ≡ s = ap (without s) (sym same) in
     subst (Played configs all old new before after) (sym (still ∙ there))
@@ -158,7 +170,7 @@ more_text part (Some run) rest = ((rest run).text, refl)
 -- a fault of the deliveries is one of the whole line
 pub run_fails : (configs : List ModuleSettings) (limit : ℕ) (run : Run) (old new : Option (List ℕ)) (before after : List ℕ) (s : Standing) (fault : PlayFault)
     → Plays configs (deliveries configs limit run) old new before after s (Err fault) → Plays configs (ran configs limit run) old new before after s (Err fault)
-run_fails configs limit run old new before after s Full p =
+run_fails configs limit run old new before after s NoStep p =
     let part = deliveries configs limit run in
     let is : ran configs limit run ≡ record { text = part.text; after = None } = ap (λ (o : Option Run). continued part.text o (ended configs)) p.0 in
     (ap (λ (x : Part). x.after) is, subst (Prints old new before after) (sym (ap (λ (x : Part). x.text) is)) p.1)
@@ -198,7 +210,8 @@ run_unended configs limit run old new before between s p =
 
 -- ---- a command
 
-pub fed_played : (configs : List ModuleSettings) (run : Run) (m : ℕ) (command : Command) (old new : Option (List ℕ)) (before text after : List ℕ) (s s' : Standing)
+pub fed_played : (configs : List ModuleSettings) (run : Run) (m : ℕ) (command : Command) (old new : Option (List ℕ)) (before text after : List ℕ)
+    (s s' : Standing)
     → StandsAt configs s run → HappensAs configs s m None (events.Command command) s' before text → Prints old new text after []
     → Played configs (fed configs run m command) old new before after s'
 fed_played configs run m command old new before text after s s' st h f =
@@ -225,7 +238,9 @@ pub fed_stopped : (configs : List ModuleSettings) (run : Run) (m : ℕ) (command
     → StandsAt configs s run → step_at configs s.states m (events.Command command) ≡ None → after ≡ before
     → ((fed configs run m command).after ≡ None) × Prints old old before after (fed configs run m command).text
 fed_stopped configs run m command old before after s st e same =
-    let is : fed configs run m command ≡ record { text = []; after = None } = ap (shown (names_of configs)) (not_entered configs s run m None (events.Command command) st.states e) in (
+    let is : fed configs run m command ≡ record { text = []; after = None } =
+    ap (shown (names_of configs)) (not_entered configs s run m None (events.Command command) st.states e) in (
       ap (λ (part : Part). part.after) is,
-      subst (Prints old old before after) (sym (ap (λ (part : Part). part.text) is)) (prints_more old old before before after [] [] (prints_nothing old before) (same ∙ sym (append-nil before))),
+      subst (Prints old old before after) (sym (ap (λ (part : Part). part.text) is))
+          (prints_more old old before before after [] [] (prints_nothing old before) (same ∙ sym (append-nil before))),
     )

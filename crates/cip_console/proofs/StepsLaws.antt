@@ -29,7 +29,8 @@ all_ascii [] h i = lit< tt
 all_ascii (b ∷ bs) h zero = low_of b (and_parts _ _ h).0
 all_ascii (b ∷ bs) h (suc i) = all_ascii bs (and_parts _ _ h).1 i
 
-pub step-of_text : (names : List (List ℕ)) (line : List ℕ) → IsAscii line → line_step names line ≡ (if slice_index line 0 == 35 then Ok None else words_step names (words_of line))
+pub step-of_text : (names : List (List ℕ)) (line : List ℕ) → IsAscii line
+    → line_step names line ≡ (if slice_index line 0 == 35 then Ok None else words_step names (words_of line))
 unfolding line_step
 step-of_text names line h = rw (ascii_all line h) refl
 
@@ -57,10 +58,13 @@ pub nothing_before : (rest : Steps) → before [] rest ≡ rest
 nothing_before (Ok more) = refl
 nothing_before (Err fault) = refl
 
-pub before_one : (front : List Numbered) (n : ℕ) (step : Step) (rest : Steps) → before front (with_step n (Ok (Some step)) rest) ≡ before (front ++ record { line = n; step = step } ∷ []) rest
+pub before_one : (front : List Numbered) (n : ℕ) (step : Step) (rest : Steps)
+    → before front (with_step n (Ok (Some step)) rest) ≡ before (front ++ record { line = n; step = step } ∷ []) rest
 before_one front n step (Ok more) = ap Ok (sym (append_assoc front (record { line = n; step = step } ∷ []) more))
 before_one front n step (Err fault) = refl
 
 -- the line at i, and those after it
-pub line_at : (names : List (List ℕ)) (items : List (Bor (List ℕ))) (i : ℕ) → i < length items → steps_from names (i + 1) (texts (drop i items)) ≡ with_step (i + 1) (line_step names (get_or items i unread).now) (steps_from names (i + 1 + 1) (texts (drop (i + 1) items)))
+pub line_at : (names : List (List ℕ)) (items : List (Bor (List ℕ))) (i : ℕ) → i < length items
+    → steps_from names (i + 1) (texts (drop i items)) ≡ with_step (i + 1) (line_step names (get_or items i unread).now)
+    (steps_from names (i + 1 + 1) (texts (drop (i + 1) items)))
 line_at names items i h = rw (drop_more items i unread h) refl

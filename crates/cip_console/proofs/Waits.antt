@@ -54,7 +54,8 @@ two_tests false true = refl
 two_tests false false = refl
 
 -- one filter for two
-pub filter_twice : {X : Type 0} (one other : X → Bool) (xs : List X) → filter (λ x. not (one x || other x)) xs ≡ filter (λ x. not (one x)) (filter (λ x. not (other x)) xs)
+pub filter_twice : {X : Type 0} (one other : X → Bool) (xs : List X)
+    → filter (λ x. not (one x || other x)) xs ≡ filter (λ x. not (one x)) (filter (λ x. not (other x)) xs)
 filter_twice one other [] = refl
 filter_twice one other (x ∷ xs) =
     let more = filter_twice one other xs in
@@ -99,10 +100,12 @@ above_apart f g (inr h) = let same = h.0 in let more = h.1 in grind (arith, nat_
 
 IsRising-append : (k : ℕ) (xs ys : List Waiting) → IsRising xs → IsRising ys → Each (IsOfEarlier k) xs → Each (IsOf k 0) ys → IsRising (xs ++ ys)
 IsRising-append k [] ys p q a b = q
-IsRising-append k (x ∷ xs) ys p q a b =
-    (Each-append (IsAbove x.name) xs ys p.0 (Each-weaker (IsOf k 0) (IsAbove x.name) (λ w h. inl (later x.name.entry w.name.entry k a.0 h.0)) ys b), IsRising-append k xs ys p.1 q a.1 b) where
-      later : (m n k' : ℕ) → m < k' → n ≡ k' → m < n
-      later m n k' h e = omega arith
+IsRising-append k (x ∷ xs) ys p q a b = (
+  Each-append (IsAbove x.name) xs ys p.0 (Each-weaker (IsOf k 0) (IsAbove x.name) (λ w h. inl (later x.name.entry w.name.entry k a.0 h.0)) ys b),
+  IsRising-append k xs ys p.1 q a.1 b,
+) where
+  later : (m n k' : ℕ) → m < k' → n ≡ k' → m < n
+  later m n k' h e = omega arith
 
 IsRising-filter : (test : Waiting → Bool) (ws : List Waiting) → IsRising ws → IsRising (filter test ws)
 IsRising-filter test [] p = tt
@@ -116,12 +119,14 @@ IsRising-filter test (w ∷ ws) p = elim (cases_Bool (test w)) [
 abbrev HasName : FrameName → Waiting → Type 0
 HasName name w = w.name ≡ name
 
-waiting_at_name : (name : FrameName) (body : Body) (own : Option PortConfig) (there : Option Node) → Each (HasName name) (option_to_list (waiting_at name body own there))
+waiting_at_name : (name : FrameName) (body : Body) (own : Option PortConfig) (there : Option Node)
+    → Each (HasName name) (option_to_list (waiting_at name body own there))
 waiting_at_name name body None there = tt
 waiting_at_name name body (Some own) None = tt
 waiting_at_name name body (Some own) (Some there) = (refl, tt)
 
-frame_of_name : (configs : List ModuleSettings) (m : ℕ) (name : FrameName) (output : Output) → Each (HasName name) (option_to_list (frame_of configs m name output))
+frame_of_name : (configs : List ModuleSettings) (m : ℕ) (name : FrameName) (output : Output)
+    → Each (HasName name) (option_to_list (frame_of configs m name output))
 frame_of_name configs m name (Send port to body) = waiting_at_name name body (own_port configs m port) (node configs m port to)
 frame_of_name configs m name (Done op reply) = tt
 frame_of_name configs m name (Refused fault) = tt
@@ -142,7 +147,8 @@ sent_of configs m k i (output ∷ outputs) =
       less : (n : ℕ) → i + 1 ≤ n → i ≤ n
       less n h = omega arith
 
-one_before : (k i : ℕ) (found : Option Waiting) (ws : List Waiting) → Each (HasName (record { entry = k; output = i })) (option_to_list found) → Each (IsOf k (i + 1)) ws → IsRising ws
+one_before : (k i : ℕ) (found : Option Waiting) (ws : List Waiting) → Each (HasName (record { entry = k; output = i })) (option_to_list found)
+    → Each (IsOf k (i + 1)) ws → IsRising ws
     → IsRising (option_to_list found ++ ws)
 one_before k i None ws p q r = r
 one_before k i (Some w) ws p q r =
@@ -173,18 +179,20 @@ frames_earlier configs [] = tt
 frames_earlier configs (entry ∷ journal) =
     Each-append (IsOfEarlier (suc (length journal))) _ _
     (Each-weaker (IsOfEarlier (length journal)) (IsOfEarlier (suc (length journal))) (λ w h. more w.name.entry h) _ (frames_earlier configs journal))
-    (Each-weaker (IsOf (length journal) 0) (IsOfEarlier (suc (length journal))) (λ w h. last w.name.entry h.0) _ (sent_in_of configs (length journal) entry)) where
-      more : (n : ℕ) → n < length journal → n < suc (length journal)
-      more n h = omega arith
+    (Each-weaker (IsOf (length journal) 0) (IsOfEarlier (suc (length journal))) (λ w h. last w.name.entry h.0) _ (sent_in_of configs (length journal) entry))
+  where
+    more : (n : ℕ) → n < length journal → n < suc (length journal)
+    more n h = omega arith
 
-      last : (n : ℕ) → n ≡ length journal → n < suc (length journal)
-      last n e = omega arith
+    last : (n : ℕ) → n ≡ length journal → n < suc (length journal)
+    last n e = omega arith
 
 -- every journal's frames stand in rising name
 pub frames_rising : (configs : List ModuleSettings) (journal : Journal) → IsRising (frames configs journal)
 frames_rising configs [] = tt
 frames_rising configs (entry ∷ journal) =
-    IsRising-append (length journal) _ _ (frames_rising configs journal) (sent_in_rising configs (length journal) entry) (frames_earlier configs journal) (sent_in_of configs (length journal) entry)
+    IsRising-append (length journal) _ _ (frames_rising configs journal) (sent_in_rising configs (length journal) entry) (frames_earlier configs journal)
+    (sent_in_of configs (length journal) entry)
 
 -- and so do those that wait: the first has the least name
 pub waiting_rising : (configs : List ModuleSettings) (journal : Journal) → IsRising (waiting configs journal)
@@ -217,7 +225,8 @@ is_free journal w = not (list_any (names w.name) journal)
 new_wait : (configs : List ModuleSettings) (m : ℕ) (outputs : List Output) (journal : Journal) → NamesEarlier journal
     → filter (is_free journal) (sent configs m (length journal) 0 outputs) ≡ sent configs m (length journal) 0 outputs
 new_wait configs m outputs journal h =
-    filter_each (is_free journal) _ (Each-weaker (IsOf (length journal) 0) (λ w. is_free journal w ≡ true) (λ w of. ap not (unnamed w.name journal h (last w.name.entry of.0))) _ (sent_of configs m (length journal) 0 outputs)) where
+    filter_each (is_free journal) _ (Each-weaker (IsOf (length journal) 0) (λ w. is_free journal w ≡ true)
+    (λ w of. ap not (unnamed w.name journal h (last w.name.entry of.0))) _ (sent_of configs m (length journal) 0 outputs)) where
       last : (n : ℕ) → n ≡ length journal → length journal ≤ n
       last n e = omega arith
 
@@ -235,10 +244,12 @@ is_other f w = not (same_name w.name f)
 without_first : (first : Waiting) (others : List Waiting) → IsRising (first ∷ others) → filter (is_other first.name) (first ∷ others) ≡ others
 without_first first others p =
     left_out (is_other first.name) first others (ap not (same_itself first.name))
-    ∙ filter_each (is_other first.name) others (Each-weaker (IsAbove first.name) (λ w. is_other first.name w ≡ true) (λ w h. ap not (above_apart first.name w.name h)) others p.0)
+    ∙ filter_each (is_other first.name) others (Each-weaker (IsAbove first.name) (λ w. is_other first.name w ≡ true)
+    (λ w h. ap not (above_apart first.name w.name h)) others p.0)
 
 -- after the arrival of the first that waited, the others and those of the new entry wait
-pub waits_arrived : (configs : List ModuleSettings) (m : ℕ) (event : Event) (outputs : List Output) (journal : Journal) (first : Waiting) (others : List Waiting) → NamesEarlier journal
+pub waits_arrived : (configs : List ModuleSettings) (m : ℕ) (event : Event) (outputs : List Output) (journal : Journal) (first : Waiting)
+    (others : List Waiting) → NamesEarlier journal
     → waiting configs journal ≡ first ∷ others
     → waiting configs (Happened m (Some first.name) event outputs ∷ journal) ≡ others ++ sent configs m (length journal) 0 outputs
 waits_arrived configs m event outputs journal first others h e =
@@ -246,11 +257,14 @@ waits_arrived configs m event outputs journal first others h e =
     let new = sent configs m k 0 outputs in
     let f = first.name in
     let earlier : f.entry < k = (subst (Each (IsOfEarlier k)) e (waiting_earlier configs journal)).0 in
-    let old : filter (is_other f) (waiting configs journal) ≡ others = ap (filter (is_other f)) e ∙ without_first first others (subst IsRising e (waiting_rising configs journal)) in
+    let old : filter (is_other f) (waiting configs journal) ≡ others =
+    ap (filter (is_other f)) e ∙ without_first first others (subst IsRising e (waiting_rising configs journal)) in
     let still : filter (is_other f) new ≡ new =
-    filter_each (is_other f) new (Each-weaker (IsOf k 0) (λ w. is_other f w ≡ true) (λ w of. ap not (entry_apart w.name f (later w.name.entry earlier of.0))) new (sent_of configs m k 0 outputs)) in
+    filter_each (is_other f) new (Each-weaker (IsOf k 0) (λ w. is_other f w ≡ true) (λ w of. ap not (entry_apart w.name f (later w.name.entry earlier of.0)))
+    new (sent_of configs m k 0 outputs)) in
     filter_twice (λ w. same_name w.name f) (λ w. list_any (names w.name) journal) (frames configs journal ++ new)
-    ∙ ap (filter (is_other f)) (filter-append (is_free journal) (frames configs journal) new ∙ ap (λ l. waiting configs journal ++ l) (new_wait configs m outputs journal h))
+    ∙ ap (filter (is_other f)) (filter-append (is_free journal) (frames configs journal) new
+    ∙ ap (λ l. waiting configs journal ++ l) (new_wait configs m outputs journal h))
     ∙ filter-append (is_other f) (waiting configs journal) new
     ∙ ap (λ l. l ++ filter (is_other f) new) old
     ∙ ap (λ l. others ++ l) still where

@@ -13,9 +13,11 @@ use Rattle.cip_console.specs.declared.waiting.Waiting.{Waiting}
 use Rattle.cip_console.specs.declared.links.Node.{Node}
 use Rattle.cip_console.specs.Links.{own_port, node}
 
--- An event at a module and its outputs, with the frame's name where the event is a frame's arrival; or the loss of a frame.
+-- An event at a module and its outputs, with the frame's name where the event is a frame's arrival;
+-- or the loss of a frame.
 pub data Entry : Type 0 where
-  Happened : (m : ℕ) → (arrived : Option FrameName) → (event : Event) → (outputs : List Output) → Entry
+  Happened : (m : ℕ) → (arrived : Option FrameName) → (event : Event) → (outputs : List Output)
+      → Entry
   Lost : (frame : FrameName) → Entry
 
 -- A journal is a list of entries, the newest first. They are numbered from 0, the oldest.
@@ -27,11 +29,19 @@ abbrev pub waiting_at : FrameName → Body → Option PortConfig → Option Node
 waiting_at name body None there = None
 waiting_at name body (Some own) None = None
 waiting_at name body (Some own) (Some there) =
-    Some (record { name = name; place = there.place; port = there.port; from = own.address; body = body })
+    Some (record {
+      name = name;
+      place = there.place;
+      port = there.port;
+      from = own.address;
+      body =
+          body;
+    })
 
 -- the frame that an output of module m sends, where some module has its address
 abbrev pub frame_of : List ModuleSettings → ℕ → FrameName → Output → Option Waiting
-frame_of configs m name (Send port to body) = waiting_at name body (own_port configs m port) (node configs m port to)
+frame_of configs m name (Send port to body) =
+    waiting_at name body (own_port configs m port) (node configs m port to)
 frame_of configs m name (Done op reply) = None
 frame_of configs m name (Refused fault) = None
 frame_of configs m name (Consumed triad instance bytes) = None
@@ -43,7 +53,8 @@ frame_of configs m name (Dropped reason) = None
 abbrev pub sent : List ModuleSettings → ℕ → ℕ → ℕ → List Output → List Waiting
 sent configs m k i [] = []
 sent configs m k i (output ∷ outputs) =
-    option_to_list (frame_of configs m (record { entry = k; output = i }) output) ++ sent configs m k (i + 1) outputs
+    option_to_list (frame_of configs m (record { entry = k; output = i }) output)
+    ++ sent configs m k (i + 1) outputs
 
 abbrev pub sent_in : List ModuleSettings → ℕ → Entry → List Waiting
 sent_in configs k (Happened m arrived event outputs) = sent configs m k 0 outputs
@@ -68,7 +79,8 @@ names f (Lost g) = same_name f g
 
 -- the frames that go to some module and that no entry names as arrived or lost, in rising name
 abbrev pub waiting : List ModuleSettings → Journal → List Waiting
-waiting configs journal = filter (λ w. not (list_any (names w.name) journal)) (frames configs journal)
+waiting configs journal = filter (λ w. not (list_any (names w.name) journal))
+    (frames configs journal)
 
 -- the event that a waiting frame is where it arrives
 abbrev pub arrival : Waiting → Event
@@ -81,5 +93,6 @@ IsBefore k (Some f) = f.entry < k
 -- each frame that an entry names is of an earlier entry
 abbrev pub NamesEarlier : Journal → Type 0
 NamesEarlier [] = Unit {0}
-NamesEarlier (Happened m arrived event outputs ∷ journal) = IsBefore (length journal) arrived × NamesEarlier journal
+NamesEarlier (Happened m arrived event outputs ∷ journal) =
+    IsBefore (length journal) arrived × NamesEarlier journal
 NamesEarlier (Lost f ∷ journal) = (f.entry < length journal) × NamesEarlier journal

@@ -23,13 +23,15 @@ bytes_text bytes = if length bytes == 0 then codes "-" else encode_upper bytes
 
 -- `request NUMBER BYTES` and the like
 abbrev pub body_text : Body → List ℕ
-body_text (Request number bytes) = codes "request " ++ decimal number ++ codes " " ++ bytes_text bytes
+body_text (Request number bytes) = codes "request " ++ decimal number ++ codes " "
+    ++ bytes_text bytes
 body_text (Reply number bytes) = codes "reply " ++ decimal number ++ codes " " ++ bytes_text bytes
 body_text (Data id bytes) = codes "data " ++ decimal id ++ codes " " ++ bytes_text bytes
 
 -- the serial number, the vendor, and the originator's serial number
 abbrev pub triad_text : Triad → List ℕ
-triad_text triad = decimal triad.serial ++ codes " " ++ decimal triad.vendor ++ codes " " ++ decimal triad.originator
+triad_text triad = decimal triad.serial ++ codes " " ++ decimal triad.vendor ++ codes " "
+    ++ decimal triad.originator
 
 abbrev pub refusal_text : Refusal → List ℕ
 refusal_text OpUsed = codes "OpUsed"
@@ -45,10 +47,13 @@ drop_text UnknownId = codes "UnknownId"
 drop_text dropped.WrongSize = codes "WrongSize"
 
 abbrev pub output_text : Output → List ℕ
-output_text (Send port to body) = codes "send " ++ decimal port ++ codes " " ++ bytes_text to ++ codes " " ++ body_text body
+output_text (Send port to body) = codes "send " ++ decimal port ++ codes " " ++ bytes_text to
+    ++ codes " " ++ body_text body
 output_text (Done op reply) = codes "done " ++ decimal op ++ codes " " ++ bytes_text reply
 output_text (Refused fault) = codes "refused " ++ refusal_text fault
-output_text (Consumed triad instance bytes) = codes "consumed " ++ triad_text triad ++ codes " " ++ decimal instance ++ codes " " ++ bytes_text bytes
+output_text (Consumed triad instance bytes) =
+    codes "consumed " ++ triad_text triad ++ codes " " ++ decimal instance ++ codes " "
+    ++ bytes_text bytes
 output_text (Arrived op bytes) = codes "arrived " ++ decimal op ++ codes " " ++ bytes_text bytes
 output_text (Expired triad) = codes "expired " ++ triad_text triad
 output_text (Dropped reason) = codes "dropped " ++ drop_text reason
@@ -96,5 +101,6 @@ head_text k name what = decimal k ++ codes " " ++ name ++ codes " " ++ what ++ c
 
 -- entry k: its own line, and one for each output; the names are those of the modules
 abbrev pub entry_text : List (List ℕ) → ℕ → Entry → List ℕ
-entry_text names k (Happened m arrived event outputs) = head_text k (name_of names m) (event_text arrived event) ++ outputs_text 0 outputs
+entry_text names k (Happened m arrived event outputs) =
+    head_text k (name_of names m) (event_text arrived event) ++ outputs_text 0 outputs
 entry_text names k (Lost frame) = decimal k ++ codes " lost " ++ frame_text frame ++ codes "\n"

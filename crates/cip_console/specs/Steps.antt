@@ -1,5 +1,5 @@
--- The steps of a script, or its first faulty line. Faults of a line: not text, its first word, the number of its words, and
--- then its words from the left.
+-- The steps of a script, or its first faulty line. Faults of a line: not text, its first word, the
+-- number of its words, and then its words from the left.
 use Rattle.std.specs.Prelude.{◌≡◌, ℕ, ◌+◌, ◌^◌, List, [], ◌∷◌, map, length, codes, nat_lt, ◌==◌, slice_index, slice_index_or, if◌then◌else◌, Option, Some, None, Result, Ok, Err}
 use Rattle.std.specs.Str.{bytes_eq}
 use Rattle.std.specs.Str.Lines.{lines}
@@ -25,7 +25,8 @@ abbrev pub texts : List (Bor (List ℕ)) → List (List ℕ)
 texts = map (λ part. part.now)
 
 infixl 10 ◌>>=◌
-abbrev pub ◌>>=◌ : {A B : Type 0} → Result A ScriptFault → (A → Result B ScriptFault) → Result B ScriptFault
+abbrev pub ◌>>=◌ : {A B : Type 0} → Result A ScriptFault → (A → Result B ScriptFault)
+    → Result B ScriptFault
 (Ok x) >>= f = f x
 (Err e) >>= f = Err e
 
@@ -57,7 +58,8 @@ abbrev pub path_of : List ℕ → Result (List ℕ) ScriptFault
 path_of word = bytes_at word >>= λ bytes. if_path (path_at bytes) bytes
 
 -- the words of `send M OP TICK TICKS PATH REQUEST`, from the left
-abbrev pub send_words : List (List ℕ) → List ℕ → List ℕ → List ℕ → List ℕ → List ℕ → List ℕ → Result Step ScriptFault
+abbrev pub send_words : List (List ℕ) → List ℕ → List ℕ → List ℕ → List ℕ → List ℕ → List ℕ
+    → Result Step ScriptFault
 send_words names m o t n p r = do
   m' ← module_of names m
   op ← bounded (2 ^ 32) o
@@ -73,7 +75,8 @@ nth args k = slice_index_or args k []
 
 abbrev pub send_by : List (List ℕ) → List (List ℕ) → Result Step ScriptFault
 send_by names args =
-    if length args == 6 then send_words names (nth args 0) (nth args 1) (nth args 2) (nth args 3) (nth args 4) (nth args 5) else Err Count
+    if length args == 6 then send_words names (nth args 0) (nth args 1) (nth args 2) (nth args 3)
+    (nth args 4) (nth args 5) else Err Count
 
 -- `run N`
 abbrev pub run_by : List (List ℕ) → Result Step ScriptFault
@@ -98,10 +101,12 @@ words_step names (word ∷ args) = some_step (step_by names word args)
 -- a comment and a line without words do nothing
 unfoldable pub line_step : List (List ℕ) → List ℕ → Result (Option Step) ScriptFault
 line_step names line =
-    if list_all (λ b. nat_lt b 128) line then (if slice_index line 0 == 35 then Ok None else words_step names (words_of line))
+    if list_all (λ b. nat_lt b 128) line then
+    (if slice_index line 0 == 35 then Ok None else words_step names (words_of line))
     else Err NotText
 
-abbrev pub with_step : ℕ → Result (Option Step) ScriptFault → Result (List Numbered) (ℕ × ScriptFault) → Result (List Numbered) (ℕ × ScriptFault)
+abbrev pub with_step : ℕ → Result (Option Step) ScriptFault
+    → Result (List Numbered) (ℕ × ScriptFault) → Result (List Numbered) (ℕ × ScriptFault)
 with_step n (Err fault) rest = Err (n, fault)
 with_step n (Ok None) rest = rest
 with_step n (Ok (Some step)) (Ok more) = Ok (record { line = n; step = step } ∷ more)
@@ -110,7 +115,8 @@ with_step n (Ok (Some step)) (Err fault) = Err fault
 -- the lines from line n on
 abbrev pub steps_from : List (List ℕ) → ℕ → List (List ℕ) → Result (List Numbered) (ℕ × ScriptFault)
 steps_from names n [] = Ok []
-steps_from names n (line ∷ more) = with_step n (line_step names line) (steps_from names (n + 1) more)
+steps_from names n (line ∷ more) = with_step n (line_step names line)
+    (steps_from names (n + 1) more)
 
 -- the steps of a script with their lines, or the first faulty line with its fault
 abbrev pub steps : List (List ℕ) → List ℕ → Result (List Numbered) (ℕ × ScriptFault)
@@ -129,6 +135,7 @@ abbrev pub StepsFail : {Y : Type 0} → StepsFault → Result Y (ℕ × ScriptFa
 StepsFail steps_fault.NoMemory read = Unit {0}
 StepsFail (steps_fault.Script line fault) read = read ≡ Err (line, fault)
 
-abbrev pub Reads : {V : Type 0} → (V → List Numbered) → Result V StepsFault → Result (List Numbered) (ℕ × ScriptFault) → Type 0
+abbrev pub Reads : {V : Type 0} → (V → List Numbered) → Result V StepsFault
+    → Result (List Numbered) (ℕ × ScriptFault) → Type 0
 Reads view (Ok v) read = read ≡ Ok (view v)
 Reads view (Err e) read = StepsFail e read

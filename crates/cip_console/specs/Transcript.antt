@@ -9,7 +9,7 @@ use Rattle.cip_console.specs.declared.steps.Step.TheVariants.{Send, Run as RunSt
 use Rattle.cip_console.specs.declared.steps.Numbered.{Numbered}
 use Rattle.cip_console.specs.declared.waiting.Waiting.{Waiting}
 use Rattle.cip_console.specs.Journal.{Entry, waiting}
-use Rattle.cip_console.specs.Runs.{Run, opening_run, happened, delivered}
+use Rattle.cip_console.specs.Runs.{Run, initial_run, happened, delivered}
 use Rattle.cip_console.specs.Show.{entry_text}
 
 abbrev pub names_of : List ModuleSettings → List (List ℕ)
@@ -44,12 +44,14 @@ shown names (Some run) = record { text = newest names run.journal; after = Some 
 -- the arrival of the first that waits, and then the rest; nothing where none waits
 abbrev pub first_delivered : List ModuleSettings → Run → List Waiting → (Run → Part) → Part
 first_delivered configs run [] rest = record { text = []; after = Some run }
-first_delivered configs run (first ∷ others) rest = then_ (shown (names_of configs) (delivered configs run first)) rest
+first_delivered configs run (first ∷ others) rest =
+    then_ (shown (names_of configs) (delivered configs run first)) rest
 
 -- the waiting frame of least name is delivered, up to n times
 unfoldable pub deliveries : List ModuleSettings → ℕ → Run → Part
 deliveries configs zero run = record { text = []; after = Some run }
-deliveries configs (suc n) run = first_delivered configs run (waiting configs run.journal) (deliveries configs n)
+deliveries configs (suc n) run = first_delivered configs run (waiting configs run.journal)
+    (deliveries configs n)
 
 -- whether a frame is left that waits
 abbrev pub end_text : List Waiting → List ℕ
@@ -61,7 +63,8 @@ ended configs run = record { text = end_text (waiting configs run.journal); afte
 
 -- a command to module m
 abbrev pub fed : List ModuleSettings → Run → ℕ → Command → Part
-fed configs run m command = shown (names_of configs) (happened configs run m None (events.Command command))
+fed configs run m command = shown (names_of configs)
+    (happened configs run m None (events.Command command))
 
 -- `run N`: up to so many deliveries, and whether a frame is left that waits
 abbrev pub ran : List ModuleSettings → ℕ → Run → Part
@@ -69,16 +72,18 @@ ran configs limit run = then_ (deliveries configs limit run) (ended configs)
 
 -- one step of a script
 abbrev pub played : List ModuleSettings → Run → Step → Part
-played configs run (Send m op timing path asked) = fed configs run m.0 (commands.Send op timing path asked)
+played configs run (Send m op timing path asked) =
+    fed configs run m.0 (commands.Send op timing path asked)
 played configs run (RunStep limit) = ran configs limit run
 
 abbrev pub played_all : List ModuleSettings → Run → List Numbered → Part
 played_all configs run [] = record { text = []; after = Some run }
-played_all configs run (numbered ∷ more) = then_ (played configs run numbered.step) (λ next. played_all configs next more)
+played_all configs run (numbered ∷ more) =
+    then_ (played configs run numbered.step) (λ next. played_all configs next more)
 
--- what these steps print, from the opening states on
+-- what these steps print, from the initial states on
 abbrev pub transcript : List ModuleSettings → List Numbered → List ℕ
-transcript configs steps = (played_all configs (opening_run configs) steps).text
+transcript configs steps = (played_all configs (initial_run configs) steps).text
 
 abbrev pub stop_after : ℕ → Option Run → (Run → Option ℕ) → Option ℕ
 stop_after line None rest = Some line
@@ -87,8 +92,9 @@ stop_after line (Some run) rest = rest run
 abbrev pub stop_from : List ModuleSettings → Run → List Numbered → Option ℕ
 stop_from configs run [] = None
 stop_from configs run (numbered ∷ more) =
-    stop_after numbered.line (played configs run numbered.step).after (λ next. stop_from configs next more)
+    stop_after numbered.line (played configs run numbered.step).after
+    (λ next. stop_from configs next more)
 
 -- the line at which these steps stop for a full clock
 abbrev pub stop_of : List ModuleSettings → List Numbered → Option ℕ
-stop_of configs steps = stop_from configs (opening_run configs) steps
+stop_of configs steps = stop_from configs (initial_run configs) steps

@@ -1,8 +1,8 @@
 //! The fixed chassis: a scanner S, and the bridges A and B.
 ghost use Rattle.std.specs.Prelude.{◌≡◌, ◌∷◌, ◌++◌, [], ◌<◌, IfOk, OnOk, IsTrue, map};
 ghost use Rattle.cip_module.specs.Config.{is_settings};
-ghost use Rattle.cip_module.specs.Node.{config_of_plain, state_of_plain};
-ghost use Rattle.cip_module.specs.State.{opening};
+ghost use Rattle.cip_module.specs.Code.Node.{config_of_plain, state_of_plain};
+ghost use Rattle.cip_module.specs.State.{initial_state};
 ghost use Rattle.cip_module.specs.declared.config.ModuleKind.{ModuleKind as Kind};
 ghost use Rattle.cip_target.specs.Identity.{is_identity};
 ghost use Rattle.cip_console.specs.Chassis.{port_on, plain_settings, scanner, first_bridge, second_bridge, fixed_configs};
@@ -73,8 +73,12 @@ struct Device<'a> {
 }
 
 fn identity(alloc: Global, device: &Device<'_>) -> Result<Identity, NoMemory>
-    requires { IsTrue (is_identity (plain_settings device.now.name.now device.now.device_type device.now.product device.now.serial device.now.product_name.now device.now.first_id []).identity) }
-    ensures { IfOk result (λ i. i ≡ (plain_settings device.now.name.now device.now.device_type device.now.product device.now.serial device.now.product_name.now device.now.first_id []).identity) }
+    requires { IsTrue
+        (is_identity (plain_settings device.now.name.now device.now.device_type device.now.product
+        device.now.serial device.now.product_name.now device.now.first_id []).identity) }
+    ensures { IfOk result (λ i. i ≡
+        (plain_settings device.now.name.now device.now.device_type device.now.product
+        device.now.serial device.now.product_name.now device.now.first_id []).identity) }
 {
     let fields = IdentityFields {
         vendor: 0x0101,
@@ -97,8 +101,12 @@ fn settings(
     device: &Device<'_>,
     ports: Vec<PortConfig>,
 ) -> Result<ModuleSettings, NoMemory>
-    requires { IsTrue (is_identity (plain_settings device.now.name.now device.now.device_type device.now.product device.now.serial device.now.product_name.now device.now.first_id []).identity) }
-    ensures { IfOk result (λ s. s ≡ plain_settings device.now.name.now device.now.device_type device.now.product device.now.serial device.now.product_name.now device.now.first_id ports.items) }
+    requires { IsTrue
+        (is_identity (plain_settings device.now.name.now device.now.device_type device.now.product
+        device.now.serial device.now.product_name.now device.now.first_id []).identity) }
+    ensures { IfOk result (λ s. s ≡ plain_settings device.now.name.now device.now.device_type
+        device.now.product device.now.serial device.now.product_name.now device.now.first_id
+        ports.items) }
 {
     Ok(ModuleSettings {
         name: Bytes::of(Vec::from_slice(alloc, device.name)?),
@@ -164,7 +172,7 @@ fn second_bridge(alloc: Global) -> Result<ModuleSettings, NoMemory>
     settings(alloc, &device, ports)
 }
 
-// One more module, in the opening state of these settings.
+// One more module, in the initial state of these settings.
 fn add(
     alloc: Global,
     modules: &mut Vec<PlainModule>,
@@ -172,8 +180,10 @@ fn add(
 ) -> Result<(), NoMemory>
     requires legal { IsTrue (is_settings settings) }
     requires plain { settings.kind ≡ ModuleKind.Plain }
-    ensures configs { OnOk result (configs_in modules.new.items ≡ configs_in modules.old.items ++ settings ∷ []) }
-    ensures states { OnOk result (states_in modules.new.items ≡ states_in modules.old.items ++ opening settings ∷ []) }
+    ensures configs { OnOk result (configs_in modules.new.items ≡ configs_in modules.old.items
+        ++ settings ∷ []) }
+    ensures states { OnOk result (states_in modules.new.items ≡ states_in modules.old.items
+        ++ initial_state settings ∷ []) }
 {
     let Some(config) = ModuleConfig::new(settings) else {
         unreachable!()
@@ -183,11 +193,11 @@ fn add(
     Ok(())
 }
 
-/// The modules of the fixed chassis, in their order and their opening states.
+/// The modules of the fixed chassis, in their order and their initial states.
 #[tactic(auto, unfolding(crate::specs::Chassis::fixed_configs))]
 pub(crate) fn fixed_chassis(alloc: Global) -> Result<Vec<PlainModule>, NoMemory>
     ensures configs { IfOk result (λ v. configs_in v.items ≡ fixed_configs) }
-    ensures states { IfOk result (λ v. states_in v.items ≡ map opening fixed_configs) }
+    ensures states { IfOk result (λ v. states_in v.items ≡ map initial_state fixed_configs) }
 {
     let mut modules = Vec::new(alloc);
     add(alloc, &mut modules, scanner(alloc)?)?;

@@ -7,8 +7,6 @@ mod run;
 mod show;
 mod source;
 mod steps;
-#[cfg(test)]
-mod tests;
 mod text;
 mod waiting;
 mod world;

@@ -4,7 +4,7 @@ ghost use Rattle.cip_console.specs.Chassis.{fixed_configs};
 ghost use Rattle.cip_console.specs.Known.{AppendsFront};
 ghost use Rattle.cip_console.specs.Outcome.{Wrote, WroteOf};
 ghost use Rattle.cip_console.specs.Playing.{Prints, Plays};
-ghost use Rattle.cip_console.specs.Runs.{Run as RunOf, opening_run};
+ghost use Rattle.cip_console.specs.Runs.{Run as RunOf, initial_run};
 ghost use Rattle.cip_console.specs.Steps.{steps};
 ghost use Rattle.cip_console.specs.Transcript.{deliveries, end_text, fed, ran, played, names_of};
 ghost use Rattle.cip_console.specs.Worlds.{StandsAt, configs_of, standing_of};
@@ -24,8 +24,8 @@ use thiserror::Error;
 /// Why a script was not run to its end.
 #[derive(Clone, Copy, Debug, PartialEq, Eq, Error)]
 pub enum ConsoleFault {
-    /// The first faulty line, from 1, and its fault. Nothing was written, but for ClockFull: that comes in the run, after the
-    /// transcript so far.
+    /// The first faulty line, from 1, and its fault. Nothing was written, but for ClockFull: that
+    /// comes in the run, after the transcript so far.
     #[error("line {0}: {1}")]
     Script(usize, ScriptFault),
     /// The script can't be read, or has more than 1,048,576 bytes. Nothing was written.
@@ -59,7 +59,7 @@ impl From<NoMemory> for ConsoleFault {
 #[derive(Clone, Copy, Debug, PartialEq, Eq)]
 pub(crate) enum PlayFault {
     /// The clock is full.
-    Full,
+    NoStep,
     Write,
     NoMemory,
 }
@@ -69,9 +69,11 @@ const FULL: usize = 32_768;
 
 // Writes the text that was gathered, once there is enough of it.
 fn flush<W: Sink>(writer: &mut W, text: &mut Vec<u8>, least: usize) -> Result<(), WriteFault>
-    ensures ok { OnOk result (Prints (W.contents writer.old) (W.contents writer.new) text.old.items text.new.items []) }
+    ensures ok { OnOk result (Prints (W.contents writer.old) (W.contents writer.new) text.old.items
+        text.new.items []) }
     ensures all { OnOk result (least ≡ 0 → text.new.items ≡ []) }
-    ensures err { OnErr result (AppendsFront (W.contents writer.old) (W.contents writer.new) text.old.items) }
+    ensures err { OnErr result (AppendsFront (W.contents writer.old) (W.contents writer.new)
+        text.old.items) }
     ensures refused { OnErr result (W.has_refused writer.new) }
 {
     if text.len() >= least {
@@ -90,7 +92,9 @@ fn deliver<W: Sink>(
 ) -> Result<(), PlayFault>
     ensures configs { configs_of world.new ≡ configs_of world.old }
     ensures plays { (run : RunOf) → StandsAt (configs_of world.old) (standing_of world.old) run
-        → Plays (configs_of world.old) (deliveries (configs_of world.old) limit run) (W.contents writer.old) (W.contents writer.new) text.old.items text.new.items (standing_of world.new) result }
+        → Plays (configs_of world.old) (deliveries (configs_of world.old) limit run)
+        (W.contents writer.old) (W.contents writer.new) text.old.items text.new.items
+        (standing_of world.new) result }
     ensures write { result ≡ Err PlayFault.Write → W.has_refused writer.new }
 {
     for i in 0..limit {
@@ -102,7 +106,7 @@ fn deliver<W: Sink>(
                 Ok(()) => {}
                 Err(WriteFault) => return Err(PlayFault::Write),
             },
-            Err(HappenFault::Full) => return Err(PlayFault::Full),
+            Err(HappenFault::NoStep) => return Err(PlayFault::NoStep),
             Err(HappenFault::NoMemory) => return Err(PlayFault::NoMemory),
         }
     }
@@ -130,7 +134,9 @@ fn feed<W: Sink>(
 ) -> Result<(), PlayFault>
     ensures configs { configs_of world.new ≡ configs_of world.old }
     ensures plays { (run : RunOf) → StandsAt (configs_of world.old) (standing_of world.old) run
-        → Plays (configs_of world.old) (fed (configs_of world.old) run place command) (W.contents writer.old) (W.contents writer.new) text.old.items text.new.items (standing_of world.new) result }
+        → Plays (configs_of world.old) (fed (configs_of world.old) run place command)
+        (W.contents writer.old) (W.contents writer.new) text.old.items text.new.items
+        (standing_of world.new) result }
     ensures write { result ≡ Err PlayFault.Write → W.has_refused writer.new }
 {
     match world.happen(place, None, Event::Command(command), text) {
@@ -138,7 +144,7 @@ fn feed<W: Sink>(
             Ok(()) => Ok(()),
             Err(WriteFault) => Err(PlayFault::Write),
         },
-        Err(HappenFault::Full) => Err(PlayFault::Full),
+        Err(HappenFault::NoStep) => Err(PlayFault::NoStep),
         Err(HappenFault::NoMemory) => Err(PlayFault::NoMemory),
     }
 }
@@ -152,7 +158,9 @@ fn run<W: Sink>(
 ) -> Result<(), PlayFault>
     ensures configs { configs_of world.new ≡ configs_of world.old }
     ensures plays { (run : RunOf) → StandsAt (configs_of world.old) (standing_of world.old) run
-        → Plays (configs_of world.old) (ran (configs_of world.old) limit run) (W.contents writer.old) (W.contents writer.new) text.old.items text.new.items (standing_of world.new) result }
+        → Plays (configs_of world.old) (ran (configs_of world.old) limit run)
+        (W.contents writer.old) (W.contents writer.new) text.old.items text.new.items
+        (standing_of world.new) result }
     ensures write { result ≡ Err PlayFault.Write → W.has_refused writer.new }
 {
     match deliver(world, limit, writer, text) {
@@ -173,7 +181,9 @@ fn play<W: Sink>(
 ) -> Result<(), PlayFault>
     ensures configs { configs_of world.new ≡ configs_of world.old }
     ensures plays { (run : RunOf) → StandsAt (configs_of world.old) (standing_of world.old) run
-        → Plays (configs_of world.old) (played (configs_of world.old) run step) (W.contents writer.old) (W.contents writer.new) text.old.items text.new.items (standing_of world.new) result }
+        → Plays (configs_of world.old) (played (configs_of world.old) run step)
+        (W.contents writer.old) (W.contents writer.new) text.old.items text.new.items
+        (standing_of world.new) result }
     ensures write { result ≡ Err PlayFault.Write → W.has_refused writer.new }
 {
     match step {
@@ -196,15 +206,17 @@ fn play<W: Sink>(
     }
 }
 
-// All steps of a script, from the opening states on.
+// All steps of a script, from the initial states on.
 fn run_steps<W: Sink>(
     alloc: Global,
     world: &mut World,
     steps: Vec<Numbered>,
     writer: &mut W,
 ) -> Result<(), ConsoleFault>
-    requires { StandsAt (configs_of world.old) (standing_of world.old) (opening_run (configs_of world.old)) }
-    ensures wrote { Wrote (configs_of world.old) (W.contents writer.old) (W.contents writer.new) (Ok steps.items) result }
+    requires { StandsAt (configs_of world.old) (standing_of world.old)
+        (initial_run (configs_of world.old)) }
+    ensures wrote { Wrote (configs_of world.old) (W.contents writer.old) (W.contents writer.new)
+        (Ok steps.items) result }
     ensures read { result ≢ Err ConsoleFault.Read }
     ensures write { result ≡ Err ConsoleFault.Write → W.has_refused writer.new }
 {
@@ -214,7 +226,7 @@ fn run_steps<W: Sink>(
         let line = numbered.line;
         match play(world, numbered.step, writer, &mut text) {
             Ok(()) => {}
-            Err(PlayFault::Full) => match flush(writer, &mut text, 0) {
+            Err(PlayFault::NoStep) => match flush(writer, &mut text, 0) {
                 Ok(()) => return Err(ConsoleFault::Script(line, ScriptFault::ClockFull)),
                 Err(WriteFault) => return Err(ConsoleFault::Write),
             },
@@ -230,7 +242,8 @@ fn run_steps<W: Sink>(
 
 // Reads the steps of a script, and runs them over the fixed chassis.
 fn run_script<W: Sink>(alloc: Global, script: &[u8], writer: &mut W) -> Result<(), ConsoleFault>
-    ensures wrote { Wrote fixed_configs (W.contents writer.old) (W.contents writer.new) (steps (names_of fixed_configs) script.now) result }
+    ensures wrote { Wrote fixed_configs (W.contents writer.old) (W.contents writer.new)
+        (steps (names_of fixed_configs) script.now) result }
     ensures read { result ≢ Err ConsoleFault.Read }
     ensures write { result ≡ Err ConsoleFault.Write → W.has_refused writer.new }
 {
@@ -246,17 +259,21 @@ fn run_script<W: Sink>(alloc: Global, script: &[u8], writer: &mut W) -> Result<(
     }
 }
 
-/// Reads a whole script of the words `send` and `run`, runs it over the fixed chassis of the scanner S and the bridges A
-/// and B, and writes the transcript. The reader is asked at most 1,048,577 times.
+/// Reads a whole script of the words `send` and `run`, runs it over the fixed chassis of the
+/// scanner S and the bridges A and B, and writes the transcript. The reader is asked at most
+/// 1,048,577 times.
 pub fn run_fixed<R: Source, W: Sink>(
     alloc: Global,
     reader: &mut R,
     writer: &mut W,
 ) -> Result<(), ConsoleFault>
     // What was written of the script that was read, by the answer.
-    ensures wrote { WroteOf fixed_configs (R.remaining reader.old) (W.contents writer.old) (W.contents writer.new) result }
+    ensures wrote { WroteOf fixed_configs (R.remaining reader.old) (W.contents writer.old)
+        (W.contents writer.new) result }
     // Read only where the reader failed or has too much.
-    ensures read { result ≡ Err ConsoleFault.Read → R.has_failed reader.new ⊎ IfSome (R.remaining reader.old) (λ bytes. SCRIPT_LIMIT < length bytes) }
+    ensures read { result ≡ Err ConsoleFault.Read
+        → R.has_failed reader.new ⊎ IfSome (R.remaining reader.old)
+        (λ bytes. SCRIPT_LIMIT < length bytes) }
     // Write only where the writer failed or took no byte.
     ensures write { result ≡ Err ConsoleFault.Write → W.has_refused writer.new }
     ensures asked { R.asks reader.new ≤ R.asks reader.old + 1048577 }

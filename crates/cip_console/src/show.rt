@@ -84,7 +84,8 @@ fn drop_text(reason: Dropped) -> &'static str
 }
 
 fn send_text(alloc: Global, port: PortNumber, to: &Address, body: &Body) -> Result<String, NoMemory>
-    ensures { IfOk result (λ text. string_bytes text ≡ output_text (Output.Send port to.now body.now)) }
+    ensures { IfOk result (λ text. string_bytes text
+        ≡ output_text (Output.Send port to.now body.now)) }
 {
     let number = port.get();
     let address = bytes_text(alloc, to.as_slice())?;
@@ -112,7 +113,8 @@ fn consumed_text(
     instance: u32,
     bytes: &Bytes,
 ) -> Result<String, NoMemory>
-    ensures { IfOk result (λ text. string_bytes text ≡ output_text (Output.Consumed triad.now instance bytes.now)) }
+    ensures { IfOk result (λ text. string_bytes text
+        ≡ output_text (Output.Consumed triad.now instance bytes.now)) }
 {
     let triad = triad_text(alloc, triad)?;
     let bytes = bytes_text(alloc, bytes.as_slice())?;

@@ -1,4 +1,5 @@
-//! Where a script comes from and where a transcript goes to, with what failed and how often it was asked.
+//! Where a script comes from and where a transcript goes to, with what failed and how often it was
+//! asked.
 
 ghost use Rattle.std.specs.Prelude.{◌≡◌, ℕ, ◌+◌, ◌<◌, ◌≤◌, List, Option, Some, IfOk, OnOk, OnErr, IfSome, length};
 ghost use Rattle.std.specs.Io.{ReadsAtMost, WritesAtMost};
@@ -86,9 +87,11 @@ impl From<AllocError> for ReadFault {
 
 /// All that a source has left, at most `SCRIPT_LIMIT` bytes.
 pub fn read_script<S: Source>(alloc: Global, reader: &mut S) -> Result<Vec<u8>, ReadFault>
-    ensures whole { IfOk result (λ script. IfSome (S.remaining reader.old) (λ bytes. script.items ≡ bytes)) }
+    ensures whole { IfOk result (λ script. IfSome (S.remaining reader.old)
+        (λ bytes. script.items ≡ bytes)) }
     ensures limit { IfOk result (λ script. length script.items ≤ SCRIPT_LIMIT) }
-    ensures too_long { result ≡ Err ReadFault.TooLong → IfSome (S.remaining reader.old) (λ bytes. SCRIPT_LIMIT < length bytes) }
+    ensures too_long { result ≡ Err ReadFault.TooLong
+        → IfSome (S.remaining reader.old) (λ bytes. SCRIPT_LIMIT < length bytes) }
     ensures failed { result ≡ Err ReadFault.Failed → S.has_failed reader.new }
     ensures asked { S.asks reader.new ≤ S.asks reader.old + ASKS }
 {

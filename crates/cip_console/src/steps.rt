@@ -178,7 +178,8 @@ fn send_words(
     path: &str,
     request: &str,
 ) -> Result<Step, StepFault>
-    ensures { Gives result (send_words names.now name.now op.now timing.entry.0.now timing.entry.1.now path.now request.now) }
+    ensures { Gives result (send_words names.now name.now op.now timing.entry.0.now
+        timing.entry.1.now path.now request.now) }
 {
     let module_ = module_of(names, name)?;
     let op = number_u32(op)?;

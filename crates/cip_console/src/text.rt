@@ -48,7 +48,8 @@ ghost use Rattle.std.specs.List.{slice_split};
 
 /// The parts between newlines.
 fn parts_of(alloc: Global, script: &[u8]) -> Result<Vec<&[u8]>, AllocError>
-    ensures { IfOk result (λ v. map (λ part. part.now) v.items ≡ slice_split is_newline script.now) }
+    ensures { IfOk result (λ v. map (λ part. part.now) v.items
+        ≡ slice_split is_newline script.now) }
 {
     script.split(|byte| *byte == b'\n').collect(alloc)
 }

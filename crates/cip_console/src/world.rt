@@ -1,7 +1,7 @@
 //! The modules of a chassis and the frames that wait between them.
 ghost use Rattle.std.specs.Prelude.{◌≡◌, ◌==◌, ◌++◌, [], length, option_to_list, OnOk, IfNone, Some};
 ghost use Rattle.std.specs.Option.{option_copied};
-ghost use Rattle.cip_module.specs.Node.{config_of_plain, state_of_plain};
+ghost use Rattle.cip_module.specs.Code.Node.{config_of_plain, state_of_plain};
 ghost use Rattle.cip_console.specs.Journal.{frame_of, sent, arrival};
 ghost use Rattle.cip_console.specs.Show.{name_of};
 ghost use Rattle.cip_console.specs.Transcript.{names_of};
@@ -19,8 +19,9 @@ use std::collections::VecDeque;
 /// Why an event did not happen.
 #[derive(Clone, Copy, Debug, PartialEq, Eq)]
 pub(crate) enum HappenFault {
-    /// The clock is full, and nothing was done.
-    Full,
+    /// The routing table has no step there, and nothing was done: the clock is full, or there is no
+    /// module at that place.
+    NoStep,
     NoMemory,
 }
 
@@ -72,7 +73,8 @@ fn queue_frame(
     output: Output,
     waiting: &mut VecDeque<Waiting>,
 ) -> Result<(), NoMemory>
-    ensures { OnOk result (waiting.new.items ≡ waiting.old.items ++ option_to_list (frame_of (configs_in modules.now) from name output)) }
+    ensures { OnOk result (waiting.new.items ≡ waiting.old.items
+        ++ option_to_list (frame_of (configs_in modules.now) from name output)) }
 {
     if let Some(frame) = frame_of(modules, from, name, output) {
         waiting.push_back(frame)?;
@@ -88,7 +90,8 @@ fn queue_frames(
     outputs: Vec<Output>,
     waiting: &mut VecDeque<Waiting>,
 ) -> Result<(), NoMemory>
-    ensures { OnOk result (waiting.new.items ≡ waiting.old.items ++ sent (configs_in modules.now) from entry 0 outputs.items) }
+    ensures { OnOk result (waiting.new.items ≡ waiting.old.items
+        ++ sent (configs_in modules.now) from entry 0 outputs.items) }
 {
     let count = outputs.len();
     let mut left = VecDeque::from(outputs);
@@ -103,12 +106,13 @@ fn queue_frames(
 // One step of a module.
 fn step_of(stepped: &mut PlainModule, event: Event) -> Result<Vec<Output>, HappenFault>
     ensures config { config_of_plain stepped.new ≡ config_of_plain stepped.old }
-    ensures steps { StepsAs (λ v. v.items) (config_of_plain stepped.old) (state_of_plain stepped.old) event (state_of_plain stepped.new) result }
+    ensures steps { StepsAs (λ v. v.items) (config_of_plain stepped.old)
+        (state_of_plain stepped.old) event (state_of_plain stepped.new) result }
 {
     match stepped.step(event) {
         Ok(outputs) => Ok(outputs),
         Err(StepFault::NoMemory(_)) => Err(HappenFault::NoMemory),
-        Err(StepFault::ClockFull(_)) => Err(HappenFault::Full),
+        Err(StepFault::ClockFull(_)) => Err(HappenFault::NoStep),
     }
 }
 
@@ -119,10 +123,11 @@ fn step_at(
     event: Event,
 ) -> Result<Vec<Output>, HappenFault>
     ensures configs { configs_in modules.new.items ≡ configs_in modules.old.items }
-    ensures steps { StepsAt (λ v. v.items) (configs_in modules.old.items) (states_in modules.old.items) place event (states_in modules.new.items) result }
+    ensures steps { StepsAt (λ v. v.items) (configs_in modules.old.items)
+        (states_in modules.old.items) place event (states_in modules.new.items) result }
 {
     let Some(stepped) = modules.get_mut(place) else {
-        return Err(HappenFault::Full);
+        return Err(HappenFault::NoStep);
     };
     step_of(stepped, event)
 }
@@ -155,7 +160,8 @@ impl World {
     pub(crate) fn take_first(&mut self) -> Option<Waiting>
         ensures first { self.old.waiting.items ≡ option_to_list result ++ self.new.waiting.items }
         ensures none { IfNone result (self.old.waiting.items ≡ []) }
-        ensures rest { standing_of self.new ≡ without (standing_of self.old) self.new.waiting.items }
+        ensures rest { standing_of self.new
+            ≡ without (standing_of self.old) self.new.waiting.items }
         ensures configs { configs_of self.new ≡ configs_of self.old }
     {
         self.waiting.pop_front()
@@ -177,11 +183,13 @@ impl World {
         text: &mut Vec<u8>,
     ) -> Result<(), HappenFault>
         ensures configs { configs_of self.new ≡ configs_of self.old }
-        ensures happens { Happens (configs_of self.old) (standing_of self.old) place arrived event (standing_of self.new) text.old.items text.new.items result }
+        ensures happens { Happens (configs_of self.old) (standing_of self.old) place arrived event
+            (standing_of self.new) text.old.items text.new.items result }
     {
         let what = event_text(self.alloc, arrived, &event)?;
         let outputs = step_at(&mut self.modules, place, event)?;
         let entry = self.entries;
+        // Memory ends long before the numbers of entries do.
         let Some(next) = entry.checked_add(1) else {
             return Err(HappenFault::NoMemory);
         };
@@ -202,7 +210,9 @@ impl World {
     /// The arrival of a frame that waited.
     pub(crate) fn arrive(&mut self, frame: Waiting, text: &mut Vec<u8>) -> Result<(), HappenFault>
         ensures configs { configs_of self.new ≡ configs_of self.old }
-        ensures happens { Happens (configs_of self.old) (standing_of self.old) frame.place (Some frame.name) (arrival frame) (standing_of self.new) text.old.items text.new.items result }
+        ensures happens { Happens (configs_of self.old) (standing_of self.old) frame.place
+            (Some frame.name) (arrival frame) (standing_of self.new) text.old.items text.new.items
+            result }
     {
         let Waiting {
             name,

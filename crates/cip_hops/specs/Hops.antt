@@ -1,11 +1,12 @@
 -- What a table of hops is: a room, the next id, and a finite map from triads to openings and hops.
-use Rattle.std.specs.Prelude.{◌≡◌, ℕ, ◌+◌, ◌^◌, ◌<◌, ◌≤◌, Bool, true, false, not, ◌&&◌, ◌||◌, ◌==◌, List, Option, Some, None, Result, Ok, Err, nat_le, nat_lt, is_some, MatchOption, if◌then◌else◌, find, filter, filter_map, option_and_then}
+use Rattle.std.specs.Prelude.{◌≡◌, ℕ, ◌+◌, ◌<◌, ◌≤◌, Bool, true, false, not, ◌&&◌, ◌||◌, ◌==◌, List, Option, Some, None, Result, Ok, Err, nat_le, nat_lt, is_some, MatchOption, if◌then◌else◌, find, filter, filter_map, option_and_then}
 use Rattle.std.specs.Option.{option_map_or}
 use Rattle.std.specs.Ordering.{is_lt}
 use Rattle.std.specs.FinMap as map
 use Rattle.cip_base.specs.Triads.{triad_cmp}
 use Rattle.cip_base.specs.Words.{LinkAddress, PortIdentifier, ConnectionId, OpNumber, Microseconds}
 use Rattle.cip_base.specs.declared.triad.Triad.{Triad}
+use Rattle.cip_base.specs.declared.limits.TheConstants.{LAST_COUNT}
 use Rattle.cip_clock.specs.Times.{watchdog_us}
 use Rattle.cip_hops.specs.declared.opening.Opening.{Opening}
 use Rattle.cip_hops.specs.declared.opening.OwnIds.{OwnIds}
@@ -75,7 +76,7 @@ abbrev pub refusal : Hops → Triad → ℕ → Option BeginReason
 refusal h triad ids =
     if is_some (map.get h.held triad) then Some Duplicate
     else (if nat_le h.room (map.len h.held) then Some Full
-    else (if nat_lt 4294967296 (h.next + ids) then Some IdsSpent else None))
+    else (if nat_lt (LAST_COUNT + 1) (h.next + ids) then Some IdsSpent else None))
 
 abbrev pub fault_of : BeginReason → Opening → BeginFault
 fault_of Duplicate o = DuplicateOf o
@@ -267,7 +268,7 @@ TellsApart number_of h =
 -- each stands under its own triad, below the next id, and shares no id and no op with another
 pub record IsWithin (h : Hops) : Type 0 where
   pub some : 0 < h.next
-  pub spent : h.next ≤ 2 ^ 32
+  pub spent : h.next ≤ LAST_COUNT + 1
   pub fits : map.len h.held ≤ h.room
   pub triads : (triad : Triad) (x : Held) → map.get h.held triad ≡ Some x → triad_of x ≡ triad
   pub each : (triad : Triad) (x : Held) → map.get h.held triad ≡ Some x → IsHeld h.next x

@@ -9,6 +9,3 @@ mod triads;
 pub use hop::{Held, Hop, Side};
 pub use opening::{BeginFault, BeginReason, HopDown, HopUp, Opening, OwnIds};
 pub use table::HopTable;
-
-#[cfg(test)]
-mod tests;

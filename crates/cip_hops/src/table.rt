@@ -13,7 +13,7 @@ ghost use Rattle.cip_hops.specs.Hops.{refusal, begin_gives, begun, IsOpFree, ope
 use crate::hop::{Change, Held, Hop, Side};
 use crate::opening::{BeginFault, BeginReason, Opening, OwnIds};
 use crate::triads::{TriadIndex, place_after};
-use cip_base::{Address, NoMemory, NumberIndex, PortNumber, Triad};
+use cip_base::{Address, LAST_COUNT, NoMemory, NumberIndex, PortNumber, Triad};
 use core::mem::replace_with;
 use slab::Slab;
 use std::alloc::Global;
@@ -83,7 +83,7 @@ impl HopTable {
             Some(BeginReason::Duplicate)
         } else if self.triads.len() >= self.room {
             Some(BeginReason::Full)
-        } else if self.next + u64::from(ids) > 4_294_967_296 {
+        } else if self.next + u64::from(ids) > LAST_COUNT + 1 {
             Some(BeginReason::IdsSpent)
         } else {
             None
@@ -252,6 +252,14 @@ impl HopTable {
         ensures within { IsWithin self.now }
     {
         (self.next - 1) as u32
+    }
+
+    /// That each record stands under its own triad, and that ids end: a fact for the proof of a
+    /// caller, and no work.
+    pub fn is_within(&self)
+        ensures { IsWithin self.now }
+    {
+        let _last = self.last();
     }
 
     /// What stands under a triad, opening or open.

@@ -18,7 +18,7 @@ use Rattle.cip_hops.specs.Sides.{down_is_link}
 use Rattle.cip_hops.specs.Hops.{Hops, opening_at, as_opening, held_op_of}
 use Rattle.cip_target.specs.Assemblies.{AssemblyMap, Owners}
 use Rattle.cip_module.specs.Paired.{IsAwaited, IsPaired, IsOther}
-use Rattle.cip_module.specs.Fit.{writes_of, AreSpent, AreLinks, AreOwned}
+use Rattle.cip_module.specs.Code.Fit.{writes_of, AreSpent, AreLinks, AreOwned}
 use Rattle.cip_module.specs.State.{is_spent}
 use Rattle.cip_module.proofs.Points.{one_or_apart, put_here, put_apart, gone_here, gone_apart}
 
@@ -63,7 +63,8 @@ module _ (h new : Hops) (k : Triad) (v : Option Held) (b : Becomes h new k v) wh
   ]
 
   -- what it writes stays the same, and so do the owners
-  pub owned_becomes : (m : AssemblyMap) (owners : Owners) → AreOwned h m owners → ((i : ℕ) → writes_of v i ≡ writes_of (map.get h.held k) i) → AreOwned new m owners
+  pub owned_becomes : (m : AssemblyMap) (owners : Owners) → AreOwned h m owners → ((i : ℕ) → writes_of v i ≡ writes_of (map.get h.held k) i)
+      → AreOwned new m owners
   owned_becomes m owners old alike =
       let same : (q : Triad) (i : ℕ) → writes_of (map.get new.held q) i ≡ writes_of (map.get h.held q) i =
       λ q i. elim (triad_or_not q k) as (λ _. writes_of (map.get new.held q) i ≡ writes_of (map.get h.held q) i) [
@@ -96,15 +97,21 @@ module _ (h new : Hops) (k : Triad) (v : Option Held) (b : Becomes h new k v) wh
       let kept : (q : Triad) (i : ℕ) → IsAwaited after q i → ((q ≡ k) × (i ≡ n)) ⊎ (((q ≡ k → ⊥) × IsAwaited p q i)) =
       λ q i a. elim (one_or_apart nat_cmp_total numbers_apart i n) [
         | inl e ↦
-            let both : Some entry ≡ Some a.entry = sym (put_here nat_cmp_total numbers_apart p.entries n entry) ∙ ap (λ m. map.get m n) (sym put) ∙ ap (map.get after.entries) (sym e) ∙ a.waits in
+            let both : Some entry ≡ Some a.entry = sym (put_here nat_cmp_total numbers_apart p.entries n entry) ∙ ap (λ m. map.get m n) (sym put)
+            ∙ ap (map.get after.entries) (sym e) ∙ a.waits in
             let one : entry ≡ a.entry = cc in
             let kinds : OpeningOf q ≡ OpeningOf k = sym a.kind ∙ ap (λ (x : Entry). x.kind) (sym one) ∙ kind in
             let triads : q ≡ k = cc in
             inl (triads, e)
         | inr ne ↦
-            let before : map.get p.entries i ≡ Some a.entry = sym (put_apart nat_cmp_total numbers_apart p.entries n entry i ne) ∙ ap (λ m. map.get m i) (sym put) ∙ a.waits in
+            let before : map.get p.entries i ≡ Some a.entry = sym (put_apart nat_cmp_total numbers_apart p.entries n entry i ne)
+            ∙ ap (λ m. map.get m i) (sym put) ∙ a.waits in
             let was : IsAwaited p q i = record { entry = a.entry; waits = before; kind = a.kind } in
-            inr ((λ e. let some : is_some (opening_at h q) ≡ true = old.each q i was in let none : is_some (opening_at h q) ≡ false = ap (λ t. is_some (opening_at h t)) e ∙ ap is_some free in absurd (cc)), was)
+            inr (
+              (λ e. let some : is_some (opening_at h q) ≡ true = old.each q i was in let none : is_some (opening_at h q) ≡ false =
+                  ap (λ t. is_some (opening_at h t)) e ∙ ap is_some free in absurd (cc)),
+              was,
+            )
       ] in
       record {
         each = λ q i a. elim (kept q i a) as (λ _. is_some (opening_at new q) ≡ true) [
@@ -122,25 +129,46 @@ module _ (h new : Hops) (k : Triad) (v : Option Held) (b : Becomes h new k v) wh
           ]
         ];
         only = λ q e none. elim (triad_or_not q k) as (λ _. ⊥) [
-          | inl one ↦ none n (record { entry = entry; waits = ap (λ m. map.get m n) put ∙ put_here nat_cmp_total numbers_apart p.entries n entry; kind = kind ∙ ap OpeningOf (sym one) })
+          | inl one ↦ none n
+              (record {
+                entry = entry;
+                waits = ap (λ m. map.get m n) put ∙ put_here nat_cmp_total numbers_apart p.entries n entry;
+                kind =
+                    kind ∙ ap OpeningOf (sym one);
+              })
           | inr apart ↦ old.only q (ap (λ x. is_some (option_and_then as_opening x)) (sym (b.others q apart)) ∙ e) (λ i a.
               none i (record {
                 entry = a.entry;
-                waits = ap (λ m. map.get m i) put ∙ put_apart nat_cmp_total numbers_apart p.entries n entry i (λ same. let no : None ≡ Some a.entry = sym fresh ∙ ap (map.get p.entries) (sym same) ∙ a.waits in cc) ∙ a.waits;
+                waits = ap (λ m. map.get m i) put ∙ put_apart nat_cmp_total numbers_apart p.entries n entry i
+                    (λ same. let no : None ≡ Some a.entry = sym fresh ∙ ap (map.get p.entries) (sym same) ∙ a.waits in cc) ∙ a.waits;
                 kind = a.kind;
               }))
         ];
       }
 
   -- it opens no more, and no request waits for it
-  pub paired_ended : (p after : Pendings) (n : ℕ) → IsPaired p h → IsAwaited p k n → is_some (option_and_then as_opening v) ≡ false → after.entries ≡ map.remove p.entries n → IsPaired after new
+  pub paired_ended : (p after : Pendings) (n : ℕ) → IsPaired p h → IsAwaited p k n → is_some (option_and_then as_opening v) ≡ false
+      → after.entries ≡ map.remove p.entries n → IsPaired after new
   paired_ended p after n old this ends gone =
       let was : (q : Triad) (i : ℕ) → IsAwaited after q i → IsAwaited p q i × (i ≡ n → ⊥) =
       λ q i a.
-      let ne : i ≡ n → ⊥ = λ e. let no : None ≡ Some a.entry = sym (gone_here nat_cmp_total numbers_apart p.entries n) ∙ ap (λ m. map.get m n) (sym gone) ∙ ap (map.get after.entries) (sym e) ∙ a.waits in cc in
-      (record { entry = a.entry; waits = sym (gone_apart nat_cmp_total numbers_apart p.entries n i ne) ∙ ap (λ m. map.get m i) (sym gone) ∙ a.waits; kind = a.kind }, ne) in
+      let ne : i ≡ n → ⊥ = λ e. let no : None ≡ Some a.entry =
+      sym (gone_here nat_cmp_total numbers_apart p.entries n) ∙ ap (λ m. map.get m n) (sym gone) ∙ ap (map.get after.entries) (sym e) ∙ a.waits in cc in (
+        record {
+          entry = a.entry;
+          waits = sym (gone_apart nat_cmp_total numbers_apart p.entries n i ne) ∙ ap (λ m. map.get m i) (sym gone) ∙ a.waits;
+          kind =
+              a.kind;
+        },
+        ne,
+      ) in
       let stays : (q : Triad) (i : ℕ) → IsAwaited p q i → (i ≡ n → ⊥) → IsAwaited after q i =
-      λ q i a ne. record { entry = a.entry; waits = ap (λ m. map.get m i) gone ∙ gone_apart nat_cmp_total numbers_apart p.entries n i ne ∙ a.waits; kind = a.kind } in
+      λ q i a ne. record {
+        entry = a.entry;
+        waits = ap (λ m. map.get m i) gone ∙ gone_apart nat_cmp_total numbers_apart p.entries n i ne ∙ a.waits;
+        kind =
+            a.kind;
+      } in
       record {
         each = λ q i a. let w = was q i a in
             let apart : q ≡ k → ⊥ = λ e. w.1 (old.one q i n w.0 (record { entry = this.entry; waits = this.waits; kind = this.kind ∙ ap OpeningOf (sym e) })) in
@@ -159,19 +187,27 @@ module _ (h new : Hops) (k : Triad) (v : Option Held) (b : Becomes h new k v) wh
 
 -- ---- the pendings alone change
 
-pub paired_added : (p after : Pendings) (h : Hops) (n : ℕ) (entry : Entry) → IsPaired p h → map.get p.entries n ≡ None → after.entries ≡ map.insert p.entries n entry → IsOther entry.kind → IsPaired after h
+pub paired_added : (p after : Pendings) (h : Hops) (n : ℕ) (entry : Entry) → IsPaired p h → map.get p.entries n ≡ None
+    → after.entries ≡ map.insert p.entries n entry → IsOther entry.kind → IsPaired after h
 paired_added p after h n entry old fresh put other =
     let was : (q : Triad) (i : ℕ) → IsAwaited after q i → IsAwaited p q i =
     λ q i a.
     let ne : i ≡ n → ⊥ = λ e.
-    let both : Some entry ≡ Some a.entry = sym (put_here nat_cmp_total numbers_apart p.entries n entry) ∙ ap (λ m. map.get m n) (sym put) ∙ ap (map.get after.entries) (sym e) ∙ a.waits in
+    let both : Some entry ≡ Some a.entry = sym (put_here nat_cmp_total numbers_apart p.entries n entry) ∙ ap (λ m. map.get m n) (sym put)
+    ∙ ap (map.get after.entries) (sym e) ∙ a.waits in
     let one : entry ≡ a.entry = cc in
     other q (ap (λ (x : Entry). x.kind) one ∙ a.kind) in
-    record { entry = a.entry; waits = sym (put_apart nat_cmp_total numbers_apart p.entries n entry i ne) ∙ ap (λ m. map.get m i) (sym put) ∙ a.waits; kind = a.kind } in
+    record {
+      entry = a.entry;
+      waits = sym (put_apart nat_cmp_total numbers_apart p.entries n entry i ne) ∙ ap (λ m. map.get m i) (sym put) ∙ a.waits;
+      kind =
+          a.kind;
+    } in
     let stays : (q : Triad) (i : ℕ) → IsAwaited p q i → IsAwaited after q i =
     λ q i a. record {
       entry = a.entry;
-      waits = ap (λ m. map.get m i) put ∙ put_apart nat_cmp_total numbers_apart p.entries n entry i (λ same. let no : None ≡ Some a.entry = sym fresh ∙ ap (map.get p.entries) (sym same) ∙ a.waits in cc) ∙ a.waits;
+      waits = ap (λ m. map.get m i) put ∙ put_apart nat_cmp_total numbers_apart p.entries n entry i
+          (λ same. let no : None ≡ Some a.entry = sym fresh ∙ ap (map.get p.entries) (sym same) ∙ a.waits in cc) ∙ a.waits;
       kind = a.kind;
     } in
     record {
@@ -180,12 +216,19 @@ paired_added p after h n entry old fresh put other =
       only = λ q e none. old.only q e (λ i a. none i (stays q i a));
     }
 
-pub paired_dropped : (p after : Pendings) (h : Hops) (n : ℕ) (entry : Entry) → IsPaired p h → map.get p.entries n ≡ Some entry → after.entries ≡ map.remove p.entries n → IsOther entry.kind → IsPaired after h
+pub paired_dropped : (p after : Pendings) (h : Hops) (n : ℕ) (entry : Entry) → IsPaired p h → map.get p.entries n ≡ Some entry
+    → after.entries ≡ map.remove p.entries n → IsOther entry.kind → IsPaired after h
 paired_dropped p after h n entry old stands gone other =
     let was : (q : Triad) (i : ℕ) → IsAwaited after q i → IsAwaited p q i =
     λ q i a.
-    let ne : i ≡ n → ⊥ = λ e. let no : None ≡ Some a.entry = sym (gone_here nat_cmp_total numbers_apart p.entries n) ∙ ap (λ m. map.get m n) (sym gone) ∙ ap (map.get after.entries) (sym e) ∙ a.waits in cc in
-    record { entry = a.entry; waits = sym (gone_apart nat_cmp_total numbers_apart p.entries n i ne) ∙ ap (λ m. map.get m i) (sym gone) ∙ a.waits; kind = a.kind } in
+    let ne : i ≡ n → ⊥ = λ e. let no : None ≡ Some a.entry =
+    sym (gone_here nat_cmp_total numbers_apart p.entries n) ∙ ap (λ m. map.get m n) (sym gone) ∙ ap (map.get after.entries) (sym e) ∙ a.waits in cc in
+    record {
+      entry = a.entry;
+      waits = sym (gone_apart nat_cmp_total numbers_apart p.entries n i ne) ∙ ap (λ m. map.get m i) (sym gone) ∙ a.waits;
+      kind =
+          a.kind;
+    } in
     let stays : (q : Triad) (i : ℕ) → IsAwaited p q i → IsAwaited after q i =
     λ q i a.
     let ne : i ≡ n → ⊥ = λ same.

@@ -26,7 +26,7 @@ use Rattle.cip_hops.specs.Hops as hops
 use Rattle.cip_hops.proofs.Changes.{finished_is}
 use Rattle.cip_target.specs.Ends.{Ends}
 use Rattle.cip_module.specs.declared.config.ModuleSettings.{ModuleSettings}
-use Rattle.cip_module.specs.Fit.{Fit, writes_of}
+use Rattle.cip_module.specs.Code.Fit.{Fit, writes_of}
 use Rattle.cip_module.specs.Effects.{abandoned, given_up_of}
 use Rattle.cip_module.specs.OpenRows.{writes_to}
 use Rattle.cip_module.specs.Paired.{IsAwaited, IsOther}
@@ -51,9 +51,12 @@ spent_still op new (x ∷ ops) e = elim (ltb new x) as (λ b. is_spent op (cond 
   ] e
 ]
 
-pub fit_spent : (config : ModuleSettings) (p : Pendings) (h : Hops) (t : Ends) (ops new : List ℕ) (op : ℕ) → Fit config p h t ops → new ≡ spent_with op ops → Fit config p h t new
+pub fit_spent : (config : ModuleSettings) (p : Pendings) (h : Hops) (t : Ends) (ops new : List ℕ) (op : ℕ) → Fit config p h t ops → new ≡ spent_with op ops
+    → Fit config p h t new
 fit_spent config p h t ops new op f e = record {
   identity = f.identity;
+  pending_room = f.pending_room;
+  hop_room = f.hop_room;
   paired = f.paired;
   spent = λ q x o at named. ap (is_spent o) e ∙ spent_still o op ops (f.spent q x o at named);
   links = f.links;
@@ -67,9 +70,12 @@ nothing : (h : Hops) (q : Triad) → h.held ≡ empty → map.get h.held q ≡ N
 nothing h q e = ap (λ m. map.get m q) e ∙ map.get-empty triad_cmp q
 
 -- as a module begins
-pub fresh_fit : (config : ModuleSettings) (p : Pendings) (h : Hops) (t : Ends) (ops : List ℕ) → p.entries ≡ empty → h.held ≡ empty → t.owners ≡ empty → t.objects.identity ≡ config.identity → Fit config p h t ops
-fresh_fit config p h t ops no_pendings no_hops no_owners identity = record {
+pub fresh_fit : (config : ModuleSettings) (p : Pendings) (h : Hops) (t : Ends) (ops : List ℕ) → p.entries ≡ empty → h.held ≡ empty → t.owners ≡ empty
+    → t.objects.identity ≡ config.identity → p.room ≡ config.pending_room → h.room ≡ config.hop_room → Fit config p h t ops
+fresh_fit config p h t ops no_pendings no_hops no_owners identity pending_room hop_room = record {
   identity = identity;
+  pending_room = pending_room;
+  hop_room = hop_room;
   paired = record {
     each = λ q n a. absurd (no_entry p.entries n a.entry no_pendings a.waits);
     one = λ q m n a b. absurd (no_entry p.entries m a.entry no_pendings a.waits);
@@ -97,6 +103,8 @@ pub fit_forwards : (config : ModuleSettings) (p after : Pendings) (h : Hops) (t 
     → Fit config p h t ops → IsPendings p → after ≡ added p entry → IsOther entry.kind → Fit config after h t ops
 fit_forwards config p after h t ops entry f w e other = record {
   identity = f.identity;
+  pending_room = ap (λ (y : Pendings). y.room) e ∙ f.pending_room;
+  hop_room = f.hop_room;
   paired = paired_added p after h p.next entry f.paired (fresh_number p w) (ap (λ (x : Pendings). x.entries) e) other;
   spent = f.spent;
   links = f.links;
@@ -106,10 +114,11 @@ fit_forwards config p after h t ops entry f w e other = record {
 -- ---- an opening
 
 pub free_if : (h : Hops) (triad : Triad) (ids : ℕ) → refusal h triad ids ≡ None → map.get h.held triad ≡ None
-free_if h triad ids e = elim (map.get h.held triad) as (λ g. cond (is_some g) (Some Duplicate) (cond (nat_le h.room (map.len h.held)) (Some Full) (cond (nat_lt 4294967296 (h.next + ids)) (Some IdsSpent) None)) ≡ None → g ≡ None) [
-  | None ↦ λ s. refl
-  | Some x ↦ λ s. absurd (cc)
-] e
+free_if h triad ids e = elim (map.get h.held triad) as (λ g. cond (is_some g) (Some Duplicate)
+    (cond (nat_le h.room (map.len h.held)) (Some Full) (cond (nat_lt 4294967296 (h.next + ids)) (Some IdsSpent) None)) ≡ None → g ≡ None) [
+      | None ↦ λ s. refl
+      | Some x ↦ λ s. absurd (cc)
+    ] e
 
 some_opening : (o q : Opening) → Some o ≡ Some q → o ≡ q
 some_opening o q e = cc
@@ -126,7 +135,10 @@ fit_begins config p after h new t ops entry o f w e g kind link spent room =
     let free = free_if h o.triad (ids_drawn o) room in
     record {
       identity = f.identity;
-      paired = paired_begun h new o.triad (Some x) b p after p.next entry f.paired (ap (option_and_then as_opening) free) refl (fresh_number p w) (ap (λ (y : Pendings). y.entries) e) kind;
+      pending_room = ap (λ (y : Pendings). y.room) e ∙ f.pending_room;
+      hop_room = ap (λ (y : Hops). y.room) g ∙ f.hop_room;
+      paired = paired_begun h new o.triad (Some x) b p after p.next entry f.paired (ap (option_and_then as_opening) free) refl (fresh_number p w)
+          (ap (λ (y : Pendings). y.entries) e) kind;
       spent = spent_becomes h new o.triad (Some x) b ops f.spent (λ y op at named. spent op (ap held_op_of (some_held x y at) ∙ named));
       links = links_becomes h new o.triad (Some x) b f.links (λ q at. ap (λ (z : Opening). down_is_link z.down) (sym (some_opening o q at)) ∙ link);
       owned = owned_becomes h new o.triad (Some x) b t.objects.assemblies t.owners f.owned (λ i. ap (λ g. writes_of g i) (sym free));
@@ -144,8 +156,10 @@ opening_writes (Some (Open hop)) i e = absurd (cc)
 
 -- ---- what was opening is open
 
-pub fit_finishes : (config : ModuleSettings) (p after : Pendings) (h new : Hops) (t : Ends) (ops : List ℕ) (n their_id now : ℕ) (triad : Triad) (o : Opening) (ids : OwnIds)
-    → Fit config p h t ops → IsAwaited p triad n → after ≡ without p n → map.get h.held triad ≡ Some (IsOpening o ids) → new ≡ finished h triad their_id now → Fit config after new t ops
+pub fit_finishes : (config : ModuleSettings) (p after : Pendings) (h new : Hops) (t : Ends) (ops : List ℕ) (n their_id now : ℕ) (triad : Triad) (o : Opening)
+    (ids : OwnIds)
+    → Fit config p h t ops → IsAwaited p triad n → after ≡ without p n → map.get h.held triad ≡ Some (IsOpening o ids) → new ≡ finished h triad their_id now
+    → Fit config after new t ops
 fit_finishes config p after h new t ops n their_id now triad o ids f a e at g =
     let x : Held = Open (opened o ids their_id now) in
     let is : new ≡ with_hop h triad (opened o ids their_id now) = g ∙ finished_is h triad their_id now o ids at in
@@ -153,8 +167,11 @@ fit_finishes config p after h new t ops n their_id now triad o ids f a e at g =
     let link : down_is_link o.down ≡ true = f.links triad o (ap (option_and_then as_opening) at) in
     record {
       identity = f.identity;
+      pending_room = ap (λ (y : Pendings). y.room) e ∙ f.pending_room;
+      hop_room = ap (λ (y : Hops). y.room) is ∙ f.hop_room;
       paired = paired_ended h new triad (Some x) b p after n f.paired a refl (ap (λ (y : Pendings). y.entries) e);
-      spent = spent_becomes h new triad (Some x) b ops f.spent (λ y op is named. f.spent triad (IsOpening o ids) op at (ap held_op_of (some_held x y is) ∙ named));
+      spent = spent_becomes h new triad (Some x) b ops f.spent
+          (λ y op is named. f.spent triad (IsOpening o ids) op at (ap held_op_of (some_held x y is) ∙ named));
       links = links_becomes h new triad (Some x) b f.links (λ q none. let no : None ≡ Some q = none in absurd (cc));
       owned = owned_becomes h new triad (Some x) b t.objects.assemblies t.owners f.owned (λ i. link_writes o.down i link ∙ ap (λ g. writes_of g i) (sym at));
     }
@@ -166,6 +183,8 @@ same_hops : (config : ModuleSettings) (p after : Pendings) (h new : Hops) (t : E
 same_hops config p after h new t ops n entry f at e other g =
     let kept : Fit config after h t ops = record {
       identity = f.identity;
+      pending_room = ap (λ (y : Pendings). y.room) e ∙ f.pending_room;
+      hop_room = f.hop_room;
       paired = paired_dropped p after h n entry f.paired at (ap (λ (y : Pendings). y.entries) e) other;
       spent = f.spent;
       links = f.links;
@@ -181,6 +200,8 @@ opening_gone config p after h new t ops n triad f a e g =
     let b : Becomes h new triad None = becomes_gone h new triad (ap (λ (y : Hops). y.held) is) in
     record {
       identity = f.identity;
+      pending_room = ap (λ (y : Pendings). y.room) e ∙ f.pending_room;
+      hop_room = ap (λ (y : Hops). y.room) is ∙ f.hop_room;
       paired = paired_ended h new triad None b p after n f.paired a refl (ap (λ (y : Pendings). y.entries) e);
       spent = spent_becomes h new triad None b ops f.spent (λ y op none named. absurd (cc));
       links = links_becomes h new triad None b f.links (λ q none. absurd (cc));
@@ -189,10 +210,12 @@ opening_gone config p after h new t ops n triad f a e g =
 
 by_kind : (config : ModuleSettings) (p after : Pendings) (h new : Hops) (t : Ends) (ops : List ℕ) (n : ℕ) (entry : Entry) (kind : Kind) → entry.kind ≡ kind
     → Fit config p h t ops → map.get p.entries n ≡ Some entry → after ≡ without p n → new ≡ given_up_of kind h → Fit config after new t ops
-by_kind config p after h new t ops n entry Unconnected k f at e g = same_hops config p after h new t ops n entry f at e (λ q is. let no : Unconnected ≡ OpeningOf q = sym k ∙ is in cc) g
+by_kind config p after h new t ops n entry Unconnected k f at e g =
+    same_hops config p after h new t ops n entry f at e (λ q is. let no : Unconnected ≡ OpeningOf q = sym k ∙ is in cc) g
 by_kind config p after h new t ops n entry (OpeningOf triad) k f at e g =
     opening_gone config p after h new t ops n triad f (record { entry = entry; waits = at; kind = k }) e g
-by_kind config p after h new t ops n entry (ClosingOf triad) k f at e g = same_hops config p after h new t ops n entry f at e (λ q is. let no : ClosingOf triad ≡ OpeningOf q = sym k ∙ is in cc) g
+by_kind config p after h new t ops n entry (ClosingOf triad) k f at e g =
+    same_hops config p after h new t ops n entry f at e (λ q is. let no : ClosingOf triad ≡ OpeningOf q = sym k ∙ is in cc) g
 
 pub fit_gives_up : (config : ModuleSettings) (p after : Pendings) (h new : Hops) (t : Ends) (ops : List ℕ) (n : ℕ) (entry : Entry)
     → Fit config p h t ops → map.get p.entries n ≡ Some entry → after ≡ without p n → new ≡ given_up_of entry.kind h → Fit config after new t ops
@@ -206,10 +229,14 @@ fit_changes config p h new t ops triad hop other f at g same =
     let b : Becomes h new triad (Some (Open other)) = becomes_put h new triad (Open other) (ap (λ (y : Hops). y.held) g) in
     record {
       identity = f.identity;
+      pending_room = f.pending_room;
+      hop_room = ap (λ (y : Hops). y.room) g ∙ f.hop_room;
       paired = paired_becomes h new triad (Some (Open other)) b p f.paired (ap (λ x. is_some (option_and_then as_opening x)) (sym at));
-      spent = spent_becomes h new triad (Some (Open other)) b ops f.spent (λ y op is named. f.spent triad (Open hop) op at (ap (λ (o : Opening). op_of o.up) (sym same) ∙ ap held_op_of (some_held (Open other) y is) ∙ named));
+      spent = spent_becomes h new triad (Some (Open other)) b ops f.spent
+          (λ y op is named. f.spent triad (Open hop) op at (ap (λ (o : Opening). op_of o.up) (sym same) ∙ ap held_op_of (some_held (Open other) y is) ∙ named));
       links = links_becomes h new triad (Some (Open other)) b f.links (λ q none. absurd (cc));
-      owned = owned_becomes h new triad (Some (Open other)) b t.objects.assemblies t.owners f.owned (λ i. ap (λ (o : Opening). writes_to i o.down) same ∙ ap (λ x. writes_of x i) (sym at));
+      owned = owned_becomes h new triad (Some (Open other)) b t.objects.assemblies t.owners f.owned
+          (λ i. ap (λ (o : Opening). writes_to i o.down) same ∙ ap (λ x. writes_of x i) (sym at));
     }
 
 -- any change that keeps what was opened
@@ -218,8 +245,10 @@ pub fit_changed : (config : ModuleSettings) (p : Pendings) (h new : Hops) (t : E
 fit_changed config p h new t ops triad change f keeps e =
     elim (map.get h.held triad) as (λ x. map.get h.held triad ≡ x → Fit config p new t ops) [
       | None ↦ λ at. subst (λ (y : Hops). Fit config p y t ops) (sym (e ∙ ap (λ x. hops.change_in h triad change (option_and_then hops.as_hop x)) at)) f
-      | Some (IsOpening o ids) ↦ λ at. subst (λ (y : Hops). Fit config p y t ops) (sym (e ∙ ap (λ x. hops.change_in h triad change (option_and_then hops.as_hop x)) at)) f
-      | Some (Open hop) ↦ λ at. fit_changes config p h new t ops triad hop (change hop) f at (e ∙ ap (λ x. hops.change_in h triad change (option_and_then hops.as_hop x)) at) (keeps hop)
+      | Some (IsOpening o ids) ↦ λ at. subst (λ (y : Hops). Fit config p y t ops)
+          (sym (e ∙ ap (λ x. hops.change_in h triad change (option_and_then hops.as_hop x)) at)) f
+      | Some (Open hop) ↦ λ at. fit_changes config p h new t ops triad hop (change hop) f at
+          (e ∙ ap (λ x. hops.change_in h triad change (option_and_then hops.as_hop x)) at) (keeps hop)
     ] refl
 
 pub touched_keeps : (side : Side) (now : ℕ) (hop : Hop) → (hops.touched side now hop).opening ≡ hop.opening

@@ -26,9 +26,10 @@ use Rattle.cip_target.specs.declared.config.AssemblyConfig.{AssemblyConfig}
 use Rattle.cip_target.specs.Assemblies.{config_with}
 use Rattle.cip_module.specs.declared.config.ModuleSettings.{ModuleSettings}
 use Rattle.cip_module.specs.declared.event.Output.{Output}
-use Rattle.cip_module.specs.Does.{Does}
+use Rattle.cip_module.specs.Code.Does.{Does}
 use Rattle.cip_module.specs.Effects.{Effect, Counts, Passes, recounted, ends_here, passed, datum_up, applied, outputs_of}
-use Rattle.cip_module.specs.Produced.{reads_from, next_count, datum_effects, held_effects, each_effects, made_of, takes_from, made_all, count_for, counted_by, counted_all, open_hops}
+use Rattle.cip_module.specs.Produced.{reads_from, next_count, made_effects, held_effects, each_effects}
+use Rattle.cip_module.specs.Code.Made.{made_of, takes_from, made_all, count_for, counted_by, counted_all, open_hops}
 use Rattle.cip_module.specs.State.{State}
 use Rattle.cip_module.specs.Table.{produce_effects}
 use Rattle.cip_module.proofs.Fits.{triad_or_not}
@@ -59,9 +60,11 @@ is_higher k hop = is_after (Some k) (triad_at hop)
 
 keep_head : (p : Hop → Bool) (o : Option Hop) (xs ys : List Hop) → filter p xs ≡ filter p ys → filter p (cons_option o xs) ≡ filter p (cons_option o ys)
 keep_head p None xs ys e = e
-keep_head p (Some hop) xs ys e = elim (p hop) as (λ b. cond b (hop ∷ filter p xs) (filter p xs) ≡ cond b (hop ∷ filter p ys) (filter p ys)) [ true ↦ ap (λ (z : List Hop). hop ∷ z) e | false ↦ e ]
+keep_head p (Some hop) xs ys e = elim (p hop) as (λ b. cond b (hop ∷ filter p xs) (filter p xs) ≡ cond b (hop ∷ filter p ys) (filter p ys))
+    [ true ↦ ap (λ (z : List Hop). hop ∷ z) e | false ↦ e ]
 
-drop_head : (k : Triad) (x : Held) (xs : List Hop) → is_lt (triad_cmp k (triad_of x)) ≡ false → filter (is_higher k) (cons_option (as_hop x) xs) ≡ filter (is_higher k) xs
+drop_head : (k : Triad) (x : Held) (xs : List Hop) → is_lt (triad_cmp k (triad_of x)) ≡ false
+    → filter (is_higher k) (cons_option (as_hop x) xs) ≡ filter (is_higher k) xs
 drop_head k (IsOpening o ids) xs e = refl
 drop_head k (Open hop) xs e = ap (λ b. cond b (hop ∷ filter (is_higher k) xs) (filter (is_higher k) xs)) e
 
@@ -73,7 +76,8 @@ put_under : (k : Triad) (hop : Hop) (es : List (Triad × Held)) → hop.opening.
 put_under k hop [] name names = drop_head k (Open hop) [] (not_higher k hop name)
 put_under k hop (e ∷ es) name names =
     elim (triad_cmp k e.0) as (λ r. triad_cmp k e.0 ≡ r
-    → filter (is_higher k) (open_in (by_order r ((k, Open hop) ∷ e ∷ es) ((e.0, Open hop) ∷ es) (e ∷ put triad_cmp k (Open hop) es))) ≡ filter (is_higher k) (open_in (e ∷ es))) [
+    → filter (is_higher k) (open_in (by_order r ((k, Open hop) ∷ e ∷ es) ((e.0, Open hop) ∷ es) (e ∷ put triad_cmp k (Open hop) es)))
+    ≡ filter (is_higher k) (open_in (e ∷ es))) [
       | Less ↦ λ t. drop_head k (Open hop) (open_in (e ∷ es)) (not_higher k hop name)
       | Equal ↦ λ t.
           drop_head k (Open hop) (open_in es) (not_higher k hop name)
@@ -96,10 +100,12 @@ module _ (h : Hops) (k : Triad) (side : Side) (count : ℕ) where
       ap (λ (es : List (Triad × Held)). filter (is_higher k) (open_in es)) (finite.entries-insert triads_total h.held k (Open (counted side count hop)))
       ∙ put_under k (counted side count hop) (finite.entries h.held) (ap (λ o. o.triad) (counted_triad side count hop) ∙ name) (within_named h w)
 
-  above_given : IsWithin h → (o : Option Hop) → hop_at h k ≡ o → opens_above (Some k) (if option_map_or ends_here o false then change_in h k (counted side count) o else h) ≡ opens_above (Some k) h
+  above_given : IsWithin h → (o : Option Hop) → hop_at h k ≡ o
+      → opens_above (Some k) (if option_map_or ends_here o false then change_in h k (counted side count) o else h) ≡ opens_above (Some k) h
   above_given w None at = refl
   above_given w (Some hop) at =
-      elim (ends_here hop) as (λ b. opens_above (Some k) (if b then with_hop h k (counted side count hop) else h) ≡ opens_above (Some k) h) [ true ↦ above_changed w hop at | false ↦ refl ]
+      elim (ends_here hop) as (λ b. opens_above (Some k) (if b then with_hop h k (counted side count hop) else h) ≡ opens_above (Some k) h)
+      [ true ↦ above_changed w hop at | false ↦ refl ]
 
   above_recounted : IsWithin h → opens_above (Some k) (recounted h k side count) ≡ opens_above (Some k) h
   above_recounted w = above_given w (hop_at h k) refl
@@ -114,9 +120,11 @@ counted_from instance after s = record s { hops = counted_all instance (opens_ab
 
 -- the next connection counts
 pub counts_next : (instance : ℕ) (after : Option Triad) (s : State) (hop : Hop) → IsWithin s.hops → Some hop ≡ first_after after s.hops
-    → counted_from instance (Some hop.opening.triad) (record s { hops = counted_by s.hops hop.opening.triad (count_for instance hop) }) ≡ counted_from instance after s
+    → counted_from instance (Some hop.opening.triad) (record s { hops = counted_by s.hops hop.opening.triad (count_for instance hop) })
+    ≡ counted_from instance after s
 counts_next instance after s hop w e =
-    ap (λ (z : List Hop). record s { hops = counted_all instance z (counted_by s.hops hop.opening.triad (count_for instance hop)) }) (above_counted s.hops hop.opening.triad (count_for instance hop) w)
+    ap (λ (z : List Hop). record s { hops = counted_all instance z (counted_by s.hops hop.opening.triad (count_for instance hop)) })
+    (above_counted s.hops hop.opening.triad (count_for instance hop) w)
     ∙ ap (λ (z : List Hop). record s { hops = counted_all instance z s.hops }) (sym (hop_walks s.hops w after hop e))
 
 -- before the first, all counts are left; after the last, none
@@ -127,7 +135,8 @@ pub counts_done : (instance : ℕ) (after : Option Triad) (s : State) → None �
 counts_done instance after s e = ap (λ (z : List Hop). record s { hops = counted_all instance z s.hops }) (sym (hop_walked s.hops after e))
 
 -- and fewer are left
-pub counts_fewer : (h new : Hops) (after : Option Triad) (hop : Hop) (o : Option ℕ) → IsWithin h → Some hop ≡ first_after after h → new ≡ counted_by h hop.opening.triad o
+pub counts_fewer : (h new : Hops) (after : Option Triad) (hop : Hop) (o : Option ℕ) → IsWithin h → Some hop ≡ first_after after h
+    → new ≡ counted_by h hop.opening.triad o
     → length (opens_above (Some hop.opening.triad) new) < length (opens_above after h)
 counts_fewer h new after hop o w e is =
     let same = ap (λ (z : Hops). length (opens_above (Some hop.opening.triad) z)) is ∙ ap length (above_counted h hop.opening.triad o w) in
@@ -171,24 +180,32 @@ module _ (config : ModuleSettings) (instance : ℕ) (held : List ℕ) where
   abbrev after_one : State → Hop → State
   after_one s hop = record s { hops = counted_by s.hops hop.opening.triad (count_for instance hop) }
 
-  applied_one : (s : State) (hop : Hop) (rest : List Effect) → applied config s (held_effects instance held (Open hop) ++ rest) ≡ applied config (after_one s hop) rest
+  applied_one : (s : State) (hop : Hop) (rest : List Effect)
+      → applied config s (held_effects instance held (Open hop) ++ rest) ≡ applied config (after_one s hop) rest
   applied_one s hop rest =
-      elim (reads_from instance hop.opening.down) as (λ b. applied config s ((if b then datum_effects held hop else []) ++ rest)
-      ≡ applied config (record s { hops = counted_by s.hops hop.opening.triad (if b then (if hop.opening.class == 1 then Some (next_count hop.produced) else None) else None) }) rest) [
+      elim (reads_from instance hop.opening.down) as (λ b. applied config s ((if b then made_effects held hop else []) ++ rest)
+      ≡ applied config
+      (record s {
+        hops = counted_by s.hops hop.opening.triad (if b then (if hop.opening.class == 1 then Some (next_count hop.produced) else None) else None);
+      }) rest) [
         | false ↦ refl
         | true ↦
             elim (hop.opening.class == 1) as (λ c. applied config s ((if c
             then Counts hop.opening.triad Down (next_count hop.produced) ∷ Passes hop.opening.triad Up (word (next_count hop.produced) ++ held) ∷ []
             else Passes hop.opening.triad Up held ∷ []) ++ rest)
-            ≡ applied config (record s { hops = counted_by s.hops hop.opening.triad (if c then Some (next_count hop.produced) else None) }) rest) [ true ↦ refl | false ↦ refl ]
+            ≡ applied config (record s { hops = counted_by s.hops hop.opening.triad (if c then Some (next_count hop.produced) else None) }) rest)
+            [ true ↦ refl | false ↦ refl ]
       ]
 
-  applied_put : (x : Held) (es : List (Triad × Held)) → ((s : State) → applied config s (each_effects instance held es) ≡ record s { hops = counted_all instance (open_in es) s.hops })
-      → (s : State) → applied config s (held_effects instance held x ++ each_effects instance held es) ≡ record s { hops = counted_all instance (cons_option (as_hop x) (open_in es)) s.hops }
+  applied_put : (x : Held) (es : List (Triad × Held)) → ((s : State)
+      → applied config s (each_effects instance held es) ≡ record s { hops = counted_all instance (open_in es) s.hops })
+      → (s : State) → applied config s (held_effects instance held x ++ each_effects instance held es)
+      ≡ record s { hops = counted_all instance (cons_option (as_hop x) (open_in es)) s.hops }
   applied_put (IsOpening o ids) es others s = others s
   applied_put (Open hop) es others s = applied_one s hop (each_effects instance held es) ∙ others (after_one s hop)
 
-  applied_all : (es : List (Triad × Held)) (s : State) → applied config s (each_effects instance held es) ≡ record s { hops = counted_all instance (open_in es) s.hops }
+  applied_all : (es : List (Triad × Held)) (s : State) → applied config s (each_effects instance held es)
+      ≡ record s { hops = counted_all instance (open_in es) s.hops }
   applied_all [] s = refl
   applied_all (e ∷ es) s = applied_put e.1 es (λ z. applied_all es z) s
 
@@ -197,27 +214,35 @@ module _ (config : ModuleSettings) (instance : ℕ) (held : List ℕ) where
   passed_up (Some hop) up bytes e = let same : hop.opening.up ≡ up = cc in ap (λ z. datum_up z bytes ∷ []) same
 
   -- the datum of one goes out, and what the others make
-  goes_out : (s : State) (hop : Hop) (bytes : List ℕ) (rest : List Effect) (outs : List Output) → up_at s.hops hop.opening.triad ≡ Some hop.opening.up → outputs_of config s rest ≡ outs
+  goes_out : (s : State) (hop : Hop) (bytes : List ℕ) (rest : List Effect) (outs : List Output) → up_at s.hops hop.opening.triad ≡ Some hop.opening.up
+      → outputs_of config s rest ≡ outs
       → outputs_of config s (Passes hop.opening.triad Up bytes ∷ rest) ≡ datum_up hop.opening.up bytes ∷ outs
   goes_out s hop bytes rest outs up e =
       ap (λ (z : List Output). z ++ outputs_of config s rest) (passed_up (hop_at s.hops hop.opening.triad) hop.opening.up bytes up)
       ∙ ap (λ (z : List Output). datum_up hop.opening.up bytes ∷ z) e
 
-  made_one : (s : State) (hop : Hop) (rest : List Effect) (hops : List Hop) → up_at s.hops hop.opening.triad ≡ Some hop.opening.up → outputs_of config (after_one s hop) rest ≡ made_all instance held hops
+  made_one : (s : State) (hop : Hop) (rest : List Effect) (hops : List Hop) → up_at s.hops hop.opening.triad ≡ Some hop.opening.up
+      → outputs_of config (after_one s hop) rest ≡ made_all instance held hops
       → outputs_of config s (held_effects instance held (Open hop) ++ rest) ≡ made_all instance held (hop ∷ hops)
   made_one s hop rest hops up e =
       elim (reads_from instance hop.opening.down) as (λ b.
-      outputs_of config (record s { hops = counted_by s.hops hop.opening.triad (if b then (if hop.opening.class == 1 then Some (next_count hop.produced) else None) else None) }) rest ≡ made_all instance held hops
-      → outputs_of config s ((if b then datum_effects held hop else []) ++ rest) ≡ map (made_of held) (cond b (hop ∷ filter (takes_from instance) hops) (filter (takes_from instance) hops))) [
+      outputs_of config
+      (record s {
+        hops = counted_by s.hops hop.opening.triad (if b then (if hop.opening.class == 1 then Some (next_count hop.produced) else None) else None);
+      }) rest ≡ made_all instance held hops
+      → outputs_of config s ((if b then made_effects held hop else []) ++ rest)
+      ≡ map (made_of held) (cond b (hop ∷ filter (takes_from instance) hops) (filter (takes_from instance) hops))) [
         | false ↦ λ f. f
         | true ↦
             elim (hop.opening.class == 1) as (λ c.
-            outputs_of config (record s { hops = counted_by s.hops hop.opening.triad (if c then Some (next_count hop.produced) else None) }) rest ≡ made_all instance held hops
+            outputs_of config (record s { hops = counted_by s.hops hop.opening.triad (if c then Some (next_count hop.produced) else None) }) rest
+            ≡ made_all instance held hops
             → outputs_of config s ((if c
             then Counts hop.opening.triad Down (next_count hop.produced) ∷ Passes hop.opening.triad Up (word (next_count hop.produced) ++ held) ∷ []
             else Passes hop.opening.triad Up held ∷ []) ++ rest)
             ≡ datum_up hop.opening.up (if c then word (next_count hop.produced) ++ held else held) ∷ made_all instance held hops) [
-              | true ↦ λ f. goes_out (record s { hops = recounted s.hops hop.opening.triad Down (next_count hop.produced) }) hop (word (next_count hop.produced) ++ held) rest (made_all instance held hops)
+              | true ↦ λ f. goes_out (record s { hops = recounted s.hops hop.opening.triad Down (next_count hop.produced) }) hop
+                  (word (next_count hop.produced) ++ held) rest (made_all instance held hops)
                   (up_recounted s.hops hop.opening.triad Down (next_count hop.produced) hop.opening.triad ∙ up) f
               | false ↦ λ f. goes_out s hop held rest (made_all instance held hops) up f
             ]
@@ -233,7 +258,8 @@ module _ (config : ModuleSettings) (instance : ℕ) (held : List ℕ) (ups : Tri
   Makes es = (s : State) → ((q : Triad) → up_at s.hops q ≡ ups q) → outputs_of config s (each_effects instance held es) ≡ made_all instance held (open_in es)
 
   made_put : (x : Held) (es : List (Triad × Held)) → AreUp ups (cons_option (as_hop x) (open_in es)) → (AreUp ups (open_in es) → Makes es)
-      → (s : State) → ((q : Triad) → up_at s.hops q ≡ ups q) → outputs_of config s (held_effects instance held x ++ each_effects instance held es) ≡ made_all instance held (cons_option (as_hop x) (open_in es))
+      → (s : State) → ((q : Triad) → up_at s.hops q ≡ ups q)
+      → outputs_of config s (held_effects instance held x ++ each_effects instance held es) ≡ made_all instance held (cons_option (as_hop x) (open_in es))
   made_put (IsOpening o ids) es are others s alike = others are s alike
   made_put (Open hop) es are others s alike =
       made_one config instance held s hop (each_effects instance held es) (open_in es) (alike hop.opening.triad ∙ are.0)
@@ -244,11 +270,13 @@ module _ (config : ModuleSettings) (instance : ℕ) (held : List ℕ) (ups : Tri
   made_in (e ∷ es) are s alike = made_put e.1 es are (λ those. made_in es those) s alike
 
 module _ (h : Hops) where
-  put_up : (q : Triad) (x : Held) (hops : List Hop) → finite.get h.held q ≡ Some x → triad_of x ≡ q → AreUp (up_at h) hops → AreUp (up_at h) (cons_option (as_hop x) hops)
+  put_up : (q : Triad) (x : Held) (hops : List Hop) → finite.get h.held q ≡ Some x → triad_of x ≡ q → AreUp (up_at h) hops
+      → AreUp (up_at h) (cons_option (as_hop x) hops)
   put_up q (IsOpening o ids) hops at name are = are
   put_up q (Open hop) hops at name are = (ap (up_at h) name ∙ ap (λ g. up_of (option_and_then as_hop g)) at, are)
 
-  up_all : (es : List (Triad × Held)) → ((i : ℕ) (d : Triad × Held) → i < length es → finite.get h.held (get_or es i d).0 ≡ Some (get_or es i d).1) → AreNamed es → AreUp (up_at h) (open_in es)
+  up_all : (es : List (Triad × Held)) → ((i : ℕ) (d : Triad × Held) → i < length es → finite.get h.held (get_or es i d).0 ≡ Some (get_or es i d).1)
+      → AreNamed es → AreUp (up_at h) (open_in es)
   up_all [] at names = tt
   up_all (e ∷ es) at names = put_up e.0 e.1 (open_in es) (at 0 e (omega arith)) names.0 (up_all es (λ i d lt. at (suc i) d (omega arith)) names.1)
 
@@ -257,12 +285,15 @@ named_instance i None a e = absurd (cc)
 named_instance i (Some held) a e = let same : a ≡ config_with i held = cc in ap (λ (x : AssemblyConfig). x.instance) same
 
 -- what a Produce of an assembly that exists does
-pub makes : (config : ModuleSettings) (s new : State) (instance : ℕ) (held : List ℕ) (g : Option (List ℕ)) (outs : List Output) → IsWithin s.hops → g ≡ Some held
-    → new ≡ record s { hops = counted_all instance (open_hops s.hops) s.hops } → outs ≡ made_all instance held (open_hops s.hops) → Does config s (produce_effects s instance g) new outs
+pub makes : (config : ModuleSettings) (s new : State) (instance : ℕ) (held : List ℕ) (g : Option (List ℕ)) (outs : List Output) → IsWithin s.hops
+    → g ≡ Some held
+    → new ≡ record s { hops = counted_all instance (open_hops s.hops) s.hops } → outs ≡ made_all instance held (open_hops s.hops)
+    → Does config s (produce_effects s instance g) new outs
 makes config s new instance held g outs w found after out =
     let es = finite.entries s.hops.held in record {
       state = ap (λ o. applied config s (produce_effects s instance o)) found ∙ applied_all config instance held es s ∙ sym after;
       out = ap (λ o. outputs_of config s (produce_effects s instance o)) found
-          ∙ made_in config instance held (up_at s.hops) es (up_all s.hops es (λ i d lt. get-at triad_cmp triads_total triads_apart s.hops.held i d lt) (within_named s.hops w)) s (λ q. refl)
+          ∙ made_in config instance held (up_at s.hops) es (up_all s.hops es (λ i d lt. get-at triad_cmp triads_total triads_apart s.hops.held i d lt)
+          (within_named s.hops w)) s (λ q. refl)
           ∙ sym out;
     }

@@ -3,7 +3,6 @@ use Rattle.std.proofs.Common.{◌≡◌, ℕ, ◌<◌, Bool, true, false, cond, 
 use Rattle.std.specs.Prelude.{not, ◌||◌, eqb}
 use Rattle.std.specs.FinMap as map
 use Rattle.std.proofs.lemmas.Bool.Decides.{nat_tests}
-use Rattle.cip_base.specs.declared.timing.Status.{Status}
 use Rattle.cip_open.specs.Open.{Open}
 use Rattle.cip_open.specs.Params.{params_of}
 use Rattle.cip_pending.specs.declared.entry.UpSide.{UpSide}
@@ -15,20 +14,22 @@ use Rattle.cip_hops.specs.Hops.{Hops, IsOpFree, refusal}
 use Rattle.cip_segment.specs.Reading.{segments_of}
 use Rattle.cip_module.specs.declared.config.ModuleSettings.{ModuleSettings}
 use Rattle.cip_module.specs.declared.node.Node.{Node}
-use Rattle.cip_module.specs.declared.rows.OpenRefusal.TheVariants.{ConnectionTypeNotSupported, RpiOfZero, TriadInUse}
+use Rattle.cip_module.specs.declared.refusals.OpenRefusal.{OpenRefusal}
+use Rattle.cip_module.specs.declared.refusals.OpenRefusal.TheVariants.{ConnectionTypeNotSupported, RpiOfZero, TriadInUse}
 use Rattle.cip_module.specs.Effects.{applied}
 use Rattle.cip_module.specs.Keys.{leading_mismatch}
-use Rattle.cip_module.specs.Node.{state_of_node}
-use Rattle.cip_module.specs.OpenRows.{OpenRow, Refuses, OpenAnswer, Fails, open_answer, open_row, opening_with, ids_on, is_supported, is_direction, key_row}
-use Rattle.cip_module.specs.Ready.{IsReady, CanSpend}
+use Rattle.cip_module.specs.Code.Node.{state_of_node}
+use Rattle.cip_module.specs.OpenRows.{OpenRow, Refuses, open_row, opening_with, ids_on, is_supported, is_direction, key_row}
+use Rattle.cip_module.specs.Code.Ready.{IsReady, CanSpend}
 use Rattle.cip_module.specs.State.{State, is_spent}
-use Rattle.cip_module.specs.Statuses.{open_status}
 use Rattle.cip_module.specs.Table.{opener, with_spending}
 use Rattle.cip_module.proofs.Kept.{spent_now}
 use Rattle.cip_module.proofs.Spending.{new_op, no_op}
 
-ready_by : (old new : Node) (up : UpSide) (id port : ℕ) (address : List ℕ) (o : Open) → state_of_node new ≡ applied old.config (state_of_node old) (with_spending up []) → CanSpend old up
-    → o.fields.multiplier < 8 → refusal old.hops o.fields.triad (ids_on (opener up id)) ≡ None → IsReady new (opening_with (opener up id) (DownLink port address) o)
+ready_by : (old new : Node) (up : UpSide) (id port : ℕ) (address : List ℕ) (o : Open)
+    → state_of_node new ≡ applied old.config (state_of_node old) (with_spending up []) → CanSpend old up
+    → o.fields.multiplier < 8 → refusal old.hops o.fields.triad (ids_on (opener up id)) ≡ None
+    → IsReady new (opening_with (opener up id) (DownLink port address) o)
 ready_by old new (Link by to number) id port address o e can multiplier room = record {
   multiplier = multiplier;
   free = no_op new.hops;
@@ -46,8 +47,10 @@ ready_by old new (Local op) id port address o e can multiplier room =
     }
 
 -- an opening that goes on by a link, after its op is spent
-pub ready : (old new : Node) (up : UpSide) (id port : ℕ) (address : List ℕ) (o : Open) (opening : Opening) → state_of_node new ≡ applied old.config (state_of_node old) (with_spending up []) → CanSpend old up
-    → opening ≡ opening_with (opener up id) (DownLink port address) o → o.fields.multiplier < 8 → refusal old.hops o.fields.triad (ids_on (opener up id)) ≡ None → IsReady new opening
+pub ready : (old new : Node) (up : UpSide) (id port : ℕ) (address : List ℕ) (o : Open) (opening : Opening)
+    → state_of_node new ≡ applied old.config (state_of_node old) (with_spending up []) → CanSpend old up
+    → opening ≡ opening_with (opener up id) (DownLink port address) o → o.fields.multiplier < 8 → refusal old.hops o.fields.triad (ids_on (opener up id)) ≡ None
+    → IsReady new opening
 ready old new up id port address o opening e can is multiplier room = subst (IsReady new) (sym is) (ready_by old new up id port address o e can multiplier room)
 
 both_last : (a b c : Bool) → a && (b && c) ≡ true → c ≡ true
@@ -59,15 +62,19 @@ at_most : (n : ℕ) → leb n 7 ≡ true → n < 8
 at_most n e = grind (arith, nat_tests)
 
 pub supported_below : (o : Open) → is_supported o ≡ true → o.fields.multiplier < 8
-supported_below o e = at_most o.fields.multiplier (both_last (is_direction (params_of o.fields.ot_params)) (is_direction (params_of o.fields.to_params)) (leb o.fields.multiplier 7) e)
+supported_below o e = at_most o.fields.multiplier (both_last (is_direction (params_of o.fields.ot_params)) (is_direction (params_of o.fields.to_params))
+    (leb o.fields.multiplier 7) e)
 
-unless_refused : (b : Bool) (row : OpenRow) (a : OpenAnswer) → a ≡ open_answer (cond (not b) (Refuses ConnectionTypeNotSupported) row) → ((status : Status) → a ≡ Fails status → ⊥) → b ≡ true
-unless_refused true row a e other = refl
-unless_refused false row a e other = absurd (other (open_status ConnectionTypeNotSupported) e)
+unless_refused : (b : Bool) (row other : OpenRow) → row ≡ cond (not b) (Refuses ConnectionTypeNotSupported) other
+    → ((refusal : OpenRefusal) → row ≡ Refuses refusal → ⊥) → b ≡ true
+unless_refused true row other e never = refl
+unless_refused false row other e never = absurd (never ConnectionTypeNotSupported e)
 
 -- what goes on or is accepted has a multiplier that the standard knows
-pub multiplier_below : (config : ModuleSettings) (s : State) (up : HopUp) (o : Open) (a : OpenAnswer) → a ≡ open_answer (open_row config s up o) → ((status : Status) → a ≡ Fails status → ⊥) → o.fields.multiplier < 8
+pub multiplier_below : (config : ModuleSettings) (s : State) (up : HopUp) (o : Open) (row : OpenRow) → row ≡ open_row config s up o
+    → ((refusal : OpenRefusal) → row ≡ Refuses refusal → ⊥) → o.fields.multiplier < 8
 unfolding open_row
-multiplier_below config s up o a e other =
-    supported_below o (unless_refused (is_supported o)
-    (cond (eqb o.fields.ot_rpi 0 || eqb o.fields.to_rpi 0) (Refuses RpiOfZero) (cond (is_some (map.get s.hops.held o.fields.triad)) (Refuses TriadInUse) (key_row config s up o (leading_mismatch config (segments_of o.path))))) a e other)
+multiplier_below config s up o row e never =
+    supported_below o (unless_refused (is_supported o) row
+    (cond (eqb o.fields.ot_rpi 0 || eqb o.fields.to_rpi 0) (Refuses RpiOfZero)
+    (cond (is_some (map.get s.hops.held o.fields.triad)) (Refuses TriadInUse) (key_row config s up o (leading_mismatch config (segments_of o.path))))) e never)

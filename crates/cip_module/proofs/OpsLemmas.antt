@@ -30,19 +30,23 @@ found_is op xs (Err i) (le, low, high) = sym (spent_nowhere op xs (λ k lt e.
     elim (cases_lt k i) as (λ _. ⊥) [ inl below ↦ (let h = low k below in omega arith) | inr above ↦ (let h = high k above lt in omega arith) ]))
 
 -- an op goes in between those below and those above
-pub insert_is : (op : ℕ) (xs : List ℕ) (i : ℕ) → i ≤ length xs → ((k : ℕ) → k < i → get_or xs k 0 < op) → ((k : ℕ) → i ≤ k → k < length xs → op < get_or xs k 0) → insert xs i op ≡ spent_with op xs
+pub insert_is : (op : ℕ) (xs : List ℕ) (i : ℕ) → i ≤ length xs → ((k : ℕ) → k < i → get_or xs k 0 < op) → ((k : ℕ) → i ≤ k → k < length xs → op < get_or xs k 0)
+    → insert xs i op ≡ spent_with op xs
 insert_is op [] zero le low high = refl
 insert_is op [] (suc i) le low high = absurd (omega arith)
 insert_is op (x ∷ xs) zero le low high = rw (lt-ltb op x (high 0 (omega arith) (omega arith))) refl
 insert_is op (x ∷ xs) (suc i) le low high =
     rw (le-ltb op x (let h = low 0 (omega arith) in omega arith))
-    (ap (λ (z : List ℕ). x ∷ z) (insert_is op xs i (omega arith) (λ k lt. low (suc k) (omega arith)) (λ k least most. high (suc k) (omega arith) (omega arith))))
+    (ap (λ (z : List ℕ). x ∷ z) (insert_is op xs i (omega arith) (λ k lt. low (suc k) (omega arith))
+    (λ k least most. high (suc k) (omega arith) (omega arith))))
 
 -- and the ops still rise
-pub rising_insert : (op : ℕ) (xs : List ℕ) (i : ℕ) → IsRising xs → i ≤ length xs → ((k : ℕ) → k < i → get_or xs k 0 < op) → ((k : ℕ) → i ≤ k → k < length xs → op < get_or xs k 0) → IsRising (insert xs i op)
+pub rising_insert : (op : ℕ) (xs : List ℕ) (i : ℕ) → IsRising xs → i ≤ length xs → ((k : ℕ) → k < i → get_or xs k 0 < op)
+    → ((k : ℕ) → i ≤ k → k < length xs → op < get_or xs k 0) → IsRising (insert xs i op)
 rising_insert op xs i rising le low high =
     λ a b ab lt. IsNonDecreasingBy-insert (λ n. n) xs i op (IsNonDecreasingBy-from_default (λ n. n) xs 0 rising) le
-    (λ k d lt. let h = low k lt in rw (get_or_default xs k d 0 (omega arith)) (omega arith)) (λ k d least most. let h = high k least most in rw (get_or_default xs k d 0 most) (omega arith)) a b 0 ab lt
+    (λ k d lt. let h = low k lt in rw (get_or_default xs k d 0 (omega arith)) (omega arith))
+    (λ k d least most. let h = high k least most in rw (get_or_default xs k d 0 most) (omega arith)) a b 0 ab lt
 
 pub either_rising : (b : Bool) (xs ys : List ℕ) → IsRising xs → IsRising ys → IsRising (cond b xs ys)
 either_rising true xs ys h k = h

@@ -1,5 +1,5 @@
 -- Who owns an output is who writes it: the target's own record of it agrees with the connections.
-use Rattle.std.proofs.Common.{◌≡◌, ℕ, Bool, true, false, cond, ltb, ◌&&◌, refl, sym, ap, ◌∙◌, Option, Some, None, is_some, List, [], ◌∷◌, Result, Ok, Err}
+use Rattle.std.proofs.Common.{◌≡◌, ℕ, Bool, true, false, cond, ltb, ◌&&◌, refl, sym, ap, ◌∙◌, Option, Some, None, is_some, List, [], ◌∷◌, Ok, Err}
 use Rattle.std.specs.Prelude.{option_and_then, not, nat_lt}
 use Rattle.std.specs.List.{find}
 use Rattle.std.specs.Ordering.{eq_by_cmp}
@@ -20,22 +20,23 @@ use Rattle.cip_open.specs.declared.request.OpenFields.{OpenFields}
 use Rattle.cip_open.specs.Open.{Open as OpenRecord}
 use Rattle.cip_target.specs.ApplicationPath.{Application, application_of}
 use Rattle.cip_target.specs.Assemblies.{AssemblyMap, Owners, size_in}
-use Rattle.cip_target.specs.Ends.{EndRow, NotAnApplicationPath, NoSuchInstanceOrConfiguration, ClassNotSupported, SizeMismatch, OutputOwned, Fits, sized_row, application_row, end_row, is_configuration, are_sizes, class_of, link_of, end_gives}
+use Rattle.cip_target.specs.declared.ends.EndRefusal.{EndRefusal}
+use Rattle.cip_target.specs.declared.ends.EndRefusal.TheVariants.{NotAnApplicationPath, NoSuchInstanceOrConfiguration, TransportClassNotSupported, SizeMismatch, OutputOwned}
+use Rattle.cip_target.specs.Ends.{EndRow, sized_row, application_row, end_row, is_configuration, are_sizes, class_of, link_of}
 use Rattle.cip_target.specs.declared.link.EndLink.{EndLink}
-use Rattle.cip_base.specs.declared.timing.Status.{Status}
-use Rattle.cip_module.specs.OpenRows.{Refuses, Accepted, writes_to, is_consumed, accepted_row, room_row, here_row, open_answer, Fails, EndsHere}
-use Rattle.cip_module.specs.declared.rows.OpenRefusal.TheVariants.{NotAnApplicationPath as NoApplication, NoRoomOrIdLeft}
-use Rattle.cip_module.specs.Statuses.{extended}
+use Rattle.cip_module.specs.OpenRows.{Refuses, Accepted, writes_to, is_consumed, accepted_row, here_row}
+use Rattle.cip_module.specs.declared.refusals.OpenRefusal.TheVariants.{NotAccepted, NoRoomToEndHere}
 use Rattle.cip_module.specs.State.{State}
 use Rattle.cip_hops.specs.declared.opening.HopUp.{HopUp}
 use Rattle.cip_hops.specs.Sides.{up_is_link}
-use Rattle.cip_module.specs.Fit.{writes_of, AreOwned}
+use Rattle.cip_module.specs.Code.Fit.{writes_of, AreOwned}
 
 abbrev pub writes_it : ℕ → Hop → Bool
 writes_it i hop = writes_to i hop.opening.down
 
 -- what passes stands somewhere in the list, so the search does not fail
-no_miss : (p : Held → Bool) (q : Triad) (x : Held) (es : List (Triad × Held)) → entries.find triad_cmp q es ≡ Some x → p x ≡ true → find (λ e. p e.1) es ≡ None → ⊥
+no_miss : (p : Held → Bool) (q : Triad) (x : Held) (es : List (Triad × Held)) → entries.find triad_cmp q es ≡ Some x → p x ≡ true → find (λ e. p e.1) es ≡ None
+    → ⊥
 no_miss p q x [] at pass none = absurd (cc)
 no_miss p q x (e ∷ es) at pass none =
     elim (p e.1) as (λ b. p e.1 ≡ b → cond b (Some e) (find (λ e. p e.1) es) ≡ None → ⊥) [
@@ -57,7 +58,9 @@ found_some test (Open hop) e = refl
 
 stands_writes : (h : Hops) (i : ℕ) (t : Triad) (x : Held) → map.get h.held t ≡ Some x → is_hop (writes_it i) x ≡ true → is_consumed h i ≡ true
 stands_writes h i t x at pass =
-    elim (find (λ (e : Triad × Held). is_hop (writes_it i) e.1) (map.entries h.held)) as (λ f. find (λ (e : Triad × Held). is_hop (writes_it i) e.1) (map.entries h.held) ≡ f → is_some (option_and_then (λ (e : Triad × Held). as_hop e.1) f) ≡ true) [
+    elim (find (λ (e : Triad × Held). is_hop (writes_it i) e.1) (map.entries h.held)) as
+    (λ f. find (λ (e : Triad × Held). is_hop (writes_it i) e.1) (map.entries h.held) ≡ f
+    → is_some (option_and_then (λ (e : Triad × Held). as_hop e.1) f) ≡ true) [
       | None ↦ λ none. absurd (no_miss (is_hop (writes_it i)) t x (map.entries h.held) (sym (map.get-entries h.held t) ∙ at) pass none)
       | Some e ↦ λ f. found_some (writes_it i) e.1 (found-gives triad_cmp triads_total triads_apart h.held (λ e. is_hop (writes_it i) e.1) e f).1
     ] refl
@@ -73,7 +76,9 @@ writes_consumed h i t e =
 -- and the other way round
 pub consumed_writes : (h : Hops) (i : ℕ) → is_consumed h i ≡ true → (t : Triad) × (writes_of (map.get h.held t) i ≡ true)
 consumed_writes h i e =
-    elim (find (λ (e : Triad × Held). is_hop (writes_it i) e.1) (map.entries h.held)) as (λ f. find (λ (e : Triad × Held). is_hop (writes_it i) e.1) (map.entries h.held) ≡ f → is_some (option_and_then (λ (e : Triad × Held). as_hop e.1) f) ≡ true → (t : Triad) × (writes_of (map.get h.held t) i ≡ true)) [
+    elim (find (λ (e : Triad × Held). is_hop (writes_it i) e.1) (map.entries h.held)) as
+    (λ f. find (λ (e : Triad × Held). is_hop (writes_it i) e.1) (map.entries h.held) ≡ f
+    → is_some (option_and_then (λ (e : Triad × Held). as_hop e.1) f) ≡ true → (t : Triad) × (writes_of (map.get h.held t) i ≡ true)) [
       | None ↦ λ f s. absurd (cc)
       | Some e ↦ λ f s.
           let g = found-gives triad_cmp triads_total triads_apart h.held (λ e. is_hop (writes_it i) e.1) e f in
@@ -91,7 +96,8 @@ owned_same h m owners i size o e =
             | None ↦ λ at.
                 elim (is_consumed h i) as (λ c. is_consumed h i ≡ c → false ≡ c) [
                   | false ↦ λ c. refl
-                  | true ↦ λ c. let w = consumed_writes h i c in let no : None ≡ Some w.0 = sym at ∙ o.writer w.0 i size w.1 e (ltb-true 0 size t) in absurd (cc)
+                  | true ↦ λ c. let w = consumed_writes h i c in let no : None ≡ Some w.0 =
+                      sym at ∙ o.writer w.0 i size w.1 e (ltb-true 0 size t) in absurd (cc)
                 ] refl
           ] refl
     ] refl
@@ -102,51 +108,43 @@ sized_same a b f x None d p e = refl
 sized_same a b f x (Some c) None p e = refl
 sized_same a b f x (Some c) (Some d) None e = refl
 sized_same a b f x (Some c) (Some d) (Some p) e =
-    ap (λ o. cond (not (is_configuration c x.bytes)) NoSuchInstanceOrConfiguration (cond (nat_lt 1 (class_of f.transport)) ClassNotSupported (cond (not (are_sizes f d p)) SizeMismatch (cond o OutputOwned (Fits (link_of f x)))))) (e d refl)
+    ap (λ o. cond (not (is_configuration c x.bytes)) (Err NoSuchInstanceOrConfiguration)
+    (cond (nat_lt 1 (class_of f.transport)) (Err TransportClassNotSupported)
+    (cond (not (are_sizes f d p)) (Err SizeMismatch) (cond o (Err OutputOwned) (Ok (link_of f x)))))) (e d refl)
 
 application_same : (h : Hops) (m : AssemblyMap) (owners : Owners) (f : OpenFields) (x : Option Application) → AreOwned h m owners
     → application_row m (λ i. is_some (map.get owners i)) f x ≡ application_row m (is_consumed h) f x
 application_same h m owners f None o = refl
 application_same h m owners f (Some x) o =
-    sized_same (λ i. is_some (map.get owners i)) (is_consumed h) f x (size_in m x.config) (size_in m x.consume) (size_in m x.produce) (λ size e. owned_same h m owners x.consume size o e)
+    sized_same (λ i. is_some (map.get owners i)) (is_consumed h) f x (size_in m x.config) (size_in m x.consume) (size_in m x.produce)
+    (λ size e. owned_same h m owners x.consume size o e)
 
 -- an open meets the same row by the target's own record and by the connections
-pub rows_agree : (h : Hops) (m : AssemblyMap) (owners : Owners) (o : OpenRecord) → AreOwned h m owners → end_row m (λ i. is_some (map.get owners i)) o ≡ end_row m (is_consumed h) o
+pub rows_agree : (h : Hops) (m : AssemblyMap) (owners : Owners) (o : OpenRecord) → AreOwned h m owners
+    → end_row m (λ i. is_some (map.get owners i)) o ≡ end_row m (is_consumed h) o
 unfolding end_row
 rows_agree h m owners o w = application_same h m owners o.fields (application_of (segments_of o.path)) w
 
-err_is : (x y : Status) (r : Result EndLink Status) → r ≡ Err x → r ≡ Err y → x ≡ y
-err_is x y r e f = let both : Err x ≡ Err y = sym e ∙ f in cc
+-- what an open answers that may end here, by what the target says
+module _ (s : State) (up : HopUp) (o : OpenRecord) (row : EndRow) (asked : up_is_link up ≡ true)
+    (is : row ≡ end_row s.assemblies (is_consumed s.hops) o) where
+  here_is : here_row s up o ≡ accepted_row s.hops o row
+  here_is =
+      ap (λ b. cond (not b) (Refuses (NotAccepted NotAnApplicationPath)) (accepted_row s.hops o (end_row s.assemblies (is_consumed s.hops) o))) asked
+      ∙ ap (accepted_row s.hops o) (sym is)
 
--- what a row of the target answers to a Forward_Open
-pub refused_here : (h : Hops) (o : OpenRecord) (row : EndRow) (status : Status) → end_gives row ≡ Err status → open_answer (accepted_row h o row) ≡ Fails status
-refused_here h o NotAnApplicationPath status e = ap Fails (err_is _ status _ refl e)
-refused_here h o NoSuchInstanceOrConfiguration status e = ap Fails (err_is _ status _ refl e)
-refused_here h o ClassNotSupported status e = ap Fails (err_is _ status _ refl e)
-refused_here h o SizeMismatch status e = ap Fails (err_is _ status _ refl e)
-refused_here h o OutputOwned status e = ap Fails (err_is _ status _ refl e)
-refused_here h o (Fits link) status e = absurd (cc)
+pub here_full : (s : State) (up : HopUp) (o : OpenRecord) (link : EndLink) → up_is_link up ≡ true
+    → Ok link ≡ end_row s.assemblies (is_consumed s.hops) o → is_some (refusal s.hops o.fields.triad 1) ≡ true
+    → here_row s up o ≡ Refuses NoRoomToEndHere
+here_full s up o link asked is full =
+    here_is s up o (Ok link) asked is ∙ ap (λ b. cond b (Refuses NoRoomToEndHere) (Accepted link)) full
 
-pub fits_here : (h : Hops) (o : OpenRecord) (row : EndRow) (link : EndLink) → end_gives row ≡ Ok link → accepted_row h o row ≡ room_row h o link
-fits_here h o NotAnApplicationPath link e = absurd (cc)
-fits_here h o NoSuchInstanceOrConfiguration link e = absurd (cc)
-fits_here h o ClassNotSupported link e = absurd (cc)
-fits_here h o SizeMismatch link e = absurd (cc)
-fits_here h o OutputOwned link e = absurd (cc)
-fits_here h o (Fits other) link e = let same : other ≡ link = cc in ap (room_row h o) same
+pub here_ends : (s : State) (up : HopUp) (o : OpenRecord) (link : EndLink) → up_is_link up ≡ true
+    → Ok link ≡ end_row s.assemblies (is_consumed s.hops) o → is_some (refusal s.hops o.fields.triad 1) ≡ false
+    → here_row s up o ≡ Accepted link
+here_ends s up o link asked is room =
+    here_is s up o (Ok link) asked is ∙ ap (λ b. cond b (Refuses NoRoomToEndHere) (Accepted link)) room
 
-module _ (s : State) (up : HopUp) (o : OpenRecord) (link : EndLink) (asked : up_is_link up ≡ true) (fits : end_gives (end_row s.assemblies (is_consumed s.hops) o) ≡ Ok link) where
-  here_is : open_answer (here_row s up o) ≡ open_answer (room_row s.hops o link)
-  here_is = ap (λ b. open_answer (cond (not b) (Refuses NoApplication) (accepted_row s.hops o (end_row s.assemblies (is_consumed s.hops) o)))) asked
-      ∙ ap open_answer (fits_here s.hops o (end_row s.assemblies (is_consumed s.hops) o) link fits)
-
-  pub here_full : is_some (refusal s.hops o.fields.triad 1) ≡ true → open_answer (here_row s up o) ≡ Fails (extended 0x0113)
-  here_full full = here_is ∙ ap (λ b. open_answer (cond b (Refuses NoRoomOrIdLeft) (Accepted link))) full
-
-  pub here_ends : is_some (refusal s.hops o.fields.triad 1) ≡ false → open_answer (here_row s up o) ≡ EndsHere link
-  here_ends room = here_is ∙ ap (λ b. open_answer (cond b (Refuses NoRoomOrIdLeft) (Accepted link))) room
-
-pub here_refused : (s : State) (up : HopUp) (o : OpenRecord) (status : Status) → up_is_link up ≡ true → end_gives (end_row s.assemblies (is_consumed s.hops) o) ≡ Err status
-    → open_answer (here_row s up o) ≡ Fails status
-here_refused s up o status asked e = ap (λ b. open_answer (cond (not b) (Refuses NoApplication) (accepted_row s.hops o (end_row s.assemblies (is_consumed s.hops) o)))) asked
-    ∙ refused_here s.hops o (end_row s.assemblies (is_consumed s.hops) o) status e
+pub here_refused : (s : State) (up : HopUp) (o : OpenRecord) (refusal : EndRefusal) → up_is_link up ≡ true
+    → Err refusal ≡ end_row s.assemblies (is_consumed s.hops) o → here_row s up o ≡ Refuses (NotAccepted refusal)
+here_refused s up o refusal asked is = here_is s up o (Err refusal) asked is

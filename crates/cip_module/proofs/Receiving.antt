@@ -29,7 +29,8 @@ module _ {P : Type 0} (triad : Triad) (success : OpenSuccess) where
 
   no_failure : (asked : Triad) (r : Result ConnectionFailure DataFault) → failure_row asked r ≡ OpenSucceeded triad success → P
   no_failure asked (Err fault) e = not_malformed e
-  no_failure asked (Ok failure) e = either_row (is_own asked failure.triad) PassedUp MalformedForItsKind (OpenSucceeded triad success) e not_passed not_malformed
+  no_failure asked (Ok failure) e = either_row (is_own asked failure.triad) PassedUp MalformedForItsKind (OpenSucceeded triad success) e not_passed
+      not_malformed
 
   no_close : (asked : Triad) (r : Result CloseSuccess DataFault) → closed_row asked r ≡ OpenSucceeded triad success → P
   no_close asked (Err fault) e = not_malformed e
@@ -37,32 +38,41 @@ module _ {P : Type 0} (triad : Triad) (success : OpenSuccess) where
 
   no_closing : (asked : Triad) (r : Reply) → closing_row asked r ≡ OpenSucceeded triad success → P
   no_closing asked r e =
-      either_row (eqb r.general 0) (cond (is_some (slice_get r.extra 0)) MalformedForItsKind (closed_row asked (close_reply_at r.data_))) (failure_row asked (failure_at r.data_)) (OpenSucceeded triad success) e
-      (λ s. either_row (is_some (slice_get r.extra 0)) MalformedForItsKind (closed_row asked (close_reply_at r.data_)) (OpenSucceeded triad success) s not_malformed (no_close asked (close_reply_at r.data_)))
+      either_row (eqb r.general 0) (cond (is_some (slice_get r.extra 0)) MalformedForItsKind (closed_row asked (close_reply_at r.data_)))
+      (failure_row asked (failure_at r.data_)) (OpenSucceeded triad success) e
+      (λ s. either_row (is_some (slice_get r.extra 0)) MalformedForItsKind (closed_row asked (close_reply_at r.data_)) (OpenSucceeded triad success) s
+      not_malformed (no_close asked (close_reply_at r.data_)))
       (no_failure asked (failure_at r.data_))
 
 opened_same : (triad asked : Triad) (success other : OpenSuccess) → OpenSucceeded asked other ≡ OpenSucceeded triad success → asked ≡ triad
 opened_same triad asked success other e = cc
 
-opened_asked : (triad asked : Triad) (success : OpenSuccess) (r : Result OpenSuccess DataFault) → opened_row asked r ≡ OpenSucceeded triad success → asked ≡ triad
+opened_asked : (triad asked : Triad) (success : OpenSuccess) (r : Result OpenSuccess DataFault) → opened_row asked r ≡ OpenSucceeded triad success
+    → asked ≡ triad
 opened_asked triad asked success (Err fault) e = not_malformed triad success e
 opened_asked triad asked success (Ok other) e =
-    either_row (triad_eq other.triad asked) (OpenSucceeded asked other) MalformedForItsKind (OpenSucceeded triad success) e (opened_same triad asked success other) (not_malformed triad success)
+    either_row (triad_eq other.triad asked) (OpenSucceeded asked other) MalformedForItsKind (OpenSucceeded triad success) e
+    (opened_same triad asked success other) (not_malformed triad success)
 
 opening_asked : (triad asked : Triad) (success : OpenSuccess) (r : Reply) → opening_row asked r ≡ OpenSucceeded triad success → asked ≡ triad
 opening_asked triad asked success r e =
-    either_row (eqb r.general 0) (cond (is_some (slice_get r.extra 0)) MalformedForItsKind (opened_row asked (open_reply_at r.data_))) (failure_row asked (failure_at r.data_)) (OpenSucceeded triad success) e
-    (λ s. either_row (is_some (slice_get r.extra 0)) MalformedForItsKind (opened_row asked (open_reply_at r.data_)) (OpenSucceeded triad success) s (not_malformed triad success) (opened_asked triad asked success (open_reply_at r.data_)))
+    either_row (eqb r.general 0) (cond (is_some (slice_get r.extra 0)) MalformedForItsKind (opened_row asked (open_reply_at r.data_)))
+    (failure_row asked (failure_at r.data_)) (OpenSucceeded triad success) e
+    (λ s. either_row (is_some (slice_get r.extra 0)) MalformedForItsKind (opened_row asked (open_reply_at r.data_)) (OpenSucceeded triad success) s
+    (not_malformed triad success) (opened_asked triad asked success (open_reply_at r.data_)))
     (no_failure triad success asked (failure_at r.data_))
 
 -- a success is of the triad that its request opens
-pub opens_only : (kind : Kind) (r : Result Reply ReplyFault) (triad : Triad) (success : OpenSuccess) → read_row kind r ≡ OpenSucceeded triad success → kind ≡ Opening triad
+pub opens_only : (kind : Kind) (r : Result Reply ReplyFault) (triad : Triad) (success : OpenSuccess) → read_row kind r ≡ OpenSucceeded triad success
+    → kind ≡ Opening triad
 opens_only kind (Err fault) triad success e = not_malformed triad success e
 opens_only Unconnected (Ok r) triad success e = not_passed triad success e
 opens_only (Opening asked) (Ok r) triad success e =
-    ap Opening (either_row (eqb r.service 0xD4) (opening_row asked r) MalformedForItsKind (OpenSucceeded triad success) e (opening_asked triad asked success r) (not_malformed triad success))
+    ap Opening (either_row (eqb r.service 0xD4) (opening_row asked r) MalformedForItsKind (OpenSucceeded triad success) e (opening_asked triad asked success r)
+    (not_malformed triad success))
 opens_only (Closing asked) (Ok r) triad success e =
-    either_row (eqb r.service 0xCE) (closing_row asked r) MalformedForItsKind (OpenSucceeded triad success) e (no_closing triad success asked r) (not_malformed triad success)
+    either_row (eqb r.service 0xCE) (closing_row asked r) MalformedForItsKind (OpenSucceeded triad success) e (no_closing triad success asked r)
+    (not_malformed triad success)
 
 -- ---- written once more
 

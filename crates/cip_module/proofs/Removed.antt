@@ -17,7 +17,7 @@ use Rattle.cip_target.specs.Assemblies.{AssemblyMap, Owners, size_in}
 use Rattle.cip_target.specs.Ends.{Ends, released}
 use Rattle.cip_module.specs.declared.config.ModuleSettings.{ModuleSettings}
 use Rattle.cip_module.specs.OpenRows.{writes_to}
-use Rattle.cip_module.specs.Fit.{Fit, AreOwned, writes_of, given_back}
+use Rattle.cip_module.specs.Code.Fit.{Fit, AreOwned, writes_of, given_back}
 use Rattle.cip_module.proofs.Points.{one_or_apart, gone_here, gone_apart}
 use Rattle.cip_module.proofs.Fits.{Becomes, becomes_gone, spent_becomes, links_becomes, owned_becomes, paired_becomes, numbers_apart, triad_or_not}
 
@@ -73,6 +73,8 @@ module _ (config : ModuleSettings) (p : Pendings) (h new : Hops) (t : Ends) (ops
   gone_with : (after : Ends) → after.objects ≡ t.objects → AreOwned new t.objects.assemblies after.owners → Fit config p new after ops
   gone_with after same owned = record {
     identity = ap (λ objects. objects.identity) same ∙ f.identity;
+    pending_room = f.pending_room;
+    hop_room = ap (λ (y : Hops). y.room) g ∙ f.hop_room;
     paired = paired_becomes h new triad None gone p f.paired (ap (λ x. is_some (option_and_then as_opening x)) (sym at));
     spent = spent_becomes h new triad None gone ops f.spent (λ y op none named. absurd (cc));
     links = links_becomes h new triad None gone f.links (λ q none. absurd (cc));

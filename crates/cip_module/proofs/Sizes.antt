@@ -14,21 +14,25 @@ use Rattle.cip_target.specs.Ends.{Ends, ends_after, consumed}
 use Rattle.cip_target.specs.Rows.{TargetRow, target_row, assemblies_after, Refused, Read, Written}
 use Rattle.cip_target.proofs.Writes.{IsThere, target_there}
 use Rattle.cip_module.specs.declared.config.ModuleSettings.{ModuleSettings}
-use Rattle.cip_module.specs.Fit.{Fit}
+use Rattle.cip_module.specs.Code.Fit.{Fit}
 use Rattle.cip_module.proofs.Points.{one_or_apart, put_here, put_apart}
 use Rattle.cip_module.proofs.Fits.{numbers_apart}
 
-pub insert_sizes : (m : AssemblyMap) (i : ℕ) (held d : List ℕ) → map.get m i ≡ Some held → length d ≡ length held → (j : ℕ) → size_in (map.insert m i d) j ≡ size_in m j
+pub insert_sizes : (m : AssemblyMap) (i : ℕ) (held d : List ℕ) → map.get m i ≡ Some held → length d ≡ length held → (j : ℕ)
+    → size_in (map.insert m i d) j ≡ size_in m j
 insert_sizes m i held d at same j = elim (one_or_apart nat_cmp_total numbers_apart j i) as (λ _. size_in (map.insert m i d) j ≡ size_in m j) [
   | inl one ↦
-      ap (size_in (map.insert m i d)) one ∙ ap (option_map length) (put_here nat_cmp_total numbers_apart m i d) ∙ ap (λ n. Some n) same ∙ ap (option_map length) (sym at)
+      ap (size_in (map.insert m i d)) one ∙ ap (option_map length) (put_here nat_cmp_total numbers_apart m i d) ∙ ap (λ n. Some n) same
+      ∙ ap (option_map length) (sym at)
       ∙ ap (size_in m) (sym one)
   | inr apart ↦ ap (option_map length) (put_apart nat_cmp_total numbers_apart m i d j apart)
 ]
 
-pub written_sizes : (m : AssemblyMap) (i : ℕ) (b : List ℕ) → IsSomeAnd (map.get m i) (λ held. length held ≤ length b) → (j : ℕ) → size_in (written_over m i b (map.get m i)) j ≡ size_in m j
+pub written_sizes : (m : AssemblyMap) (i : ℕ) (b : List ℕ) → IsSomeAnd (map.get m i) (λ held. length held ≤ length b) → (j : ℕ)
+    → size_in (written_over m i b (map.get m i)) j ≡ size_in m j
 written_sizes m i b long j =
-    elim (map.get m i) as (λ (o : Option (List ℕ)). map.get m i ≡ o → IsSomeAnd o (λ held. length held ≤ length b) → size_in (written_over m i b o) j ≡ size_in m j) [
+    elim (map.get m i) as (λ (o : Option (List ℕ)). map.get m i ≡ o → IsSomeAnd o (λ held. length held ≤ length b)
+    → size_in (written_over m i b o) j ≡ size_in m j) [
       | None ↦ λ at h. refl
       | Some held ↦ λ at h. insert_sizes m i held (take (length held) b) at (length-take-le (length held) b h) j
     ] refl long
@@ -38,15 +42,19 @@ row_sizes : (m : AssemblyMap) (row : TargetRow) → IsThere m row → (j : ℕ) 
 row_sizes m (Refused refusal) there j = refl
 row_sizes m (Read found) there j = refl
 row_sizes m (Written i d) there j =
-    elim (map.get m i) as (λ (o : Option (List ℕ)). map.get m i ≡ o → IsSomeAnd o (λ held. length d ≡ length held) → size_in (map.insert m i d) j ≡ size_in m j) [
+    elim (map.get m i) as (λ (o : Option (List ℕ)). map.get m i ≡ o → IsSomeAnd o (λ held. length d ≡ length held)
+    → size_in (map.insert m i d) j ≡ size_in m j) [
       | None ↦ λ at h. absurd h
       | Some held ↦ λ at h. insert_sizes m i held d at h j
     ] refl there
 
 pub fit_sizes : (config : ModuleSettings) (p : Pendings) (h : Hops) (t after : Ends) (ops : List ℕ)
-    → Fit config p h t ops → after.objects.identity ≡ t.objects.identity → after.owners ≡ t.owners → ((j : ℕ) → size_in after.objects.assemblies j ≡ size_in t.objects.assemblies j) → Fit config p h after ops
+    → Fit config p h t ops → after.objects.identity ≡ t.objects.identity → after.owners ≡ t.owners
+    → ((j : ℕ) → size_in after.objects.assemblies j ≡ size_in t.objects.assemblies j) → Fit config p h after ops
 fit_sizes config p h t after ops f same owners sizes = record {
   identity = same ∙ f.identity;
+  pending_room = f.pending_room;
+  hop_room = f.hop_room;
   paired = f.paired;
   spent = f.spent;
   links = f.links;
@@ -60,16 +68,19 @@ pub fit_answers : (config : ModuleSettings) (p : Pendings) (h : Hops) (t after :
     → Fit config p h t ops → after ≡ ends_after t r → Fit config p h after ops
 fit_answers config p h t after ops r f e =
     fit_sizes config p h t after ops f (ap (λ (x : Ends). x.objects.identity) e) (ap (λ (x : Ends). x.owners) e)
-    (λ j. ap (λ (x : Ends). size_in x.objects.assemblies j) e ∙ row_sizes t.objects.assemblies (target_row t.objects.identity t.objects.assemblies r) (target_there t.objects.identity t.objects.assemblies r) j)
+    (λ j. ap (λ (x : Ends). size_in x.objects.assemblies j) e
+    ∙ row_sizes t.objects.assemblies (target_row t.objects.identity t.objects.assemblies r) (target_there t.objects.identity t.objects.assemblies r) j)
 
 -- an assembly is found under its own instance, with its size
-found_size : (m : AssemblyMap) (i : ℕ) (a : AssemblyConfig) (o : Option (List ℕ)) → option_map (config_with i) o ≡ Some a → (i ≡ a.instance) × (IsSomeAnd o (λ held. a.size ≡ length held))
+found_size : (m : AssemblyMap) (i : ℕ) (a : AssemblyConfig) (o : Option (List ℕ)) → option_map (config_with i) o ≡ Some a
+    → (i ≡ a.instance) × (IsSomeAnd o (λ held. a.size ≡ length held))
 found_size m i a None e = absurd (cc)
 found_size m i a (Some held) e =
     let same : config_with i held ≡ a = cc in
     (ap (λ (x : AssemblyConfig). x.instance) same, sym (ap (λ (x : AssemblyConfig). x.size) same))
 
-same_size : (m : AssemblyMap) (i : ℕ) (d : List ℕ) (size : ℕ) → IsSomeAnd (map.get m i) (λ held. size ≡ length held) → size ≡ length d → (j : ℕ) → size_in (map.insert m i d) j ≡ size_in m j
+same_size : (m : AssemblyMap) (i : ℕ) (d : List ℕ) (size : ℕ) → IsSomeAnd (map.get m i) (λ held. size ≡ length held) → size ≡ length d → (j : ℕ)
+    → size_in (map.insert m i d) j ≡ size_in m j
 same_size m i d size has e j =
     elim (map.get m i) as (λ (o : Option (List ℕ)). map.get m i ≡ o → IsSomeAnd o (λ held. size ≡ length held) → size_in (map.insert m i d) j ≡ size_in m j) [
       | None ↦ λ at h. absurd h

@@ -5,9 +5,9 @@ use Rattle.cip_pending.specs.declared.entry.UpSide.TheVariants.{Link, Local}
 use Rattle.cip_hops.specs.Hops.{Hops, IsOpFree}
 use Rattle.cip_module.specs.declared.config.ModuleSettings.{ModuleSettings}
 use Rattle.cip_module.specs.declared.event.Output.{Output}
-use Rattle.cip_module.specs.Does.{Does}
+use Rattle.cip_module.specs.Code.Does.{Does}
 use Rattle.cip_module.specs.Effects.{Effect, applied}
-use Rattle.cip_module.specs.Fit.{AreSpent}
+use Rattle.cip_module.specs.Code.Fit.{AreSpent}
 use Rattle.cip_module.specs.State.{State, is_spent, spent_with}
 use Rattle.cip_module.specs.Table.{with_spending}
 

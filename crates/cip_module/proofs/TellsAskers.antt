@@ -11,6 +11,7 @@ use Rattle.cip_hops.specs.declared.opening.Opening.{Opening}
 use Rattle.cip_module.specs.declared.config.ModuleSettings.{ModuleSettings}
 use Rattle.cip_module.specs.declared.event.Event.{Event}
 use Rattle.cip_module.specs.RequestRows.{RequestRow}
+use Rattle.cip_module.specs.Effects.{Sending}
 use Rattle.cip_module.specs.State.{State}
 use Rattle.cip_module.specs.Tells.{asker, Came, AsksSend, AsksOpen, AsksClose, RepliesAs, RequestFails, SendUnread, SendFails, OpenUnread, OpenFails, OpenEnds, CloseUnread, CloseFails, CloseEnds, AnswersAs, Itself, Embedded, ForwardsAs, BeginsAs}
 
@@ -25,11 +26,13 @@ pub open_asker : (config : ModuleSettings) (s : State) (event : Event) (up : UpS
 open_asker config s event up o (inl h) = came_asker config event up _ h.came
 open_asker config s event up o (inr h) = ap asker h.event_is ∙ ap (λ (u : UpSide). Some u) (sym h.up_is)
 
-pub close_asker : (config : ModuleSettings) (s : State) (event : Event) (up sender : UpSide) (c : Close) → AsksClose config s event up sender c → asker event ≡ Some up
+pub close_asker : (config : ModuleSettings) (s : State) (event : Event) (up sender : UpSide) (c : Close) → AsksClose config s event up sender c
+    → asker event ≡ Some up
 close_asker config s event up sender c (inl h) = came_asker config event up _ h.came
 close_asker config s event up sender c (inr h) = ap asker h.event_is ∙ ap (λ (u : UpSide). Some u) (sym h.up_is)
 
-pub replies_asker : (config : ModuleSettings) (s : State) (event : Event) (up : UpSide) (bytes : List ℕ) → RepliesAs config s event up bytes → asker event ≡ Some up
+pub replies_asker : (config : ModuleSettings) (s : State) (event : Event) (up : UpSide) (bytes : List ℕ) → RepliesAs config s event up bytes
+    → asker event ≡ Some up
 replies_asker config s event up bytes (RequestFails service refusal came e) = came_asker config event up _ came
 replies_asker config s event up bytes (SendUnread asked fault came read e) = came_asker config event up _ came
 replies_asker config s event up bytes (SendFails u refusal asks meets e) = send_asker config s event up u asks
@@ -40,16 +43,18 @@ replies_asker config s event up bytes (CloseUnread asked fault came read e) = ca
 replies_asker config s event up bytes (CloseFails sender c refusal asks meets e) = close_asker config s event up sender c asks
 replies_asker config s event up bytes (CloseEnds sender c asks meets e) = close_asker config s event up sender c asks
 
-pub answers_asker : (config : ModuleSettings) (s : State) (event : Event) (up : UpSide) (asked : Request) → AnswersAs config s event up asked → asker event ≡ Some up
+pub answers_asker : (config : ModuleSettings) (s : State) (event : Event) (up : UpSide) (asked : Request) → AnswersAs config s event up asked
+    → asker event ≡ Some up
 answers_asker config s event up asked (Itself came) = came_asker config event up _ came
 answers_asker config s event up asked (Embedded u asks whole read) = send_asker config s event up u asks
 
-pub forwards_asker : (config : ModuleSettings) (s : State) (event : Event) (up : UpSide) (port : ℕ) (address bytes : List ℕ) (wait words : ℕ) (kind : Kind)
-    → ForwardsAs config s event up port address bytes wait words kind → asker event ≡ Some up
-forwards_asker config s event up port address bytes wait words UnconnectedKind h = send_asker config s event up h.u h.asks
-forwards_asker config s event up port address bytes wait words (OpeningKind triad) h = absurd h
-forwards_asker config s event up port address bytes wait words (ClosingKind triad) h = close_asker config s event up h.closes.sender h.c h.closes.asks
+pub forwards_asker : (config : ModuleSettings) (s : State) (event : Event) (sending : Sending) (kind : Kind)
+    → ForwardsAs config s event sending kind → asker event ≡ Some sending.up
+forwards_asker config s event sending UnconnectedKind h = send_asker config s event sending.up h.u h.asks
+forwards_asker config s event sending (OpeningKind triad) h = absurd h
+forwards_asker config s event sending (ClosingKind triad) h =
+    close_asker config s event sending.up h.closes.sender h.c h.closes.asks
 
-pub begins_asker : (config : ModuleSettings) (s : State) (event : Event) (up : UpSide) (port : ℕ) (address bytes : List ℕ) (wait words : ℕ) (opening : Opening)
-    → BeginsAs config s event up port address bytes wait words opening → asker event ≡ Some up
-begins_asker config s event up port address bytes wait words opening h = open_asker config s event up h.o h.asks
+pub begins_asker : (config : ModuleSettings) (s : State) (event : Event) (sending : Sending) (opening : Opening)
+    → BeginsAs config s event sending opening → asker event ≡ Some sending.up
+begins_asker config s event sending opening h = open_asker config s event sending.up h.o h.asks

@@ -15,13 +15,13 @@ use Rattle.cip_hops.specs.declared.hop.Hop.{Hop}
 use Rattle.cip_hops.specs.Hops.{hop_at}
 use Rattle.cip_module.specs.declared.config.ModuleSettings.{ModuleSettings}
 use Rattle.cip_module.specs.declared.event.Event.{Event}
-use Rattle.cip_module.specs.declared.rows.LinkRefusal.{LinkRefusal}
-use Rattle.cip_module.specs.declared.rows.CloseRefusal.TheVariants.{NotThisSendersOpenTriad, PathDiffersFromTheHops, NotSentOn}
+use Rattle.cip_module.specs.declared.refusals.LinkRefusal.{LinkRefusal}
+use Rattle.cip_module.specs.declared.refusals.CloseRefusal.TheVariants.{NotThisSendersOpenTriad, PathDiffersFromTheHops, NotSentOn}
 use Rattle.cip_module.specs.Links.{wait_refusal}
 use Rattle.cip_module.specs.CloseRows.{CloseRow, Refuses, Forwarded, ClosedAtTheEnd, is_sender, wait_row, below_row, down_row, triad_row, close_row}
 use Rattle.cip_module.specs.RequestRows.{ForwardClose}
 use Rattle.cip_module.specs.State.{State}
-use Rattle.cip_module.specs.Table.{close_on, close_effects, closing_effects}
+use Rattle.cip_module.specs.Table.{close_on, close_effects, close_data_effects}
 use Rattle.cip_module.specs.Tells.{Came, AsksClose, Closes, CloseUnread, CloseFails, CloseEnds, AllTell}
 use Rattle.cip_module.proofs.TellsEach.{past, past_not}
 use Rattle.cip_module.proofs.TellsSends.{wait_ticks}
@@ -29,7 +29,8 @@ use Rattle.cip_module.proofs.TellsSends.{wait_ticks}
 -- ---- a close that is done
 
 -- the connection of its triad is open, and its up side asks
-triad_stands : (p : Pendings) (sender : UpSide) (c : Close) (x : Option Hop) (row : CloseRow) → triad_row p sender c x ≡ row → (Refuses NotThisSendersOpenTriad ≡ row → ⊥)
+triad_stands : (p : Pendings) (sender : UpSide) (c : Close) (x : Option Hop) (row : CloseRow) → triad_row p sender c x ≡ row
+    → (Refuses NotThisSendersOpenTriad ≡ row → ⊥)
     → (hop : Hop) × (x ≡ Some hop) × (is_sender sender hop.opening.up ≡ true) × (down_row p c hop.opening.down ≡ row)
 triad_stands p sender c None row e never = absurd (never e)
 triad_stands p sender c (Some hop) row e never =
@@ -49,29 +50,42 @@ both_true false b e = absurd (cc)
 
 abbrev GoesOn : Close → HopDown → ℕ → List ℕ → List ℕ → Type 0
 GoesOn c down port address rest =
-    (next : HopAt) × (down ≡ DownLink port address) × (hop_of c.path ≡ Some next) × (port ≡ next.port) × (address ≡ next.address) × (rest ≡ next.rest) × (2 ≤ c.fields.timing.ticks)
+    (next : HopAt) × (down ≡ DownLink port address) × (hop_of c.path ≡ Some next) × (port ≡ next.port) × (address ≡ next.address) × (rest ≡ next.rest)
+    × (2 ≤ c.fields.timing.ticks)
 
 wait_forwards : (p : Pendings) (c : Close) (own : ℕ) (there : List ℕ) (next : HopAt) (x : Option LinkRefusal) (port : ℕ) (address rest : List ℕ)
-    → hop_of c.path ≡ Some next → next.port ≡ own → next.address ≡ there → wait_refusal p c.fields.timing ≡ x → wait_row own there next.rest x ≡ Forwarded port address rest
+    → hop_of c.path ≡ Some next → next.port ≡ own → next.address ≡ there → wait_refusal p c.fields.timing ≡ x
+    → wait_row own there next.rest x ≡ Forwarded port address rest
     → GoesOn c (DownLink own there) port address rest
-wait_forwards p c own there next (Some fault) port address rest first q a r e = absurd (let other : Refuses (NotSentOn fault) ≡ Forwarded port address rest = e in cc)
+wait_forwards p c own there next (Some fault) port address rest first q a r e =
+    absurd (let other : Refuses (NotSentOn fault) ≡ Forwarded port address rest = e in cc)
 wait_forwards p c own there next None port address rest first q a r e =
     let same : Forwarded own there next.rest ≡ Forwarded port address rest = e in
     let port_is : own ≡ port = cc in
     let address_is : there ≡ address = cc in
-    let rest_is : rest ≡ next.rest = cc in
-    (next, ap (λ n. DownLink n there) port_is ∙ ap (DownLink port) address_is, first, sym port_is ∙ sym q, sym address_is ∙ sym a, rest_is, wait_ticks p c.fields.timing r)
+    let rest_is : rest ≡ next.rest = cc in (
+      next,
+      ap (λ n. DownLink n there) port_is ∙ ap (DownLink port) address_is,
+      first,
+      sym port_is ∙ sym q,
+      sym address_is ∙ sym a,
+      rest_is,
+      wait_ticks p c.fields.timing r,
+    )
 
 below_forwards : (p : Pendings) (c : Close) (own : ℕ) (there : List ℕ) (x : Option HopAt) (port : ℕ) (address rest : List ℕ)
     → hop_of c.path ≡ x → below_row p c own there x ≡ Forwarded port address rest → GoesOn c (DownLink own there) port address rest
 below_forwards p c own there None port address rest first e = absurd (cc)
 below_forwards p c own there (Some next) port address rest first e =
     let waits = wait_row own there next.rest (wait_refusal p c.fields.timing) in
-    let tested = past_not (eqb next.port own && bytes_eq next.address there) (Refuses PathDiffersFromTheHops) waits (Forwarded port address rest) e (λ other. cc) in
+    let tested = past_not (eqb next.port own && bytes_eq next.address there) (Refuses PathDiffersFromTheHops) waits (Forwarded port address rest) e
+    (λ other. cc) in
     let both = both_true (eqb next.port own) (bytes_eq next.address there) tested.0 in
-    wait_forwards p c own there next (wait_refusal p c.fields.timing) port address rest first (eqb-true next.port own both.0) ((bytes_eq-Decides next.address there).0 both.1) refl tested.1
+    wait_forwards p c own there next (wait_refusal p c.fields.timing) port address rest first (eqb-true next.port own both.0)
+    ((bytes_eq-Decides next.address there).0 both.1) refl tested.1
 
-down_forwards : (p : Pendings) (c : Close) (down : HopDown) (port : ℕ) (address rest : List ℕ) → down_row p c down ≡ Forwarded port address rest → GoesOn c down port address rest
+down_forwards : (p : Pendings) (c : Close) (down : HopDown) (port : ℕ) (address rest : List ℕ) → down_row p c down ≡ Forwarded port address rest
+    → GoesOn c down port address rest
 down_forwards p c (DownLink own there) port address rest e = below_forwards p c own there (hop_of c.path) port address rest refl e
 down_forwards p c (End config consume produce) port address rest e =
     let tested = past (is_some (hop_of c.path)) (Refuses PathDiffersFromTheHops) ClosedAtTheEnd (Forwarded port address rest) e (λ other. cc) in
@@ -107,19 +121,22 @@ close_told config s event up sender c (Forwarded port address rest) asks e =
       ),
     )
 close_told config s event up sender c ClosedAtTheEnd asks e =
-    let h = close_stands s sender c ClosedAtTheEnd e (λ other. cc) in
-    (record { up = up; c = c; hop = h.0; closes = record { sender = sender; asks = asks; stands = h.1; own = h.2 }; triad_is = refl }, (CloseEnds sender c asks e refl, tt))
+    let h = close_stands s sender c ClosedAtTheEnd e (λ other. cc) in (
+      record { up = up; c = c; hop = h.0; closes = record { sender = sender; asks = asks; stands = h.1; own = h.2 }; triad_is = refl },
+      (CloseEnds sender c asks e refl, tt),
+    )
 
 pub closes_tell : (config : ModuleSettings) (s : State) (event : Event) (up sender : UpSide) (c : Close) → AsksClose config s event up sender c
     → AllTell config s event (close_effects up c (close_row s sender c))
 closes_tell config s event up sender c asks = close_told config s event up sender c (close_row s sender c) asks refl
 
-read_told : (config : ModuleSettings) (s : State) (event : Event) (up : UpSide) (asked : List ℕ) (r : Result Close DataFault) → Came config event up (ForwardClose asked)
-    → close_at asked ≡ r → AllTell config s event (closing_effects s up asked r)
+read_told : (config : ModuleSettings) (s : State) (event : Event) (up : UpSide) (asked : List ℕ) (r : Result Close DataFault)
+    → Came config event up (ForwardClose asked)
+    → close_at asked ≡ r → AllTell config s event (close_data_effects s up asked r)
 read_told config s event up asked (Err fault) came e = (CloseUnread asked fault came e refl, tt)
 read_told config s event up asked (Ok c) came e = closes_tell config s event up up c (inl (record { asked = asked; came = came; read = e; sender_is = refl }))
 
 -- a Forward_Close in a frame
 pub close_tells : (config : ModuleSettings) (s : State) (event : Event) (up : UpSide) (asked : List ℕ) → Came config event up (ForwardClose asked)
-    → AllTell config s event (closing_effects s up asked (close_at asked))
+    → AllTell config s event (close_data_effects s up asked (close_at asked))
 close_tells config s event up asked came = read_told config s event up asked (close_at asked) came refl

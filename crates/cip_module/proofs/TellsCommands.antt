@@ -26,11 +26,11 @@ use Rattle.cip_module.specs.declared.event.Event.{Event}
 use Rattle.cip_module.specs.declared.event.Event.TheVariants as events
 use Rattle.cip_module.specs.declared.event.Command.{Command}
 use Rattle.cip_module.specs.declared.event.Command.TheVariants as commands
-use Rattle.cip_module.specs.declared.rows.CommandRow.{CommandRow}
-use Rattle.cip_module.specs.declared.rows.CommandRow.TheVariants as rows
+use Rattle.cip_module.specs.declared.command_rows.CommandRow.{CommandRow}
+use Rattle.cip_module.specs.declared.command_rows.CommandRow.TheVariants as rows
 use Rattle.cip_module.specs.CommandRows.{op_row, close_command_row, send_row, set_row}
 use Rattle.cip_module.specs.Effects.{Effect, Counts, Passes, Writes}
-use Rattle.cip_module.specs.Produced.{reads_from, datum_effects, held_effects, each_effects, next_count}
+use Rattle.cip_module.specs.Produced.{reads_from, made_effects, held_effects, each_effects, next_count}
 use Rattle.cip_module.specs.State.{State, is_spent}
 use Rattle.cip_module.specs.Table.{refused_effects, sent, open_of, close_of, send_effects, open_command_effects, closed_effects, close_command_effects, entered_effects, enter_effects, produce_effects, command_effects}
 use Rattle.cip_module.specs.Tells.{Entered, Made, CountedDown, Set, Produced, AllTell}
@@ -39,7 +39,8 @@ use Rattle.cip_module.proofs.TellsSends.{sends_tell}
 use Rattle.cip_module.proofs.TellsOpens.{opens_tell}
 use Rattle.cip_module.proofs.TellsCloses.{closes_tell}
 
-refused_told : (config : ModuleSettings) (s : State) (command : Command) (row : CommandRow) (es : List Effect) → (row ≡ rows.Taken → AllTell config s (events.Command command) es)
+refused_told : (config : ModuleSettings) (s : State) (command : Command) (row : CommandRow) (es : List Effect)
+    → (row ≡ rows.Taken → AllTell config s (events.Command command) es)
     → AllTell config s (events.Command command) (refused_effects row es)
 refused_told config s command rows.OpUsed es told = (record { command = command; event_is = refl }, tt)
 refused_told config s command rows.NotOpen es told = (record { command = command; event_is = refl }, tt)
@@ -53,10 +54,12 @@ refused_told config s command rows.Taken es told = told refl
 send_unused : (s : State) (op : ℕ) (u : Unconnected) → send_row s op u ≡ rows.Taken → is_spent op s.ops ≡ false
 unfolding send_row
 send_unused s op u e =
-    (past (is_spent op s.ops) rows.OpUsed (cond (eqb (slice_index u.request 0) 0x52) rows.ReservedService (cond (nat_lt 1400 (length (unconnected_bytes u))) rows.WrongSize rows.Taken)) rows.Taken e (λ other. cc)).0
+    (past (is_spent op s.ops) rows.OpUsed (cond (eqb (slice_index u.request 0) 0x52) rows.ReservedService
+    (cond (nat_lt 1400 (length (unconnected_bytes u))) rows.WrongSize rows.Taken)) rows.Taken e (λ other. cc)).0
 
 send_command_tells : (config : ModuleSettings) (s : State) (op : ℕ) (timing : Timing) (path asked : List ℕ)
-    → AllTell config s (events.Command (commands.Send op timing path asked)) (send_effects config s op (sent timing path asked) (send_row s op (sent timing path asked)))
+    → AllTell config s (events.Command (commands.Send op timing path asked))
+    (send_effects config s op (sent timing path asked) (send_row s op (sent timing path asked)))
 send_command_tells config s op timing path asked =
     refused_told config s (commands.Send op timing path asked) (send_row s op (sent timing path asked)) _
     (λ taken. let unused = send_unused s op (sent timing path asked) taken in (
@@ -76,7 +79,8 @@ open_command_tells config s op timing path params =
     ))
 
 close_unused : (s : State) (op of : ℕ) → close_command_row s op of ≡ rows.Taken → is_spent op s.ops ≡ false
-close_unused s op of e = (past (is_spent op s.ops) rows.OpUsed (cond (not (is_some (hop_by_op s.hops of))) rows.NotOpen rows.Taken) rows.Taken e (λ other. cc)).0
+close_unused s op of e = (past (is_spent op s.ops) rows.OpUsed (cond (not (is_some (hop_by_op s.hops of))) rows.NotOpen rows.Taken) rows.Taken e
+    (λ other. cc)).0
 
 closed_tells : (config : ModuleSettings) (s : State) (op of : ℕ) (timing : Timing) (x : Option Hop) → hop_by_op s.hops of ≡ x → is_spent op s.ops ≡ false
     → AllTell config s (events.Command (commands.Close op of timing)) (closed_effects s op of timing x)
@@ -84,21 +88,37 @@ closed_tells config s op of timing None found unused = tt
 closed_tells config s op of timing (Some hop) found unused = (
   record { asks = refl; unused = unused },
   closes_tell config s (events.Command (commands.Close op of timing)) (Local op) (Local of) (close_of timing hop)
-      (inr (record { op = op; of = of; timing = timing; hop = hop; event_is = refl; up_is = refl; sender_is = refl; opened = found; spells = refl; unused = unused })),
+      (inr (record {
+        op = op;
+        of = of;
+        timing = timing;
+        hop = hop;
+        event_is = refl;
+        up_is = refl;
+        sender_is = refl;
+        opened = found;
+        spells = refl;
+        unused =
+            unused;
+      })),
 )
 
-close_command_tells : (config : ModuleSettings) (s : State) (op of : ℕ) (timing : Timing) → AllTell config s (events.Command (commands.Close op of timing)) (close_command_effects s op of timing)
+close_command_tells : (config : ModuleSettings) (s : State) (op of : ℕ) (timing : Timing)
+    → AllTell config s (events.Command (commands.Close op of timing)) (close_command_effects s op of timing)
 close_command_tells config s op of timing =
-    refused_told config s (commands.Close op of timing) (close_command_row s op of) _ (λ taken. closed_tells config s op of timing (hop_by_op s.hops of) refl (close_unused s op of taken))
+    refused_told config s (commands.Close op of timing) (close_command_row s op of) _
+    (λ taken. closed_tells config s op of timing (hop_by_op s.hops of) refl (close_unused s op of taken))
 
 -- ---- data that the application gives
 
-entered_tells : (config : ModuleSettings) (s : State) (of : ℕ) (bytes : List ℕ) (hop : Hop) (b : Bool) → hop_by_op s.hops of ≡ Some hop → eqb (length bytes) hop.opening.ot_size ≡ b
+entered_tells : (config : ModuleSettings) (s : State) (of : ℕ) (bytes : List ℕ) (hop : Hop) (b : Bool) → hop_by_op s.hops of ≡ Some hop
+    → eqb (length bytes) hop.opening.ot_size ≡ b
     → AllTell config s (events.Command (commands.Enter of bytes)) (refused_effects (cond b rows.Taken rows.WrongSize) (entered_effects bytes (Some hop)))
 entered_tells config s of bytes hop true found sized = (Entered of hop refl refl refl found (eqb-true (length bytes) hop.opening.ot_size sized), tt)
 entered_tells config s of bytes hop false found sized = (record { command = commands.Enter of bytes; event_is = refl }, tt)
 
-enter_tells : (config : ModuleSettings) (s : State) (of : ℕ) (bytes : List ℕ) (x : Option Hop) → hop_by_op s.hops of ≡ x → AllTell config s (events.Command (commands.Enter of bytes)) (enter_effects bytes x)
+enter_tells : (config : ModuleSettings) (s : State) (of : ℕ) (bytes : List ℕ) (x : Option Hop) → hop_by_op s.hops of ≡ x
+    → AllTell config s (events.Command (commands.Enter of bytes)) (enter_effects bytes x)
 enter_tells config s of bytes None found = (record { command = commands.Enter of bytes; event_is = refl }, tt)
 enter_tells config s of bytes (Some hop) found = entered_tells config s of bytes hop (eqb (length bytes) hop.opening.ot_size) found refl
 
@@ -106,33 +126,43 @@ set_tells : (config : ModuleSettings) (s : State) (instance : ℕ) (bytes : List
     → AllTell config s (events.Command (commands.Set instance bytes)) (refused_effects (set_row bytes x) (Writes instance bytes ∷ []))
 set_tells config s instance bytes None sized = (record { command = commands.Set instance bytes; event_is = refl }, tt)
 set_tells config s instance bytes (Some size) sized =
-    elim (eqb (length bytes) size) as (λ b. eqb (length bytes) size ≡ b → AllTell config s (events.Command (commands.Set instance bytes)) (refused_effects (cond b rows.Taken rows.WrongSize) (Writes instance bytes ∷ []))) [
+    elim (eqb (length bytes) size) as (λ b. eqb (length bytes) size ≡ b
+    → AllTell config s (events.Command (commands.Set instance bytes)) (refused_effects (cond b rows.Taken rows.WrongSize) (Writes instance bytes ∷ []))) [
       | true ↦ λ t. (Set refl (sized ∙ ap (λ (n : ℕ). Some n) (sym (eqb-true (length bytes) size t))), tt)
       | false ↦ λ t. (record { command = commands.Set instance bytes; event_is = refl }, tt)
     ] refl
 
 -- ---- an assembly that is sent
 
-datum_tells : (config : ModuleSettings) (s : State) (event : Event) (held : List ℕ) (hop : Hop) (b : Bool) → Produced s event hop held → eqb hop.opening.class 1 ≡ b
-    → AllTell config s event (cond b (Counts hop.opening.triad Down (next_count hop.produced) ∷ Passes hop.opening.triad Up (word (next_count hop.produced) ++ held) ∷ [])
+datum_tells : (config : ModuleSettings) (s : State) (event : Event) (held : List ℕ) (hop : Hop) (b : Bool) → Produced s event hop held
+    → eqb hop.opening.class 1 ≡ b
+    → AllTell config s event
+    (cond b (Counts hop.opening.triad Down (next_count hop.produced) ∷ Passes hop.opening.triad Up (word (next_count hop.produced) ++ held) ∷ [])
     (Passes hop.opening.triad Up held ∷ []))
 datum_tells config s event held hop true made class = (
   CountedDown hop held refl refl (eqb-true hop.opening.class 1 class) refl made,
   (Made held hop refl refl (sym (ap (λ b. cond b (word (next_count hop.produced) ++ held) held) class)) made, tt),
 )
-datum_tells config s event held hop false made class = (Made held hop refl refl (sym (ap (λ b. cond b (word (next_count hop.produced) ++ held) held) class)) made, tt)
+datum_tells config s event held hop false made class = (
+  Made held hop refl refl (sym (ap (λ b. cond b (word (next_count hop.produced) ++ held) held) class))
+      made,
+  tt,
+)
 
 module _ (config : ModuleSettings) (s : State) (instance : ℕ) (held : List ℕ) (holds : map.get s.assemblies instance ≡ Some held) where
-  held_tells : (key : Triad) (x : Held) → map.get s.hops.held key ≡ Some x → AllTell config s (events.Command (commands.Produce instance)) (held_effects instance held x)
+  held_tells : (key : Triad) (x : Held) → map.get s.hops.held key ≡ Some x
+      → AllTell config s (events.Command (commands.Produce instance)) (held_effects instance held x)
   held_tells key (IsOpening o ids) at = tt
   held_tells key (IsOpen hop) at =
-      elim (reads_from instance hop.opening.down) as (λ b. reads_from instance hop.opening.down ≡ b → AllTell config s (events.Command (commands.Produce instance)) (cond b (datum_effects held hop) [])) [
+      elim (reads_from instance hop.opening.down) as (λ b. reads_from instance hop.opening.down ≡ b
+      → AllTell config s (events.Command (commands.Produce instance)) (cond b (made_effects held hop) [])) [
         | true ↦ λ t. datum_tells config s (events.Command (commands.Produce instance)) held hop (eqb hop.opening.class 1)
             (record { instance = instance; key = key; event_is = refl; holds = holds; stands = ap (option_and_then as_hop) at; reads = t }) refl
         | false ↦ λ t. tt
       ] refl
 
-  each_tells : (es : List (Triad × Held)) → All (λ e. map.get s.hops.held e.0 ≡ Some e.1) es → AllTell config s (events.Command (commands.Produce instance)) (each_effects instance held es)
+  each_tells : (es : List (Triad × Held)) → All (λ e. map.get s.hops.held e.0 ≡ Some e.1) es
+      → AllTell config s (events.Command (commands.Produce instance)) (each_effects instance held es)
   each_tells [] h = tt
   each_tells (e ∷ es) h =
       all_append config s (events.Command (commands.Produce instance)) (held_effects instance held e.1) (each_effects instance held es)

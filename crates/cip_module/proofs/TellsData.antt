@@ -26,7 +26,8 @@ renews : (s : State) (event : Event) (side : Side) (hop : Hop) (bytes : List ℕ
 renews s event side hop bytes came = record { hop = hop; bytes = bytes; came = came; triad_is = refl }
 
 -- at an end, by its class and its count
-end_told : (config : ModuleSettings) (s : State) (event : Event) (hop : Hop) (instance : ℕ) (bytes : List ℕ) (first last : Bool) → DatumCame s event Up hop bytes
+end_told : (config : ModuleSettings) (s : State) (event : Event) (hop : Hop) (instance : ℕ) (bytes : List ℕ) (first last : Bool)
+    → DatumCame s event Up hop bytes
     → eqb hop.opening.class 1 ≡ first → is_last (word_in bytes 0) hop.consumed ≡ last
     → ((hop.opening.class ≡ 1 → is_last (word_in bytes 0) hop.consumed ≡ false) → DatumWritten s event hop instance bytes)
     → AllTell config s event (datum_effects bytes (cond (not first) (Consumed hop.opening.triad instance None bytes)
@@ -47,7 +48,8 @@ end_told config s event hop instance bytes true false came class count written =
       ),
     )
 
-below_told : (config : ModuleSettings) (s : State) (event : Event) (hop : Hop) (bytes : List ℕ) (down : HopDown) → DatumCame s event Up hop bytes → hop.opening.down ≡ down
+below_told : (config : ModuleSettings) (s : State) (event : Event) (hop : Hop) (bytes : List ℕ) (down : HopDown) → DatumCame s event Up hop bytes
+    → hop.opening.down ≡ down
     → AllTell config s event (datum_effects bytes (below_row hop bytes down))
 below_told config s event hop bytes (DownLink port address) came is = (PassedOn hop refl came, (renews s event Up hop bytes came, tt))
 below_told config s event hop bytes (End configuration consume produce) came is =
@@ -65,7 +67,8 @@ module _ (config : ModuleSettings) (s : State) (port : ℕ) (from : List ℕ) (i
       record { port = port; from = from; id = id; event_is = refl; found = found; sized = eqb-true (length bytes) hop.opening.ot_size sized } in
       below_told config s (Frame port from (Data id bytes)) hop bytes hop.opening.down came refl
 
-  above_told : (hop : Hop) (up : HopUp) → DatumCame s (Frame port from (Data id bytes)) Down hop bytes → AllTell config s (Frame port from (Data id bytes)) (datum_effects bytes (above_row hop up))
+  above_told : (hop : Hop) (up : HopUp) → DatumCame s (Frame port from (Data id bytes)) Down hop bytes
+      → AllTell config s (Frame port from (Data id bytes)) (datum_effects bytes (above_row hop up))
   above_told hop (UpLink own there their_id) came = (PassedOn hop refl came, (renews s (Frame port from (Data id bytes)) Down hop bytes came, tt))
   above_told hop (UpLocal op) came = (PassedOn hop refl came, (renews s (Frame port from (Data id bytes)) Down hop bytes came, tt))
 
@@ -73,7 +76,8 @@ module _ (config : ModuleSettings) (s : State) (port : ℕ) (from : List ℕ) (i
       → AllTell config s (Frame port from (Data id bytes)) (datum_effects bytes (cond (not b) WrongSize (above_row hop hop.opening.up)))
   down_told hop false found sized = (record { port = port; from = from; body = Data id bytes; event_is = refl }, tt)
   down_told hop true found sized =
-      above_told hop hop.opening.up (record { port = port; from = from; id = id; event_is = refl; found = found; sized = eqb-true (length bytes) hop.opening.to_size sized })
+      above_told hop hop.opening.up
+      (record { port = port; from = from; id = id; event_is = refl; found = found; sized = eqb-true (length bytes) hop.opening.to_size sized })
 
   id_told : (above below : Option Hop) → hop_by_up s.hops id port from ≡ above → hop_by_down s.hops id port from ≡ below
       → AllTell config s (Frame port from (Data id bytes)) (datum_effects bytes (id_row bytes above below))
@@ -81,7 +85,8 @@ module _ (config : ModuleSettings) (s : State) (port : ℕ) (from : List ℕ) (i
   id_told None None a b = (record { port = port; from = from; body = Data id bytes; event_is = refl }, tt)
   id_told None (Some hop) a b = down_told hop (eqb (length bytes) hop.opening.to_size) b refl
 
-  port_told : (b : Bool) → AllTell config s (Frame port from (Data id bytes)) (datum_effects bytes (cond (not b) UnknownId (id_row bytes (hop_by_up s.hops id port from) (hop_by_down s.hops id port from))))
+  port_told : (b : Bool) → AllTell config s (Frame port from (Data id bytes))
+      (datum_effects bytes (cond (not b) UnknownId (id_row bytes (hop_by_up s.hops id port from) (hop_by_down s.hops id port from))))
   port_told false = (record { port = port; from = from; body = Data id bytes; event_is = refl }, tt)
   port_told true = id_told (hop_by_up s.hops id port from) (hop_by_down s.hops id port from) refl refl
 

@@ -24,6 +24,7 @@ pub none_is : {X : Type 0} (x : Option X) → is_some x ≡ false → x ≡ None
 none_is None e = refl
 none_is (Some x) e = absurd (cc)
 
-pub all_append : (config : ModuleSettings) (s : State) (event : Event) (es fs : List Effect) → AllTell config s event es → AllTell config s event fs → AllTell config s event (es ++ fs)
+pub all_append : (config : ModuleSettings) (s : State) (event : Event) (es fs : List Effect) → AllTell config s event es → AllTell config s event fs
+    → AllTell config s event (es ++ fs)
 all_append config s event [] fs h k = k
 all_append config s event (e ∷ es) fs h k = (h.0, all_append config s event es fs h.1 k)

@@ -10,19 +10,19 @@ use Rattle.cip_hops.specs.declared.opening.HopUp.{HopUp}
 use Rattle.cip_hops.specs.Sides.{up_is_link}
 use Rattle.cip_hops.specs.Hops.{Hops, refusal}
 use Rattle.cip_target.specs.declared.link.EndLink.{EndLink}
-use Rattle.cip_target.specs.Ends.{EndRow, end_row, Fits}
-use Rattle.cip_target.specs.Ends as ends
+use Rattle.cip_target.specs.Ends.{EndRow, end_row}
+use Rattle.cip_target.specs.declared.ends.EndRefusal.TheVariants.{NotAnApplicationPath}
 use Rattle.cip_module.specs.declared.config.ModuleSettings.{ModuleSettings}
 use Rattle.cip_module.specs.declared.event.Event.{Event}
-use Rattle.cip_module.specs.declared.rows.KeyPart.{KeyPart}
-use Rattle.cip_module.specs.declared.rows.LinkRefusal.{LinkRefusal}
-use Rattle.cip_module.specs.declared.rows.OpenRefusal.TheVariants.{ConnectionTypeNotSupported, RpiOfZero, TriadInUse, NotSentOn, NoRoomOrIdsLeft, NotAnApplicationPath, NoRoomOrIdLeft}
+use Rattle.cip_module.specs.declared.refusals.KeyPart.{KeyPart}
+use Rattle.cip_module.specs.declared.refusals.LinkRefusal.{LinkRefusal}
+use Rattle.cip_module.specs.declared.refusals.OpenRefusal.TheVariants.{ConnectionTypeNotSupported, RpiOfZero, TriadInUse, NotSentOn, NoRoomToPassOn, NotAccepted, NoRoomToEndHere}
 use Rattle.cip_module.specs.Keys.{leading_mismatch}
 use Rattle.cip_module.specs.Links.{link_refusal}
 use Rattle.cip_module.specs.OpenRows.{OpenRow, Refuses, Forwarded, Accepted, room_row, accepted_row, here_row, ids_on, on_row, hop_row, key_row, is_supported, open_row, is_consumed}
 use Rattle.cip_module.specs.RequestRows.{ForwardOpen}
 use Rattle.cip_module.specs.State.{State}
-use Rattle.cip_module.specs.Table.{opener, open_effects, asked_effects}
+use Rattle.cip_module.specs.Table.{opener, open_effects, open_data_effects}
 use Rattle.cip_module.specs.Tells.{Came, AsksOpen, LeadsOn, OpenUnread, OpenFails, OpenEnds, AllTell}
 use Rattle.cip_module.proofs.TellsEach.{past, past_not, none_is}
 use Rattle.cip_module.proofs.TellsSends.{link_ticks}
@@ -37,7 +37,8 @@ unfolding open_row
 past_all config s up o row e type rpi triad =
     let keyed = key_row config s up o (leading_mismatch config (segments_of o.path)) in
     let free = cond (is_some (map.get s.hops.held o.fields.triad)) (Refuses TriadInUse) keyed in
-    let a = past_not (is_supported o) (Refuses ConnectionTypeNotSupported) (cond (eqb o.fields.ot_rpi 0 || eqb o.fields.to_rpi 0) (Refuses RpiOfZero) free) row e type in
+    let a = past_not (is_supported o) (Refuses ConnectionTypeNotSupported) (cond (eqb o.fields.ot_rpi 0 || eqb o.fields.to_rpi 0) (Refuses RpiOfZero) free) row
+    e type in
     let b = past (eqb o.fields.ot_rpi 0 || eqb o.fields.to_rpi 0) (Refuses RpiOfZero) free row a.1 rpi in
     let c = past (is_some (map.get s.hops.held o.fields.triad)) (Refuses TriadInUse) keyed row b.1 triad in
     (none_is (map.get s.hops.held o.fields.triad) c.0, c.1)
@@ -46,22 +47,19 @@ past_all config s up o row e type rpi triad =
 
 room_forwards : (h : Hops) (o : Open) (link : EndLink) (port : ℕ) (address rest : List ℕ) → room_row h o link ≡ Forwarded port address rest → ⊥
 room_forwards h o link port address rest e =
-    let tested = past (is_some (refusal h o.fields.triad 1)) (Refuses NoRoomOrIdLeft) (Accepted link) (Forwarded port address rest) e (λ other. cc) in
+    let tested = past (is_some (refusal h o.fields.triad 1)) (Refuses NoRoomToEndHere) (Accepted link) (Forwarded port address rest) e (λ other. cc) in
     let other : Accepted link ≡ Forwarded port address rest = tested.1 in
     cc
 
 ends_forwards : (h : Hops) (o : Open) (row : EndRow) (port : ℕ) (address rest : List ℕ) → accepted_row h o row ≡ Forwarded port address rest → ⊥
-ends_forwards h o ends.NotAnApplicationPath port address rest e = cc
-ends_forwards h o ends.NoSuchInstanceOrConfiguration port address rest e = cc
-ends_forwards h o ends.ClassNotSupported port address rest e = cc
-ends_forwards h o ends.SizeMismatch port address rest e = cc
-ends_forwards h o ends.OutputOwned port address rest e = cc
-ends_forwards h o (ends.Fits link) port address rest e = room_forwards h o link port address rest e
+ends_forwards h o (Err refused) port address rest e = cc
+ends_forwards h o (Ok link) port address rest e = room_forwards h o link port address rest e
 
 here_forwards : (s : State) (up : HopUp) (o : Open) (port : ℕ) (address rest : List ℕ) → here_row s up o ≡ Forwarded port address rest → ⊥
 here_forwards s up o port address rest e =
     let row = end_row s.assemblies (is_consumed s.hops) o in
-    let tested = past_not (up_is_link up) (Refuses NotAnApplicationPath) (accepted_row s.hops o row) (Forwarded port address rest) e (λ other. cc) in
+    let tested = past_not (up_is_link up) (Refuses (NotAccepted NotAnApplicationPath)) (accepted_row s.hops o row) (Forwarded port address rest) e (λ other. cc)
+    in
     ends_forwards s.hops o row port address rest tested.1
 
 -- the link, and room for the connection
@@ -69,10 +67,12 @@ abbrev GoesOn : ModuleSettings → State → HopUp → Open → ℕ → List ℕ
 GoesOn config s up o port address rest = LeadsOn config s o.fields.timing o.path port address rest × (refusal s.hops o.fields.triad (ids_on up) ≡ None)
 
 on_forwards : (config : ModuleSettings) (s : State) (up : HopUp) (o : Open) (hop : HopAt) (x : Option LinkRefusal) (port : ℕ) (address rest : List ℕ)
-    → hop_of o.path ≡ Some hop → link_refusal config s.pendings o.fields.timing hop.port hop.address ≡ x → on_row s up o hop x ≡ Forwarded port address rest → GoesOn config s up o port address rest
+    → hop_of o.path ≡ Some hop → link_refusal config s.pendings o.fields.timing hop.port hop.address ≡ x → on_row s up o hop x ≡ Forwarded port address rest
+    → GoesOn config s up o port address rest
 on_forwards config s up o hop (Some fault) port address rest first r e = absurd (let other : Refuses (NotSentOn fault) ≡ Forwarded port address rest = e in cc)
 on_forwards config s up o hop None port address rest first r e =
-    let tested = past (is_some (refusal s.hops o.fields.triad (ids_on up))) (Refuses NoRoomOrIdsLeft) (Forwarded hop.port hop.address hop.rest) (Forwarded port address rest) e (λ other. cc) in
+    let tested = past (is_some (refusal s.hops o.fields.triad (ids_on up))) (Refuses NoRoomToPassOn) (Forwarded hop.port hop.address hop.rest)
+    (Forwarded port address rest) e (λ other. cc) in
     let same : Forwarded hop.port hop.address hop.rest ≡ Forwarded port address rest = tested.1 in
     let port_is : port ≡ hop.port = cc in
     let address_is : address ≡ hop.address = cc in (
@@ -82,7 +82,8 @@ on_forwards config s up o hop None port address rest first r e =
         port_is = port_is;
         address_is = address_is;
         rest_is = cc;
-        link = ap (λ q. link_refusal config s.pendings o.fields.timing q address) port_is ∙ ap (link_refusal config s.pendings o.fields.timing hop.port) address_is ∙ r;
+        link = ap (λ q. link_refusal config s.pendings o.fields.timing q address) port_is
+            ∙ ap (link_refusal config s.pendings o.fields.timing hop.port) address_is ∙ r;
         ticks = link_ticks config s.pendings o.fields.timing hop.port hop.address r;
       },
       none_is (refusal s.hops o.fields.triad (ids_on up)) tested.0,
@@ -99,7 +100,8 @@ key_forwards : (config : ModuleSettings) (s : State) (up : HopUp) (o : Open) (x 
 key_forwards config s up o (Some part) port address rest e = absurd (cc)
 key_forwards config s up o None port address rest e = hop_forwards config s up o (hop_of o.path) port address rest refl e
 
-open_forwards : (config : ModuleSettings) (s : State) (up : HopUp) (o : Open) (port : ℕ) (address rest : List ℕ) → open_row config s up o ≡ Forwarded port address rest
+open_forwards : (config : ModuleSettings) (s : State) (up : HopUp) (o : Open) (port : ℕ) (address rest : List ℕ)
+    → open_row config s up o ≡ Forwarded port address rest
     → (map.get s.hops.held o.fields.triad ≡ None) × GoesOn config s up o port address rest
 open_forwards config s up o port address rest e =
     let h = past_all config s up o (Forwarded port address rest) e (λ other. cc) (λ other. cc) (λ other. cc) in
@@ -108,31 +110,32 @@ open_forwards config s up o port address rest e =
 -- ---- an open that ends here
 
 abbrev EndsHere : State → HopUp → Open → EndLink → Type 0
-EndsHere s up o link = (up_is_link up ≡ true) × (end_row s.assemblies (is_consumed s.hops) o ≡ Fits link) × (refusal s.hops o.fields.triad 1 ≡ None)
+EndsHere s up o link = (up_is_link up ≡ true) × (end_row s.assemblies (is_consumed s.hops) o ≡ Ok link) × (refusal s.hops o.fields.triad 1 ≡ None)
 
-ends_accept : (h : Hops) (o : Open) (row : EndRow) (link : EndLink) → accepted_row h o row ≡ Accepted link → (row ≡ Fits link) × (refusal h o.fields.triad 1 ≡ None)
-ends_accept h o ends.NotAnApplicationPath link e = absurd (cc)
-ends_accept h o ends.NoSuchInstanceOrConfiguration link e = absurd (cc)
-ends_accept h o ends.ClassNotSupported link e = absurd (cc)
-ends_accept h o ends.SizeMismatch link e = absurd (cc)
-ends_accept h o ends.OutputOwned link e = absurd (cc)
-ends_accept h o (ends.Fits own) link e =
-    let tested = past (is_some (refusal h o.fields.triad 1)) (Refuses NoRoomOrIdLeft) (Accepted own) (Accepted link) e (λ other. cc) in
+abbrev fits : EndLink → EndRow
+fits link = Ok link
+
+ends_accept : (h : Hops) (o : Open) (row : EndRow) (link : EndLink) → accepted_row h o row ≡ Accepted link
+    → (row ≡ Ok link) × (refusal h o.fields.triad 1 ≡ None)
+ends_accept h o (Err refused) link e = absurd (cc)
+ends_accept h o (Ok own) link e =
+    let tested = past (is_some (refusal h o.fields.triad 1)) (Refuses NoRoomToEndHere) (Accepted own) (Accepted link) e (λ other. cc) in
     let both : Accepted own ≡ Accepted link = tested.1 in
     let same : own ≡ link = cc in
-    (ap (λ (l : EndLink). Fits l) same, none_is (refusal h o.fields.triad 1) tested.0)
+    (ap fits same, none_is (refusal h o.fields.triad 1) tested.0)
 
 here_accepts : (s : State) (up : HopUp) (o : Open) (link : EndLink) → here_row s up o ≡ Accepted link → EndsHere s up o link
 here_accepts s up o link e =
     let row = end_row s.assemblies (is_consumed s.hops) o in
-    let tested = past_not (up_is_link up) (Refuses NotAnApplicationPath) (accepted_row s.hops o row) (Accepted link) e (λ other. cc) in
-    let fits = ends_accept s.hops o row link tested.1 in
-    (tested.0, fits.0, fits.1)
+    let tested = past_not (up_is_link up) (Refuses (NotAccepted NotAnApplicationPath)) (accepted_row s.hops o row) (Accepted link) e (λ other. cc) in
+    let accepted = ends_accept s.hops o row link tested.1 in
+    (tested.0, accepted.0, accepted.1)
 
 on_accepts : (s : State) (up : HopUp) (o : Open) (hop : HopAt) (x : Option LinkRefusal) (link : EndLink) → on_row s up o hop x ≡ Accepted link → ⊥
 on_accepts s up o hop (Some fault) link e = cc
 on_accepts s up o hop None link e =
-    let tested = past (is_some (refusal s.hops o.fields.triad (ids_on up))) (Refuses NoRoomOrIdsLeft) (Forwarded hop.port hop.address hop.rest) (Accepted link) e (λ other. cc) in
+    let tested = past (is_some (refusal s.hops o.fields.triad (ids_on up))) (Refuses NoRoomToPassOn) (Forwarded hop.port hop.address hop.rest) (Accepted link) e
+    (λ other. cc) in
     let other : Forwarded hop.port hop.address hop.rest ≡ Accepted link = tested.1 in
     cc
 
@@ -158,22 +161,40 @@ open_told : (config : ModuleSettings) (s : State) (event : Event) (up : UpSide) 
     → open_row config s (opener up o.fields.to_id) o ≡ row → AllTell config s event (open_effects s up o row)
 open_told config s event up o (Refuses fault) asks e = (OpenFails o fault asks e refl, tt)
 open_told config s event up o (Forwarded port address rest) asks e =
-    let h = open_forwards config s (opener up o.fields.to_id) o port address rest e in
-    (record { o = o; rest = rest; asks = asks; meets = e; leads = h.1.0; free = h.0; room = h.1.1; bytes_are = refl; wait_is = refl; words_are = refl; opening_is = refl }, tt)
+    let h = open_forwards config s (opener up o.fields.to_id) o port address rest e in (
+      record {
+        o = o;
+        rest = rest;
+        asks = asks;
+        meets = e;
+        leads = h.1.0;
+        free = h.0;
+        room = h.1.1;
+        bytes_are = refl;
+        wait_is = refl;
+        words_are =
+            refl;
+        opening_is = refl;
+      },
+      tt,
+    )
 open_told config s event up o (Accepted link) asks e =
-    let h = open_accepts config s (opener up o.fields.to_id) o link e in
-    (record { up = up; asks = asks; meets = e; came = h.1.1.0; ends = h.1.0; fits = h.1.1.1; free = h.0; room = h.1.1.2; opening_is = refl }, (OpenEnds o link asks e refl, tt))
+    let h = open_accepts config s (opener up o.fields.to_id) o link e in (
+      record { up = up; asks = asks; meets = e; came = h.1.1.0; ends = h.1.0; fits = h.1.1.1; free = h.0; room = h.1.1.2; opening_is = refl },
+      (OpenEnds o link asks e refl, tt),
+    )
 
 pub opens_tell : (config : ModuleSettings) (s : State) (event : Event) (up : UpSide) (o : Open) → AsksOpen config s event up o
     → AllTell config s event (open_effects s up o (open_row config s (opener up o.fields.to_id) o))
 opens_tell config s event up o asks = open_told config s event up o (open_row config s (opener up o.fields.to_id) o) asks refl
 
-read_told : (config : ModuleSettings) (s : State) (event : Event) (up : UpSide) (asked : List ℕ) (r : Result Open DataFault) → Came config event up (ForwardOpen asked)
-    → open_at asked ≡ r → AllTell config s event (asked_effects config s up asked r)
+read_told : (config : ModuleSettings) (s : State) (event : Event) (up : UpSide) (asked : List ℕ) (r : Result Open DataFault)
+    → Came config event up (ForwardOpen asked)
+    → open_at asked ≡ r → AllTell config s event (open_data_effects config s up asked r)
 read_told config s event up asked (Err fault) came e = (OpenUnread asked fault came e refl, tt)
 read_told config s event up asked (Ok o) came e = opens_tell config s event up o (inl (record { asked = asked; came = came; read = e }))
 
 -- a Forward_Open in a frame
 pub open_tells : (config : ModuleSettings) (s : State) (event : Event) (up : UpSide) (asked : List ℕ) → Came config event up (ForwardOpen asked)
-    → AllTell config s event (asked_effects config s up asked (open_at asked))
+    → AllTell config s event (open_data_effects config s up asked (open_at asked))
 open_tells config s event up asked came = read_told config s event up asked (open_at asked) came refl

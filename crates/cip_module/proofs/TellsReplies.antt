@@ -32,7 +32,12 @@ triad_parts : (a b : Triad) → triad_eq a b ≡ true → a ≡ b
 triad_parts a b e =
     let serial = first_two (eqb a.serial b.serial) (eqb a.vendor b.vendor && eqb a.originator b.originator) e in
     let vendor = first_two (eqb a.vendor b.vendor) (eqb a.originator b.originator) serial.1 in
-    λ i. record { serial = eqb-true a.serial b.serial serial.0 i; vendor = eqb-true a.vendor b.vendor vendor.0 i; originator = eqb-true a.originator b.originator vendor.1 i }
+    λ i. record {
+      serial = eqb-true a.serial b.serial serial.0 i;
+      vendor = eqb-true a.vendor b.vendor vendor.0 i;
+      originator =
+          eqb-true a.originator b.originator vendor.1 i;
+    }
   where
     first_two : (a b : Bool) → (a && b) ≡ true → (a ≡ true) × (b ≡ true)
     first_two true b e = (refl, e)
@@ -48,7 +53,8 @@ no_failure triad asked success (Ok failure) e =
     let other : MalformedForItsKind ≡ OpenSucceeded triad success = tested.1 in
     cc
 
-opened_tells : (asked triad : Triad) (success : OpenSuccess) (r : Result OpenSuccess DataFault) → opened_row asked r ≡ OpenSucceeded triad success → (r ≡ Ok success) × (success.triad ≡ triad)
+opened_tells : (asked triad : Triad) (success : OpenSuccess) (r : Result OpenSuccess DataFault) → opened_row asked r ≡ OpenSucceeded triad success
+    → (r ≡ Ok success) × (success.triad ≡ triad)
 opened_tells asked triad success (Err fault) e = absurd (cc)
 opened_tells asked triad success (Ok other) e =
     let tested = first_of (triad_eq other.triad asked) (OpenSucceeded asked other) MalformedForItsKind (OpenSucceeded triad success) e (λ q. cc) in
@@ -57,17 +63,20 @@ opened_tells asked triad success (Ok other) e =
     let same : other ≡ success = cc in
     (ap (λ (x : OpenSuccess). Ok x) same, ap (λ (x : OpenSuccess). x.triad) (sym same) ∙ triad_parts other.triad asked tested.0 ∙ own)
 
-opening_tells : (asked triad : Triad) (success : OpenSuccess) (reply : Reply) → reply.service ≡ 0xD4 → opening_row asked reply ≡ OpenSucceeded triad success → Succeeds reply triad success
+opening_tells : (asked triad : Triad) (success : OpenSuccess) (reply : Reply) → reply.service ≡ 0xD4 → opening_row asked reply ≡ OpenSucceeded triad success
+    → Succeeds reply triad success
 opening_tells asked triad success reply service e =
     let opened = opened_row asked (open_reply_at reply.data_) in
     let more = is_some (slice_get reply.extra 0) in
-    let zero = first_of (eqb reply.general 0) (cond more MalformedForItsKind opened) (failure_row asked (failure_at reply.data_)) (OpenSucceeded triad success) e
+    let zero = first_of (eqb reply.general 0) (cond more MalformedForItsKind opened) (failure_row asked (failure_at reply.data_)) (OpenSucceeded triad success)
+    e
     (no_failure triad asked success (failure_at reply.data_)) in
     let alone = past more MalformedForItsKind opened (OpenSucceeded triad success) zero.1 (λ q. cc) in
     let h = opened_tells asked triad success (open_reply_at reply.data_) alone.1 in
     (service, eqb-true reply.general 0 zero.0, h.0, h.1)
 
-asked_tells : (triad : Triad) (success : OpenSuccess) (reply : Reply) → kind_row (Opening triad) reply ≡ OpenSucceeded triad success → Succeeds reply triad success
+asked_tells : (triad : Triad) (success : OpenSuccess) (reply : Reply) → kind_row (Opening triad) reply ≡ OpenSucceeded triad success
+    → Succeeds reply triad success
 asked_tells triad success reply e =
     let tested = first_of (eqb reply.service 0xD4) (opening_row triad reply) MalformedForItsKind (OpenSucceeded triad success) e (λ q. cc) in
     opening_tells triad triad success reply (eqb-true reply.service 0xD4 tested.0) tested.1
@@ -86,10 +95,13 @@ read_passes kind (Ok reply) e = (reply, refl, e)
 -- ---- the group
 
 waiting_told : (config : ModuleSettings) (s : State) (port : ℕ) (from : List ℕ) (number : ℕ) (bytes : List ℕ) (x : Option Entry) (row : ReplyRow)
-    → waiting_at s.pendings number port from ≡ x → waiting_row bytes x ≡ row → AllTell config s (Frame port from (bodies.Reply number bytes)) (reply_effects number bytes row)
-waiting_told config s port from number bytes x UnknownPortOrTooLong waits e = (record { port = port; from = from; body = bodies.Reply number bytes; event_is = refl }, tt)
+    → waiting_at s.pendings number port from ≡ x → waiting_row bytes x ≡ row
+    → AllTell config s (Frame port from (bodies.Reply number bytes)) (reply_effects number bytes row)
+waiting_told config s port from number bytes x UnknownPortOrTooLong waits e =
+    (record { port = port; from = from; body = bodies.Reply number bytes; event_is = refl }, tt)
 waiting_told config s port from number bytes x Late waits e = (record { port = port; from = from; body = bodies.Reply number bytes; event_is = refl }, tt)
-waiting_told config s port from number bytes x MalformedForItsKind waits e = (record { port = port; from = from; body = bodies.Reply number bytes; event_is = refl }, tt)
+waiting_told config s port from number bytes x MalformedForItsKind waits e =
+    (record { port = port; from = from; body = bodies.Reply number bytes; event_is = refl }, tt)
 waiting_told config s port from number bytes None (OpenSucceeded triad success) waits e = absurd (cc)
 waiting_told config s port from number bytes (Some entry) (OpenSucceeded triad success) waits e =
     let h = read_succeeds entry.kind (reply_at bytes) triad success e in (
@@ -111,7 +123,8 @@ waiting_told config s port from number bytes (Some entry) PassedUp waits e =
     (record { entry = entry; reply = h.0; came = record { port = port; from = from; event_is = refl; waits = waits; read = h.1 }; meets = h.2 }, tt)
 
 reply_told : (config : ModuleSettings) (s : State) (port : ℕ) (from : List ℕ) (number : ℕ) (bytes : List ℕ) (b : Bool)
-    → AllTell config s (Frame port from (bodies.Reply number bytes)) (reply_effects number bytes (cond b UnknownPortOrTooLong (waiting_row bytes (waiting_at s.pendings number port from))))
+    → AllTell config s (Frame port from (bodies.Reply number bytes))
+    (reply_effects number bytes (cond b UnknownPortOrTooLong (waiting_row bytes (waiting_at s.pendings number port from))))
 reply_told config s port from number bytes true = (record { port = port; from = from; body = bodies.Reply number bytes; event_is = refl }, tt)
 reply_told config s port from number bytes false =
     let x = waiting_at s.pendings number port from in

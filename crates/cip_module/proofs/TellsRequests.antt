@@ -17,7 +17,8 @@ use Rattle.cip_module.proofs.TellsCloses.{close_tells}
 came_in : (config : ModuleSettings) (event : Event) (up : UpSide) (row : RequestRow) → Came config event up row → IsFrame event
 came_in config event up row came = record { port = came.port; from = came.from; body = Request came.number came.bytes; event_is = came.event_is }
 
-request_told : (config : ModuleSettings) (s : State) (event : Event) (up : UpSide) (row : RequestRow) → Came config event up row → AllTell config s event (request_effects config s up row)
+request_told : (config : ModuleSettings) (s : State) (event : Event) (up : UpSide) (row : RequestRow) → Came config event up row
+    → AllTell config s event (request_effects config s up row)
 request_told config s event up UnknownPortOrTooLong came = (came_in config event up UnknownPortOrTooLong came, tt)
 request_told config s event up NotARequest came = (came_in config event up NotARequest came, tt)
 request_told config s event up (Refuses service refusal) came = (RequestFails service refusal came refl, tt)

@@ -15,10 +15,10 @@ use Rattle.cip_pending.specs.Pendings.{Pendings, refusal}
 use Rattle.cip_module.specs.declared.config.PortConfig.{PortConfig}
 use Rattle.cip_module.specs.declared.config.ModuleSettings.{ModuleSettings}
 use Rattle.cip_module.specs.declared.event.Event.{Event}
-use Rattle.cip_module.specs.declared.rows.KeyPart.{KeyPart}
-use Rattle.cip_module.specs.declared.rows.LinkRefusal.{LinkRefusal}
-use Rattle.cip_module.specs.declared.rows.LinkRefusal.TheVariants.{NoSuchPort, LinkAddressNotLegal, TicksSpent, NoPendingLeft}
-use Rattle.cip_module.specs.declared.rows.UnconnectedRefusal.TheVariants.{EmbeddedRequestNotAllowed, NotSentOn}
+use Rattle.cip_module.specs.declared.refusals.KeyPart.{KeyPart}
+use Rattle.cip_module.specs.declared.refusals.LinkRefusal.{LinkRefusal}
+use Rattle.cip_module.specs.declared.refusals.LinkRefusal.TheVariants.{NoSuchPort, LinkAddressNotLegal, TicksSpent, NoPendingLeft}
+use Rattle.cip_module.specs.declared.refusals.UnconnectedRefusal.TheVariants.{EmbeddedRequestNotAllowed, NotSentOn}
 use Rattle.cip_module.specs.Config.{port_of, is_adapter, is_legal}
 use Rattle.cip_module.specs.Keys.{leading_mismatch}
 use Rattle.cip_module.specs.Object.{begins_with_manager}
@@ -26,7 +26,7 @@ use Rattle.cip_module.specs.Links.{link_refusal, port_refusal, wait_refusal}
 use Rattle.cip_module.specs.UnconnectedRows.{UnconnectedRow, Refuses, AnsweredHere, Forwarded, link_row, hop_row, key_row, route_row, embedded_row, unconnected_row}
 use Rattle.cip_module.specs.RequestRows.{UnconnectedSend}
 use Rattle.cip_module.specs.State.{State}
-use Rattle.cip_module.specs.Table.{unconnected_effects, data_effects}
+use Rattle.cip_module.specs.Table.{unconnected_effects, unconnected_data_effects}
 use Rattle.cip_module.specs.Tells.{Came, AsksSend, LeadsOn, SendUnread, SendFails, Embedded, AllTell}
 use Rattle.cip_module.proofs.TellsEach.{past, first_of}
 
@@ -37,22 +37,27 @@ wait_ticks p timing e =
     let tested = past (ltb timing.ticks 2) (Some TicksSpent) (cond (is_some (refusal p)) (Some NoPendingLeft) None) None e (λ other. cc) in
     ltb-false timing.ticks 2 tested.0
 
-port_ticks : (config : ModuleSettings) (p : Pendings) (timing : Timing) (address : List ℕ) (own : Option PortConfig) → port_refusal config p timing address own ≡ None → 2 ≤ timing.ticks
+port_ticks : (config : ModuleSettings) (p : Pendings) (timing : Timing) (address : List ℕ) (own : Option PortConfig)
+    → port_refusal config p timing address own ≡ None → 2 ≤ timing.ticks
 port_ticks config p timing address None e = absurd (cc)
 port_ticks config p timing address (Some own) e =
-    let routes = past (is_adapter config.kind) (Some NoSuchPort) (cond (not (is_legal own.legal address)) (Some LinkAddressNotLegal) (wait_refusal p timing)) None e (λ other. cc) in
+    let routes = past (is_adapter config.kind) (Some NoSuchPort) (cond (not (is_legal own.legal address)) (Some LinkAddressNotLegal) (wait_refusal p timing))
+    None e (λ other. cc) in
     let legal = past (not (is_legal own.legal address)) (Some LinkAddressNotLegal) (wait_refusal p timing) None routes.1 (λ other. cc) in
     wait_ticks p timing legal.1
 
-pub link_ticks : (config : ModuleSettings) (p : Pendings) (timing : Timing) (port : ℕ) (address : List ℕ) → link_refusal config p timing port address ≡ None → 2 ≤ timing.ticks
+pub link_ticks : (config : ModuleSettings) (p : Pendings) (timing : Timing) (port : ℕ) (address : List ℕ) → link_refusal config p timing port address ≡ None
+    → 2 ≤ timing.ticks
 unfolding link_refusal
 link_ticks config p timing port address e = port_ticks config p timing address (port_of config port) e
 
 -- ---- what goes on
 
 link_sends : (config : ModuleSettings) (s : State) (timing : Timing) (path : List ℕ) (hop : HopAt) (x : Option LinkRefusal) (port : ℕ) (address rest : List ℕ)
-    → hop_of path ≡ Some hop → link_refusal config s.pendings timing hop.port hop.address ≡ x → link_row hop x ≡ Forwarded port address rest → LeadsOn config s timing path port address rest
-link_sends config s timing path hop (Some fault) port address rest first r e = absurd (let other : Refuses (NotSentOn fault) ≡ Forwarded port address rest = e in cc)
+    → hop_of path ≡ Some hop → link_refusal config s.pendings timing hop.port hop.address ≡ x → link_row hop x ≡ Forwarded port address rest
+    → LeadsOn config s timing path port address rest
+link_sends config s timing path hop (Some fault) port address rest first r e =
+    absurd (let other : Refuses (NotSentOn fault) ≡ Forwarded port address rest = e in cc)
 link_sends config s timing path hop None port address rest first r e =
     let same : Forwarded hop.port hop.address hop.rest ≡ Forwarded port address rest = e in
     let port_is : port ≡ hop.port = cc in
@@ -70,7 +75,8 @@ link_sends config s timing path hop None port address rest first r e =
 hop_sends : (config : ModuleSettings) (s : State) (u : Unconnected) (x : Option HopAt) (port : ℕ) (address rest : List ℕ)
     → hop_of u.route ≡ x → hop_row config s.pendings u x ≡ Forwarded port address rest → LeadsOn config s u.timing u.route port address rest
 hop_sends config s u None port address rest first e = absurd (cc)
-hop_sends config s u (Some hop) port address rest first e = link_sends config s u.timing u.route hop (link_refusal config s.pendings u.timing hop.port hop.address) port address rest first refl e
+hop_sends config s u (Some hop) port address rest first e =
+    link_sends config s u.timing u.route hop (link_refusal config s.pendings u.timing hop.port hop.address) port address rest first refl e
 
 key_sends : (config : ModuleSettings) (s : State) (u : Unconnected) (x : Option KeyPart) (port : ℕ) (address rest : List ℕ)
     → key_row config s.pendings u x ≡ Forwarded port address rest → LeadsOn config s u.timing u.route port address rest
@@ -82,11 +88,14 @@ embedded_sends : (config : ModuleSettings) (s : State) (u : Unconnected) (r : Re
     → (embedded : Request) × (request_at u.request ≡ Ok embedded) × LeadsOn config s u.timing u.route port address rest
 embedded_sends config s u (Err fault) port address rest read e = absurd (let other : Refuses EmbeddedRequestNotAllowed ≡ Forwarded port address rest = e in cc)
 embedded_sends config s u (Ok embedded) port address rest read e =
-    let allowed = past (begins_with_manager (segments_of embedded.path)) (Refuses EmbeddedRequestNotAllowed) (route_row config s.pendings u embedded) (Forwarded port address rest) e (λ other. cc) in
-    let routed = past (eqb (length u.route) 0) (AnsweredHere embedded) (key_row config s.pendings u (leading_mismatch config (segments_of u.route))) (Forwarded port address rest) allowed.1 (λ other. cc) in
+    let allowed = past (begins_with_manager (segments_of embedded.path)) (Refuses EmbeddedRequestNotAllowed) (route_row config s.pendings u embedded)
+    (Forwarded port address rest) e (λ other. cc) in
+    let routed = past (eqb (length u.route) 0) (AnsweredHere embedded) (key_row config s.pendings u (leading_mismatch config (segments_of u.route)))
+    (Forwarded port address rest) allowed.1 (λ other. cc) in
     (embedded, read, key_sends config s u (leading_mismatch config (segments_of u.route)) port address rest routed.1)
 
-sent_on : (config : ModuleSettings) (s : State) (u : Unconnected) (port : ℕ) (address rest : List ℕ) → unconnected_row config s.pendings u ≡ Forwarded port address rest
+sent_on : (config : ModuleSettings) (s : State) (u : Unconnected) (port : ℕ) (address rest : List ℕ)
+    → unconnected_row config s.pendings u ≡ Forwarded port address rest
     → (embedded : Request) × (request_at u.request ≡ Ok embedded) × LeadsOn config s u.timing u.route port address rest
 unfolding unconnected_row
 sent_on config s u port address rest e = embedded_sends config s u (request_at u.request) port address rest refl e
@@ -109,14 +118,17 @@ embedded_answers : (config : ModuleSettings) (p : Pendings) (u : Unconnected) (r
     → request_at u.request ≡ r → embedded_row config p u r ≡ AnsweredHere asked → (u.route ≡ []) × (request_at u.request ≡ Ok asked)
 embedded_answers config p u (Err fault) asked read e = absurd (let other : Refuses EmbeddedRequestNotAllowed ≡ AnsweredHere asked = e in cc)
 embedded_answers config p u (Ok embedded) asked read e =
-    let allowed = past (begins_with_manager (segments_of embedded.path)) (Refuses EmbeddedRequestNotAllowed) (route_row config p u embedded) (AnsweredHere asked) e (λ other. cc) in
-    let whole = first_of (eqb (length u.route) 0) (AnsweredHere embedded) (key_row config p u (leading_mismatch config (segments_of u.route))) (AnsweredHere asked) allowed.1
+    let allowed = past (begins_with_manager (segments_of embedded.path)) (Refuses EmbeddedRequestNotAllowed) (route_row config p u embedded)
+    (AnsweredHere asked) e (λ other. cc) in
+    let whole = first_of (eqb (length u.route) 0) (AnsweredHere embedded) (key_row config p u (leading_mismatch config (segments_of u.route)))
+    (AnsweredHere asked) allowed.1
     (key_answers config p u (leading_mismatch config (segments_of u.route)) asked) in
     let both : AnsweredHere embedded ≡ AnsweredHere asked = whole.1 in
     let same : embedded ≡ asked = cc in
     (nil_from_length u.route (eqb-true (length u.route) 0 whole.0), read ∙ ap (λ (r : Request). Ok r) same)
 
-answered_here : (config : ModuleSettings) (p : Pendings) (u : Unconnected) (asked : Request) → unconnected_row config p u ≡ AnsweredHere asked → (u.route ≡ []) × (request_at u.request ≡ Ok asked)
+answered_here : (config : ModuleSettings) (p : Pendings) (u : Unconnected) (asked : Request) → unconnected_row config p u ≡ AnsweredHere asked
+    → (u.route ≡ []) × (request_at u.request ≡ Ok asked)
 unfolding unconnected_row
 answered_here config p u asked e = embedded_answers config p u (request_at u.request) asked refl e
 
@@ -134,12 +146,13 @@ pub sends_tell : (config : ModuleSettings) (s : State) (event : Event) (up : UpS
     → AllTell config s event (unconnected_effects up u (unconnected_row config s.pendings u))
 sends_tell config s event up u asks = send_told config s event up u (unconnected_row config s.pendings u) asks refl
 
-read_told : (config : ModuleSettings) (s : State) (event : Event) (up : UpSide) (asked : List ℕ) (r : Result Unconnected UnconnectedFault) → Came config event up (UnconnectedSend asked)
-    → unconnected_at asked ≡ r → AllTell config s event (data_effects config s up asked r)
+read_told : (config : ModuleSettings) (s : State) (event : Event) (up : UpSide) (asked : List ℕ) (r : Result Unconnected UnconnectedFault)
+    → Came config event up (UnconnectedSend asked)
+    → unconnected_at asked ≡ r → AllTell config s event (unconnected_data_effects config s up asked r)
 read_told config s event up asked (Err fault) came e = (SendUnread asked fault came e refl, tt)
 read_told config s event up asked (Ok u) came e = sends_tell config s event up u (inl (record { asked = asked; came = came; read = e }))
 
 -- an Unconnected_Send in a frame
 pub send_tells : (config : ModuleSettings) (s : State) (event : Event) (up : UpSide) (asked : List ℕ) → Came config event up (UnconnectedSend asked)
-    → AllTell config s event (data_effects config s up asked (unconnected_at asked))
+    → AllTell config s event (unconnected_data_effects config s up asked (unconnected_at asked))
 send_tells config s event up asked came = read_told config s event up asked (unconnected_at asked) came refl

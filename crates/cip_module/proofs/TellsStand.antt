@@ -12,10 +12,11 @@ use Rattle.cip_hops.proofs.Named.{is_open}
 use Rattle.cip_module.specs.declared.event.Event.{Event}
 use Rattle.cip_module.specs.State.{State}
 use Rattle.cip_module.specs.Table.{other}
-use Rattle.cip_module.specs.Tells.{DatumCame, Produced, RenewsAs, LapsesAs, PassesAs, PassedOn, Entered, Made, CountsAs, CountedUp, CountedDown}
+use Rattle.cip_module.specs.Tells.{DatumCame, Produced, RenewsAs, HopTimesOutAs, PassesAs, PassedOn, Entered, Made, CountsAs, CountedUp, CountedDown}
 use Rattle.cip_module.proofs.Found.{found_held}
 
-held_stands : (h : Hops) (key : Triad) (hop : Hop) (x : Option Held) → IsWithin h → map.get h.held key ≡ x → option_and_then as_hop x ≡ Some hop → hop.opening.triad ≡ key
+held_stands : (h : Hops) (key : Triad) (hop : Hop) (x : Option Held) → IsWithin h → map.get h.held key ≡ x → option_and_then as_hop x ≡ Some hop
+    → hop.opening.triad ≡ key
 held_stands h key hop None w at e = absurd (cc)
 held_stands h key hop (Some x) w at e = sym (ap triad_of (is_open x hop e)) ∙ w.triads key x at
 
@@ -23,21 +24,24 @@ held_stands h key hop (Some x) w at e = sym (ap triad_of (is_open x hop e)) ∙ 
 pub own_stands : (h : Hops) (key : Triad) (hop : Hop) → IsWithin h → hop_at h key ≡ Some hop → hop_at h hop.opening.triad ≡ Some hop
 own_stands h key hop w e = ap (hop_at h) (held_stands h key hop (map.get h.held key) w refl e) ∙ e
 
-pub came_stands : (s : State) (event : Event) (side : Side) (hop : Hop) (bytes : List ℕ) → IsWithin s.hops → DatumCame s event side hop bytes → hop_at s.hops hop.opening.triad ≡ Some hop
+pub came_stands : (s : State) (event : Event) (side : Side) (hop : Hop) (bytes : List ℕ) → IsWithin s.hops → DatumCame s event side hop bytes
+    → hop_at s.hops hop.opening.triad ≡ Some hop
 came_stands s event Up hop bytes w came = found_held (is_hop_by_up came.id came.port came.from) s.hops hop came.found w
 came_stands s event Down hop bytes w came = found_held (is_hop_by_down came.id came.port came.from) s.hops hop came.found w
 
-pub produced_stands : (s : State) (event : Event) (hop : Hop) (held : List ℕ) → IsWithin s.hops → Produced s event hop held → hop_at s.hops hop.opening.triad ≡ Some hop
+pub produced_stands : (s : State) (event : Event) (hop : Hop) (held : List ℕ) → IsWithin s.hops → Produced s event hop held
+    → hop_at s.hops hop.opening.triad ≡ Some hop
 produced_stands s event hop held w made = own_stands s.hops made.key hop w made.stands
 
 under : (s : State) (triad : Triad) (hop : Hop) → triad ≡ hop.opening.triad → hop_at s.hops hop.opening.triad ≡ Some hop → hop_at s.hops triad ≡ Some hop
 under s triad hop is stands = ap (hop_at s.hops) is ∙ stands
 
-pub renews_stands : (s : State) (event : Event) (triad : Triad) (side : Side) → IsWithin s.hops → (h : RenewsAs s event triad side) → hop_at s.hops triad ≡ Some h.hop
+pub renews_stands : (s : State) (event : Event) (triad : Triad) (side : Side) → IsWithin s.hops → (h : RenewsAs s event triad side)
+    → hop_at s.hops triad ≡ Some h.hop
 renews_stands s event triad side w h = under s triad h.hop h.triad_is (came_stands s event side h.hop h.bytes w h.came)
 
-pub lapses_stands : (s : State) (event : Event) (triad : Triad) → IsWithin s.hops → (h : LapsesAs s event triad) → hop_at s.hops triad ≡ Some h.hop
-lapses_stands s event triad w h = under s triad h.hop h.triad_is (own_stands s.hops h.key h.hop w h.stands)
+pub hop_times_out_stands : (s : State) (event : Event) (triad : Triad) → IsWithin s.hops → (h : HopTimesOutAs s event triad) → hop_at s.hops triad ≡ Some h.hop
+hop_times_out_stands s event triad w h = under s triad h.hop h.triad_is (own_stands s.hops h.key h.hop w h.stands)
 
 -- the connection of a datum that goes on, and of one that is counted
 abbrev pub passing : (s : State) (event : Event) (triad : Triad) (side : Side) (bytes : List ℕ) → PassesAs s event triad side bytes → Hop
@@ -57,5 +61,6 @@ counting s event triad side count (CountedDown hop held is down class count_is m
 
 pub counts_stands : (s : State) (event : Event) (triad : Triad) (side : Side) (count : ℕ) → IsWithin s.hops → (h : CountsAs s event triad side count)
     → hop_at s.hops triad ≡ Some (counting s event triad side count h)
-counts_stands s event triad side count w (CountedUp hop instance datum is up class count_is written) = under s triad hop is (came_stands s event Up hop datum w written.came)
+counts_stands s event triad side count w (CountedUp hop instance datum is up class count_is written) =
+    under s triad hop is (came_stands s event Up hop datum w written.came)
 counts_stands s event triad side count w (CountedDown hop held is down class count_is made) = under s triad hop is (produced_stands s event hop held w made)

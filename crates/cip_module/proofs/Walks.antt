@@ -67,11 +67,13 @@ found_passes p (y ∷ es) x e =
 pub none_left : {X : Type 0} (p : X → Bool) (es : List X) → find p es ≡ None → filter p es ≡ []
 none_left p [] e = refl
 none_left p (y ∷ es) e =
-    elim (p y) as (λ b. cond b (Some y) (find p es) ≡ None → cond b (y ∷ filter p es) (filter p es) ≡ []) [ true ↦ λ s. absurd (cc) | false ↦ λ s. none_left p es s ] e
+    elim (p y) as (λ b. cond b (Some y) (find p es) ≡ None → cond b (y ∷ filter p es) (filter p es) ≡ [])
+    [ true ↦ λ s. absurd (cc) | false ↦ λ s. none_left p es s ] e
 
 module _ {K X : Type 0} (R : K → K → Ordering) (key : X → K) (test : Option K → K → Bool) where
   -- where a whole list stands above k, and what stands above k is left, the list stays
-  keeps_all : (k : K) (after : Option K) → ((q : K) → R k q ≡ Less → test after q ≡ true) → (xs : List X) → AreAbove R key k xs → above_by test key after xs ≡ xs
+  keeps_all : (k : K) (after : Option K) → ((q : K) → R k q ≡ Less → test after q ≡ true) → (xs : List X) → AreAbove R key k xs
+      → above_by test key after xs ≡ xs
   keeps_all k after high [] h = refl
   keeps_all k after high (x ∷ xs) h =
       ap (λ b. cond b (x ∷ above_by test key after xs) (above_by test key after xs)) (high (key x) h.0)
@@ -94,13 +96,16 @@ module _ {K : Type 0} (R : K → K → Ordering) (total : IsTotalOrder R) (test 
 
 module _ {K X : Type 0} (R : K → K → Ordering) (total : IsTotalOrder R) (key : X → K) (test : Option K → K → Bool) (is : IsAfter R test) where
   -- the next one is the first of those that are left
-  pub goes : (after : Option K) (xs : List X) (x : X) → Rises R key xs → find (λ y. test after (key y)) xs ≡ Some x → above_by test key after xs ≡ x ∷ above_by test key (Some (key x)) xs
+  pub goes : (after : Option K) (xs : List X) (x : X) → Rises R key xs → find (λ y. test after (key y)) xs ≡ Some x
+      → above_by test key after xs ≡ x ∷ above_by test key (Some (key x)) xs
   goes after [] x rises e = absurd (cc)
   goes after (y ∷ ys) x rises e =
       elim (test after (key y)) as (λ b. test after (key y) ≡ b → cond b (Some y) (find (λ z. test after (key z)) ys) ≡ Some x
-      → cond b (y ∷ above_by test key after ys) (above_by test key after ys) ≡ x ∷ cond (test (Some (key x)) (key y)) (y ∷ above_by test key (Some (key x)) ys) (above_by test key (Some (key x)) ys)) [
+      → cond b (y ∷ above_by test key after ys) (above_by test key after ys) ≡ x
+      ∷ cond (test (Some (key x)) (key y)) (y ∷ above_by test key (Some (key x)) ys) (above_by test key (Some (key x)) ys)) [
         | true ↦ λ t s. (let same : y ≡ x = cc in
-            subst (λ (z : X). (y ∷ above_by test key after ys) ≡ z ∷ cond (test (Some (key z)) (key y)) (y ∷ above_by test key (Some (key z)) ys) (above_by test key (Some (key z)) ys)) same
+            subst (λ (z : X). (y ∷ above_by test key after ys) ≡ z
+            ∷ cond (test (Some (key z)) (key y)) (y ∷ above_by test key (Some (key z)) ys) (above_by test key (Some (key z)) ys)) same
             (ap (λ (z : List X). y ∷ z)
             (keeps_all R key test (key y) after (λ q lt. higher R total test is after (key y) q t lt) ys rises.0
             ∙ sym (ap (λ b. cond b (y ∷ above_by test key (Some (key y)) ys) (above_by test key (Some (key y)) ys)) (itself R total test is (key y))
@@ -111,7 +116,8 @@ module _ {K X : Type 0} (R : K → K → Ordering) (total : IsTotalOrder R) (key
             (lower R total test is after (key y) (key x) t (found_passes (λ z. test after (key z)) ys x s)))))
       ] refl e
 
-  pub shorter : (after : Option K) (xs : List X) (x : X) → Rises R key xs → find (λ y. test after (key y)) xs ≡ Some x → length (above_by test key (Some (key x)) xs) < length (above_by test key after xs)
+  pub shorter : (after : Option K) (xs : List X) (x : X) → Rises R key xs → find (λ y. test after (key y)) xs ≡ Some x
+      → length (above_by test key (Some (key x)) xs) < length (above_by test key after xs)
   shorter after xs x rises e = let more = ap length (goes after xs x rises e) in omega (arith, more)
 
   -- before the first, all are left
@@ -144,14 +150,18 @@ above {X} after es = above_by is_after (λ (e : ℕ × X). e.0) after es
 pub all_left : {X : Type 0} (es : List (ℕ × X)) → above None es ≡ es
 all_left {X} es = all_of nat_cmp nat_cmp_total (λ (e : ℕ × X). e.0) is_after after_number es
 
-pub walks : (p : Pendings) (after : Option ℕ) (x : ℕ × Entry) → Some x ≡ first_after after p → above after (map.entries p.entries) ≡ x ∷ above (Some x.0) (map.entries p.entries)
-walks p after x e = goes nat_cmp nat_cmp_total (λ (e : ℕ × Entry). e.0) is_after after_number after (map.entries p.entries) x (rises_sorted nat_cmp _ (map.entries_sorted p.entries)) (sym e)
+pub walks : (p : Pendings) (after : Option ℕ) (x : ℕ × Entry) → Some x ≡ first_after after p
+    → above after (map.entries p.entries) ≡ x ∷ above (Some x.0) (map.entries p.entries)
+walks p after x e = goes nat_cmp nat_cmp_total (λ (e : ℕ × Entry). e.0) is_after after_number after (map.entries p.entries) x
+    (rises_sorted nat_cmp _ (map.entries_sorted p.entries)) (sym e)
 
 pub walked : (p : Pendings) (after : Option ℕ) → None ≡ first_after after p → above after (map.entries p.entries) ≡ []
 walked p after e = none_left (λ (e : ℕ × Entry). is_after after e.0) (map.entries p.entries) (sym e)
 
-pub fewer : (p : Pendings) (after : Option ℕ) (x : ℕ × Entry) → Some x ≡ first_after after p → length (above (Some x.0) (map.entries p.entries)) < length (above after (map.entries p.entries))
-fewer p after x e = shorter nat_cmp nat_cmp_total (λ (e : ℕ × Entry). e.0) is_after after_number after (map.entries p.entries) x (rises_sorted nat_cmp _ (map.entries_sorted p.entries)) (sym e)
+pub fewer : (p : Pendings) (after : Option ℕ) (x : ℕ × Entry) → Some x ≡ first_after after p
+    → length (above (Some x.0) (map.entries p.entries)) < length (above after (map.entries p.entries))
+fewer p after x e = shorter nat_cmp nat_cmp_total (λ (e : ℕ × Entry). e.0) is_after after_number after (map.entries p.entries) x
+    (rises_sorted nat_cmp _ (map.entries_sorted p.entries)) (sym e)
 
 -- ---- the assemblies
 
@@ -164,14 +174,18 @@ assemblies_above after m = above_by is_above (λ (e : ℕ × List ℕ). e.0) aft
 pub assemblies_all : (m : AssemblyMap) → assemblies_above None m ≡ map.entries m
 assemblies_all m = all_of nat_cmp nat_cmp_total (λ (e : ℕ × List ℕ). e.0) is_above after_instance (map.entries m)
 
-pub assembly_walks : (m : AssemblyMap) (after : Option ℕ) (x : ℕ × List ℕ) → Some x ≡ first_above after m → assemblies_above after m ≡ x ∷ assemblies_above (Some x.0) m
-assembly_walks m after x e = goes nat_cmp nat_cmp_total (λ (e : ℕ × List ℕ). e.0) is_above after_instance after (map.entries m) x (rises_sorted nat_cmp _ (map.entries_sorted m)) (sym e)
+pub assembly_walks : (m : AssemblyMap) (after : Option ℕ) (x : ℕ × List ℕ) → Some x ≡ first_above after m
+    → assemblies_above after m ≡ x ∷ assemblies_above (Some x.0) m
+assembly_walks m after x e = goes nat_cmp nat_cmp_total (λ (e : ℕ × List ℕ). e.0) is_above after_instance after (map.entries m) x
+    (rises_sorted nat_cmp _ (map.entries_sorted m)) (sym e)
 
 pub assembly_walked : (m : AssemblyMap) (after : Option ℕ) → None ≡ first_above after m → assemblies_above after m ≡ []
 assembly_walked m after e = none_left (λ (e : ℕ × List ℕ). is_above after e.0) (map.entries m) (sym e)
 
-pub assembly_fewer : (m : AssemblyMap) (after : Option ℕ) (x : ℕ × List ℕ) → Some x ≡ first_above after m → length (assemblies_above (Some x.0) m) < length (assemblies_above after m)
-assembly_fewer m after x e = shorter nat_cmp nat_cmp_total (λ (e : ℕ × List ℕ). e.0) is_above after_instance after (map.entries m) x (rises_sorted nat_cmp _ (map.entries_sorted m)) (sym e)
+pub assembly_fewer : (m : AssemblyMap) (after : Option ℕ) (x : ℕ × List ℕ) → Some x ≡ first_above after m
+    → length (assemblies_above (Some x.0) m) < length (assemblies_above after m)
+assembly_fewer m after x e = shorter nat_cmp nat_cmp_total (λ (e : ℕ × List ℕ). e.0) is_above after_instance after (map.entries m) x
+    (rises_sorted nat_cmp _ (map.entries_sorted m)) (sym e)
 
 -- ---- the connections that are open
 
@@ -202,7 +216,8 @@ named_all (e ∷ es) h = (h 0 e (omega arith), named_all es (λ i d lt. h (suc i
 pub within_named : (h : Hops) → IsWithin h → AreNamed (map.entries h.held)
 within_named h w = named_all (map.entries h.held) (λ i d lt. w.triads _ _ (get-at triad_cmp triads_total triads_apart h.held i d lt))
 
-put_above : (k q : Triad) (x : Held) (rest : List Hop) → triad_cmp k q ≡ Less → triad_of x ≡ q → AreAbove triad_cmp triad_at k rest → AreAbove triad_cmp triad_at k (cons_option (as_hop x) rest)
+put_above : (k q : Triad) (x : Held) (rest : List Hop) → triad_cmp k q ≡ Less → triad_of x ≡ q → AreAbove triad_cmp triad_at k rest
+    → AreAbove triad_cmp triad_at k (cons_option (as_hop x) rest)
 put_above k q (IsOpening o ids) rest lt name h = h
 put_above k q (Open hop) rest lt name h = (ap (triad_cmp k) name ∙ lt, h)
 
@@ -210,7 +225,8 @@ above_open : (k : Triad) (es : List (Triad × Held)) → T (below_all triad_cmp 
 above_open k [] h names = tt
 above_open k (e ∷ es) h names = put_above k e.0 e.1 (open_in es) (less _ (first _ _ h)) names.0 (above_open k es (second _ _ h) names.1)
 
-put_rises : (q : Triad) (x : Held) (rest : List Hop) → triad_of x ≡ q → AreAbove triad_cmp triad_at q rest → Rises triad_cmp triad_at rest → Rises triad_cmp triad_at (cons_option (as_hop x) rest)
+put_rises : (q : Triad) (x : Held) (rest : List Hop) → triad_of x ≡ q → AreAbove triad_cmp triad_at q rest → Rises triad_cmp triad_at rest
+    → Rises triad_cmp triad_at (cons_option (as_hop x) rest)
 put_rises q (IsOpening o ids) rest name h rises = rises
 put_rises q (Open hop) rest name h rises = (subst (λ z. AreAbove triad_cmp triad_at z rest) (sym name) h, rises)
 
@@ -218,14 +234,18 @@ pub rises_open : (es : List (Triad × Held)) → T (is_sorted triad_cmp es) → 
 rises_open [] h names = tt
 rises_open (e ∷ es) h names = put_rises e.0 e.1 (open_in es) names.0 (above_open e.0 es (first _ _ h) names.1) (rises_open es (second _ _ h) names.1)
 
-first_put : (p : Hop → Bool) (k : Triad) (x : Held) (es : List (Triad × Held)) → option_and_then (λ (e : Triad × Held). as_hop e.1) (find (λ (e : Triad × Held). is_hop p e.1) es) ≡ find p (open_in es)
-    → option_and_then (λ (e : Triad × Held). as_hop e.1) (cond (is_hop p x) (Some (k, x)) (find (λ (e : Triad × Held). is_hop p e.1) es)) ≡ find p (cons_option (as_hop x) (open_in es))
+first_put : (p : Hop → Bool) (k : Triad) (x : Held) (es : List (Triad × Held))
+    → option_and_then (λ (e : Triad × Held). as_hop e.1) (find (λ (e : Triad × Held). is_hop p e.1) es) ≡ find p (open_in es)
+    → option_and_then (λ (e : Triad × Held). as_hop e.1) (cond (is_hop p x) (Some (k, x)) (find (λ (e : Triad × Held). is_hop p e.1) es))
+    ≡ find p (cons_option (as_hop x) (open_in es))
 first_put p k (IsOpening o ids) es same = same
 first_put p k (Open hop) es same =
-    elim (p hop) as (λ b. option_and_then (λ (e : Triad × Held). as_hop e.1) (cond b (Some (k, Open hop)) (find (λ (e : Triad × Held). is_hop p e.1) es)) ≡ cond b (Some hop) (find p (open_in es))) [ true ↦ refl | false ↦ same ]
+    elim (p hop) as (λ b. option_and_then (λ (e : Triad × Held). as_hop e.1) (cond b (Some (k, Open hop)) (find (λ (e : Triad × Held). is_hop p e.1) es))
+    ≡ cond b (Some hop) (find p (open_in es))) [ true ↦ refl | false ↦ same ]
 
 -- the first that passes a test, among those that are open
-pub first_open : (p : Hop → Bool) (es : List (Triad × Held)) → option_and_then (λ (e : Triad × Held). as_hop e.1) (find (λ (e : Triad × Held). is_hop p e.1) es) ≡ find p (open_in es)
+pub first_open : (p : Hop → Bool) (es : List (Triad × Held))
+    → option_and_then (λ (e : Triad × Held). as_hop e.1) (find (λ (e : Triad × Held). is_hop p e.1) es) ≡ find p (open_in es)
 first_open p [] = refl
 first_open p (e ∷ es) = first_put p e.0 e.1 es (first_open p es)
 
@@ -238,18 +258,24 @@ opens_rise h w = rises_open (map.entries h.held) (map.entries_sorted h.held) (wi
 found_open : (h : Hops) (after : Option Triad) (o : Option Hop) → o ≡ hops.first_after after h → find (λ hop. hops.is_after after (triad_at hop)) (opens h) ≡ o
 found_open h after o e = sym (e ∙ first_open (λ hop. hops.is_after after (triad_at hop)) (map.entries h.held))
 
-pub hop_walks : (h : Hops) → IsWithin h → (after : Option Triad) (hop : Hop) → Some hop ≡ hops.first_after after h → opens_above after h ≡ hop ∷ opens_above (Some hop.opening.triad) h
-hop_walks h w after hop e = goes triad_cmp triads_total triad_at hops.is_after after_triad after (opens h) hop (opens_rise h w) (found_open h after (Some hop) e)
+pub hop_walks : (h : Hops) → IsWithin h → (after : Option Triad) (hop : Hop) → Some hop ≡ hops.first_after after h
+    → opens_above after h ≡ hop ∷ opens_above (Some hop.opening.triad) h
+hop_walks h w after hop e = goes triad_cmp triads_total triad_at hops.is_after after_triad after (opens h) hop (opens_rise h w)
+    (found_open h after (Some hop) e)
 
 pub hop_walked : (h : Hops) (after : Option Triad) → None ≡ hops.first_after after h → opens_above after h ≡ []
 hop_walked h after e = none_left (λ hop. hops.is_after after (triad_at hop)) (opens h) (found_open h after None e)
 
-pub hop_fewer : (h : Hops) → IsWithin h → (after : Option Triad) (hop : Hop) → Some hop ≡ hops.first_after after h → length (opens_above (Some hop.opening.triad) h) < length (opens_above after h)
-hop_fewer h w after hop e = shorter triad_cmp triads_total triad_at hops.is_after after_triad after (opens h) hop (opens_rise h w) (found_open h after (Some hop) e)
+pub hop_fewer : (h : Hops) → IsWithin h → (after : Option Triad) (hop : Hop) → Some hop ≡ hops.first_after after h
+    → length (opens_above (Some hop.opening.triad) h) < length (opens_above after h)
+hop_fewer h w after hop e = shorter triad_cmp triads_total triad_at hops.is_after after_triad after (opens h) hop (opens_rise h w)
+    (found_open h after (Some hop) e)
 
 -- those that are due are the late ones of those that are open
-put_due : (now : ℕ) (x : Held) (b : Bool) (k : Triad) (es : List (Triad × Held)) → is_hop_due now x ≡ b → open_in (filter (λ (e : Triad × Held). is_hop_due now e.1) es) ≡ filter (is_late now) (open_in es)
-    → open_in (cond b ((k, x) ∷ filter (λ (e : Triad × Held). is_hop_due now e.1) es) (filter (λ (e : Triad × Held). is_hop_due now e.1) es)) ≡ filter (is_late now) (cons_option (as_hop x) (open_in es))
+put_due : (now : ℕ) (x : Held) (b : Bool) (k : Triad) (es : List (Triad × Held)) → is_hop_due now x ≡ b
+    → open_in (filter (λ (e : Triad × Held). is_hop_due now e.1) es) ≡ filter (is_late now) (open_in es)
+    → open_in (cond b ((k, x) ∷ filter (λ (e : Triad × Held). is_hop_due now e.1) es) (filter (λ (e : Triad × Held). is_hop_due now e.1) es))
+    ≡ filter (is_late now) (cons_option (as_hop x) (open_in es))
 put_due now (IsOpening o ids) true k es t same = absurd (cc)
 put_due now (IsOpening o ids) false k es t same = same
 put_due now (Open hop) true k es t same =

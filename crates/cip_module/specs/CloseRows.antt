@@ -1,6 +1,20 @@
 -- The close group: which row answers a Forward_Close (Volume 1, chapter 3, Forward_Close).
-use Rattle.std.specs.Prelude.{ℕ, ◌==◌, Bool, not, ◌&&◌, nat_lt, if◌then◌else◌, Option, Some, None, List, length, is_some}
+--
+-- The rows in their order; the first that fits answers.
+--     cut in the fixed part         CutInTheFixedPart (unread_row)
+--     cut in the path               CutInThePath (unread_row)
+--     bytes after the path          BytesAfterThePath (unread_row)
+--     path unreadable               PathUnreadable (unread_row)
+--     not this sender's open triad  Refuses NotThisSendersOpenTriad
+--     path differs from the hop's   Refuses PathDiffersFromTheHops
+--     time-out ticks spent          Refuses (NotSentOn TicksSpent)
+--     no pending left               Refuses (NotSentOn NoPendingLeft)
+--     forwarded                     Forwarded
+--     closed at the end             ClosedAtTheEnd
+use Rattle.std.specs.Prelude.{◌==◌, Bool, not, ◌&&◌, nat_lt, if◌then◌else◌, Option, Some, None, length, is_some}
 use Rattle.std.specs.Str.{bytes_eq}
+use Rattle.cip_base.specs.Words.{LinkAddress, Octets, PortIdentifier}
+use Rattle.cip_close.specs.declared.request.TheConstants.{CLOSE_FIXED_PART}
 use Rattle.cip_segment.specs.Reading.{HopAt, hop_of}
 use Rattle.cip_message.specs.declared.fault.DataFault.{DataFault}
 use Rattle.cip_message.specs.declared.fault.DataFault.TheVariants.{Short, Long, Path}
@@ -14,30 +28,29 @@ use Rattle.cip_hops.specs.declared.opening.HopDown.TheVariants.{Link as DownLink
 use Rattle.cip_hops.specs.declared.hop.Hop.{Hop}
 use Rattle.cip_hops.specs.Sides.{up_is, op_of}
 use Rattle.cip_hops.specs.Hops.{hop_at, is_id}
-use Rattle.cip_module.specs.declared.rows.LinkRefusal.{LinkRefusal}
-use Rattle.cip_module.specs.declared.rows.CloseRefusal.{CloseRefusal}
-use Rattle.cip_module.specs.declared.rows.CloseRefusal.TheVariants.{CutInTheFixedPart, CutInThePath, BytesAfterThePath, PathUnreadable, NotThisSendersOpenTriad, PathDiffersFromTheHops, NotSentOn}
-use Rattle.cip_base.specs.declared.timing.Status.{Status}
-use Rattle.cip_module.specs.Statuses.{close_status}
+use Rattle.cip_module.specs.declared.refusals.LinkRefusal.{LinkRefusal}
+use Rattle.cip_module.specs.declared.refusals.CloseRefusal.{CloseRefusal}
+use Rattle.cip_module.specs.declared.refusals.CloseRefusal.TheVariants.{CutInTheFixedPart, CutInThePath, BytesAfterThePath, PathUnreadable, NotThisSendersOpenTriad, PathDiffersFromTheHops, NotSentOn}
 use Rattle.cip_module.specs.Links.{wait_refusal}
 use Rattle.cip_module.specs.State.{State}
 
 pub data CloseRow : Type 0 where
   Refuses : (refusal : CloseRefusal) → CloseRow
-  Forwarded : (port : ℕ) → (address : List ℕ) → (rest : List ℕ) → CloseRow
+  Forwarded : (port : PortIdentifier) → (address : LinkAddress) → (rest : Octets) → CloseRow
   ClosedAtTheEnd : CloseRow
 
--- whether a request from there is from the connection's up side: by port and address, or by the op that opened it
+-- whether a request from there is from the connection's up side: by port and address, or by the op
+-- that opened it
 abbrev pub is_sender : UpSide → HopUp → Bool
 is_sender (Link port address number) up = up_is port address up
 is_sender (Local of) up = is_id of (op_of up)
 
-abbrev pub wait_row : ℕ → List ℕ → List ℕ → Option LinkRefusal → CloseRow
+abbrev pub wait_row : PortIdentifier → LinkAddress → Octets → Option LinkRefusal → CloseRow
 wait_row port address rest (Some fault) = Refuses (NotSentOn fault)
 wait_row port address rest None = Forwarded port address rest
 
 -- a link below: the path has to lead there
-abbrev pub below_row : Pendings → Close → ℕ → List ℕ → Option HopAt → CloseRow
+abbrev pub below_row : Pendings → Close → PortIdentifier → LinkAddress → Option HopAt → CloseRow
 below_row p c port address None = Refuses PathDiffersFromTheHops
 below_row p c port address (Some hop) =
     if not (hop.port == port && bytes_eq hop.address address) then Refuses PathDiffersFromTheHops
@@ -46,31 +59,21 @@ below_row p c port address (Some hop) =
 -- an end: the path leads nowhere
 abbrev pub down_row : Pendings → Close → HopDown → CloseRow
 down_row p c (DownLink port address) = below_row p c port address (hop_of c.path)
-down_row p c (End config consume produce) = if is_some (hop_of c.path) then Refuses PathDiffersFromTheHops else ClosedAtTheEnd
+down_row p c (End config consume produce) =
+    if is_some (hop_of c.path) then Refuses PathDiffersFromTheHops else ClosedAtTheEnd
 
 abbrev pub triad_row : Pendings → UpSide → Close → Option Hop → CloseRow
 triad_row p sender c None = Refuses NotThisSendersOpenTriad
 triad_row p sender c (Some hop) =
-    if not (is_sender sender hop.opening.up) then Refuses NotThisSendersOpenTriad else down_row p c hop.opening.down
+    if not (is_sender sender hop.opening.up) then Refuses NotThisSendersOpenTriad
+    else down_row p c hop.opening.down
 
 -- the row of a Forward_Close that was read
 unfoldable pub close_row : State → UpSide → Close → CloseRow
 close_row s sender c = triad_row s.pendings sender c (hop_at s.hops c.fields.triad)
 
 -- the row of data that cannot be read as a Forward_Close
-abbrev pub unread_row : List ℕ → DataFault → CloseRefusal
-unread_row d Short = if nat_lt (length d) 12 then CutInTheFixedPart else CutInThePath
+abbrev pub unread_row : Octets → DataFault → CloseRefusal
+unread_row d Short = if nat_lt (length d) CLOSE_FIXED_PART then CutInTheFixedPart else CutInThePath
 unread_row d Long = BytesAfterThePath
 unread_row d (Path fault) = PathUnreadable
-
--- ---- what a row answers
-
-pub data CloseAnswer : Type 0 where
-  Fails : (status : Status) → CloseAnswer
-  GoesOn : (port : ℕ) → (address : List ℕ) → (rest : List ℕ) → CloseAnswer
-  EndsHere : CloseAnswer
-
-abbrev pub close_answer : CloseRow → CloseAnswer
-close_answer (Refuses refusal) = Fails (close_status refusal)
-close_answer (Forwarded port address rest) = GoesOn port address rest
-close_answer ClosedAtTheEnd = EndsHere

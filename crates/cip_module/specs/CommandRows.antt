@@ -1,47 +1,59 @@
 -- The command group: which row a command meets.
+--
+-- The rows in their order; the first that fits answers.
+--     op used                                  OpUsed
+--     not open                                 NotOpen
+--     reserved service                         ReservedService
+--     wrong size                               WrongSize
+--     no instance, of a Set before wrong size  NoInstance
+--     taken                                    Taken
 use Rattle.std.specs.Prelude.{◌≡◌, ℕ, ◌≤◌, ◌==◌, false, not, nat_lt, is_some, if◌then◌else◌, List, length, slice_index, Option, Some, None}
+use Rattle.cip_base.specs.Words.{Octets, OpNumber}
+use Rattle.cip_base.specs.declared.limits.TheConstants.{MAX_MESSAGE}
+use Rattle.cip_unconnected.specs.declared.unconnected.TheConstants.{UNCONNECTED_SEND}
 use Rattle.cip_unconnected.specs.Unconnected.{Unconnected, unconnected_bytes}
 use Rattle.cip_hops.specs.declared.hop.Hop.{Hop}
 use Rattle.cip_hops.specs.Hops.{hop_by_op}
-use Rattle.cip_module.specs.declared.rows.CommandRow.{CommandRow}
-use Rattle.cip_module.specs.declared.rows.CommandRow.TheVariants.{OpUsed, NotOpen, ReservedService, WrongSize, NoInstance, Taken}
+use Rattle.cip_module.specs.declared.command_rows.CommandRow.{CommandRow}
+use Rattle.cip_module.specs.declared.command_rows.CommandRow.TheVariants.{OpUsed, NotOpen, ReservedService, WrongSize, NoInstance, Taken}
 use Rattle.cip_module.specs.State.{State, is_spent}
 
 -- the row of an Open
-abbrev pub op_row : State → ℕ → CommandRow
+abbrev pub op_row : State → OpNumber → CommandRow
 op_row s op = if is_spent op s.ops then OpUsed else Taken
 
 -- the row of a Close of the connection that the op `of` opened
-abbrev pub close_command_row : State → ℕ → ℕ → CommandRow
+abbrev pub close_command_row : State → OpNumber → OpNumber → CommandRow
 close_command_row s op of =
     if is_spent op s.ops then OpUsed
     else if not (is_some (hop_by_op s.hops of)) then NotOpen
     else Taken
 
 -- the row of a Send, as the Unconnected_Send that it spells
-unfoldable pub send_row : State → ℕ → Unconnected → CommandRow
+unfoldable pub send_row : State → OpNumber → Unconnected → CommandRow
 send_row s op u =
     if is_spent op s.ops then OpUsed
-    else if slice_index u.request 0 == 0x52 then ReservedService
-    else if nat_lt 1400 (length (unconnected_bytes u)) then WrongSize
+    else if slice_index u.request 0 == UNCONNECTED_SEND then ReservedService
+    else if nat_lt MAX_MESSAGE (length (unconnected_bytes u)) then WrongSize
     else Taken
 
--- what a Send that is taken may rely on: its op is new, and its message is no longer than a message may be
-abbrev pub CanSend : State → ℕ → Unconnected → CommandRow → Type 0
+-- what a Send that is taken may rely on: its op is new, and its message is no longer than a message
+-- may be
+abbrev pub CanSend : State → OpNumber → Unconnected → CommandRow → Type 0
 CanSend s op u OpUsed = Unit {0}
 CanSend s op u NotOpen = Unit {0}
 CanSend s op u ReservedService = Unit {0}
 CanSend s op u WrongSize = Unit {0}
 CanSend s op u NoInstance = Unit {0}
-CanSend s op u Taken = (is_spent op s.ops ≡ false) × (length (unconnected_bytes u) ≤ 1400)
+CanSend s op u Taken = (is_spent op s.ops ≡ false) × (length (unconnected_bytes u) ≤ MAX_MESSAGE)
 
 -- the row of an Enter by the connection that the op opened
-abbrev pub enter_row : List ℕ → Option Hop → CommandRow
+abbrev pub enter_row : Octets → Option Hop → CommandRow
 enter_row bytes None = NotOpen
 enter_row bytes (Some hop) = if length bytes == hop.opening.ot_size then Taken else WrongSize
 
 -- the row of a Set of an assembly
-abbrev pub set_row : List ℕ → Option ℕ → CommandRow
+abbrev pub set_row : Octets → Option ℕ → CommandRow
 set_row bytes None = NoInstance
 set_row bytes (Some size) = if length bytes == size then Taken else WrongSize
 

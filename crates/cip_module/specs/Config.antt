@@ -13,7 +13,8 @@ use Rattle.cip_module.specs.declared.config.ModuleSettings.{ModuleSettings}
 
 -- an ASCII letter or digit, `_` or `-`
 abbrev pub is_name_byte : ℕ → Bool
-is_name_byte c = (nat_le 48 c && nat_le c 57) || ((nat_le 65 c && nat_le c 90) || ((nat_le 97 c && nat_le c 122) || (c == 95 || c == 45)))
+is_name_byte c = (nat_le 48 c && nat_le c 57)
+    || ((nat_le 65 c && nat_le c 90) || ((nat_le 97 c && nat_le c 122) || (c == 95 || c == 45)))
 
 abbrev pub is_name : List ℕ → Bool
 is_name s = nat_le 1 (length s) && (nat_le (length s) 16 && list_all is_name_byte s)
@@ -29,7 +30,8 @@ is_range (Text longest) = nat_le 1 longest && nat_le longest 16
 
 -- whether the address is legal on the link
 abbrev pub is_legal : LegalAddresses → List ℕ → Bool
-is_legal (Byte first last) a = length a == 1 && (nat_le first (slice_index a 0) && nat_le (slice_index a 0) last)
+is_legal (Byte first last) a = length a == 1
+    && (nat_le first (slice_index a 0) && nat_le (slice_index a 0) last)
 is_legal (Text longest) a = nat_le (length a) longest && list_all is_text_byte a
 
 abbrev pub is_port : PortConfig → Bool
@@ -48,7 +50,8 @@ most_ports Plain = 8
 most_ports Adapter = 1
 
 abbrev pub are_ports : ModuleKind → List PortConfig → Bool
-are_ports kind ps = nat_le 1 (length ps) && (nat_le (length ps) (most_ports kind) && (list_all is_port ps && numbers_differ ps))
+are_ports kind ps = nat_le 1 (length ps)
+    && (nat_le (length ps) (most_ports kind) && (list_all is_port ps && numbers_differ ps))
 
 abbrev pub has_instance : ℕ → AssemblyConfig → Bool
 has_instance n a = a.instance == n
@@ -60,16 +63,19 @@ instances_differ (a ∷ as') = not (list_any (has_instance a.instance) as') && i
 abbrev pub are_assemblies : List AssemblyConfig → Bool
 are_assemblies as' = nat_le (length as') 64 && (list_all is_assembly as' && instances_differ as')
 
-abbrev pub is_room : ℕ → Bool
-is_room n = nat_le 1 n && nat_le n 256
+abbrev pub is_room : ℕ → ℕ → Bool
+is_room most n = nat_le 1 n && nat_le n most
 
 -- the clock below 2^63, the first id and number from 1, the rooms from 1 to 256
 abbrev pub are_counts : ModuleSettings → Bool
-are_counts s = nat_lt s.clock (2 ^ 63) && (nat_le 1 s.first_id && (nat_le 1 s.first_number && (is_room s.pending_room && is_room s.hop_room)))
+are_counts s = nat_lt s.clock (2 ^ 63)
+    && (nat_le 1 s.first_id && (nat_le 1 s.first_number
+    && (is_room 256 s.pending_room && is_room 256 s.hop_room)))
 
 -- the settings that a module can have
 abbrev pub is_settings : ModuleSettings → Bool
-is_settings s = is_name s.name && (are_counts s && (are_ports s.kind s.ports && are_assemblies s.assemblies))
+is_settings s = is_name s.name && (are_counts s
+    && (are_ports s.kind s.ports && are_assemblies s.assemblies))
 
 -- the port of a number, if the module has it
 abbrev pub port_of : ModuleSettings → ℕ → Option PortConfig

@@ -1,14 +1,16 @@
--- What a row does: a list of effects. An effect carries keys and bytes, and looks records up in the state where it is applied.
+-- What a row does: a list of effects. An effect carries keys and bytes, and looks records up in the
+-- state where it is applied.
 use Rattle.std.specs.Prelude.{ℕ, ◌+◌, ◌==◌, not, false, if◌then◌else◌, List, [], ◌∷◌, ◌++◌, Bool, Option, Some, None, is_some, length}
 use Rattle.std.specs.Option.{option_map_or}
 use Rattle.std.specs.FinMap as map
+use Rattle.cip_base.specs.Words.{InstanceNumber, LinkAddress, Microseconds, Octets, OpNumber, PortIdentifier, RequestNumber, WordCount}
 use Rattle.cip_base.specs.declared.triad.Triad.{Triad}
 use Rattle.cip_pending.specs.declared.entry.UpSide.{UpSide}
 use Rattle.cip_pending.specs.declared.entry.UpSide.TheVariants.{Link, Local}
 use Rattle.cip_pending.specs.declared.entry.Kind.{Kind}
 use Rattle.cip_pending.specs.declared.entry.Kind.TheVariants.{Unconnected, Opening as OpeningOf, Closing as ClosingOf}
 use Rattle.cip_pending.specs.declared.entry.Entry.{Entry}
-use Rattle.cip_pending.specs.Pendings.{added, without}
+use Rattle.cip_pending.specs.Pendings.{Pendings, added, without}
 use Rattle.cip_hops.specs.declared.opening.HopUp.{HopUp}
 use Rattle.cip_hops.specs.declared.opening.HopUp.TheVariants.{Link as UpLink, Local as UpLocal}
 use Rattle.cip_hops.specs.declared.opening.HopDown.{HopDown}
@@ -36,54 +38,74 @@ use Rattle.cip_module.specs.declared.event.Output.{Output}
 use Rattle.cip_module.specs.declared.event.Output.TheVariants as outputs
 use Rattle.cip_module.specs.declared.event.Refused.{Refused}
 use Rattle.cip_module.specs.declared.event.Dropped.{Dropped}
-use Rattle.cip_module.specs.declared.rows.LinkRefusal.TheVariants.{TicksSpent}
+use Rattle.cip_module.specs.declared.refusals.LinkRefusal.TheVariants.{TicksSpent}
 use Rattle.cip_module.specs.Statuses.{link_status}
 use Rattle.cip_module.specs.Answers.{unconnected_failed, open_failed, close_failed}
 use Rattle.cip_module.specs.State.{State, spent_with}
 
+-- what goes on by a link, and what waits for its reply: whom the reply goes to, the port and the
+-- address below, the bytes, how long the reply may take, and the words of the path as received
+pub record Sending : Type 0 where
+  pub up : UpSide
+  pub port : PortIdentifier
+  pub address : LinkAddress
+  pub bytes : Octets
+  pub wait : Microseconds
+  pub words : WordCount
+
 pub data Effect : Type 0 where
   -- an op is used up
-  Spends : (op : ℕ) → Effect
+  Spends : (op : OpNumber) → Effect
   -- a reply goes to whom a request came from
-  Replies : (up : UpSide) → (bytes : List ℕ) → Effect
+  Replies : (up : UpSide) → (bytes : Octets) → Effect
   -- the target answers a request
   Answers : (up : UpSide) → (request : Request) → Effect
-  -- a request goes on under the next number, and waits for its reply so many microseconds
-  Forwards : (up : UpSide) → (port : ℕ) → (address : List ℕ) → (bytes : List ℕ) → (wait : ℕ) → (words : ℕ) → (kind : Kind) → Effect
+  -- a request goes on under the next number, and waits for its reply
+  Forwards : (sending : Sending) → (kind : Kind) → Effect
   -- a connection is opening: it draws its ids, and the request that opens what is below goes on
-  Begins : (up : UpSide) → (port : ℕ) → (address : List ℕ) → (bytes : List ℕ) → (wait : ℕ) → (words : ℕ) → (opening : Opening) → Effect
+  Begins : (sending : Sending) → (opening : Opening) → Effect
   -- a connection ends here: it draws its id, is open, and its configuration bytes are written
   Accepts : (opening : Opening) → (open_ : Open) → (link : EndLink) → Effect
   -- the connection of this triad, which was opening, is open; the reply goes up
-  Finishes : (number : ℕ) → (triad : Triad) → (bytes : List ℕ) → (success : OpenSuccess) → Effect
+  Finishes : (number : RequestNumber) → (triad : Triad) → (bytes : Octets) → (success : OpenSuccess)
+      → Effect
   -- a pending gets this reply; what it was opening is abandoned
-  Takes : (number : ℕ) → (bytes : List ℕ) → Effect
+  Takes : (number : RequestNumber) → (bytes : Octets) → Effect
   -- the time of a pending ran out; what it was opening is abandoned
-  Expires : (number : ℕ) → Effect
+  PendingTimesOut : (number : RequestNumber) → Effect
   -- the connection is closed
   Removes : (triad : Triad) → Effect
   -- the connection was silent for too long
-  Lapses : (triad : Triad) → Effect
+  HopTimesOut : (triad : Triad) → Effect
   -- that side of the connection is watched anew from now on
-  Renews : (triad : Triad) → (side : Side) → Effect
+  Renews : (triad : Triad) → (came_by : Side) → Effect
   -- a datum goes on by that side of the connection
-  Passes : (triad : Triad) → (side : Side) → (bytes : List ℕ) → Effect
+  Passes : (triad : Triad) → (leaves_by : Side) → (bytes : Octets) → Effect
   -- the count of the last datum, consumed (up) or produced (down)
-  Counts : (triad : Triad) → (side : Side) → (count : ℕ) → Effect
+  Counts : (triad : Triad) → (counted : Side) → (count : ℕ) → Effect
   -- an assembly gets these bytes
-  Writes : (instance : ℕ) → (bytes : List ℕ) → Effect
+  Writes : (instance : InstanceNumber) → (bytes : Octets) → Effect
   -- a command is refused
-  Refuses : (fault : Refused) → Effect
+  RefusesCommand : (fault : Refused) → Effect
   -- a frame is dropped
   Drops : (reason : Dropped) → Effect
   -- the clock is raised by so many microseconds
-  Advances : (by : ℕ) → Effect
+  Advances : (by : Microseconds) → Effect
 
 -- ---- the state after an effect
 
-abbrev pub entry_for : State → UpSide → ℕ → List ℕ → ℕ → ℕ → Kind → Entry
-entry_for s up port address wait words kind =
-    record { up = up; port = port; address = address; deadline = s.now + wait; words = words; kind = kind }
+abbrev pub entry_for : State → Sending → Kind → Entry
+entry_for s sending kind = record {
+  up = sending.up;
+  port = sending.port;
+  address = sending.address;
+  deadline = s.now + sending.wait;
+  words = sending.words;
+  kind = kind;
+}
+
+abbrev pub waiting_with : State → Sending → Kind → Pendings
+waiting_with s sending kind = added s.pendings (entry_for s sending kind)
 
 -- the module's objects: its identity, and its assemblies as they stand
 abbrev pub objects_of : ModuleSettings → State → Objects
@@ -107,113 +129,147 @@ given_up None h = h
 given_up (Some entry) h = given_up_of entry.kind h
 
 -- a side that is no link is not watched
-abbrev pub renewed : Hops → Triad → Side → ℕ → Hops
-renewed h triad side now = if option_map_or (is_link side) (hop_at h triad) false then changed h triad (touched side now) else h
+abbrev pub renewed : Hops → Triad → Side → Microseconds → Hops
+renewed h triad side now = if option_map_or (is_link side) (hop_at h triad) false then
+    changed h triad (touched side now) else h
 
 -- an end alone counts
 abbrev pub ends_here : Hop → Bool
 ends_here hop = not (down_is_link hop.opening.down)
 
 abbrev pub recounted : Hops → Triad → Side → ℕ → Hops
-recounted h triad side count = if option_map_or ends_here (hop_at h triad) false then changed h triad (counted side count) else h
+recounted h triad side count = if option_map_or ends_here (hop_at h triad) false then
+    changed h triad (counted side count) else h
 
 -- an assembly keeps its size
 abbrev pub overwritten : AssemblyMap → ℕ → List ℕ → AssemblyMap
-overwritten m i b = if option_map_or (λ size. size == length b) (size_in m i) false then map.insert m i b else m
+overwritten m i b = if option_map_or (λ size. size == length b) (size_in m i) false then
+    map.insert m i b else m
 
 abbrev pub apply : ModuleSettings → State → Effect → State
 apply config s (Spends op) = record s { ops = spent_with op s.ops }
 apply config s (Replies up bytes) = s
-apply config s (Answers up request) = record s { assemblies = (target_after (objects_of config s) request).assemblies }
-apply config s (Forwards up port address bytes wait words kind) =
-    record s { pendings = added s.pendings (entry_for s up port address wait words kind) }
-apply config s (Begins up port address bytes wait words opening) =
-    record s { pendings = added s.pendings (entry_for s up port address wait words (OpeningOf opening.triad)); hops = begun s.hops opening }
+apply config s (Answers up request) =
+    record s { assemblies = (target_after (objects_of config s) request).assemblies }
+apply config s (Forwards sending kind) = record s { pendings = waiting_with s sending kind }
+apply config s (Begins sending opening) = record s {
+  pendings = waiting_with s sending (OpeningOf opening.triad);
+  hops = begun s.hops opening;
+}
 apply config s (Accepts opening open_ link) =
-    record s { hops = finished (begun s.hops opening) opening.triad 0 s.now; assemblies = configured s.assemblies open_ link }
+    record s {
+      hops = finished (begun s.hops opening) opening.triad 0 s.now;
+      assemblies =
+          configured s.assemblies open_ link;
+    }
 apply config s (Finishes number triad bytes success) =
-    record s { pendings = without s.pendings number; hops = finished s.hops triad success.ot_id s.now }
+    record s {
+      pendings = without s.pendings number;
+      hops =
+          finished s.hops triad success.ot_id s.now;
+    }
 apply config s (Takes number bytes) =
-    record s { pendings = without s.pendings number; hops = given_up (map.get s.pendings.entries number) s.hops }
-apply config s (Expires number) =
-    record s { pendings = without s.pendings number; hops = given_up (map.get s.pendings.entries number) s.hops }
+    record s {
+      pendings = without s.pendings number;
+      hops =
+          given_up (map.get s.pendings.entries number) s.hops;
+    }
+apply config s (PendingTimesOut number) =
+    record s {
+      pendings = without s.pendings number;
+      hops =
+          given_up (map.get s.pendings.entries number) s.hops;
+    }
 apply config s (Removes triad) = record s { hops = removed s.hops triad }
-apply config s (Lapses triad) = record s { hops = removed s.hops triad }
+apply config s (HopTimesOut triad) = record s { hops = removed s.hops triad }
 apply config s (Renews triad side) = record s { hops = renewed s.hops triad side s.now }
 apply config s (Passes triad side bytes) = s
 apply config s (Counts triad side count) = record s { hops = recounted s.hops triad side count }
-apply config s (Writes instance bytes) = record s { assemblies = overwritten s.assemblies instance bytes }
-apply config s (Refuses fault) = s
+apply config s (Writes instance bytes) =
+    record s { assemblies = overwritten s.assemblies instance bytes }
+apply config s (RefusesCommand fault) = s
 apply config s (Drops reason) = s
 apply config s (Advances by) = record s { now = s.now + by }
 
 -- ---- the outputs of an effect
 
--- a reply to whom the request came from: by a link with the number that it had there, or to this module's own command
-abbrev pub reply_up : UpSide → List ℕ → Output
+-- a request to the node below, under the next number
+abbrev pub request_below : State → Sending → Output
+request_below s sending =
+    outputs.Send sending.port sending.address (bodies.Request s.pendings.next sending.bytes)
+
+-- a reply to whom the request came from: by a link with the number that it had there, or to this
+-- module's own command
+abbrev pub reply_up : UpSide → Octets → Output
 reply_up (Link port address number) bytes = outputs.Send port address (bodies.Reply number bytes)
 reply_up (Local op) bytes = outputs.Done op bytes
 
--- a success as it goes up: with the own up id, and the T→O id of the node above; a command gets the bytes as received
-abbrev pub success_up : HopUp → OwnIds → List ℕ → OpenSuccess → List ℕ
+-- a success as it goes up: with the own up id, and the T→O id of the node above; a command gets the
+-- bytes as received
+abbrev pub success_up : HopUp → OwnIds → Octets → OpenSuccess → Octets
 success_up (UpLink port address their_id) ids bytes success =
-    open_reply_bytes (record success { ot_id = option_map_or (λ id. id) ids.up 0; to_id = their_id })
+    open_reply_bytes
+    (record success { ot_id = option_map_or (λ id. id) ids.up 0; to_id = their_id })
 success_up (UpLocal op) ids bytes success = bytes
 
-abbrev pub succeeded : Option Held → List ℕ → OpenSuccess → List ℕ
+abbrev pub succeeded : Option Held → Octets → OpenSuccess → Octets
 succeeded None bytes success = bytes
 succeeded (Some x) bytes success = success_up (opening_of x).up (ids_of x) bytes success
 
-abbrev pub replied : Option Entry → List ℕ → List Output
+abbrev pub replied : Option Entry → Octets → List Output
 replied None bytes = []
 replied (Some entry) bytes = reply_up entry.up bytes ∷ []
 
 -- no answer came in time, with the words of the path as received
-abbrev pub late_bytes : Kind → ℕ → List ℕ
+abbrev pub late_bytes : Kind → WordCount → Octets
 late_bytes Unconnected words = unconnected_failed (link_status TicksSpent) (Some words)
 late_bytes (OpeningOf triad) words = open_failed (link_status TicksSpent) triad words
 late_bytes (ClosingOf triad) words = close_failed (link_status TicksSpent) triad words
 
-abbrev pub expired : Option Entry → List Output
-expired None = []
-expired (Some entry) = reply_up entry.up (late_bytes entry.kind entry.words) ∷ []
+abbrev pub timed_out_reply : Option Entry → List Output
+timed_out_reply None = []
+timed_out_reply (Some entry) = reply_up entry.up (late_bytes entry.kind entry.words) ∷ []
 
 -- a datum by the up side: to the node above under its id, or to the command that opened
-abbrev pub datum_up : HopUp → List ℕ → Output
-datum_up (UpLink port address their_id) bytes = outputs.Send port address (bodies.Data their_id bytes)
+abbrev pub datum_up : HopUp → Octets → Output
+datum_up (UpLink port address their_id) bytes =
+    outputs.Send port address (bodies.Data their_id bytes)
 datum_up (UpLocal op) bytes = outputs.Arrived op bytes
 
 -- a datum by the down side: to the node below under its id, or to an assembly here
-abbrev pub datum_down : Hop → HopDown → List ℕ → Output
-datum_down hop (DownLink port address) bytes = outputs.Send port address (bodies.Data (option_map_or (λ id. id) hop.their_id 0) bytes)
+abbrev pub datum_down : Hop → HopDown → Octets → Output
+datum_down hop (DownLink port address) bytes =
+    outputs.Send port address (bodies.Data (option_map_or (λ id. id) hop.their_id 0) bytes)
 datum_down hop (End config consume produce) bytes = outputs.Consumed hop.opening.triad consume bytes
 
-abbrev pub datum_by : Side → Hop → List ℕ → Output
+abbrev pub datum_by : Side → Hop → Octets → Output
 datum_by Up hop bytes = datum_up hop.opening.up bytes
 datum_by Down hop bytes = datum_down hop hop.opening.down bytes
 
-abbrev pub passed : Side → Option Hop → List ℕ → List Output
+abbrev pub passed : Side → Option Hop → Octets → List Output
 passed side None bytes = []
 passed side (Some hop) bytes = datum_by side hop bytes ∷ []
 
 abbrev pub output_of : ModuleSettings → State → Effect → List Output
 output_of config s (Spends op) = []
 output_of config s (Replies up bytes) = reply_up up bytes ∷ []
-output_of config s (Answers up request) = reply_up up (reply_bytes (target_answer (objects_of config s) request)) ∷ []
-output_of config s (Forwards up port address bytes wait words kind) = outputs.Send port address (bodies.Request s.pendings.next bytes) ∷ []
-output_of config s (Begins up port address bytes wait words opening) = outputs.Send port address (bodies.Request s.pendings.next bytes) ∷ []
+output_of config s (Answers up request) =
+    reply_up up (reply_bytes (target_answer (objects_of config s) request)) ∷ []
+output_of config s (Forwards sending kind) = request_below s sending ∷ []
+output_of config s (Begins sending opening) = request_below s sending ∷ []
 output_of config s (Accepts opening open_ link) = []
 output_of config s (Finishes number triad bytes success) =
-    replied (map.get s.pendings.entries number) (succeeded (map.get s.hops.held triad) bytes success)
+    replied (map.get s.pendings.entries number)
+    (succeeded (map.get s.hops.held triad) bytes success)
 output_of config s (Takes number bytes) = replied (map.get s.pendings.entries number) bytes
-output_of config s (Expires number) = expired (map.get s.pendings.entries number)
+output_of config s (PendingTimesOut number) = timed_out_reply (map.get s.pendings.entries number)
 output_of config s (Removes triad) = []
-output_of config s (Lapses triad) = outputs.Expired triad ∷ []
+output_of config s (HopTimesOut triad) = outputs.Expired triad ∷ []
 output_of config s (Renews triad side) = []
 output_of config s (Passes triad side bytes) = passed side (hop_at s.hops triad) bytes
 output_of config s (Counts triad side count) = []
 output_of config s (Writes instance bytes) = []
-output_of config s (Refuses fault) = outputs.Refused fault ∷ []
+output_of config s (RefusesCommand fault) = outputs.Refused fault ∷ []
 output_of config s (Drops reason) = outputs.Dropped reason ∷ []
 output_of config s (Advances by) = []
 

@@ -5,8 +5,8 @@ use Rattle.cip_segment.specs.declared.segment.Segment.{Segment}
 use Rattle.cip_segment.specs.declared.segment.Segment.TheVariants.{Key}
 use Rattle.cip_target.specs.declared.identity.IdentityFields.{IdentityFields}
 use Rattle.cip_module.specs.declared.config.ModuleSettings.{ModuleSettings}
-use Rattle.cip_module.specs.declared.rows.KeyPart.{KeyPart}
-use Rattle.cip_module.specs.declared.rows.KeyPart.TheVariants.{VendorOrProduct, DeviceType, Revision}
+use Rattle.cip_module.specs.declared.refusals.KeyPart.{KeyPart}
+use Rattle.cip_module.specs.declared.refusals.KeyPart.TheVariants.{VendorOrProduct, DeviceType, Revision}
 
 -- a field of 0 fits anything, another one the same number
 abbrev pub fits : ℕ → ℕ → Bool
@@ -14,7 +14,8 @@ fits asked own = asked == 0 || asked == own
 
 -- with the compatibility flag the module's minor revision may be later
 abbrev pub minor_fits : IdentityFields → KeyFields → Bool
-minor_fits f k = k.minor == 0 || (if nat_le 128 k.major then nat_le k.minor f.minor else k.minor == f.minor)
+minor_fits f k = k.minor == 0 || (if nat_le 128 k.major then nat_le k.minor f.minor
+    else k.minor == f.minor)
 
 -- what of the key differs: vendor and product first, then the device type, then the revision
 abbrev pub key_mismatch : IdentityFields → KeyFields → Option KeyPart

@@ -1,11 +1,12 @@
 -- Whether a message can be sent on by a link, which the groups of requests share.
-use Rattle.std.specs.Prelude.{◌≡◌, ℕ, ◌≤◌, nat_lt, not, if◌then◌else◌, Option, Some, None, List, is_some}
+use Rattle.std.specs.Prelude.{◌≡◌, ◌≤◌, nat_lt, not, if◌then◌else◌, Option, Some, None, is_some}
+use Rattle.cip_base.specs.Words.{LinkAddress, PortIdentifier}
 use Rattle.cip_base.specs.declared.timing.Timing.{Timing}
 use Rattle.cip_pending.specs.Pendings.{Pendings, refusal}
 use Rattle.cip_module.specs.declared.config.PortConfig.{PortConfig}
 use Rattle.cip_module.specs.declared.config.ModuleSettings.{ModuleSettings}
-use Rattle.cip_module.specs.declared.rows.LinkRefusal.{LinkRefusal}
-use Rattle.cip_module.specs.declared.rows.LinkRefusal.TheVariants.{NoSuchPort, LinkAddressNotLegal, TicksSpent, NoPendingLeft}
+use Rattle.cip_module.specs.declared.refusals.LinkRefusal.{LinkRefusal}
+use Rattle.cip_module.specs.declared.refusals.LinkRefusal.TheVariants.{NoSuchPort, LinkAddressNotLegal, TicksSpent, NoPendingLeft}
 use Rattle.cip_module.specs.Config.{port_of, is_adapter, is_legal}
 
 -- ticks for it and for the module below, and a place among the requests that wait
@@ -15,7 +16,8 @@ wait_refusal p timing =
     else if is_some (refusal p) then Some NoPendingLeft
     else None
 
-abbrev pub port_refusal : ModuleSettings → Pendings → Timing → List ℕ → Option PortConfig → Option LinkRefusal
+abbrev pub port_refusal : ModuleSettings → Pendings → Timing → LinkAddress → Option PortConfig
+    → Option LinkRefusal
 port_refusal config p timing address None = Some NoSuchPort
 port_refusal config p timing address (Some own) =
     if is_adapter config.kind then Some NoSuchPort
@@ -23,8 +25,10 @@ port_refusal config p timing address (Some own) =
     else wait_refusal p timing
 
 -- the port, of a module that routes; then the address, the ticks and the room
-unfoldable pub link_refusal : ModuleSettings → Pendings → Timing → ℕ → List ℕ → Option LinkRefusal
-link_refusal config p timing port address = port_refusal config p timing address (port_of config port)
+unfoldable pub link_refusal : ModuleSettings → Pendings → Timing → PortIdentifier → LinkAddress
+    → Option LinkRefusal
+link_refusal config p timing port address =
+    port_refusal config p timing address (port_of config port)
 
 -- what is sent on has ticks for the module below, and a place among the requests that wait
 abbrev pub CanWait : Pendings → Timing → Option LinkRefusal → Type 0

@@ -1,6 +1,33 @@
 -- The open group: which row answers a Forward_Open (Volume 1, chapter 3, Forward_Open).
-use Rattle.std.specs.Prelude.{ℕ, ◌==◌, Bool, true, false, not, ◌&&◌, ◌||◌, nat_lt, nat_le, if◌then◌else◌, Option, Some, None, List, length, is_some}
+--
+-- The rows in their order; the first that fits answers.
+--     cut in the fixed part              CutInTheFixedPart (unread_row)
+--     cut in the path                    CutInThePath (unread_row)
+--     bytes after the path               BytesAfterThePath (unread_row)
+--     path unreadable                    PathUnreadable (unread_row)
+--     connection type not supported      Refuses ConnectionTypeNotSupported
+--     RPI of zero                        Refuses RpiOfZero
+--     triad in use                       Refuses TriadInUse
+--     key mismatch                       Refuses (KeyMismatch part)
+--   a port segment stands first (after the key):
+--     no such port                       Refuses (NotSentOn NoSuchPort)
+--     link address not legal             Refuses (NotSentOn LinkAddressNotLegal)
+--     time-out ticks spent               Refuses (NotSentOn TicksSpent)
+--     no pending left                    Refuses (NotSentOn NoPendingLeft)
+--     no room or ids left                Refuses NoRoomToPassOn
+--     forwarded                          Forwarded
+--   no port segment stands first:
+--     not an application path            Refuses (NotAccepted NotAnApplicationPath)
+--     no such instance or configuration  Refuses (NotAccepted NoSuchInstanceOrConfiguration)
+--     transport class not supported      Refuses (NotAccepted TransportClassNotSupported)
+--     size mismatch                      Refuses (NotAccepted SizeMismatch)
+--     output owned                       Refuses (NotAccepted OutputOwned)
+--     no room or id left                 Refuses NoRoomToEndHere
+--     accepted                           Accepted
+use Rattle.std.specs.Prelude.{ℕ, ◌==◌, Bool, true, false, not, ◌&&◌, ◌||◌, nat_lt, nat_le, if◌then◌else◌, Option, Some, None, Ok, Err, length, is_some}
 use Rattle.std.specs.FinMap as map
+use Rattle.cip_base.specs.Words.{InstanceNumber, LinkAddress, Octets, PortIdentifier}
+use Rattle.cip_open.specs.declared.request.TheConstants.{OPEN_FIXED_PART}
 use Rattle.cip_segment.specs.Reading.{HopAt, hop_of, segments_of}
 use Rattle.cip_message.specs.declared.fault.DataFault.{DataFault}
 use Rattle.cip_message.specs.declared.fault.DataFault.TheVariants.{Short, Long, Path}
@@ -17,48 +44,43 @@ use Rattle.cip_hops.specs.Sides.{up_is_link}
 use Rattle.cip_hops.specs.Hops.{Hops, refusal, first_hop}
 use Rattle.cip_target.specs.declared.link.EndLink.{EndLink}
 use Rattle.cip_target.specs.Ends.{EndRow, end_row, class_of}
-use Rattle.cip_target.specs.Ends as ends
+use Rattle.cip_target.specs.declared.ends.EndRefusal.TheVariants.{NotAnApplicationPath}
 use Rattle.cip_module.specs.declared.config.ModuleSettings.{ModuleSettings}
-use Rattle.cip_module.specs.declared.rows.KeyPart.{KeyPart}
-use Rattle.cip_module.specs.declared.rows.LinkRefusal.{LinkRefusal}
-use Rattle.cip_module.specs.declared.rows.OpenRefusal.{OpenRefusal}
-use Rattle.cip_module.specs.declared.rows.OpenRefusal.TheVariants.{CutInTheFixedPart, CutInThePath, BytesAfterThePath, PathUnreadable, ConnectionTypeNotSupported, RpiOfZero, TriadInUse, KeyMismatch, NotSentOn, NoRoomOrIdsLeft, NotAnApplicationPath, NoSuchInstanceOrConfiguration, TransportClassNotSupported, SizeMismatch, OutputOwned, NoRoomOrIdLeft}
-use Rattle.cip_base.specs.declared.timing.Status.{Status}
-use Rattle.cip_module.specs.Statuses.{open_status}
+use Rattle.cip_module.specs.declared.refusals.KeyPart.{KeyPart}
+use Rattle.cip_module.specs.declared.refusals.LinkRefusal.{LinkRefusal}
+use Rattle.cip_module.specs.declared.refusals.OpenRefusal.{OpenRefusal}
+use Rattle.cip_module.specs.declared.refusals.OpenRefusal.TheVariants.{CutInTheFixedPart, CutInThePath, BytesAfterThePath, PathUnreadable, ConnectionTypeNotSupported, RpiOfZero, TriadInUse, KeyMismatch, NotSentOn, NoRoomToPassOn, NotAccepted, NoRoomToEndHere}
 use Rattle.cip_module.specs.Links.{link_refusal}
 use Rattle.cip_module.specs.Keys.{leading_mismatch}
 use Rattle.cip_module.specs.State.{State}
 
 pub data OpenRow : Type 0 where
   Refuses : (refusal : OpenRefusal) → OpenRow
-  Forwarded : (port : ℕ) → (address : List ℕ) → (rest : List ℕ) → OpenRow
+  Forwarded : (port : PortIdentifier) → (address : LinkAddress) → (rest : Octets) → OpenRow
   Accepted : (link : EndLink) → OpenRow
 
 -- ---- no port segment first: a connection that ends here
 
 -- whether a connection writes this assembly
-abbrev pub writes_to : ℕ → HopDown → Bool
+abbrev pub writes_to : InstanceNumber → HopDown → Bool
 writes_to instance (DownLink port address) = false
 writes_to instance (End config consume produce) = consume == instance
 
-abbrev pub is_consumed : Hops → ℕ → Bool
+abbrev pub is_consumed : Hops → InstanceNumber → Bool
 is_consumed h instance = is_some (first_hop (λ hop. writes_to instance hop.opening.down) h)
 
 abbrev pub room_row : Hops → Open → EndLink → OpenRow
-room_row h o link = if is_some (refusal h o.fields.triad 1) then Refuses NoRoomOrIdLeft else Accepted link
+room_row h o link = if is_some (refusal h o.fields.triad 1) then Refuses NoRoomToEndHere
+    else Accepted link
 
 abbrev pub accepted_row : Hops → Open → EndRow → OpenRow
-accepted_row h o ends.NotAnApplicationPath = Refuses NotAnApplicationPath
-accepted_row h o ends.NoSuchInstanceOrConfiguration = Refuses NoSuchInstanceOrConfiguration
-accepted_row h o ends.ClassNotSupported = Refuses TransportClassNotSupported
-accepted_row h o ends.SizeMismatch = Refuses SizeMismatch
-accepted_row h o ends.OutputOwned = Refuses OutputOwned
-accepted_row h o (ends.Fits link) = room_row h o link
+accepted_row h o (Err refusal) = Refuses (NotAccepted refusal)
+accepted_row h o (Ok link) = room_row h o link
 
 -- a command opens no connection to its own module
 abbrev pub here_row : State → HopUp → Open → OpenRow
 here_row s up o =
-    if not (up_is_link up) then Refuses NotAnApplicationPath
+    if not (up_is_link up) then Refuses (NotAccepted NotAnApplicationPath)
     else accepted_row s.hops o (end_row s.assemblies (is_consumed s.hops) o)
 
 -- ---- a port segment first: a connection that goes on
@@ -70,11 +92,13 @@ ids_on up = if up_is_link up then 2 else 1
 abbrev pub on_row : State → HopUp → Open → HopAt → Option LinkRefusal → OpenRow
 on_row s up o hop (Some fault) = Refuses (NotSentOn fault)
 on_row s up o hop None =
-    if is_some (refusal s.hops o.fields.triad (ids_on up)) then Refuses NoRoomOrIdsLeft else Forwarded hop.port hop.address hop.rest
+    if is_some (refusal s.hops o.fields.triad (ids_on up)) then Refuses NoRoomToPassOn
+    else Forwarded hop.port hop.address hop.rest
 
 abbrev pub hop_row : ModuleSettings → State → HopUp → Open → Option HopAt → OpenRow
 hop_row config s up o None = here_row s up o
-hop_row config s up o (Some hop) = on_row s up o hop (link_refusal config s.pendings o.fields.timing hop.port hop.address)
+hop_row config s up o (Some hop) = on_row s up o hop
+    (link_refusal config s.pendings o.fields.timing hop.port hop.address)
 
 -- ---- what every open has to be
 
@@ -93,7 +117,8 @@ abbrev pub is_direction : Params → Bool
 is_direction p = is_point_to_point p.kind && not p.redundant
 
 abbrev pub is_supported : Open → Bool
-is_supported o = is_direction (params_of o.fields.ot_params) && (is_direction (params_of o.fields.to_params) && nat_le o.fields.multiplier 7)
+is_supported o = is_direction (params_of o.fields.ot_params)
+    && (is_direction (params_of o.fields.to_params) && nat_le o.fields.multiplier 7)
 
 -- the row of a Forward_Open that was read
 unfoldable pub open_row : ModuleSettings → State → HopUp → Open → OpenRow
@@ -104,8 +129,8 @@ open_row config s up o =
     else key_row config s up o (leading_mismatch config (segments_of o.path))
 
 -- the row of data that cannot be read as a Forward_Open
-abbrev pub unread_row : List ℕ → DataFault → OpenRefusal
-unread_row d Short = if nat_lt (length d) 36 then CutInTheFixedPart else CutInThePath
+abbrev pub unread_row : Octets → DataFault → OpenRefusal
+unread_row d Short = if nat_lt (length d) OPEN_FIXED_PART then CutInTheFixedPart else CutInThePath
 unread_row d Long = BytesAfterThePath
 unread_row d (Path fault) = PathUnreadable
 
@@ -127,15 +152,3 @@ opening_with up down o = record {
 
 abbrev pub end_down : EndLink → HopDown
 end_down link = End link.config link.consume link.produce
-
--- ---- what a row answers
-
-pub data OpenAnswer : Type 0 where
-  Fails : (status : Status) → OpenAnswer
-  GoesOn : (port : ℕ) → (address : List ℕ) → (rest : List ℕ) → OpenAnswer
-  EndsHere : (link : EndLink) → OpenAnswer
-
-abbrev pub open_answer : OpenRow → OpenAnswer
-open_answer (Refuses refusal) = Fails (open_status refusal)
-open_answer (Forwarded port address rest) = GoesOn port address rest
-open_answer (Accepted link) = EndsHere link

@@ -1,7 +1,9 @@
--- What an end sends of an assembly: a datum by each connection that takes its data from it, in rising triad.
-use Rattle.std.specs.Prelude.{ℕ, ◌+◌, ◌%◌, ◌==◌, Bool, false, if◌then◌else◌, List, [], ◌∷◌, ◌++◌, map, filter, filter_map, Option, Some, None}
+-- What an end sends of an assembly: a datum by each connection that takes its data from it, in
+-- rising triad.
+use Rattle.std.specs.Prelude.{ℕ, ◌+◌, ◌%◌, ◌==◌, Bool, false, if◌then◌else◌, List, [], ◌∷◌, ◌++◌, Option}
 use Rattle.std.specs.Option.{option_map_or}
 use Rattle.std.specs.FinMap as finite
+use Rattle.cip_base.specs.Words.{InstanceNumber, Octets}
 use Rattle.cip_base.specs.Fields.{word}
 use Rattle.cip_base.specs.declared.triad.Triad.{Triad}
 use Rattle.cip_hops.specs.declared.opening.HopDown.{HopDown}
@@ -10,12 +12,11 @@ use Rattle.cip_hops.specs.declared.hop.Hop.{Hop}
 use Rattle.cip_hops.specs.declared.hop.Held.{Held}
 use Rattle.cip_hops.specs.declared.hop.Held.TheVariants.{Opening as IsOpening, Open}
 use Rattle.cip_hops.specs.declared.hop.Side.TheVariants.{Up, Down}
-use Rattle.cip_hops.specs.Hops.{Hops, as_hop}
-use Rattle.cip_module.specs.declared.event.Output.{Output}
-use Rattle.cip_module.specs.Effects.{Effect, Counts, Passes, datum_up, recounted}
+use Rattle.cip_hops.specs.Hops.{Hops}
+use Rattle.cip_module.specs.Effects.{Effect, Counts, Passes}
 
 -- whether a connection takes its data from this assembly
-abbrev pub reads_from : ℕ → HopDown → Bool
+abbrev pub reads_from : InstanceNumber → HopDown → Bool
 reads_from instance (DownLink port address) = false
 reads_from instance (End config consume produce) = produce == instance
 
@@ -24,51 +25,27 @@ abbrev pub next_count : Option ℕ → ℕ
 next_count last = option_map_or (λ n. (n + 1) % 65536) last 1
 
 -- one datum: in class 1 it begins with its sequence count
-abbrev pub datum_effects : List ℕ → Hop → List Effect
-datum_effects held hop =
+abbrev pub made_effects : Octets → Hop → List Effect
+made_effects held hop =
     if hop.opening.class == 1
-    then Counts hop.opening.triad Down (next_count hop.produced) ∷ Passes hop.opening.triad Up (word (next_count hop.produced) ++ held) ∷ []
+    then Counts hop.opening.triad Down (next_count hop.produced)
+    ∷ Passes hop.opening.triad Up (word (next_count hop.produced) ++ held) ∷ []
     else Passes hop.opening.triad Up held ∷ []
 
-abbrev pub held_effects : ℕ → List ℕ → Held → List Effect
+abbrev pub held_effects : InstanceNumber → Octets → Held → List Effect
 held_effects instance held (IsOpening o ids) = []
-held_effects instance held (Open hop) = if reads_from instance hop.opening.down then datum_effects held hop else []
+held_effects instance held (Open hop) =
+    if reads_from instance hop.opening.down then made_effects held hop else []
 
-abbrev pub each_effects : ℕ → List ℕ → List (Triad × Held) → List Effect
+abbrev pub each_effects : InstanceNumber → Octets → List (Triad × Held) → List Effect
 each_effects instance held [] = []
-each_effects instance held (e ∷ es) = held_effects instance held e.1 ++ each_effects instance held es
+each_effects instance held (e ∷ es) =
+    held_effects instance held e.1 ++ each_effects instance held es
 
-abbrev pub produced_effects : ℕ → List ℕ → Hops → List Effect
+abbrev pub produced_effects : InstanceNumber → Octets → Hops → List Effect
 produced_effects instance held h = each_effects instance held (finite.entries h.held)
 
--- ---- the same, connection by connection
-
 -- the bytes of one datum
-abbrev pub datum_bytes : List ℕ → Hop → List ℕ
-datum_bytes held hop = if hop.opening.class == 1 then word (next_count hop.produced) ++ held else held
-
-abbrev pub made_of : List ℕ → Hop → Output
-made_of held hop = datum_up hop.opening.up (datum_bytes held hop)
-
-abbrev pub takes_from : ℕ → Hop → Bool
-takes_from instance hop = reads_from instance hop.opening.down
-
--- what goes up of all that take their data from this assembly, in rising triad
-abbrev pub made_all : ℕ → List ℕ → List Hop → List Output
-made_all instance held hops = map (made_of held) (filter (takes_from instance) hops)
-
--- the count that a datum of this connection begins with, if it sends one and counts
-abbrev pub count_for : ℕ → Hop → Option ℕ
-count_for instance hop = if reads_from instance hop.opening.down then (if hop.opening.class == 1 then Some (next_count hop.produced) else None) else None
-
-abbrev pub counted_by : Hops → Triad → Option ℕ → Hops
-counted_by h triad None = h
-counted_by h triad (Some count) = recounted h triad Down count
-
-abbrev pub counted_all : ℕ → List Hop → Hops → Hops
-counted_all instance [] h = h
-counted_all instance (hop ∷ hops) h = counted_all instance hops (counted_by h hop.opening.triad (count_for instance hop))
-
--- those that are open, in rising triad
-abbrev pub open_hops : Hops → List Hop
-open_hops h = filter_map (λ e. as_hop e.1) (finite.entries h.held)
+abbrev pub datum_bytes : Octets → Hop → Octets
+datum_bytes held hop = if hop.opening.class == 1 then word (next_count hop.produced) ++ held
+    else held

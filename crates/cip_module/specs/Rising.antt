@@ -8,4 +8,5 @@ IsRising xs = (i j : ℕ) → i ≤ j → j < length xs → slice_index xs i ≤
 abbrev pub IsPlace : ℕ → List ℕ → Result ℕ ℕ → Type 0
 IsPlace n xs r =
     MatchResult r (λ i. (i < length xs) × (slice_index xs i ≡ n))
-    (λ i. (i ≤ length xs) × ((k : ℕ) → k < i → slice_index xs k < n) × ((k : ℕ) → i ≤ k → k < length xs → n < slice_index xs k))
+    (λ i. (i ≤ length xs) × ((k : ℕ) → k < i → slice_index xs k < n)
+    × ((k : ℕ) → i ≤ k → k < length xs → n < slice_index xs k))

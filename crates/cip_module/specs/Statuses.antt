@@ -1,18 +1,20 @@
--- Which status each row of the routing table answers (Volume 1, Appendix B; the additional status is the Connection Manager's, chapter 3).
+-- Which status each row of the routing table answers (Volume 1, Appendix B; the additional status
+-- is the Connection Manager's, chapter 3).
 use Rattle.std.specs.Prelude.{ℕ, Some, None}
 use Rattle.cip_base.specs.declared.timing.Status.{Status}
-use Rattle.cip_module.specs.declared.rows.RequestRefusal.{RequestRefusal}
-use Rattle.cip_module.specs.declared.rows.RequestRefusal.TheVariants as request
-use Rattle.cip_module.specs.declared.rows.LinkRefusal.{LinkRefusal}
-use Rattle.cip_module.specs.declared.rows.LinkRefusal.TheVariants.{NoSuchPort, LinkAddressNotLegal, TicksSpent, NoPendingLeft}
-use Rattle.cip_module.specs.declared.rows.UnconnectedRefusal.{UnconnectedRefusal}
-use Rattle.cip_module.specs.declared.rows.UnconnectedRefusal.TheVariants as unconnected
-use Rattle.cip_module.specs.declared.rows.OpenRefusal.{OpenRefusal}
-use Rattle.cip_module.specs.declared.rows.OpenRefusal.TheVariants as opens
-use Rattle.cip_module.specs.declared.rows.CloseRefusal.{CloseRefusal}
-use Rattle.cip_module.specs.declared.rows.CloseRefusal.TheVariants as closes
-use Rattle.cip_module.specs.declared.rows.KeyPart.{KeyPart}
-use Rattle.cip_module.specs.declared.rows.KeyPart.TheVariants.{VendorOrProduct, DeviceType, Revision}
+use Rattle.cip_target.specs.Ends.{end_status}
+use Rattle.cip_module.specs.declared.refusals.RequestRefusal.{RequestRefusal}
+use Rattle.cip_module.specs.declared.refusals.RequestRefusal.TheVariants as request
+use Rattle.cip_module.specs.declared.refusals.LinkRefusal.{LinkRefusal}
+use Rattle.cip_module.specs.declared.refusals.LinkRefusal.TheVariants.{NoSuchPort, LinkAddressNotLegal, TicksSpent, NoPendingLeft}
+use Rattle.cip_module.specs.declared.refusals.UnconnectedRefusal.{UnconnectedRefusal}
+use Rattle.cip_module.specs.declared.refusals.UnconnectedRefusal.TheVariants as unconnected
+use Rattle.cip_module.specs.declared.refusals.OpenRefusal.{OpenRefusal}
+use Rattle.cip_module.specs.declared.refusals.OpenRefusal.TheVariants as opens
+use Rattle.cip_module.specs.declared.refusals.CloseRefusal.{CloseRefusal}
+use Rattle.cip_module.specs.declared.refusals.CloseRefusal.TheVariants as closes
+use Rattle.cip_module.specs.declared.refusals.KeyPart.{KeyPart}
+use Rattle.cip_module.specs.declared.refusals.KeyPart.TheVariants.{VendorOrProduct, DeviceType, Revision}
 
 -- a general status alone
 abbrev pub plain : ℕ → Status
@@ -60,13 +62,9 @@ open_status opens.RpiOfZero = extended 0x0111
 open_status opens.TriadInUse = extended 0x0100
 open_status (opens.KeyMismatch part) = key_status part
 open_status (opens.NotSentOn refusal) = link_status refusal
-open_status opens.NoRoomOrIdsLeft = extended 0x0113
-open_status opens.NotAnApplicationPath = extended 0x0315
-open_status opens.NoSuchInstanceOrConfiguration = extended 0x0117
-open_status opens.TransportClassNotSupported = extended 0x0103
-open_status opens.SizeMismatch = extended 0x0109
-open_status opens.OutputOwned = extended 0x0106
-open_status opens.NoRoomOrIdLeft = extended 0x0113
+open_status opens.NoRoomToPassOn = extended 0x0113
+open_status (opens.NotAccepted refusal) = end_status refusal
+open_status opens.NoRoomToEndHere = extended 0x0113
 
 abbrev pub close_status : CloseRefusal → Status
 close_status closes.CutInTheFixedPart = plain 0x13

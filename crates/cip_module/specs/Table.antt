@@ -1,8 +1,11 @@
 -- The routing table: what a module does at each event.
 use Rattle.std.specs.Prelude.{ℕ, ◌+◌, ◌-◌, ◌*◌, ◌/◌, ◌%◌, ◌^◌, ◌==◌, nat_lt, if◌then◌else◌, Option, Some, None, Result, Ok, Err, List, [], ◌∷◌, ◌++◌, map, length}
 use Rattle.std.specs.FinMap as finite
+use Rattle.cip_base.specs.Words.{ConnectionId, InstanceNumber, LinkAddress, Microseconds, Octets, OpNumber, PortIdentifier, RequestNumber}
 use Rattle.cip_base.specs.declared.timing.Timing.{Timing}
 use Rattle.cip_base.specs.declared.triad.Triad.{Triad}
+use Rattle.cip_close.specs.declared.request.TheConstants.{CLOSE_FIXED_PART}
+use Rattle.cip_open.specs.declared.request.TheConstants.{OPEN_FIXED_PART}
 use Rattle.cip_clock.specs.Times.{ticks_us}
 use Rattle.cip_message.specs.declared.fault.DataFault.{DataFault}
 use Rattle.cip_unconnected.specs.Unconnected.{Unconnected, unconnected_bytes}
@@ -42,8 +45,8 @@ use Rattle.cip_module.specs.declared.event.Body.TheVariants as bodies
 use Rattle.cip_module.specs.declared.event.Output.{Output}
 use Rattle.cip_module.specs.declared.event.Refused.TheVariants as refused
 use Rattle.cip_module.specs.declared.event.Dropped.TheVariants as dropped
-use Rattle.cip_module.specs.declared.rows.CommandRow.{CommandRow}
-use Rattle.cip_module.specs.declared.rows.CommandRow.TheVariants as command
+use Rattle.cip_module.specs.declared.command_rows.CommandRow.{CommandRow}
+use Rattle.cip_module.specs.declared.command_rows.CommandRow.TheVariants as command
 use Rattle.cip_module.specs.Answers.{failure_bytes, unconnected_failure, failed_unread, open_failed, close_failed}
 use Rattle.cip_module.specs.Statuses.{request_status, open_status, close_status}
 use Rattle.cip_module.specs.RequestRows.{RequestRow, request_row}
@@ -55,11 +58,11 @@ use Rattle.cip_module.specs.DataRows as datum
 use Rattle.cip_module.specs.CommandRows.{op_row, close_command_row, send_row, enter_row, set_row, produce_row}
 use Rattle.cip_module.specs.UnconnectedRows.{UnconnectedRow, unconnected_row}
 use Rattle.cip_module.specs.UnconnectedRows as unconnected
-use Rattle.cip_module.specs.OpenRows.{OpenRow, OpenAnswer, open_row, open_answer, opening_with, end_down}
+use Rattle.cip_module.specs.OpenRows.{OpenRow, open_row, opening_with, end_down}
 use Rattle.cip_module.specs.OpenRows as opens
-use Rattle.cip_module.specs.CloseRows.{CloseRow, CloseAnswer, close_row, close_answer}
+use Rattle.cip_module.specs.CloseRows.{CloseRow, close_row}
 use Rattle.cip_module.specs.CloseRows as closes
-use Rattle.cip_module.specs.Effects.{Effect, Spends, Replies, Answers, Forwards, Begins, Accepts, Finishes, Takes, Expires, Removes, Lapses, Renews, Passes, Counts, Writes, Refuses, Drops, Advances, applied, outputs_of}
+use Rattle.cip_module.specs.Effects.{Sending, Effect, Spends, Replies, Answers, Forwards, Begins, Accepts, Finishes, Takes, PendingTimesOut, Removes, HopTimesOut, Renews, Passes, Counts, Writes, RefusesCommand, Drops, Advances, applied, outputs_of}
 use Rattle.cip_module.specs.Produced.{produced_effects}
 use Rattle.cip_module.specs.State.{State}
 
@@ -67,7 +70,7 @@ use Rattle.cip_module.specs.State.{State}
 abbrev pub wait_of : Timing → ℕ
 wait_of timing = ticks_us (timing.tick % 16) timing.ticks
 
-abbrev pub words_of : List ℕ → ℕ
+abbrev pub words_of : Octets → ℕ
 words_of path = length path / 2
 
 -- what goes on has one tick less
@@ -81,36 +84,59 @@ with_spending (Local op) es = Spends op ∷ es
 
 -- ---- unconnected send
 
--- What goes on: the embedded request itself where no route is left behind the hop, else an Unconnected_Send with what is left.
-abbrev pub message_on : Unconnected → List ℕ → List ℕ
+-- What goes on: the embedded request itself where no route is left behind the hop, else an
+-- Unconnected_Send with what is left.
+abbrev pub message_on : Unconnected → Octets → Octets
 message_on u rest =
     if length rest == 0 then u.request
-    else unconnected_bytes (record { timing = one_less u.timing; request = u.request; route = rest })
+    else unconnected_bytes
+    (record { timing = one_less u.timing; request = u.request; route = rest })
+
+abbrev pub send_below : UpSide → Unconnected → PortIdentifier → LinkAddress → Octets → Sending
+send_below up u port address rest = record {
+  up = up;
+  port = port;
+  address = address;
+  bytes = message_on u rest;
+  wait = wait_of u.timing;
+  words = words_of u.route;
+}
 
 abbrev pub unconnected_effects : UpSide → Unconnected → UnconnectedRow → List Effect
-unconnected_effects up u (unconnected.Refuses refusal) = Replies up (unconnected_failure refusal (Some (words_of u.route))) ∷ []
+unconnected_effects up u (unconnected.Refuses refusal) =
+    Replies up (unconnected_failure refusal (Some (words_of u.route))) ∷ []
 unconnected_effects up u (unconnected.AnsweredHere embedded) = Answers up embedded ∷ []
 unconnected_effects up u (unconnected.Forwarded port address rest) =
-    Forwards up port address (message_on u rest) (wait_of u.timing) (words_of u.route) UnconnectedKind ∷ []
+    Forwards (send_below up u port address rest) UnconnectedKind ∷ []
 
--- an Unconnected_Send by its data: where it cannot be read, the words are the route size byte, if it is there
-abbrev pub data_effects : ModuleSettings → State → UpSide → List ℕ → Result Unconnected UnconnectedFault → List Effect
-data_effects config s up sent (Err fault) = Replies up (unconnected_failure (unconnected.unread_row sent fault) (route_words_of sent)) ∷ []
-data_effects config s up sent (Ok u) = unconnected_effects up u (unconnected_row config s.pendings u)
+-- an Unconnected_Send by its data: where it cannot be read, the words are the route size byte, if
+-- it is there
+abbrev pub unconnected_data_effects : ModuleSettings → State → UpSide → Octets
+    → Result Unconnected UnconnectedFault → List Effect
+unconnected_data_effects config s up sent (Err fault) =
+    Replies up (unconnected_failure (unconnected.unread_row sent fault) (route_words_of sent)) ∷ []
+unconnected_data_effects config s up sent (Ok u) =
+    unconnected_effects up u (unconnected_row config s.pendings u)
 
 -- ---- open
 
--- the up side of a connection: the node that asked, which is sent data under its own T→O id, or the op of a command
-abbrev pub opener : UpSide → ℕ → HopUp
+-- the up side of a connection: the node that asked, which is sent data under its own T→O id, or the
+-- op of a command
+abbrev pub opener : UpSide → ConnectionId → HopUp
 opener (Link port address number) to_id = UpLink port address to_id
 opener (Local op) to_id = UpLocal op
 
 -- what goes on: one tick less, the own down id as T→O id, and what is left of the path
-abbrev pub open_on : Open → ℕ → List ℕ → List ℕ
-open_on o down_id rest = open_bytes (record { fields = record o.fields { timing = one_less o.fields.timing; to_id = down_id }; path = rest })
+abbrev pub open_on : Open → ℕ → Octets → Octets
+open_on o down_id rest = open_bytes
+    (record {
+      fields = record o.fields { timing = one_less o.fields.timing; to_id = down_id };
+      path = rest;
+    })
 
--- the success of an end: its own up id as O→T id, the intervals as they were asked, no application reply
-abbrev pub accepted_bytes : Open → ℕ → List ℕ
+-- the success of an end: its own up id as O→T id, the intervals as they were asked, no application
+-- reply
+abbrev pub accepted_bytes : Open → ℕ → Octets
 accepted_bytes o up_id = open_reply_bytes (record {
   ot_id = up_id;
   to_id = o.fields.to_id;
@@ -120,71 +146,101 @@ accepted_bytes o up_id = open_reply_bytes (record {
   reply = [];
 })
 
-abbrev pub open_answered : State → UpSide → Open → OpenAnswer → List Effect
-open_answered s up o (opens.Fails status) = Replies up (open_failed status o.fields.triad (words_of o.path)) ∷ []
-open_answered s up o (opens.GoesOn port address rest) =
-    Begins up port address (open_on o s.hops.next rest) (wait_of o.fields.timing) (words_of o.path)
-    (opening_with (opener up o.fields.to_id) (DownLink port address) o) ∷ []
-open_answered s up o (opens.EndsHere link) =
-    Accepts (opening_with (opener up o.fields.to_id) (end_down link) o) o link ∷ Replies up (accepted_bytes o s.hops.next) ∷ []
+abbrev pub open_below : State → UpSide → Open → PortIdentifier → LinkAddress → Octets → Sending
+open_below s up o port address rest = record {
+  up = up;
+  port = port;
+  address = address;
+  bytes = open_on o s.hops.next rest;
+  wait = wait_of o.fields.timing;
+  words = words_of o.path;
+}
 
 abbrev pub open_effects : State → UpSide → Open → OpenRow → List Effect
-open_effects s up o row = open_answered s up o (open_answer row)
+open_effects s up o (opens.Refuses refusal) =
+    Replies up (open_failed (open_status refusal) o.fields.triad (words_of o.path)) ∷ []
+open_effects s up o (opens.Forwarded port address rest) =
+    Begins (open_below s up o port address rest)
+    (opening_with (opener up o.fields.to_id) (DownLink port address) o) ∷ []
+open_effects s up o (opens.Accepted link) =
+    Accepts (opening_with (opener up o.fields.to_id) (end_down link) o) o link
+    ∷ Replies up (accepted_bytes o s.hops.next) ∷ []
 
 -- where the fixed part is cut, the failure tells nothing; else the triad and the path size byte
-abbrev pub unread_open_bytes : List ℕ → DataFault → List ℕ
+abbrev pub unread_open_bytes : Octets → DataFault → Octets
 unread_open_bytes d fault =
-    if nat_lt (length d) 36 then open_failure_bytes (open_status (opens.unread_row d fault)) failed_unread
-    else open_failure_bytes (open_status (opens.unread_row d fault)) (record { triad = open_triad_of d; words = open_words_of d })
+    if nat_lt (length d) OPEN_FIXED_PART then
+    open_failure_bytes (open_status (opens.unread_row d fault))
+    failed_unread
+    else open_failure_bytes (open_status (opens.unread_row d fault))
+    (record { triad = open_triad_of d; words = open_words_of d })
 
-abbrev pub asked_effects : ModuleSettings → State → UpSide → List ℕ → Result Open DataFault → List Effect
-asked_effects config s up d (Err fault) = Replies up (unread_open_bytes d fault) ∷ []
-asked_effects config s up d (Ok o) = open_effects s up o (open_row config s (opener up o.fields.to_id) o)
+abbrev pub open_data_effects : ModuleSettings → State → UpSide → Octets → Result Open DataFault
+    → List Effect
+open_data_effects config s up d (Err fault) = Replies up (unread_open_bytes d fault) ∷ []
+open_data_effects config s up d (Ok o) =
+    open_effects s up o (open_row config s (opener up o.fields.to_id) o)
 
 -- ---- close
 
 -- what goes on: one tick less, and what is left of the path
-abbrev pub close_on : Close → List ℕ → List ℕ
-close_on c rest = close_bytes (record { fields = record c.fields { timing = one_less c.fields.timing }; path = rest })
+abbrev pub close_on : Close → Octets → Octets
+close_on c rest = close_bytes (record
+    { fields = record c.fields { timing = one_less c.fields.timing }; path = rest })
 
-abbrev pub close_answered : UpSide → Close → CloseAnswer → List Effect
-close_answered up c (closes.Fails status) = Replies up (close_failed status c.fields.triad (words_of c.path)) ∷ []
-close_answered up c (closes.GoesOn port address rest) =
-    Removes c.fields.triad
-    ∷ Forwards up port address (close_on c rest) (wait_of c.fields.timing) (words_of c.path) (ClosingKind c.fields.triad) ∷ []
-close_answered up c closes.EndsHere =
-    Removes c.fields.triad ∷ Replies up (close_reply_bytes (record { triad = c.fields.triad; reply = [] })) ∷ []
+abbrev pub close_below : UpSide → Close → PortIdentifier → LinkAddress → Octets → Sending
+close_below up c port address rest = record {
+  up = up;
+  port = port;
+  address = address;
+  bytes = close_on c rest;
+  wait = wait_of c.fields.timing;
+  words = words_of c.path;
+}
 
 abbrev pub close_effects : UpSide → Close → CloseRow → List Effect
-close_effects up c row = close_answered up c (close_answer row)
+close_effects up c (closes.Refuses refusal) =
+    Replies up (close_failed (close_status refusal) c.fields.triad (words_of c.path)) ∷ []
+close_effects up c (closes.Forwarded port address rest) =
+    Removes c.fields.triad
+    ∷ Forwards (close_below up c port address rest) (ClosingKind c.fields.triad) ∷ []
+close_effects up c closes.ClosedAtTheEnd =
+    Removes c.fields.triad ∷ Replies up
+    (close_reply_bytes (record { triad = c.fields.triad; reply = [] })) ∷ []
 
-abbrev pub unread_close_bytes : List ℕ → DataFault → List ℕ
+abbrev pub unread_close_bytes : Octets → DataFault → Octets
 unread_close_bytes d fault =
-    if nat_lt (length d) 12 then close_failure_bytes (close_status (closes.unread_row d fault)) failed_unread
-    else close_failure_bytes (close_status (closes.unread_row d fault)) (record { triad = close_triad_of d; words = close_words_of d })
+    if nat_lt (length d) CLOSE_FIXED_PART then
+    close_failure_bytes (close_status (closes.unread_row d fault))
+    failed_unread
+    else close_failure_bytes (close_status (closes.unread_row d fault))
+    (record { triad = close_triad_of d; words = close_words_of d })
 
-abbrev pub closing_effects : State → UpSide → List ℕ → Result Close DataFault → List Effect
-closing_effects s up d (Err fault) = Replies up (unread_close_bytes d fault) ∷ []
-closing_effects s up d (Ok c) = close_effects up c (close_row s up c)
+abbrev pub close_data_effects : State → UpSide → Octets → Result Close DataFault → List Effect
+close_data_effects s up d (Err fault) = Replies up (unread_close_bytes d fault) ∷ []
+close_data_effects s up d (Ok c) = close_effects up c (close_row s up c)
 
 -- ---- any request
 
 abbrev pub request_effects : ModuleSettings → State → UpSide → RequestRow → List Effect
 request_effects config s up request.UnknownPortOrTooLong = Drops dropped.Malformed ∷ []
 request_effects config s up request.NotARequest = Drops dropped.Malformed ∷ []
-request_effects config s up (request.Refuses service refusal) = Replies up (failure_bytes service (request_status refusal)) ∷ []
-request_effects config s up (request.UnconnectedSend d) = data_effects config s up d (unconnected_at d)
-request_effects config s up (request.ForwardOpen d) = asked_effects config s up d (open_at d)
-request_effects config s up (request.ForwardClose d) = closing_effects s up d (close_at d)
+request_effects config s up (request.Refuses service refusal) =
+    Replies up (failure_bytes service (request_status refusal)) ∷ []
+request_effects config s up (request.UnconnectedSend d) =
+    unconnected_data_effects config s up d (unconnected_at d)
+request_effects config s up (request.ForwardOpen d) = open_data_effects config s up d (open_at d)
+request_effects config s up (request.ForwardClose d) = close_data_effects s up d (close_at d)
 request_effects config s up (request.Target asked) = Answers up asked ∷ []
 
 -- ---- replies
 
-abbrev pub reply_effects : ℕ → List ℕ → ReplyRow → List Effect
+abbrev pub reply_effects : RequestNumber → Octets → ReplyRow → List Effect
 reply_effects number bytes reply.UnknownPortOrTooLong = Drops dropped.Malformed ∷ []
 reply_effects number bytes reply.Late = Drops dropped.Late ∷ []
 reply_effects number bytes reply.MalformedForItsKind = Drops dropped.Malformed ∷ []
-reply_effects number bytes (reply.OpenSucceeded triad success) = Finishes number triad bytes success ∷ []
+reply_effects number bytes (reply.OpenSucceeded triad success) =
+    Finishes number triad bytes success ∷ []
 reply_effects number bytes reply.PassedUp = Takes number bytes ∷ []
 
 -- ---- data
@@ -198,43 +254,54 @@ abbrev pub counts : Triad → Option ℕ → List Effect
 counts triad None = []
 counts triad (Some count) = Counts triad Up count ∷ []
 
-abbrev pub datum_effects : List ℕ → DataRow → List Effect
+abbrev pub datum_effects : Octets → DataRow → List Effect
 datum_effects bytes datum.UnknownId = Drops dropped.UnknownId ∷ []
 datum_effects bytes datum.WrongSize = Drops dropped.WrongSize ∷ []
-datum_effects bytes (datum.PassedOn triad side) = Passes triad (other side) bytes ∷ Renews triad side ∷ []
+datum_effects bytes (datum.PassedOn triad side) =
+    Passes triad (other side) bytes ∷ Renews triad side ∷ []
 datum_effects bytes (datum.Consumed triad instance count written) =
     Passes triad Down bytes ∷ Renews triad Up ∷ Writes instance written ∷ counts triad count
 datum_effects bytes (datum.Repeated triad) = Passes triad Down bytes ∷ Renews triad Up ∷ []
 datum_effects bytes (datum.Arrived triad) = Passes triad Up bytes ∷ Renews triad Down ∷ []
 
-abbrev pub frame_effects : ModuleSettings → State → ℕ → List ℕ → Body → List Effect
-frame_effects config s port from (bodies.Request number bytes) = request_effects config s (Link port from number) (request_row config port bytes)
-frame_effects config s port from (bodies.Reply number bytes) = reply_effects number bytes (reply_row config s port from number bytes)
-frame_effects config s port from (bodies.Data id bytes) = datum_effects bytes (data_row config s port from id bytes)
+abbrev pub frame_effects : ModuleSettings → State → PortIdentifier → LinkAddress → Body
+    → List Effect
+frame_effects config s port from (bodies.Request number bytes) =
+    request_effects config s (Link port from number) (request_row config port bytes)
+frame_effects config s port from (bodies.Reply number bytes) =
+    reply_effects number bytes (reply_row config s port from number bytes)
+frame_effects config s port from (bodies.Data id bytes) =
+    datum_effects bytes (data_row config s port from id bytes)
 
 -- ---- commands
 
 -- A command that is taken is handled as the request that it spells, with its op as the up side.
 abbrev pub refused_effects : CommandRow → List Effect → List Effect
-refused_effects command.OpUsed es = Refuses refused.OpUsed ∷ []
-refused_effects command.NotOpen es = Refuses refused.NotOpen ∷ []
-refused_effects command.ReservedService es = Refuses refused.ReservedService ∷ []
-refused_effects command.WrongSize es = Refuses refused.WrongSize ∷ []
-refused_effects command.NoInstance es = Refuses refused.NoInstance ∷ []
+refused_effects command.OpUsed es = RefusesCommand refused.OpUsed ∷ []
+refused_effects command.NotOpen es = RefusesCommand refused.NotOpen ∷ []
+refused_effects command.ReservedService es = RefusesCommand refused.ReservedService ∷ []
+refused_effects command.WrongSize es = RefusesCommand refused.WrongSize ∷ []
+refused_effects command.NoInstance es = RefusesCommand refused.NoInstance ∷ []
 refused_effects command.Taken es = es
 
 -- the Unconnected_Send that a Send spells
-abbrev pub sent : Timing → List ℕ → List ℕ → Unconnected
+abbrev pub sent : Timing → Octets → Octets → Unconnected
 sent timing path asked = record { timing = timing; request = asked; route = path }
 
--- the Forward_Open that an Open spells, with the vendor and the serial number of the module's identity; the O→T id is the target's to choose
-abbrev pub open_of : IdentityFields → Timing → List ℕ → OpenParams → Open
+-- the Forward_Open that an Open spells, with the vendor and the serial number of the module's
+-- identity; the O→T id is the target's to choose
+abbrev pub open_of : IdentityFields → Timing → Octets → OpenParams → Open
 open_of identity timing path params = record {
   fields = record {
     timing = timing;
     ot_id = 0;
     to_id = 0;
-    triad = record { serial = params.serial; vendor = identity.vendor; originator = identity.serial };
+    triad = record {
+      serial = params.serial;
+      vendor = identity.vendor;
+      originator =
+          identity.serial;
+    };
     multiplier = params.multiplier;
     ot_rpi = params.ot_rpi;
     ot_params = params.ot_params;
@@ -247,76 +314,93 @@ open_of identity timing path params = record {
 
 -- the Forward_Close that a Close spells, with the path by which the connection was opened
 abbrev pub close_of : Timing → Hop → Close
-close_of timing hop = record { fields = record { timing = timing; triad = hop.opening.triad }; path = hop.opening.path }
+close_of timing hop = record {
+  fields =
+      record { timing = timing; triad = hop.opening.triad };
+  path = hop.opening.path;
+}
 
-abbrev pub send_effects : ModuleSettings → State → ℕ → Unconnected → CommandRow → List Effect
-send_effects config s op u row = refused_effects row (with_spending (Local op) (unconnected_effects (Local op) u (unconnected_row config s.pendings u)))
+abbrev pub send_effects : ModuleSettings → State → OpNumber → Unconnected → CommandRow → List Effect
+send_effects config s op u row = refused_effects row
+    (with_spending (Local op) (unconnected_effects (Local op) u
+    (unconnected_row config s.pendings u)))
 
-abbrev pub open_command_effects : ModuleSettings → State → ℕ → Open → List Effect
+abbrev pub open_command_effects : ModuleSettings → State → OpNumber → Open → List Effect
 open_command_effects config s op o =
-    refused_effects (op_row s op) (with_spending (Local op) (open_effects s (Local op) o (open_row config s (UpLocal op) o)))
+    refused_effects (op_row s op) (with_spending (Local op)
+    (open_effects s (Local op) o (open_row config s (UpLocal op) o)))
 
 -- the request is the up side's own: the op that opened
-abbrev pub closed_effects : State → ℕ → ℕ → Timing → Option Hop → List Effect
+abbrev pub closed_effects : State → OpNumber → OpNumber → Timing → Option Hop → List Effect
 closed_effects s op of timing None = []
 closed_effects s op of timing (Some hop) =
-    with_spending (Local op) (close_effects (Local op) (close_of timing hop) (close_row s (Local of) (close_of timing hop)))
+    with_spending (Local op) (close_effects (Local op) (close_of timing hop)
+    (close_row s (Local of) (close_of timing hop)))
 
-abbrev pub close_command_effects : State → ℕ → ℕ → Timing → List Effect
-close_command_effects s op of timing = refused_effects (close_command_row s op of) (closed_effects s op of timing (hop_by_op s.hops of))
+abbrev pub close_command_effects : State → OpNumber → OpNumber → Timing → List Effect
+close_command_effects s op of timing =
+    refused_effects (close_command_row s op of)
+    (closed_effects s op of timing (hop_by_op s.hops of))
 
-abbrev pub entered_effects : List ℕ → Option Hop → List Effect
+abbrev pub entered_effects : Octets → Option Hop → List Effect
 entered_effects bytes None = []
 entered_effects bytes (Some hop) = Passes hop.opening.triad Down bytes ∷ []
 
-abbrev pub enter_effects : List ℕ → Option Hop → List Effect
+abbrev pub enter_effects : Octets → Option Hop → List Effect
 enter_effects bytes hop = refused_effects (enter_row bytes hop) (entered_effects bytes hop)
 
-abbrev pub set_effects : State → ℕ → List ℕ → List Effect
-set_effects s instance bytes = refused_effects (set_row bytes (size_in s.assemblies instance)) (Writes instance bytes ∷ [])
+abbrev pub set_effects : State → InstanceNumber → Octets → List Effect
+set_effects s instance bytes = refused_effects (set_row bytes (size_in s.assemblies instance))
+    (Writes instance bytes ∷ [])
 
-abbrev pub made_effects : State → ℕ → Option (List ℕ) → List Effect
+abbrev pub made_effects : State → InstanceNumber → Option (List ℕ) → List Effect
 made_effects s instance None = []
 made_effects s instance (Some held) = produced_effects instance held s.hops
 
-abbrev pub produce_effects : State → ℕ → Option (List ℕ) → List Effect
+abbrev pub produce_effects : State → InstanceNumber → Option (List ℕ) → List Effect
 produce_effects s instance held = refused_effects (produce_row held) (made_effects s instance held)
 
 abbrev pub command_effects : ModuleSettings → State → Command → List Effect
-command_effects config s (commands.Open op timing path params) = open_command_effects config s op (open_of config.identity timing path params)
+command_effects config s (commands.Open op timing path params) =
+    open_command_effects config s op (open_of config.identity timing path params)
 command_effects config s (commands.Close op of timing) = close_command_effects s op of timing
-command_effects config s (commands.Send op timing path asked) = send_effects config s op (sent timing path asked) (send_row s op (sent timing path asked))
+command_effects config s (commands.Send op timing path asked) =
+    send_effects config s op (sent timing path asked) (send_row s op (sent timing path asked))
 command_effects config s (commands.Enter of bytes) = enter_effects bytes (hop_by_op s.hops of)
 command_effects config s (commands.Set instance bytes) = set_effects s instance bytes
-command_effects config s (commands.Produce instance) = produce_effects s instance (finite.get s.assemblies instance)
+command_effects config s (commands.Produce instance) =
+    produce_effects s instance (finite.get s.assemblies instance)
 
 -- ---- ticks
 
-abbrev pub expires : ℕ × Entry → Effect
-expires waiting = Expires waiting.0
+abbrev pub pending_times_out : ℕ × Entry → Effect
+pending_times_out waiting = PendingTimesOut waiting.0
 
-abbrev pub lapses : Hop → Effect
-lapses hop = Lapses hop.opening.triad
+abbrev pub hop_times_out : Hop → Effect
+hop_times_out hop = HopTimesOut hop.opening.triad
 
 -- the due pendings, in rising number
-abbrev pub expiries : ℕ → Pendings → List Effect
-expiries now p = map expires (due now p)
+abbrev pub pending_time_outs : Microseconds → Pendings → List Effect
+pending_time_outs now p = map pending_times_out (due now p)
 
 -- then the due connections, in rising triad
-abbrev pub lapsings : ℕ → Hops → List Effect
-lapsings now h = map lapses (hops.due now h)
+abbrev pub hop_time_outs : Microseconds → Hops → List Effect
+hop_time_outs now h = map hop_times_out (hops.due now h)
 
 -- the clock is raised first
-abbrev pub tick_effects : State → ℕ → List Effect
-tick_effects s by = Advances by ∷ expiries (s.now + by) s.pendings ++ lapsings (s.now + by) s.hops
+abbrev pub tick_effects : State → Microseconds → List Effect
+tick_effects s by = Advances by ∷ pending_time_outs (s.now + by) s.pendings
+    ++ hop_time_outs (s.now + by) s.hops
 
 -- ---- the step
 
--- the effects of an event, in order; undefined for a tick alone, where the time would pass its last value
+-- the effects of an event, in order; undefined for a tick alone, where the time would pass its last
+-- value
 abbrev pub decide : ModuleSettings → State → Event → Option (List Effect)
 decide config s (events.Command command) = Some (command_effects config s command)
 decide config s (events.Frame port from body) = Some (frame_effects config s port from body)
-decide config s (events.Tick ms) = if nat_lt (s.now + 1000 * ms) (2 ^ 63) then Some (tick_effects s (1000 * ms)) else None
+decide config s (events.Tick ms) = if nat_lt (s.now + 1000 * ms) (2 ^ 63) then
+    Some (tick_effects s (1000 * ms)) else None
 
 pub record Stepped : Type 0 where
   pub state : State
@@ -324,7 +408,8 @@ pub record Stepped : Type 0 where
 
 abbrev pub after_effects : ModuleSettings → State → Option (List Effect) → Option Stepped
 after_effects config s None = None
-after_effects config s (Some es) = Some (record { state = applied config s es; outputs = outputs_of config s es })
+after_effects config s (Some es) = Some
+    (record { state = applied config s es; outputs = outputs_of config s es })
 
 -- the written routing table
 abbrev pub table_step : ModuleSettings → State → Event → Option Stepped

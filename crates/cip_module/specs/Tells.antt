@@ -1,8 +1,11 @@
--- The routing table read backwards: what each effect of an event tells of the event, and of the state before it.
+-- The routing table read backwards: what each effect of an event tells of the event, and of the
+-- state before it.
 use Rattle.std.specs.Prelude.{◌≡◌, ℕ, ◌+◌, ◌*◌, ◌^◌, ◌≤◌, ◌<◌, ◌==◌, ◌⊎◌, true, false, if◌then◌else◌, Option, Some, None, Ok, Err, List, [], ◌∷◌, drop, length}
 use Rattle.std.specs.FinMap as map
+use Rattle.cip_base.specs.Words.{ConnectionId, InstanceNumber, LinkAddress, Microseconds, Milliseconds, Octets, OpNumber, PortIdentifier, RequestNumber}
 use Rattle.cip_base.specs.declared.timing.Timing.{Timing}
 use Rattle.cip_base.specs.declared.triad.Triad.{Triad}
+use Rattle.cip_open.specs.declared.request.TheConstants.{FORWARD_OPEN_REPLY}
 use Rattle.cip_segment.specs.Reading.{HopAt, hop_of}
 use Rattle.cip_message.specs.Numbers.{word_in}
 use Rattle.cip_message.specs.Request.{Request}
@@ -35,7 +38,7 @@ use Rattle.cip_hops.specs.Sides.{up_is_link}
 use Rattle.cip_hops.specs.Hops.{Hops, refusal, hop_at, hop_by_up, hop_by_down, hop_by_op, is_late}
 use Rattle.cip_target.specs.declared.link.EndLink.{EndLink}
 use Rattle.cip_target.specs.Assemblies.{size_in}
-use Rattle.cip_target.specs.Ends.{end_row, Fits}
+use Rattle.cip_target.specs.Ends.{end_row}
 use Rattle.cip_module.specs.declared.config.ModuleSettings.{ModuleSettings}
 use Rattle.cip_module.specs.declared.event.OpenParams.{OpenParams}
 use Rattle.cip_module.specs.declared.event.Event.{Event}
@@ -44,10 +47,10 @@ use Rattle.cip_module.specs.declared.event.Command.{Command}
 use Rattle.cip_module.specs.declared.event.Command.TheVariants as commands
 use Rattle.cip_module.specs.declared.event.Body.{Body}
 use Rattle.cip_module.specs.declared.event.Body.TheVariants as bodies
-use Rattle.cip_module.specs.declared.rows.RequestRefusal.{RequestRefusal}
-use Rattle.cip_module.specs.declared.rows.UnconnectedRefusal.{UnconnectedRefusal}
-use Rattle.cip_module.specs.declared.rows.OpenRefusal.{OpenRefusal}
-use Rattle.cip_module.specs.declared.rows.CloseRefusal.{CloseRefusal}
+use Rattle.cip_module.specs.declared.refusals.RequestRefusal.{RequestRefusal}
+use Rattle.cip_module.specs.declared.refusals.UnconnectedRefusal.{UnconnectedRefusal}
+use Rattle.cip_module.specs.declared.refusals.OpenRefusal.{OpenRefusal}
+use Rattle.cip_module.specs.declared.refusals.CloseRefusal.{CloseRefusal}
 use Rattle.cip_module.specs.Answers.{failure_bytes, unconnected_failure, open_failed, close_failed}
 use Rattle.cip_module.specs.Statuses.{request_status, open_status, close_status}
 use Rattle.cip_module.specs.Links.{link_refusal}
@@ -62,13 +65,14 @@ use Rattle.cip_module.specs.CloseRows as closes
 use Rattle.cip_module.specs.ReplyRows.{PassedUp, kind_row}
 use Rattle.cip_module.specs.DataRows.{is_last}
 use Rattle.cip_module.specs.Produced.{reads_from, next_count, datum_bytes}
-use Rattle.cip_module.specs.Effects.{Effect, Spends, Replies, Answers, Forwards, Begins, Accepts, Finishes, Takes, Expires, Removes, Lapses, Renews, Passes, Counts, Writes, Refuses, Drops, Advances}
+use Rattle.cip_module.specs.Effects.{Sending, Effect, Spends, Replies, Answers, Forwards, Begins, Accepts, Finishes, Takes, PendingTimesOut, Removes, HopTimesOut, Renews, Passes, Counts, Writes, RefusesCommand, Drops, Advances}
 use Rattle.cip_module.specs.Table.{wait_of, words_of, message_on, opener, open_on, accepted_bytes, close_on, unread_open_bytes, unread_close_bytes, sent, open_of, close_of, other}
 use Rattle.cip_module.specs.State.{State, is_spent}
 
 -- ---- what an event asks, and whom the reply goes to
 
--- whom a reply goes to: where the request in a frame came from, under its number, or the op of a command
+-- whom a reply goes to: where the request in a frame came from, under its number, or the op of a
+-- command
 abbrev pub command_asker : Command → Option UpSide
 command_asker (commands.Open op timing path params) = Some (Local op)
 command_asker (commands.Close op of timing) = Some (Local op)
@@ -77,7 +81,7 @@ command_asker (commands.Enter of bytes) = None
 command_asker (commands.Set instance bytes) = None
 command_asker (commands.Produce instance) = None
 
-abbrev pub body_asker : ℕ → List ℕ → Body → Option UpSide
+abbrev pub body_asker : PortIdentifier → LinkAddress → Body → Option UpSide
 body_asker port from (bodies.Request number bytes) = Some (Link port from number)
 body_asker port from (bodies.Reply number bytes) = None
 body_asker port from (bodies.Data id bytes) = None
@@ -87,27 +91,30 @@ asker (events.Command command) = command_asker command
 asker (events.Frame port from body) = body_asker port from body
 asker (events.Tick ms) = None
 
--- a frame holds a request that meets this row; the reply goes to where it came from, under its number
-pub record Came (config : ModuleSettings) (event : Event) (up : UpSide) (row : RequestRow) : Type 0 where
-  pub port : ℕ
-  pub from : List ℕ
-  pub number : ℕ
-  pub bytes : List ℕ
-  pub event_is : event ≡ events.Frame port from (bodies.Request number bytes)
-  pub up_is : up ≡ Link port from number
-  pub meets : request_row config port bytes ≡ row
+-- a frame holds a request that meets this row; the reply goes to where it came from, under its
+-- number
+pub record Came (config : ModuleSettings) (event : Event) (up : UpSide) (row : RequestRow) : Type 0
+  where
+    pub port : PortIdentifier
+    pub from : LinkAddress
+    pub number : RequestNumber
+    pub bytes : Octets
+    pub event_is : event ≡ events.Frame port from (bodies.Request number bytes)
+    pub up_is : up ≡ Link port from number
+    pub meets : request_row config port bytes ≡ row
 
 -- an Unconnected_Send, in a frame or spelled by a command
-pub record SendCame (config : ModuleSettings) (event : Event) (up : UpSide) (u : Unconnected) : Type 0 where
-  pub asked : List ℕ
+pub record SendCame (config : ModuleSettings) (event : Event) (up : UpSide) (u : Unconnected) : Type
+    0 where
+  pub asked : Octets
   pub came : Came config event up (request.UnconnectedSend asked)
   pub read : unconnected_at asked ≡ Ok u
 
 pub record SendSpelled (s : State) (event : Event) (up : UpSide) (u : Unconnected) : Type 0 where
-  pub op : ℕ
+  pub op : OpNumber
   pub timing : Timing
-  pub path : List ℕ
-  pub asked : List ℕ
+  pub path : Octets
+  pub asked : Octets
   pub event_is : event ≡ events.Command (commands.Send op timing path asked)
   pub up_is : up ≡ Local op
   pub spells : u ≡ sent timing path asked
@@ -117,15 +124,17 @@ abbrev pub AsksSend : ModuleSettings → State → Event → UpSide → Unconnec
 AsksSend config s event up u = SendCame config event up u ⊎ SendSpelled s event up u
 
 -- a Forward_Open, in a frame or spelled by a command
-pub record OpenCame (config : ModuleSettings) (event : Event) (up : UpSide) (o : Open) : Type 0 where
-  pub asked : List ℕ
-  pub came : Came config event up (request.ForwardOpen asked)
-  pub read : open_at asked ≡ Ok o
+pub record OpenCame (config : ModuleSettings) (event : Event) (up : UpSide) (o : Open) : Type 0
+  where
+    pub asked : Octets
+    pub came : Came config event up (request.ForwardOpen asked)
+    pub read : open_at asked ≡ Ok o
 
-pub record OpenSpelled (config : ModuleSettings) (s : State) (event : Event) (up : UpSide) (o : Open) : Type 0 where
-  pub op : ℕ
+pub record OpenSpelled (config : ModuleSettings) (s : State) (event : Event) (up : UpSide)
+    (o : Open) : Type 0 where
+  pub op : OpNumber
   pub timing : Timing
-  pub path : List ℕ
+  pub path : Octets
   pub params : OpenParams
   pub event_is : event ≡ events.Command (commands.Open op timing path params)
   pub up_is : up ≡ Local op
@@ -135,16 +144,18 @@ pub record OpenSpelled (config : ModuleSettings) (s : State) (event : Event) (up
 abbrev pub AsksOpen : ModuleSettings → State → Event → UpSide → Open → Type 0
 AsksOpen config s event up o = OpenCame config event up o ⊎ OpenSpelled config s event up o
 
--- a Forward_Close, in a frame or spelled by a command, and its sender: who asked, or the op that opened
-pub record CloseCame (config : ModuleSettings) (event : Event) (up sender : UpSide) (c : Close) : Type 0 where
-  pub asked : List ℕ
+-- a Forward_Close, in a frame or spelled by a command, and its sender: who asked, or the op that
+-- opened
+pub record CloseCame (config : ModuleSettings) (event : Event) (up sender : UpSide) (c : Close) :
+    Type 0 where
+  pub asked : Octets
   pub came : Came config event up (request.ForwardClose asked)
   pub read : close_at asked ≡ Ok c
   pub sender_is : sender ≡ up
 
 pub record CloseSpelled (s : State) (event : Event) (up sender : UpSide) (c : Close) : Type 0 where
-  pub op : ℕ
-  pub of : ℕ
+  pub op : OpNumber
+  pub of : OpNumber
   pub timing : Timing
   pub hop : Hop
   pub event_is : event ≡ events.Command (commands.Close op of timing)
@@ -155,10 +166,13 @@ pub record CloseSpelled (s : State) (event : Event) (up sender : UpSide) (c : Cl
   pub unused : is_spent op s.ops ≡ false
 
 abbrev pub AsksClose : ModuleSettings → State → Event → UpSide → UpSide → Close → Type 0
-AsksClose config s event up sender c = CloseCame config event up sender c ⊎ CloseSpelled s event up sender c
+AsksClose config s event up sender c =
+    CloseCame config event up sender c ⊎ CloseSpelled s event up sender c
 
--- the first hop of a path, which leads on by this link: the module may send there, and ticks are left
-pub record LeadsOn (config : ModuleSettings) (s : State) (timing : Timing) (path : List ℕ) (port : ℕ) (address rest : List ℕ) : Type 0 where
+-- the first hop of a path, which leads on by this link: the module may send there, and ticks are
+-- left
+pub record LeadsOn (config : ModuleSettings) (s : State) (timing : Timing) (path : Octets)
+    (port : PortIdentifier) (address rest : List ℕ) : Type 0 where
   pub hop : HopAt
   pub first : hop_of path ≡ Some hop
   pub port_is : port ≡ hop.port
@@ -170,148 +184,180 @@ pub record LeadsOn (config : ModuleSettings) (s : State) (timing : Timing) (path
 -- ---- requests
 
 -- the op of a command that asks something is used up, for the first time
-pub record SpendsAs (s : State) (event : Event) (op : ℕ) : Type 0 where
+pub record SpendsAs (s : State) (event : Event) (op : OpNumber) : Type 0 where
   pub asks : asker event ≡ Some (Local op)
   pub unused : is_spent op s.ops ≡ false
 
 -- a reply at once: a request that fails, or an open or a close that ends here
-pub data RepliesAs (config : ModuleSettings) (s : State) (event : Event) (up : UpSide) (bytes : List ℕ) : Type 0 where
-  RequestFails : (service : ℕ) (refusal : RequestRefusal) → Came config event up (request.Refuses service refusal)
+pub data RepliesAs (config : ModuleSettings) (s : State) (event : Event) (up : UpSide)
+    (bytes : Octets) : Type 0 where
+  RequestFails : (service : ℕ) (refusal : RequestRefusal)
+      → Came config event up (request.Refuses service refusal)
       → bytes ≡ failure_bytes service (request_status refusal) → RepliesAs config s event up bytes
-  SendUnread : (asked : List ℕ) (fault : UnconnectedFault) → Came config event up (request.UnconnectedSend asked) → unconnected_at asked ≡ Err fault
-      → bytes ≡ unconnected_failure (unconnected.unread_row asked fault) (route_words_of asked) → RepliesAs config s event up bytes
-  SendFails : (u : Unconnected) (refusal : UnconnectedRefusal) → AsksSend config s event up u → unconnected_row config s.pendings u ≡ unconnected.Refuses refusal
-      → bytes ≡ unconnected_failure refusal (Some (words_of u.route)) → RepliesAs config s event up bytes
-  OpenUnread : (asked : List ℕ) (fault : DataFault) → Came config event up (request.ForwardOpen asked) → open_at asked ≡ Err fault
+  SendUnread : (asked : Octets) (fault : UnconnectedFault)
+      → Came config event up (request.UnconnectedSend asked) → unconnected_at asked ≡ Err fault
+      → bytes ≡ unconnected_failure (unconnected.unread_row asked fault) (route_words_of asked)
+      → RepliesAs config s event up bytes
+  SendFails : (u : Unconnected) (refusal : UnconnectedRefusal) → AsksSend config s event up u
+      → unconnected_row config s.pendings u ≡ unconnected.Refuses refusal
+      → bytes ≡ unconnected_failure refusal (Some (words_of u.route))
+      → RepliesAs config s event up bytes
+  OpenUnread : (asked : Octets) (fault : DataFault)
+      → Came config event up (request.ForwardOpen asked) → open_at asked ≡ Err fault
       → bytes ≡ unread_open_bytes asked fault → RepliesAs config s event up bytes
-  OpenFails : (o : Open) (refusal : OpenRefusal) → AsksOpen config s event up o → open_row config s (opener up o.fields.to_id) o ≡ opens.Refuses refusal
-      → bytes ≡ open_failed (open_status refusal) o.fields.triad (words_of o.path) → RepliesAs config s event up bytes
-  OpenEnds : (o : Open) (link : EndLink) → AsksOpen config s event up o → open_row config s (opener up o.fields.to_id) o ≡ opens.Accepted link
+  OpenFails : (o : Open) (refusal : OpenRefusal) → AsksOpen config s event up o
+      → open_row config s (opener up o.fields.to_id) o ≡ opens.Refuses refusal
+      → bytes ≡ open_failed (open_status refusal) o.fields.triad (words_of o.path)
+      → RepliesAs config s event up bytes
+  OpenEnds : (o : Open) (link : EndLink) → AsksOpen config s event up o
+      → open_row config s (opener up o.fields.to_id) o ≡ opens.Accepted link
       → bytes ≡ accepted_bytes o s.hops.next → RepliesAs config s event up bytes
-  CloseUnread : (asked : List ℕ) (fault : DataFault) → Came config event up (request.ForwardClose asked) → close_at asked ≡ Err fault
+  CloseUnread : (asked : Octets) (fault : DataFault)
+      → Came config event up (request.ForwardClose asked) → close_at asked ≡ Err fault
       → bytes ≡ unread_close_bytes asked fault → RepliesAs config s event up bytes
-  CloseFails : (sender : UpSide) (c : Close) (refusal : CloseRefusal) → AsksClose config s event up sender c → close_row s sender c ≡ closes.Refuses refusal
-      → bytes ≡ close_failed (close_status refusal) c.fields.triad (words_of c.path) → RepliesAs config s event up bytes
-  CloseEnds : (sender : UpSide) (c : Close) → AsksClose config s event up sender c → close_row s sender c ≡ closes.ClosedAtTheEnd
-      → bytes ≡ close_reply_bytes (record { triad = c.fields.triad; reply = [] }) → RepliesAs config s event up bytes
+  CloseFails : (sender : UpSide) (c : Close) (refusal : CloseRefusal)
+      → AsksClose config s event up sender c → close_row s sender c ≡ closes.Refuses refusal
+      → bytes ≡ close_failed (close_status refusal) c.fields.triad (words_of c.path)
+      → RepliesAs config s event up bytes
+  CloseEnds : (sender : UpSide) (c : Close) → AsksClose config s event up sender c
+      → close_row s sender c ≡ closes.ClosedAtTheEnd
+      → bytes ≡ close_reply_bytes (record { triad = c.fields.triad; reply = [] })
+      → RepliesAs config s event up bytes
 
--- the target answers the request itself, or the one that an Unconnected_Send with no route left holds
-pub data AnswersAs (config : ModuleSettings) (s : State) (event : Event) (up : UpSide) (asked : Request) : Type 0 where
+-- the target answers the request itself, or the one that an Unconnected_Send with no route left
+-- holds
+pub data AnswersAs (config : ModuleSettings) (s : State) (event : Event) (up : UpSide)
+    (asked : Request) : Type 0 where
   Itself : Came config event up (request.Target asked) → AnswersAs config s event up asked
-  Embedded : (u : Unconnected) → AsksSend config s event up u → u.route ≡ [] → request_at u.request ≡ Ok asked → AnswersAs config s event up asked
+  Embedded : (u : Unconnected) → AsksSend config s event up u → u.route ≡ []
+      → request_at u.request ≡ Ok asked → AnswersAs config s event up asked
 
 -- an Unconnected_Send goes on
-pub record SendsOn (config : ModuleSettings) (s : State) (event : Event) (up : UpSide) (port : ℕ) (address bytes : List ℕ) (wait words : ℕ) : Type 0 where
+pub record SendsOn (config : ModuleSettings) (s : State) (event : Event) (sending : Sending) : Type
+    0 where
   pub u : Unconnected
-  pub rest : List ℕ
+  pub rest : Octets
   pub embedded : Request
-  pub asks : AsksSend config s event up u
-  pub meets : unconnected_row config s.pendings u ≡ unconnected.Forwarded port address rest
+  pub asks : AsksSend config s event sending.up u
+  pub meets : unconnected_row config s.pendings u
+      ≡ unconnected.Forwarded sending.port sending.address rest
   pub read : request_at u.request ≡ Ok embedded
-  pub leads : LeadsOn config s u.timing u.route port address rest
-  pub bytes_are : bytes ≡ message_on u rest
-  pub wait_is : wait ≡ wait_of u.timing
-  pub words_are : words ≡ words_of u.route
+  pub leads : LeadsOn config s u.timing u.route sending.port sending.address rest
+  pub bytes_are : sending.bytes ≡ message_on u rest
+  pub wait_is : sending.wait ≡ wait_of u.timing
+  pub words_are : sending.words ≡ words_of u.route
 
 -- an open connection is asked to close, by its up side
-pub record Closes (config : ModuleSettings) (s : State) (event : Event) (up : UpSide) (c : Close) (hop : Hop) : Type 0 where
+pub record Closes (config : ModuleSettings) (s : State) (event : Event) (up : UpSide) (c : Close)
+    (hop : Hop) : Type 0 where
   pub sender : UpSide
   pub asks : AsksClose config s event up sender c
   pub stands : hop_at s.hops c.fields.triad ≡ Some hop
   pub own : is_sender sender hop.opening.up ≡ true
 
 -- a Forward_Close goes on by the link below, to which its path leads
-pub record ClosesOn (config : ModuleSettings) (s : State) (event : Event) (up : UpSide) (port : ℕ) (address bytes : List ℕ) (wait words : ℕ) (triad : Triad) : Type 0 where
+pub record ClosesOn (config : ModuleSettings) (s : State) (event : Event) (sending : Sending)
+    (triad : Triad) : Type 0 where
   pub c : Close
   pub hop : Hop
   pub next : HopAt
-  pub closes : Closes config s event up c hop
+  pub closes : Closes config s event sending.up c hop
   pub triad_is : triad ≡ c.fields.triad
-  pub below : hop.opening.down ≡ DownLink port address
+  pub below : hop.opening.down ≡ DownLink sending.port sending.address
   pub first : hop_of c.path ≡ Some next
-  pub port_is : port ≡ next.port
-  pub address_is : address ≡ next.address
-  pub bytes_are : bytes ≡ close_on c next.rest
-  pub wait_is : wait ≡ wait_of c.fields.timing
-  pub words_are : words ≡ words_of c.path
+  pub port_is : sending.port ≡ next.port
+  pub address_is : sending.address ≡ next.address
+  pub bytes_are : sending.bytes ≡ close_on c next.rest
+  pub wait_is : sending.wait ≡ wait_of c.fields.timing
+  pub words_are : sending.words ≡ words_of c.path
   pub ticks : 2 ≤ c.fields.timing.ticks
 
-abbrev pub ForwardsAs : ModuleSettings → State → Event → UpSide → ℕ → List ℕ → List ℕ → ℕ → ℕ → Kind → Type 0
-ForwardsAs config s event up port address bytes wait words UnconnectedKind = SendsOn config s event up port address bytes wait words
-ForwardsAs config s event up port address bytes wait words (OpeningKind triad) = ⊥
-ForwardsAs config s event up port address bytes wait words (ClosingKind triad) = ClosesOn config s event up port address bytes wait words triad
+abbrev pub ForwardsAs : ModuleSettings → State → Event → Sending → Kind → Type 0
+ForwardsAs config s event sending UnconnectedKind = SendsOn config s event sending
+ForwardsAs config s event sending (OpeningKind triad) = ⊥
+ForwardsAs config s event sending (ClosingKind triad) = ClosesOn config s event sending triad
 
 -- a Forward_Open goes on: its triad is free, and there is room and an id for it
-pub record BeginsAs (config : ModuleSettings) (s : State) (event : Event) (up : UpSide) (port : ℕ) (address bytes : List ℕ) (wait words : ℕ) (opening : Opening) : Type 0 where
+pub record BeginsAs (config : ModuleSettings) (s : State) (event : Event) (sending : Sending)
+    (opening : Opening) : Type 0 where
   pub o : Open
-  pub rest : List ℕ
-  pub asks : AsksOpen config s event up o
-  pub meets : open_row config s (opener up o.fields.to_id) o ≡ opens.Forwarded port address rest
-  pub leads : LeadsOn config s o.fields.timing o.path port address rest
+  pub rest : Octets
+  pub asks : AsksOpen config s event sending.up o
+  pub meets : open_row config s (opener sending.up o.fields.to_id) o
+      ≡ opens.Forwarded sending.port sending.address rest
+  pub leads : LeadsOn config s o.fields.timing o.path sending.port sending.address rest
   pub free : map.get s.hops.held o.fields.triad ≡ None
-  pub room : refusal s.hops o.fields.triad (ids_on (opener up o.fields.to_id)) ≡ None
-  pub bytes_are : bytes ≡ open_on o s.hops.next rest
-  pub wait_is : wait ≡ wait_of o.fields.timing
-  pub words_are : words ≡ words_of o.path
-  pub opening_is : opening ≡ opening_with (opener up o.fields.to_id) (DownLink port address) o
+  pub room : refusal s.hops o.fields.triad (ids_on (opener sending.up o.fields.to_id)) ≡ None
+  pub bytes_are : sending.bytes ≡ open_on o s.hops.next rest
+  pub wait_is : sending.wait ≡ wait_of o.fields.timing
+  pub words_are : sending.words ≡ words_of o.path
+  pub opening_is : opening ≡ opening_with (opener sending.up o.fields.to_id)
+      (DownLink sending.port sending.address) o
 
 -- a Forward_Open ends here: it came in a frame, its path names no hop, and it fits the target
-pub record AcceptsAs (config : ModuleSettings) (s : State) (event : Event) (opening : Opening) (o : Open) (link : EndLink) : Type 0 where
+pub record AcceptsAs (config : ModuleSettings) (s : State) (event : Event) (opening : Opening)
+    (o : Open) (link : EndLink) : Type 0 where
   pub up : UpSide
   pub asks : AsksOpen config s event up o
   pub meets : open_row config s (opener up o.fields.to_id) o ≡ opens.Accepted link
   pub came : up_is_link (opener up o.fields.to_id) ≡ true
   pub ends : hop_of o.path ≡ None
-  pub fits : end_row s.assemblies (is_consumed s.hops) o ≡ Fits link
+  pub fits : end_row s.assemblies (is_consumed s.hops) o ≡ Ok link
   pub free : map.get s.hops.held o.fields.triad ≡ None
   pub room : refusal s.hops o.fields.triad 1 ≡ None
   pub opening_is : opening ≡ opening_with (opener up o.fields.to_id) (end_down link) o
 
-pub record RemovesAs (config : ModuleSettings) (s : State) (event : Event) (triad : Triad) : Type 0 where
-  pub up : UpSide
-  pub c : Close
-  pub hop : Hop
-  pub closes : Closes config s event up c hop
-  pub triad_is : triad ≡ c.fields.triad
+pub record RemovesAs (config : ModuleSettings) (s : State) (event : Event) (triad : Triad) : Type 0
+  where
+    pub up : UpSide
+    pub c : Close
+    pub hop : Hop
+    pub closes : Closes config s event up c hop
+    pub triad_is : triad ≡ c.fields.triad
 
 -- ---- replies
 
 -- the reply to a request that waits under this number for one from there
-pub record ReplyCame (s : State) (event : Event) (number : ℕ) (bytes : List ℕ) (entry : Entry) (reply : Reply) : Type 0 where
-  pub port : ℕ
-  pub from : List ℕ
+pub record ReplyCame (s : State) (event : Event) (number : RequestNumber) (bytes : Octets)
+    (entry : Entry)
+    (reply : Reply) : Type 0 where
+  pub port : PortIdentifier
+  pub from : LinkAddress
   pub event_is : event ≡ events.Frame port from (bodies.Reply number bytes)
   pub waits : waiting_at s.pendings number port from ≡ Some entry
   pub read : reply_at bytes ≡ Ok reply
 
-pub record FinishesAs (s : State) (event : Event) (number : ℕ) (triad : Triad) (bytes : List ℕ) (success : OpenSuccess) : Type 0 where
+pub record FinishesAs (s : State) (event : Event) (number : RequestNumber) (triad : Triad)
+    (bytes : Octets)
+    (success : OpenSuccess) : Type 0 where
   pub entry : Entry
   pub reply : Reply
   pub came : ReplyCame s event number bytes entry reply
   pub kind : entry.kind ≡ OpeningKind triad
-  pub service : reply.service ≡ 0xD4
+  pub service : reply.service ≡ FORWARD_OPEN_REPLY
   pub general : reply.general ≡ 0
   pub read : open_reply_at reply.data_ ≡ Ok success
   pub triad_is : success.triad ≡ triad
 
-pub record TakesAs (s : State) (event : Event) (number : ℕ) (bytes : List ℕ) : Type 0 where
-  pub entry : Entry
-  pub reply : Reply
-  pub came : ReplyCame s event number bytes entry reply
-  pub meets : kind_row entry.kind reply ≡ PassedUp
+pub record TakesAs (s : State) (event : Event) (number : RequestNumber) (bytes : Octets) : Type 0
+  where
+    pub entry : Entry
+    pub reply : Reply
+    pub came : ReplyCame s event number bytes entry reply
+    pub meets : kind_row entry.kind reply ≡ PassedUp
 
 -- ---- ticks
 
-pub record ExpiresAs (s : State) (event : Event) (number : ℕ) : Type 0 where
-  pub ms : ℕ
+pub record PendingTimesOutAs (s : State) (event : Event) (number : RequestNumber) : Type 0 where
+  pub ms : Milliseconds
   pub entry : Entry
   pub event_is : event ≡ events.Tick ms
   pub waits : map.get s.pendings.entries number ≡ Some entry
   pub due : entry.deadline ≤ s.now + 1000 * ms
 
 -- the connection stands under its triad in every table, which `key` leaves open
-pub record LapsesAs (s : State) (event : Event) (triad : Triad) : Type 0 where
-  pub ms : ℕ
+pub record HopTimesOutAs (s : State) (event : Event) (triad : Triad) : Type 0 where
+  pub ms : Milliseconds
   pub key : Triad
   pub hop : Hop
   pub event_is : event ≡ events.Tick ms
@@ -319,8 +365,8 @@ pub record LapsesAs (s : State) (event : Event) (triad : Triad) : Type 0 where
   pub triad_is : triad ≡ hop.opening.triad
   pub late : is_late (s.now + 1000 * ms) hop ≡ true
 
-pub record AdvancesAs (s : State) (event : Event) (by : ℕ) : Type 0 where
-  pub ms : ℕ
+pub record AdvancesAs (s : State) (event : Event) (by : Microseconds) : Type 0 where
+  pub ms : Milliseconds
   pub event_is : event ≡ events.Tick ms
   pub by_is : by ≡ 1000 * ms
   pub time : s.now + by < 2 ^ 63
@@ -338,16 +384,20 @@ size_by Up hop = hop.opening.ot_size
 size_by Down hop = hop.opening.to_size
 
 -- a datum of the connection came by that side, with the size of its direction
-pub record DatumCame (s : State) (event : Event) (side : Side) (hop : Hop) (bytes : List ℕ) : Type 0 where
-  pub port : ℕ
-  pub from : List ℕ
-  pub id : ℕ
-  pub event_is : event ≡ events.Frame port from (bodies.Data id bytes)
-  pub found : hop_by side s.hops id port from ≡ Some hop
-  pub sized : length bytes ≡ size_by side hop
+pub record DatumCame (s : State) (event : Event) (side : Side) (hop : Hop) (bytes : Octets) : Type 0
+  where
+    pub port : PortIdentifier
+    pub from : LinkAddress
+    pub id : ConnectionId
+    pub event_is : event ≡ events.Frame port from (bodies.Data id bytes)
+    pub found : hop_by side s.hops id port from ≡ Some hop
+    pub sized : length bytes ≡ size_by side hop
 
--- a datum came to the end of the connection, and is written; in class 1 it is not the last one again
-pub record DatumWritten (s : State) (event : Event) (hop : Hop) (instance : ℕ) (datum : List ℕ) : Type 0 where
+-- a datum came to the end of the connection, and is written; in class 1 it is not the last one
+-- again
+pub record DatumWritten (s : State) (event : Event) (hop : Hop) (instance : InstanceNumber)
+    (datum : Octets) :
+    Type 0 where
   pub config : ℕ
   pub produce : ℕ
   pub came : DatumCame s event Up hop datum
@@ -355,8 +405,8 @@ pub record DatumWritten (s : State) (event : Event) (hop : Hop) (instance : ℕ)
   pub unlike : hop.opening.class ≡ 1 → is_last (word_in datum 0) hop.consumed ≡ false
 
 -- an assembly is sent, from which the connection takes its data
-pub record Produced (s : State) (event : Event) (hop : Hop) (held : List ℕ) : Type 0 where
-  pub instance : ℕ
+pub record Produced (s : State) (event : Event) (hop : Hop) (held : Octets) : Type 0 where
+  pub instance : InstanceNumber
   pub key : Triad
   pub event_is : event ≡ events.Command (commands.Produce instance)
   pub holds : map.get s.assemblies instance ≡ Some held
@@ -365,31 +415,44 @@ pub record Produced (s : State) (event : Event) (hop : Hop) (held : List ℕ) : 
 
 pub record RenewsAs (s : State) (event : Event) (triad : Triad) (side : Side) : Type 0 where
   pub hop : Hop
-  pub bytes : List ℕ
+  pub bytes : Octets
   pub came : DatumCame s event side hop bytes
   pub triad_is : triad ≡ hop.opening.triad
 
--- a datum that came by the other side, that the op that opened enters, or that is made of an assembly
-pub data PassesAs (s : State) (event : Event) (triad : Triad) (side : Side) (bytes : List ℕ) : Type 0 where
-  PassedOn : (hop : Hop) → triad ≡ hop.opening.triad → DatumCame s event (other side) hop bytes → PassesAs s event triad side bytes
-  Entered : (of : ℕ) (hop : Hop) → triad ≡ hop.opening.triad → side ≡ Down → event ≡ events.Command (commands.Enter of bytes)
-      → hop_by_op s.hops of ≡ Some hop → length bytes ≡ hop.opening.ot_size → PassesAs s event triad side bytes
-  Made : (held : List ℕ) (hop : Hop) → triad ≡ hop.opening.triad → side ≡ Up → bytes ≡ datum_bytes held hop → Produced s event hop held → PassesAs s event triad side bytes
+-- a datum that came by the other side, that the op that opened enters, or that is made of an
+-- assembly
+pub data PassesAs (s : State) (event : Event) (triad : Triad) (side : Side) (bytes : Octets) : Type
+    0 where
+  PassedOn : (hop : Hop) → triad ≡ hop.opening.triad → DatumCame s event (other side) hop bytes
+      → PassesAs s event triad side bytes
+  Entered : (of : OpNumber) (hop : Hop) → triad ≡ hop.opening.triad → side ≡ Down
+      → event ≡ events.Command (commands.Enter of bytes)
+      → hop_by_op s.hops of ≡ Some hop → length bytes ≡ hop.opening.ot_size
+      → PassesAs s event triad side bytes
+  Made : (held : Octets) (hop : Hop) → triad ≡ hop.opening.triad → side ≡ Up
+      → bytes ≡ datum_bytes held hop → Produced s event hop held → PassesAs s event triad side bytes
 
 -- in class 1: the count of a datum that is written, or of one that is made
-pub data CountsAs (s : State) (event : Event) (triad : Triad) (side : Side) (count : ℕ) : Type 0 where
-  CountedUp : (hop : Hop) (instance : ℕ) (datum : List ℕ) → triad ≡ hop.opening.triad → side ≡ Up → hop.opening.class ≡ 1 → count ≡ word_in datum 0
-      → DatumWritten s event hop instance datum → CountsAs s event triad side count
-  CountedDown : (hop : Hop) (held : List ℕ) → triad ≡ hop.opening.triad → side ≡ Down → hop.opening.class ≡ 1 → count ≡ next_count hop.produced
-      → Produced s event hop held → CountsAs s event triad side count
+pub data CountsAs (s : State) (event : Event) (triad : Triad) (side : Side) (count : ℕ) : Type 0
+  where
+    CountedUp : (hop : Hop) (instance : InstanceNumber) (datum : Octets) → triad ≡ hop.opening.triad
+        → side ≡ Up
+        → hop.opening.class ≡ 1 → count ≡ word_in datum 0
+        → DatumWritten s event hop instance datum → CountsAs s event triad side count
+    CountedDown : (hop : Hop) (held : Octets) → triad ≡ hop.opening.triad → side ≡ Down
+        → hop.opening.class ≡ 1 → count ≡ next_count hop.produced
+        → Produced s event hop held → CountsAs s event triad side count
 
 -- what stands behind the sequence count, if there is one
-abbrev pub behind_count : Hop → List ℕ → List ℕ
+abbrev pub behind_count : Hop → Octets → List ℕ
 behind_count hop datum = if hop.opening.class == 1 then drop 2 datum else datum
 
-pub data WritesAs (s : State) (event : Event) (instance : ℕ) (bytes : List ℕ) : Type 0 where
-  Taken : (hop : Hop) (datum : List ℕ) → bytes ≡ behind_count hop datum → DatumWritten s event hop instance datum → WritesAs s event instance bytes
-  Set : event ≡ events.Command (commands.Set instance bytes) → size_in s.assemblies instance ≡ Some (length bytes) → WritesAs s event instance bytes
+pub data WritesAs (s : State) (event : Event) (instance : InstanceNumber) (bytes : Octets) : Type 0
+  where
+    Taken : (hop : Hop) (datum : Octets) → bytes ≡ behind_count hop datum
+        → DatumWritten s event hop instance datum → WritesAs s event instance bytes
+    Set : event ≡ events.Command (commands.Set instance bytes)
+        → size_in s.assemblies instance ≡ Some (length bytes) → WritesAs s event instance bytes
 
 -- ---- any effect
 
@@ -398,8 +461,8 @@ pub record IsCommand (event : Event) : Type 0 where
   pub event_is : event ≡ events.Command command
 
 pub record IsFrame (event : Event) : Type 0 where
-  pub port : ℕ
-  pub from : List ℕ
+  pub port : PortIdentifier
+  pub from : LinkAddress
   pub body : Body
   pub event_is : event ≡ events.Frame port from body
 
@@ -407,19 +470,20 @@ abbrev pub Tells : ModuleSettings → State → Event → Effect → Type 0
 Tells config s event (Spends op) = SpendsAs s event op
 Tells config s event (Replies up bytes) = RepliesAs config s event up bytes
 Tells config s event (Answers up asked) = AnswersAs config s event up asked
-Tells config s event (Forwards up port address bytes wait words kind) = ForwardsAs config s event up port address bytes wait words kind
-Tells config s event (Begins up port address bytes wait words opening) = BeginsAs config s event up port address bytes wait words opening
+Tells config s event (Forwards sending kind) = ForwardsAs config s event sending kind
+Tells config s event (Begins sending opening) = BeginsAs config s event sending opening
 Tells config s event (Accepts opening o link) = AcceptsAs config s event opening o link
-Tells config s event (Finishes number triad bytes success) = FinishesAs s event number triad bytes success
+Tells config s event (Finishes number triad bytes success) =
+    FinishesAs s event number triad bytes success
 Tells config s event (Takes number bytes) = TakesAs s event number bytes
-Tells config s event (Expires number) = ExpiresAs s event number
+Tells config s event (PendingTimesOut number) = PendingTimesOutAs s event number
 Tells config s event (Removes triad) = RemovesAs config s event triad
-Tells config s event (Lapses triad) = LapsesAs s event triad
+Tells config s event (HopTimesOut triad) = HopTimesOutAs s event triad
 Tells config s event (Renews triad side) = RenewsAs s event triad side
 Tells config s event (Passes triad side bytes) = PassesAs s event triad side bytes
 Tells config s event (Counts triad side count) = CountsAs s event triad side count
 Tells config s event (Writes instance bytes) = WritesAs s event instance bytes
-Tells config s event (Refuses fault) = IsCommand event
+Tells config s event (RefusesCommand fault) = IsCommand event
 Tells config s event (Drops reason) = IsFrame event
 Tells config s event (Advances by) = AdvancesAs s event by
 

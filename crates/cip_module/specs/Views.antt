@@ -8,6 +8,7 @@ use Rattle.cip_module.specs.declared.tables.PendingRow.{PendingRow}
 use Rattle.cip_module.specs.declared.tables.HopRow.{HopRow}
 use Rattle.cip_module.specs.declared.tables.AssemblyRow.{AssemblyRow}
 use Rattle.cip_module.specs.declared.tables.Tables.{Tables}
+use Rattle.cip_module.specs.Rising.{IsRising}
 use Rattle.cip_module.specs.State.{State}
 
 abbrev pub row_of : ℕ × Entry → PendingRow
@@ -35,6 +36,8 @@ pub record ShowsState (s : State) (tables : Tables) : Type 0 where
   pub last_id : tables.last_id + 1 ≡ s.hops.next
   pub last_number : tables.last_number + 1 ≡ s.pendings.next
   pub pendings : tables.pendings ≡ map row_of (finite.entries s.pendings.entries)
-  pub hops : tables.hops ≡ map hop_row_of (filter_map (λ e. as_hop e.1) (finite.entries s.hops.held))
+  pub hops : tables.hops ≡ map hop_row_of
+      (filter_map (λ e. as_hop e.1) (finite.entries s.hops.held))
   pub assemblies : tables.assemblies ≡ map assembly_row_of (finite.entries s.assemblies)
   pub ops : tables.ops ≡ s.ops
+  pub rising : IsRising tables.ops

@@ -1,8 +1,8 @@
 //! A module with one port that answers, and sends no request on.
 ghost use Rattle.std.specs.Prelude.{◌≡◌, IfOk};
 ghost use Rattle.cip_module.specs.declared.config.ModuleKind.{ModuleKind as Kind};
-ghost use Rattle.cip_module.specs.State.{opening};
-ghost use Rattle.cip_module.specs.Node.{config_of_adapter, state_of_adapter};
+ghost use Rattle.cip_module.specs.State.{initial_state};
+ghost use Rattle.cip_module.specs.Code.Node.{config_of_adapter, state_of_adapter};
 
 use crate::config::{ModuleConfig, ModuleKind};
 use crate::contract::{Module, StepFault};
@@ -19,11 +19,11 @@ pub struct AdapterModule {
 }
 
 impl AdapterModule {
-    /// Such a module in the opening state of its config; NoMemory where a growth is refused.
+    /// Such a module in the initial state of its config; NoMemory where a growth is refused.
     pub fn new(alloc: Global, config: ModuleConfig) -> Result<AdapterModule, NoMemory>
         requires { config.kind ≡ ModuleKind.Adapter }
         ensures config { IfOk result (λ m. config_of_adapter m ≡ config) }
-        ensures state { IfOk result (λ m. state_of_adapter m ≡ opening config) }
+        ensures state { IfOk result (λ m. state_of_adapter m ≡ initial_state config) }
     {
         let node = Node::new(alloc, config)?;
         Ok(AdapterModule { node })
@@ -31,13 +31,16 @@ impl AdapterModule {
 }
 
 impl Module for AdapterModule {
-    ghost use Rattle.cip_module.specs.Node.{config_of_adapter, state_of_adapter};
+    ghost use Rattle.cip_module.specs.Code.Node.{config_of_adapter, state_of_adapter};
 
     ghost config_of = { config_of_adapter };
 
     ghost state_of = { state_of_adapter };
 
     ghost paired = { λ m. m.node.fit.paired };
+
+    ghost rooms = { λ m. record
+        { pendings = m.node.fit.pending_room; hops = m.node.fit.hop_room } };
 
     fn config(&self) -> &ModuleConfig {
         &self.node.config

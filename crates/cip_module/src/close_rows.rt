@@ -4,15 +4,15 @@ ghost use Rattle.std.specs.Option.{option_copied};
 ghost use Rattle.cip_segment.specs.Reading.{hop_of};
 ghost use Rattle.cip_close.specs.Reading.{close_of};
 ghost use Rattle.cip_hops.specs.declared.hop.Hop.{Hop as Hops};
-ghost use Rattle.cip_module.specs.CloseRows.{is_sender, below_row, down_row, triad_row, close_row, close_answer, unread_row};
-ghost use Rattle.cip_module.specs.Decisions.{close_told, CloseLeads};
-ghost use Rattle.cip_module.specs.Node.{state_of_node};
+ghost use Rattle.cip_module.specs.CloseRows.{is_sender, below_row, down_row, triad_row, close_row, unread_row};
+ghost use Rattle.cip_module.specs.Code.Decisions.{close_row_of, CloseLeads};
+ghost use Rattle.cip_module.specs.Code.Node.{state_of_node};
 
 use crate::links::wait_refusal;
 use crate::node::Node;
-use crate::rows::CloseRefusal;
-use cip_base::{Address, PortNumber, Status};
-use cip_close::CloseView;
+use crate::refusals::CloseRefusal;
+use cip_base::{Address, PortNumber};
+use cip_close::{CLOSE_FIXED_PART, CloseView};
 use cip_hops::{Hop, HopDown, HopUp};
 use cip_message::DataFault;
 use cip_pending::{PendingTable, UpSide};
@@ -21,7 +21,7 @@ use cip_segment::{FirstHop, PathView, first_hop, rest};
 /// The row that answers a Forward_Close.
 #[derive(Drop)]
 pub(crate) enum CloseDecision<'a> {
-    Refuses(Status),
+    Refuses(CloseRefusal),
     Forwarded {
         port: PortNumber,
         address: Address,
@@ -36,7 +36,7 @@ pub(crate) fn unread_row(data_: &[u8], fault: DataFault) -> CloseRefusal
 {
     match fault {
         DataFault::Short => {
-            if data_.len() < 12 {
+            if data_.len() < CLOSE_FIXED_PART {
                 CloseRefusal::CutInTheFixedPart
             } else {
                 CloseRefusal::CutInThePath
@@ -72,11 +72,12 @@ fn below<'a>(
     port: PortNumber,
     address: &Address,
 ) -> CloseDecision<'a>
-    ensures row { close_told result ≡ close_answer (below_row pendings.now (close_of view.now) port address.now (hop_of view.now.path.bytes.now)) }
+    ensures row { close_row_of result ≡ below_row pendings.now (close_of view.now) port address.now
+        (hop_of view.now.path.bytes.now) }
     ensures leads { CloseLeads pendings.now view.now.fields.timing result }
 {
     match first_hop(view.path) {
-        FirstHop::End => CloseDecision::Refuses(CloseRefusal::PathDiffersFromTheHops.status()),
+        FirstHop::End => CloseDecision::Refuses(CloseRefusal::PathDiffersFromTheHops),
         FirstHop::Hop {
             key: _,
             port: by,
@@ -85,10 +86,10 @@ fn below<'a>(
         } => {
             let behind = rest(view.path);
             if !(by == port && to == *address) {
-                return CloseDecision::Refuses(CloseRefusal::PathDiffersFromTheHops.status());
+                return CloseDecision::Refuses(CloseRefusal::PathDiffersFromTheHops);
             }
             match wait_refusal(pendings, view.fields.timing) {
-                Some(refusal) => CloseDecision::Refuses(refusal.status()),
+                Some(refusal) => CloseDecision::Refuses(CloseRefusal::NotSentOn(refusal)),
                 None => CloseDecision::Forwarded {
                     port,
                     address: address.copy(),
@@ -101,16 +102,14 @@ fn below<'a>(
 
 // By what is below: a link, or an end, to which the path leads nowhere.
 fn by_down<'a>(pendings: &PendingTable, view: &CloseView<'a>, down: &HopDown) -> CloseDecision<'a>
-    ensures row { close_told result ≡ close_answer (down_row pendings.now (close_of view.now) down.now) }
+    ensures row { close_row_of result ≡ down_row pendings.now (close_of view.now) down.now }
     ensures leads { CloseLeads pendings.now view.now.fields.timing result }
 {
     match down {
         HopDown::Link { port, address } => below(pendings, view, *port, address),
         HopDown::End { .. } => match first_hop(view.path) {
             FirstHop::End => CloseDecision::ClosedAtTheEnd,
-            FirstHop::Hop { .. } => {
-                CloseDecision::Refuses(CloseRefusal::PathDiffersFromTheHops.status())
-            }
+            FirstHop::Hop { .. } => { CloseDecision::Refuses(CloseRefusal::PathDiffersFromTheHops) }
         },
     }
 }
@@ -121,14 +120,15 @@ fn by_hop<'a>(
     view: &CloseView<'a>,
     hop: Option<&Hop>,
 ) -> CloseDecision<'a>
-    ensures row { close_told result ≡ close_answer (triad_row pendings.now sender.now (close_of view.now) (option_copied hop.entry)) }
+    ensures row { close_row_of result ≡ triad_row pendings.now sender.now (close_of view.now)
+        (option_copied hop.entry) }
     ensures leads { CloseLeads pendings.now view.now.fields.timing result }
 {
     let Some(hop) = hop else {
-        return CloseDecision::Refuses(CloseRefusal::NotThisSendersOpenTriad.status());
+        return CloseDecision::Refuses(CloseRefusal::NotThisSendersOpenTriad);
     };
     if !is_sender(sender, &hop.opening.up) {
-        return CloseDecision::Refuses(CloseRefusal::NotThisSendersOpenTriad.status());
+        return CloseDecision::Refuses(CloseRefusal::NotThisSendersOpenTriad);
     }
     by_down(pendings, view, &hop.opening.down)
 }
@@ -137,7 +137,8 @@ impl Node {
     /// The row that answers a Forward_Close which was read (Volume 1, chapter 3, Forward_Close).
     #[tactic(auto, unfolding(crate::specs::CloseRows::close_row))]
     pub(crate) fn close_row<'a>(&self, sender: &UpSide, view: &CloseView<'a>) -> CloseDecision<'a>
-        ensures row { close_told result ≡ close_answer (close_row (state_of_node self.now) sender.now (close_of view.now)) }
+        ensures row { close_row_of result
+            ≡ close_row (state_of_node self.now) sender.now (close_of view.now) }
         ensures leads { CloseLeads self.now.pendings view.now.fields.timing result }
     {
         let hop = self.hops.by_triad(&view.fields.triad);

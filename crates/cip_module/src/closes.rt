@@ -5,11 +5,11 @@ ghost use Rattle.cip_close.specs.Close.{Close};
 ghost use Rattle.cip_close.specs.CloseAt.{close_at};
 ghost use Rattle.cip_pending.specs.Pendings.{refusal};
 ghost use Rattle.cip_module.specs.Answers.{close_failed};
-ghost use Rattle.cip_module.specs.CloseRows.{close_row, GoesOn, EndsHere};
-ghost use Rattle.cip_module.specs.Table.{close_on, close_answered, close_effects, closing_effects, unread_close_bytes, with_spending};
-ghost use Rattle.cip_module.specs.Ready.{CanSpend, IsAsked};
-ghost use Rattle.cip_module.specs.Does.{Does};
-ghost use Rattle.cip_module.specs.Node.{state_of_node};
+ghost use Rattle.cip_module.specs.CloseRows.{close_row, Forwarded, ClosedAtTheEnd};
+ghost use Rattle.cip_module.specs.Table.{close_on, close_effects, close_data_effects, unread_close_bytes, with_spending};
+ghost use Rattle.cip_module.specs.Code.Ready.{CanSpend, IsAsked};
+ghost use Rattle.cip_module.specs.Code.Does.{Handles};
+ghost use Rattle.cip_module.specs.Code.Node.{state_of_node};
 
 use crate::close_rows::{CloseDecision, unread_row};
 use crate::event::{Body, Output};
@@ -17,8 +17,8 @@ use crate::messages::reply_to;
 use crate::node::Node;
 use cip_base::{Address, Bytes, NoMemory, PortNumber, Status, Triad};
 use cip_close::{
-    CloseFailure, CloseReply, CloseView, close_triad_at, close_words_at, read_close, write_close,
-    write_close_failure, write_close_reply,
+    CLOSE_FIXED_PART, CloseFailure, CloseReply, CloseView, close_triad_at, close_words_at,
+    read_close, write_close, write_close_failure, write_close_reply,
 };
 use cip_message::DataFault;
 use cip_pending::{Entry, Kind, UpSide};
@@ -41,12 +41,13 @@ pub(crate) fn close_failed(
     write_close_failure(alloc, status, &failure)
 }
 
-// The failure of a Forward_Close that cannot be read: nothing where its fixed part is cut, else its triad and its path size.
+// The failure of a Forward_Close that cannot be read: nothing where its fixed part is cut, else its
+// triad and its path size.
 fn unread_close(alloc: Global, data_: &[u8], fault: DataFault) -> Result<Bytes, NoMemory>
     ensures { IfOk result (λ b. b ≡ unread_close_bytes data_.now fault) }
 {
     let status = unread_row(data_, fault).status();
-    let failure = if data_.len() < 12 {
+    let failure = if data_.len() < CLOSE_FIXED_PART {
         CloseFailure {
             triad: None,
             words: None,
@@ -83,9 +84,9 @@ impl Node {
         requires spend { CanSpend self.old up }
         requires ticks { 2 ≤ view.now.fields.timing.ticks }
         requires pending { refusal self.old.pendings ≡ None }
-        ensures done { IfOk result (λ o. Does self.old.config (state_of_node self.old) (with_spending up (close_answered up (close_of view.now) (GoesOn port address rest.entry.bytes.now))) (state_of_node self.new) (o ∷ [])) }
-        ensures same { OnErr result (state_of_node self.new ≡ state_of_node self.old) }
-        ensures config { self.new.config ≡ self.old.config }
+        ensures { Handles self.old self.new (with_spending up
+            (close_effects up (close_of view.now)
+            (Forwarded port address rest.entry.bytes.now))) result }
     {
         let bytes = close_on(self.alloc, view, rest)?;
         let timing = view.fields.timing;
@@ -111,9 +112,9 @@ impl Node {
     // The connection ends here, and is removed.
     fn close_at_end(&mut self, up: UpSide, triad: Triad) -> Result<Output, NoMemory>
         requires spend { CanSpend self.old up }
-        ensures done { (c : Close) → c.fields.triad ≡ triad → IfOk result (λ o. Does self.old.config (state_of_node self.old) (with_spending up (close_answered up c EndsHere)) (state_of_node self.new) (o ∷ [])) }
-        ensures same { OnErr result (state_of_node self.new ≡ state_of_node self.old) }
-        ensures config { self.new.config ≡ self.old.config }
+        ensures { (c : Close) → c.fields.triad ≡ triad
+            → Handles self.old self.new (with_spending up (close_effects up c ClosedAtTheEnd))
+            result }
     {
         let reply = CloseReply { triad, reply: &[] };
         let bytes = write_close_reply(self.alloc, &reply)?;
@@ -122,7 +123,8 @@ impl Node {
         Ok(reply_to(up, bytes))
     }
 
-    /// A Forward_Close that was read. `sender` is whom it has to come from: a node, or the op of the Open.
+    /// A Forward_Close that was read. `sender` is whom it has to come from: a node, or the op of
+    /// the Open.
     pub(crate) fn close(
         &mut self,
         up: UpSide,
@@ -130,14 +132,14 @@ impl Node {
         view: &CloseView<'_>,
     ) -> Result<Output, NoMemory>
         requires spend { CanSpend self.old up }
-        ensures done { IfOk result (λ o. Does self.old.config (state_of_node self.old) (with_spending up (close_effects up (close_of view.now) (close_row (state_of_node self.old) sender.now (close_of view.now)))) (state_of_node self.new) (o ∷ [])) }
-        ensures same { OnErr result (state_of_node self.new ≡ state_of_node self.old) }
-        ensures config { self.new.config ≡ self.old.config }
+        ensures { Handles self.old self.new (with_spending up
+            (close_effects up (close_of view.now)
+            (close_row (state_of_node self.old) sender.now (close_of view.now)))) result }
     {
         match self.close_row(sender, view) {
-            CloseDecision::Refuses(status) => {
+            CloseDecision::Refuses(refusal) => {
                 let words = view.path.words();
-                let bytes = close_failed(self.alloc, status, view.fields.triad, words)?;
+                let bytes = close_failed(self.alloc, refusal.status(), view.fields.triad, words)?;
                 self.spend_for(&up);
                 Ok(reply_to(up, bytes))
             }
@@ -153,9 +155,9 @@ impl Node {
     /// A Forward_Close, by its data.
     pub(crate) fn forward_close(&mut self, up: UpSide, data_: &[u8]) -> Result<Output, NoMemory>
         requires { IsAsked up }
-        ensures done { IfOk result (λ o. Does self.old.config (state_of_node self.old) (closing_effects (state_of_node self.old) up data_.now (close_at data_.now)) (state_of_node self.new) (o ∷ [])) }
-        ensures same { OnErr result (state_of_node self.new ≡ state_of_node self.old) }
-        ensures config { self.new.config ≡ self.old.config }
+        ensures { Handles self.old self.new
+            (close_data_effects (state_of_node self.old) up data_.now
+            (close_at data_.now)) result }
     {
         match read_close(data_) {
             Ok(view) => {

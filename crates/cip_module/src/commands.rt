@@ -1,71 +1,37 @@
 //! The command group: what a module's own application asks for.
-ghost use Rattle.std.specs.Prelude.{◌≡◌, ℕ, ◌≤◌, List, ◌∷◌, [], ◌==◌, false, length, slice_index, IfOk, OnErr};
+ghost use Rattle.std.specs.Prelude.{◌≡◌, ℕ, ◌≤◌, List, false, length};
 ghost use Rattle.std.specs.Option.{option_to_list};
 ghost use Rattle.cip_unconnected.specs.Unconnected.{unconnected_bytes};
 ghost use Rattle.cip_unconnected.specs.Reading.{unconnected_of};
 ghost use Rattle.cip_pending.specs.declared.entry.UpSide.TheVariants.{Local};
 ghost use Rattle.cip_hops.specs.Hops.{hop_by_op};
 ghost use Rattle.cip_module.specs.State.{is_spent};
-ghost use Rattle.cip_module.specs.CommandRows.{CanSend, send_row};
+ghost use Rattle.cip_module.specs.CommandRows.{send_row};
 ghost use Rattle.cip_module.specs.UnconnectedRows.{unconnected_row};
 ghost use Rattle.cip_module.specs.Table.{open_of, send_effects, open_command_effects, close_command_effects, enter_effects, set_effects, unconnected_effects, with_spending};
-ghost use Rattle.cip_module.specs.Node.{state_of_node};
-ghost use Rattle.cip_module.specs.Does.{Does};
+ghost use Rattle.cip_module.specs.Code.Node.{state_of_node};
+ghost use Rattle.cip_module.specs.Code.Does.{Handled, Handles};
 
-use crate::datum::datum_down;
+use crate::command_rows::CommandRow;
+use crate::datum_rows::datum_down;
 use crate::event::{OpenParams, Output, Refused};
 use crate::node::Node;
-use crate::rows::CommandRow;
-use cip_base::{Bytes, MAX_MESSAGE, NoMemory, Timing, Triad};
+use cip_base::{Bytes, NoMemory, Timing, Triad};
 use cip_close::{CloseFields, CloseView};
 use cip_open::{OpenFields, OpenView};
 use cip_pending::UpSide;
 use cip_segment::Path;
 use cip_unconnected::UnconnectedView;
 
-// How long the message is.
-fn message_len(view: UnconnectedView<'_>) -> usize
-    ensures { result ≡ length (unconnected_bytes (unconnected_of view.entry)) }
-{
-    12 + view.request.len() + view.request.len() % 2 + view.route.bytes.len()
-}
-
-fn is_reserved(request: &[u8]) -> bool
-    ensures { result ≡ (slice_index request.now 0 == 0x52) }
-{
-    match request {
-        [service, ..] => *service == 0x52,
-        [] => false,
-    }
-}
-
-impl Node {
-    // The row of a Send.
-    #[tactic(auto, unfolding(crate::specs::CommandRows::send_row))]
-    fn send_row(&self, op: u32, view: UnconnectedView<'_>) -> CommandRow
-        ensures row { result ≡ send_row (state_of_node self.now) op (unconnected_of view.entry) }
-        ensures can { CanSend (state_of_node self.now) op (unconnected_of view.entry) result }
-    {
-        if self.ops.contains(op) {
-            CommandRow::OpUsed
-        } else if is_reserved(view.request) {
-            CommandRow::ReservedService
-        } else if message_len(view) > MAX_MESSAGE {
-            CommandRow::WrongSize
-        } else {
-            CommandRow::Taken
-        }
-    }
-}
-
 impl Node {
     // A Send that is taken.
     fn take(&mut self, op: u32, view: UnconnectedView<'_>) -> Result<Output, NoMemory>
         requires absent { is_spent op self.old.ops.ops.items ≡ false }
         requires fits { length (unconnected_bytes (unconnected_of view)) ≤ 1400 }
-        ensures done { IfOk result (λ o. Does self.old.config (state_of_node self.old) (with_spending (Local op) (unconnected_effects (Local op) (unconnected_of view.entry) (unconnected_row self.old.config self.old.pendings (unconnected_of view.entry)))) (state_of_node self.new) (o ∷ [])) }
-        ensures same { OnErr result (state_of_node self.new ≡ state_of_node self.old) }
-        ensures config { self.new.config ≡ self.old.config }
+        ensures { Handles self.old self.new (with_spending (Local op)
+            (unconnected_effects (Local op) (unconnected_of view.entry)
+            (unconnected_row self.old.config self.old.pendings (unconnected_of view.entry))))
+            result }
     {
         self.ops.reserve()?;
         let output = self.unconnected(UpSide::Local { op }, view)?;
@@ -75,9 +41,10 @@ impl Node {
 
     /// A Send: handled as the Unconnected_Send that it spells, with its op as the up side.
     pub(crate) fn send(&mut self, op: u32, view: UnconnectedView<'_>) -> Result<Output, NoMemory>
-        ensures done { IfOk result (λ o. Does self.old.config (state_of_node self.old) (send_effects self.old.config (state_of_node self.old) op (unconnected_of view.entry) (send_row (state_of_node self.old) op (unconnected_of view.entry))) (state_of_node self.new) (o ∷ [])) }
-        ensures same { OnErr result (state_of_node self.new ≡ state_of_node self.old) }
-        ensures config { self.new.config ≡ self.old.config }
+        ensures { Handles self.old self.new
+            (send_effects self.old.config (state_of_node self.old) op
+            (unconnected_of view.entry) (send_row (state_of_node self.old) op
+            (unconnected_of view.entry))) result }
     {
         match self.send_row(op, view) {
             CommandRow::OpUsed => Ok(Output::Refused(Refused::OpUsed)),
@@ -91,7 +58,8 @@ impl Node {
 
     // The fields of the Forward_Open that an Open spells.
     fn open_fields(&self, timing: Timing, params: &OpenParams) -> OpenFields
-        ensures { (path : List ℕ) → record { fields = result; path = path } ≡ open_of self.now.config.identity timing path params.now }
+        ensures { (path : List ℕ) → record { fields = result; path = path }
+            ≡ open_of self.now.config.identity timing path params.now }
     {
         let identity = self.config.settings().identity.fields();
         OpenFields {
@@ -120,9 +88,9 @@ impl Node {
         path: &Path,
         params: &OpenParams,
     ) -> Result<Output, NoMemory>
-        ensures done { IfOk result (λ o. Does self.old.config (state_of_node self.old) (open_command_effects self.old.config (state_of_node self.old) op (open_of self.old.config.identity timing path.now params.now)) (state_of_node self.new) (o ∷ [])) }
-        ensures same { OnErr result (state_of_node self.new ≡ state_of_node self.old) }
-        ensures config { self.new.config ≡ self.old.config }
+        ensures { Handles self.old self.new
+            (open_command_effects self.old.config (state_of_node self.old)
+            op (open_of self.old.config.identity timing path.now params.now)) result }
     {
         if self.ops.contains(op) {
             return Ok(Output::Refused(Refused::OpUsed));
@@ -136,16 +104,17 @@ impl Node {
         self.open(UpSide::Local { op }, &view)
     }
 
-    /// A Close of the connection that the op `of` opened: handled as the Forward_Close that it spells.
+    /// A Close of the connection that the op `of` opened: handled as the Forward_Close that it
+    /// spells.
     pub(crate) fn close_command(
         &mut self,
         op: u32,
         of: u32,
         timing: Timing,
     ) -> Result<Output, NoMemory>
-        ensures done { IfOk result (λ o. Does self.old.config (state_of_node self.old) (close_command_effects (state_of_node self.old) op of timing) (state_of_node self.new) (o ∷ [])) }
-        ensures same { OnErr result (state_of_node self.new ≡ state_of_node self.old) }
-        ensures config { self.new.config ≡ self.old.config }
+        ensures { Handles self.old self.new
+            (close_command_effects (state_of_node self.old) op of timing)
+            result }
     {
         if self.ops.contains(op) {
             return Ok(Output::Refused(Refused::OpUsed));
@@ -169,9 +138,10 @@ impl Node {
 
     /// An Enter: a datum by the connection that the op opened.
     pub(crate) fn enter(&self, of: u32, bytes: &Bytes) -> Result<Output, NoMemory>
-        ensures { IfOk result (λ o. Does self.now.config (state_of_node self.now) (enter_effects bytes.now (hop_by_op self.now.hops of)) (state_of_node self.now) (o ∷ [])) }
+        ensures { Handles self.now self.now (enter_effects bytes.now (hop_by_op self.now.hops of))
+            result }
     {
-        let _last = self.hops.last();
+        self.hops.is_within();
         let Some(hop) = self.hops.by_op(of) else {
             return Ok(Output::Refused(Refused::NotOpen));
         };
@@ -184,8 +154,9 @@ impl Node {
 
     /// A Set of an assembly, which has no output where it is taken.
     pub(crate) fn set(&mut self, instance: u32, bytes: &Bytes) -> Option<Output>
-        ensures done { Does self.old.config (state_of_node self.old) (set_effects (state_of_node self.old) instance bytes.now) (state_of_node self.new) (option_to_list result) }
-        ensures config { self.new.config ≡ self.old.config }
+        ensures { Handled self.old self.new
+            (set_effects (state_of_node self.old) instance bytes.now)
+            (option_to_list result) }
     {
         let Some(assembly) = self.target.assembly(instance) else {
             return Some(Output::Refused(Refused::NoInstance));

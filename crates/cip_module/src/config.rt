@@ -26,8 +26,8 @@ pub enum LegalAddresses {
     Text { longest: u8 },
 }
 
-/// A port of a module: its number, the place of its link in the topology, the addresses that are legal there, and the
-/// module's own address there.
+/// A port of a module: its number, the place of its link in the topology, the addresses that are
+/// legal there, and the module's own address there.
 #[derive(Drop)]
 pub struct PortConfig {
     pub number: PortNumber,

@@ -5,6 +5,7 @@ ghost use Rattle.cip_module.specs.State.{State};
 ghost use Rattle.cip_module.specs.Steps.{IsStep, IsStepFault};
 ghost use Rattle.cip_module.specs.Views.{ShowsState};
 ghost use Rattle.cip_module.specs.Paired.{IsPaired};
+ghost use Rattle.cip_module.specs.Rooms.{HasRooms};
 
 use crate::config::ModuleConfig;
 use crate::event::{Event, Output};
@@ -18,14 +19,16 @@ pub enum StepFault {
     /// A growth was refused.
     #[error("out of memory")]
     NoMemory(Event),
-    /// The tick would lead past the last time, 9,223,372,036,854,775,807 microseconds. It is looked at first.
+    /// The tick would lead past the last time, 9,223,372,036,854,775,807 microseconds. It is looked
+    /// at first.
     #[error("the clock is full")]
     ClockFull(Event),
 }
 
-/// A module of a chassis: a config that never changes, and a state that each event changes as the routing table says.
-/// In every state each connection that is opening waits for the reply to one request, and each request that opens for one
-/// connection: the law `paired`.
+/// A module of a chassis: a config that never changes, and a state that each event changes as the
+/// routing table says. In every state each connection that is opening waits for the reply to one
+/// request, and each request that opens for one connection: the law `paired`. The rooms of its
+/// tables are those of its config: the law `rooms`.
 pub trait Module: Drop {
     ghost config_of: { Self → Settings };
 
@@ -33,14 +36,19 @@ pub trait Module: Drop {
 
     ghost paired: { (m : Self) → IsPaired (state_of m).pendings (state_of m).hops };
 
+    ghost rooms: { (m : Self) → HasRooms (config_of m) (state_of m) };
+
     /// The module's config.
     fn config(&self) -> &ModuleConfig
         ensures { result.now ≡ config_of self.now };
 
-    /// Takes one event: a command, a frame or a tick. The outputs and the new state are those of the routing table.
+    /// Takes one event: a command, a frame or a tick. The outputs and the new state are those of
+    /// the routing table.
     fn step(&mut self, event: Event) -> Result<Vec<Output>, StepFault>
-        ensures ok { IfOk result (λ outputs. IsStep (config_of self.old) (state_of self.old) event (state_of self.new) outputs.items) }
-        ensures fault { IsStepFault (config_of self.old) (state_of self.old) event (state_of self.new) result }
+        ensures ok { IfOk result (λ outputs. IsStep (config_of self.old) (state_of self.old) event
+            (state_of self.new) outputs.items) }
+        ensures fault { IsStepFault (config_of self.old) (state_of self.old) event
+            (state_of self.new) result }
         ensures config { config_of self.new ≡ config_of self.old };
 
     /// The state, as lists in rising key.
@@ -54,6 +62,8 @@ impl Module for Box<dyn Module + Send> {
     ghost state_of = { λ b. (Module-box b).state_of b.value };
 
     ghost paired = { λ b. (Module-box b).paired b.value };
+
+    ghost rooms = { λ b. (Module-box b).rooms b.value };
 
     fn config(&self) -> &ModuleConfig {
         let inner = self.as_ref();

@@ -1,212 +1,23 @@
 //! The data group: a datum of a connection on its way.
-ghost use Rattle.std.specs.Prelude.{◌≡◌, ◌∷◌, [], IfOk, OnErr, Some, drop};
-ghost use Rattle.cip_message.specs.Numbers.{word_in};
-ghost use Rattle.cip_hops.specs.declared.hop.Side.TheVariants.{Up, Down};
-ghost use Rattle.cip_hops.specs.Hops.{hop_by_up, hop_by_down};
-ghost use Rattle.cip_module.specs.Effects.{Passes, Renews, applied, datum_up, datum_down};
-ghost use Rattle.cip_module.specs.DataRows.{end_row, below_row, from_up_row, from_down_row, id_row, data_row};
+ghost use Rattle.std.specs.Prelude.{◌≡◌, ◌∷◌, Some};
+ghost use Rattle.cip_module.specs.Effects.{Renews, applied};
+ghost use Rattle.cip_module.specs.DataRows.{data_row};
 ghost use Rattle.cip_module.specs.Table.{datum_effects};
-ghost use Rattle.cip_module.specs.Plans.{writing_row, written_effects, plan_effects, PassesBy, PassesOn};
-ghost use Rattle.cip_module.specs.Does.{Does};
-ghost use Rattle.cip_module.specs.Node.{state_of_node};
+ghost use Rattle.cip_module.specs.Code.Plans.{written_effects};
+ghost use Rattle.cip_module.specs.Code.Does.{Handles};
+ghost use Rattle.cip_module.specs.Code.Node.{state_of_node};
 
-use crate::event::{Body, Dropped, Output};
+use crate::datum_rows::{DatumPlan, Writing, behind_count};
+use crate::event::Output;
 use crate::node::Node;
-use crate::ports::port_of;
 use cip_base::{Address, Bytes, NoMemory, PortNumber, Triad};
-use cip_hops::{Hop, HopDown, HopUp, Side};
-use std::alloc::Global;
-
-/// A datum by the up side of a connection.
-pub(crate) fn datum_up(hop: &Hop, bytes: Bytes) -> Output
-    ensures { result ≡ datum_up hop.now.opening.up bytes }
-{
-    match &hop.opening.up {
-        HopUp::Link {
-            port,
-            address,
-            their_id,
-        } => Output::Send {
-            port: *port,
-            to: address.copy(),
-            body: Body::Data {
-                id: *their_id,
-                bytes,
-            },
-        },
-        HopUp::Local { op } => Output::Arrived { op: *op, bytes },
-    }
-}
-
-/// A datum by the down side of a connection.
-pub(crate) fn datum_down(hop: &Hop, bytes: Bytes) -> Output
-    ensures { result ≡ datum_down hop.now hop.now.opening.down bytes }
-{
-    match &hop.opening.down {
-        HopDown::Link { port, address } => Output::Send {
-            port: *port,
-            to: address.copy(),
-            body: Body::Data {
-                id: hop.their_id.unwrap_or(0),
-                bytes,
-            },
-        },
-        HopDown::End { consume, .. } => Output::Consumed {
-            triad: hop.opening.triad,
-            instance: *consume,
-            bytes,
-        },
-    }
-}
-
-// What an end writes of a datum: to which assembly, and the sequence count that it begins with in class 1.
-#[derive(Clone, Copy)]
-pub(crate) struct Writing {
-    pub instance: u32,
-    pub count: Option<u16>,
-}
-
-// What becomes of a datum.
-#[derive(Drop)]
-pub(crate) enum DatumPlan {
-    Drops(Dropped),
-    /// It goes on as this output, and the side by which it came is watched anew.
-    Passes {
-        output: Output,
-        triad: Triad,
-        side: Side,
-        writing: Option<Writing>,
-    },
-}
-
-// The sequence count that a datum begins with, and what stands behind it.
-fn count_of(bytes: &[u8]) -> u16
-    ensures { result ≡ word_in bytes.now 0 }
-{
-    match bytes {
-        [low, high, ..] => u16::from(*low) + 256 * u16::from(*high),
-        [low] => u16::from(*low),
-        [] => 0,
-    }
-}
-
-fn behind_count(bytes: &[u8]) -> &[u8]
-    ensures { result.now ≡ drop 2 bytes.entry.now }
-{
-    match bytes {
-        [_, _, rest @ ..] => rest,
-        _ => &[],
-    }
-}
-
-// At an end: nothing is written where the sequence count is that of the last datum.
-fn written_of(hop: &Hop, instance: u32, bytes: &[u8]) -> Option<Writing>
-    ensures { writing_row hop.now.opening.triad bytes.now result ≡ end_row hop.now instance bytes.now }
-{
-    if hop.opening.class != 1 {
-        return Some(Writing {
-            instance,
-            count: None,
-        });
-    }
-    let count = count_of(bytes);
-    if hop.consumed == Some(count) {
-        None
-    } else {
-        Some(Writing {
-            instance,
-            count: Some(count),
-        })
-    }
-}
-
-// What is written of a datum that goes down.
-fn writing_below(hop: &Hop, bytes: &[u8]) -> Option<Writing>
-    ensures { Passes hop.now.opening.triad Down bytes.now ∷ Renews hop.now.opening.triad Up ∷ written_effects hop.now.opening.triad bytes.now result ≡ datum_effects bytes.now (below_row hop.now bytes.now hop.now.opening.down) }
-{
-    match &hop.opening.down {
-        HopDown::Link { .. } => None,
-        HopDown::End { consume, .. } => written_of(hop, *consume, bytes),
-    }
-}
-
-// From the node above: on by the down side, or into an assembly here.
-fn from_above(alloc: Global, hop: &Hop, bytes: &Bytes) -> Result<DatumPlan, NoMemory>
-    ensures row { IfOk result (λ plan. plan_effects bytes.now plan ≡ datum_effects bytes.now (from_up_row bytes.now hop.now)) }
-    ensures on { IfOk result (PassesBy hop.now bytes.now) }
-{
-    if bytes.as_slice().len() != usize::from(hop.opening.ot_size) {
-        return Ok(DatumPlan::Drops(Dropped::WrongSize));
-    }
-    let copied = Bytes::of(Vec::from_slice(alloc, bytes.as_slice())?);
-    Ok(DatumPlan::Passes {
-        output: datum_down(hop, copied),
-        triad: hop.opening.triad,
-        side: Side::Up,
-        writing: writing_below(hop, bytes.as_slice()),
-    })
-}
-
-// From the node below: on by the up side, or to the command that opened.
-fn from_below(alloc: Global, hop: &Hop, bytes: &Bytes) -> Result<DatumPlan, NoMemory>
-    ensures row { IfOk result (λ plan. plan_effects bytes.now plan ≡ datum_effects bytes.now (from_down_row bytes.now (Some hop.now))) }
-    ensures on { IfOk result (PassesBy hop.now bytes.now) }
-{
-    if bytes.as_slice().len() != usize::from(hop.opening.to_size) {
-        return Ok(DatumPlan::Drops(Dropped::WrongSize));
-    }
-    let copied = Bytes::of(Vec::from_slice(alloc, bytes.as_slice())?);
-    Ok(DatumPlan::Passes {
-        output: datum_up(hop, copied),
-        triad: hop.opening.triad,
-        side: Side::Down,
-        writing: None,
-    })
-}
+use cip_hops::Side;
 
 impl Node {
-    // What becomes of a datum under an id of a port that the module has.
-    fn plan_by_id(
-        &self,
-        port: PortNumber,
-        from: &Address,
-        id: u32,
-        bytes: &Bytes,
-    ) -> Result<DatumPlan, NoMemory>
-        ensures row { IfOk result (λ plan. plan_effects bytes.now plan ≡ datum_effects bytes.now (id_row bytes.now (hop_by_up self.now.hops id port from.now) (hop_by_down self.now.hops id port from.now))) }
-        ensures on { IfOk result (PassesOn self.now.hops bytes.now) }
-    {
-        let _last = self.hops.last();
-        if let Some(hop) = self.hops.by_up(id, port, from) {
-            return from_above(self.alloc, hop, bytes);
-        }
-        match self.hops.by_down(id, port, from) {
-            Some(hop) => from_below(self.alloc, hop, bytes),
-            None => Ok(DatumPlan::Drops(Dropped::UnknownId)),
-        }
-    }
-
-    // What becomes of a datum.
-    #[tactic(auto, unfolding(crate::specs::DataRows::data_row))]
-    fn datum_plan(
-        &self,
-        port: PortNumber,
-        from: &Address,
-        id: u32,
-        bytes: &Bytes,
-    ) -> Result<DatumPlan, NoMemory>
-        ensures row { IfOk result (λ plan. plan_effects bytes.now plan ≡ datum_effects bytes.now (data_row self.now.config (state_of_node self.now) port from.now id bytes.now)) }
-        ensures on { IfOk result (PassesOn self.now.hops bytes.now) }
-    {
-        if port_of(self.config.settings(), port).is_none() {
-            return Ok(DatumPlan::Drops(Dropped::UnknownId));
-        }
-        self.plan_by_id(port, from, id, bytes)
-    }
-
     // An end writes a datum without its sequence count, and keeps the count.
     fn write_datum(&mut self, triad: &Triad, writing: Writing, bytes: &[u8])
-        ensures after { state_of_node self.new ≡ applied self.old.config (state_of_node self.old) (written_effects triad.now bytes.now (Some writing)) }
+        ensures after { state_of_node self.new ≡ applied self.old.config (state_of_node self.old)
+            (written_effects triad.now bytes.now (Some writing)) }
         ensures config { self.new.config ≡ self.old.config }
     {
         match writing.count {
@@ -220,7 +31,8 @@ impl Node {
 
     // The side by which a datum came is watched anew, and its end writes it.
     fn note_datum(&mut self, triad: &Triad, side: Side, writing: Option<Writing>, bytes: &[u8])
-        ensures after { state_of_node self.new ≡ applied self.old.config (state_of_node self.old) (Renews triad.now side ∷ written_effects triad.now bytes.now writing) }
+        ensures after { state_of_node self.new ≡ applied self.old.config (state_of_node self.old)
+            (Renews triad.now side ∷ written_effects triad.now bytes.now writing) }
         ensures config { self.new.config ≡ self.old.config }
     {
         self.renews(triad, side);
@@ -237,9 +49,9 @@ impl Node {
         id: u32,
         bytes: &Bytes,
     ) -> Result<Output, NoMemory>
-        ensures done { IfOk result (λ o. Does self.old.config (state_of_node self.old) (datum_effects bytes.now (data_row self.old.config (state_of_node self.old) port from.now id bytes.now)) (state_of_node self.new) (o ∷ [])) }
-        ensures same { OnErr result (state_of_node self.new ≡ state_of_node self.old) }
-        ensures config { self.new.config ≡ self.old.config }
+        ensures { Handles self.old self.new (datum_effects bytes.now
+            (data_row self.old.config (state_of_node self.old) port from.now id bytes.now))
+            result }
     {
         match self.datum_plan(port, from, id, bytes)? {
             DatumPlan::Drops(reason) => Ok(Output::Dropped(reason)),

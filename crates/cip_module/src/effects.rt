@@ -8,13 +8,13 @@ ghost use Rattle.cip_pending.specs.declared.entry.Kind.TheVariants as kinds;
 ghost use Rattle.cip_pending.specs.Pendings.{refusal, added, without, waiting_at};
 ghost use Rattle.cip_hops.specs.Hops.{begun, finished};
 ghost use Rattle.cip_hops.specs.Sides.{down_is_link, up_is_link};
-ghost use Rattle.cip_target.specs.Ends.{row_at, Fits, configured};
+ghost use Rattle.cip_target.specs.Ends.{row_at, configured};
 ghost use Rattle.cip_module.specs.State.{is_spent, spent_with};
 ghost use Rattle.cip_module.specs.Effects.{applied, given_up_of, given_up, removed, renewed, recounted, overwritten};
-ghost use Rattle.cip_module.specs.Fit.{given_back};
-ghost use Rattle.cip_module.specs.Node.{state_of_node};
+ghost use Rattle.cip_module.specs.Code.Fit.{given_back};
+ghost use Rattle.cip_module.specs.Code.Node.{state_of_node};
 ghost use Rattle.cip_module.specs.Table.{with_spending};
-ghost use Rattle.cip_module.specs.Ready.{IsReady, CanSpend};
+ghost use Rattle.cip_module.specs.Code.Ready.{IsReady, CanSpend};
 ghost use Rattle.cip_module.specs.OpenRows.{end_down};
 ghost use Rattle.cip_module.specs.Paired.{IsOther};
 
@@ -50,7 +50,8 @@ impl Node {
     /// What a command does uses its op up.
     pub(crate) fn spend_for(&mut self, up: &UpSide)
         requires { CanSpend self.old up.now }
-        ensures after { state_of_node self.new ≡ applied self.old.config (state_of_node self.old) (with_spending up.now []) }
+        ensures after { state_of_node self.new ≡ applied self.old.config (state_of_node self.old)
+            (with_spending up.now []) }
         ensures config { self.new.config ≡ self.old.config }
         ensures target { self.new.target ≡ self.old.target }
     {
@@ -63,7 +64,8 @@ impl Node {
     pub(crate) fn spends(&mut self, op: u32)
         requires room { vec_len self.old.ops.ops < vec_capacity self.old.ops.ops }
         requires absent { is_spent op self.old.ops.ops.items ≡ false }
-        ensures after { state_of_node self.new ≡ record (state_of_node self.old) { ops = spent_with op self.old.ops.ops.items } }
+        ensures after { state_of_node self.new ≡ record (state_of_node self.old)
+            { ops = spent_with op self.old.ops.ops.items } }
         ensures config { self.new.config ≡ self.old.config }
         ensures target { self.new.target ≡ self.old.target }
     {
@@ -75,11 +77,12 @@ impl Node {
         requires room { refusal self.old.pendings ≡ None }
         requires other { IsOther entry.kind }
         ensures value { result ≡ self.old.pendings.next }
-        ensures after { state_of_node self.new ≡ record (state_of_node self.old) { pendings = added self.old.pendings entry } }
+        ensures after { state_of_node self.new ≡ record (state_of_node self.old)
+            { pendings = added self.old.pendings entry } }
         ensures config { self.new.config ≡ self.old.config }
         ensures ops { self.new.ops ≡ self.old.ops }
     {
-        let _last = self.pendings.last();
+        self.pendings.is_within();
         let Ok(number) = self.pendings.add(entry) else {
             unreachable!()
         };
@@ -93,10 +96,11 @@ impl Node {
         requires link { down_is_link opening.down ≡ true }
         requires ready { IsReady self.old opening }
         ensures value { result ≡ self.old.pendings.next }
-        ensures after { state_of_node self.new ≡ record (state_of_node self.old) { pendings = added self.old.pendings entry; hops = begun self.old.hops opening } }
+        ensures after { state_of_node self.new ≡ record (state_of_node self.old)
+            { pendings = added self.old.pendings entry; hops = begun self.old.hops opening } }
         ensures config { self.new.config ≡ self.old.config }
     {
-        let _last = self.pendings.last();
+        self.pendings.is_within();
         let Ok(number) = self.pendings.add(entry) else {
             unreachable!()
         };
@@ -112,8 +116,12 @@ impl Node {
         requires up { up_is_link opening.up ≡ true }
         requires down { opening.down ≡ end_down link.now }
         requires ready { IsReady self.old opening }
-        requires fits { row_at self.old.target (open_of view.now) ≡ Fits link.now }
-        ensures after { state_of_node self.new ≡ record (state_of_node self.old) { hops = finished (begun self.old.hops opening) opening.triad 0 self.old.clock; assemblies = configured self.old.target.objects.assemblies (open_of view.now) link.now } }
+        requires fits { row_at self.old.target (open_of view.now) ≡ Ok link.now }
+        ensures after { state_of_node self.new ≡ record (state_of_node self.old) {
+          hops = finished (begun self.old.hops opening) opening.triad 0 self.old.clock;
+          assemblies = configured self.old.target.objects.assemblies (open_of view.now)
+              link.now;
+        } }
         ensures config { self.new.config ≡ self.old.config }
     {
         let triad = opening.triad;
@@ -134,9 +142,17 @@ impl Node {
         triad: &Triad,
         their_id: u32,
     ) -> Option<UpSide>
-        requires kind { ForSome (waiting_at self.old.pendings number port from.now) (λ entry. entry.kind ≡ kinds.Opening triad.now) }
-        ensures value { result ≡ option_map (λ entry. entry.up) (waiting_at self.old.pendings number port from.now) }
-        ensures after { state_of_node self.new ≡ (if is_some result then record (state_of_node self.old) { pendings = without self.old.pendings number; hops = finished self.old.hops triad.now their_id self.old.clock } else state_of_node self.old) }
+        requires kind { ForSome (waiting_at self.old.pendings number port from.now)
+            (λ entry. entry.kind ≡ kinds.Opening triad.now) }
+        ensures value { result ≡ option_map (λ entry. entry.up)
+            (waiting_at self.old.pendings number port from.now) }
+        ensures after { state_of_node self.new ≡ (if is_some result then
+            record (state_of_node self.old) {
+              pendings = without self.old.pendings number;
+              hops =
+                  finished self.old.hops triad.now their_id self.old.clock;
+            }
+            else state_of_node self.old) }
         ensures config { self.new.config ≡ self.old.config }
     {
         let now = self.clock.now();
@@ -147,8 +163,15 @@ impl Node {
 
     /// A pending gets its reply. To whom it goes.
     pub(crate) fn takes(&mut self, number: u32, port: PortNumber, from: &Address) -> Option<UpSide>
-        ensures value { result ≡ option_map (λ entry. entry.up) (waiting_at self.old.pendings number port from.now) }
-        ensures after { state_of_node self.new ≡ (if is_some result then record (state_of_node self.old) { pendings = without self.old.pendings number; hops = given_up (map.get self.old.pendings.entries number) self.old.hops } else state_of_node self.old) }
+        ensures value { result ≡ option_map (λ entry. entry.up)
+            (waiting_at self.old.pendings number port from.now) }
+        ensures after { state_of_node self.new ≡ (if is_some result then
+            record (state_of_node self.old) {
+              pendings = without self.old.pendings number;
+              hops =
+                  given_up (map.get self.old.pendings.entries number) self.old.hops;
+            }
+            else state_of_node self.old) }
         ensures config { self.new.config ≡ self.old.config }
     {
         let entry = self.pendings.take(number, port, from)?;
@@ -158,7 +181,8 @@ impl Node {
 
     /// The connection of a triad, if one is open, is gone; what it owned here is given back.
     pub(crate) fn removes(&mut self, triad: &Triad)
-        ensures after { state_of_node self.new ≡ record (state_of_node self.old) { hops = removed self.old.hops triad.now } }
+        ensures after { state_of_node self.new ≡ record (state_of_node self.old)
+            { hops = removed self.old.hops triad.now } }
         ensures config { self.new.config ≡ self.old.config }
         ensures pendings { self.new.pendings ≡ self.old.pendings }
     {
@@ -169,7 +193,8 @@ impl Node {
 
     /// That side of the connection is watched anew from now on, if it is a link.
     pub(crate) fn renews(&mut self, triad: &Triad, side: Side)
-        ensures after { state_of_node self.new ≡ record (state_of_node self.old) { hops = renewed self.old.hops triad.now side self.old.clock } }
+        ensures after { state_of_node self.new ≡ record (state_of_node self.old)
+            { hops = renewed self.old.hops triad.now side self.old.clock } }
         ensures config { self.new.config ≡ self.old.config }
     {
         let now = self.clock.now();
@@ -187,7 +212,8 @@ impl Node {
 
     /// The count of the last datum, at an end.
     pub(crate) fn counts(&mut self, triad: &Triad, side: Side, count: u16)
-        ensures after { state_of_node self.new ≡ record (state_of_node self.old) { hops = recounted self.old.hops triad.now side count } }
+        ensures after { state_of_node self.new ≡ record (state_of_node self.old)
+            { hops = recounted self.old.hops triad.now side count } }
         ensures config { self.new.config ≡ self.old.config }
     {
         let is_end = match self.hops.by_triad(triad) {
@@ -201,7 +227,8 @@ impl Node {
 
     /// An assembly gets these bytes, if it has as many.
     pub(crate) fn writes(&mut self, instance: u32, bytes: &[u8])
-        ensures after { state_of_node self.new ≡ record (state_of_node self.old) { assemblies = overwritten self.old.target.objects.assemblies instance bytes.now } }
+        ensures after { state_of_node self.new ≡ record (state_of_node self.old)
+            { assemblies = overwritten self.old.target.objects.assemblies instance bytes.now } }
         ensures config { self.new.config ≡ self.old.config }
     {
         if let Some(assembly) = self.target.assembly(instance) {
@@ -217,13 +244,15 @@ impl Node {
     ghost use Rattle.std.specs.Option.{option_to_list};
     ghost use Rattle.cip_pending.specs.Pendings.{first_due, due};
     ghost use Rattle.cip_hops.specs.Hops as hop;
-    ghost use Rattle.cip_module.specs.Tick.{expiry, lapse};
+    ghost use Rattle.cip_module.specs.Code.Ticks.{pending_time_out, hop_time_out};
 
     /// One due pending goes, that of the least number; whether there was one.
-    pub(crate) fn expires_one(&mut self, now: u64) -> bool
+    pub(crate) fn time_out_pending(&mut self, now: u64) -> bool
         ensures value { result ≡ is_some (first_due now self.old.pendings) }
-        ensures after { state_of_node self.new ≡ applied self.old.config (state_of_node self.old) (expiry (first_due now self.old.pendings)) }
-        ensures due { due now self.old.pendings ≡ option_to_list (first_due now self.old.pendings) ++ due now self.new.pendings }
+        ensures after { state_of_node self.new ≡ applied self.old.config (state_of_node self.old)
+            (pending_time_out (first_due now self.old.pendings)) }
+        ensures due { due now self.old.pendings ≡ option_to_list (first_due now self.old.pendings)
+            ++ due now self.new.pendings }
         ensures hops { hop.due now self.new.hops ≡ hop.due now self.old.hops }
         ensures config { self.new.config ≡ self.old.config }
     {
@@ -237,13 +266,15 @@ impl Node {
     }
 
     /// One due connection goes, that of the least triad; whether there was one.
-    pub(crate) fn lapses_one(&mut self, now: u64) -> bool
+    pub(crate) fn time_out_hop(&mut self, now: u64) -> bool
         ensures value { result ≡ is_some (hop.first_due now self.old.hops) }
-        ensures after { state_of_node self.new ≡ applied self.old.config (state_of_node self.old) (lapse (hop.first_due now self.old.hops)) }
-        ensures due { hop.due now self.old.hops ≡ option_to_list (hop.first_due now self.old.hops) ++ hop.due now self.new.hops }
+        ensures after { state_of_node self.new ≡ applied self.old.config (state_of_node self.old)
+            (hop_time_out (hop.first_due now self.old.hops)) }
+        ensures due { hop.due now self.old.hops ≡ option_to_list (hop.first_due now self.old.hops)
+            ++ hop.due now self.new.hops }
         ensures config { self.new.config ≡ self.old.config }
     {
-        let _last = self.hops.last();
+        self.hops.is_within();
         match self.hops.expire(now) {
             Some(hop) => {
                 release(&mut self.target, &hop.opening.down);

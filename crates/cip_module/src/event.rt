@@ -17,20 +17,23 @@ pub enum Body {
 /// What a command asks of a connection that it opens (Volume 1, chapter 3, Forward_Open).
 #[derive(Clone, Copy, Debug, PartialEq, Eq)]
 pub struct OpenParams {
-    /// The connection serial number; the originator vendor and serial number are those of the module's identity.
+    /// The connection serial number; the originator vendor and serial number are those of the
+    /// module's identity.
     pub serial: u16,
     /// The connection timeout multiplier.
     pub multiplier: u8,
     /// Transport class and trigger.
     pub transport: u8,
-    /// The requested packet intervals, in microseconds, and the network connection parameters of each direction.
+    /// The requested packet intervals, in microseconds, and the network connection parameters of
+    /// each direction.
     pub ot_rpi: u32,
     pub ot_params: u16,
     pub to_rpi: u32,
     pub to_params: u16,
 }
 
-/// What a module's own application asks for. `op` names what is asked, once for ever; `of` is the op of an Open.
+/// What a module's own application asks for. `op` names what is asked, once for ever; `of` is the
+/// op of an Open.
 #[derive(Debug, Drop)]
 pub enum Command {
     /// Open a connection along a path (Volume 1, chapter 3, Forward_Open).
@@ -90,7 +93,8 @@ pub enum Refused {
     OpUsed,
     /// No connection of that op is open here.
     NotOpen,
-    /// The message would have more than 1,400 bytes, or the datum not the size of the connection or of the assembly.
+    /// The message would have more than 1,400 bytes, or the datum not the size of the connection or
+    /// of the assembly.
     WrongSize,
     /// An Unconnected_Send in an Unconnected_Send.
     ReservedService,

@@ -5,7 +5,7 @@ ghost use Rattle.cip_target.specs.Assemblies.{is_assembly};
 ghost use Rattle.cip_module.specs.Config.{is_name_byte, is_name, is_text_byte, is_range, is_legal, is_port, has_number, numbers_differ, most_ports, are_ports, has_instance, instances_differ, are_assemblies, is_room, are_counts, is_settings};
 
 use crate::config::{LegalAddresses, ModuleKind, ModuleSettings, PortConfig};
-use cip_base::{MAX_ASSEMBLIES, MAX_DATUM, MAX_HOPS, MAX_PORTS, PortNumber};
+use cip_base::{MAX_ASSEMBLIES, MAX_DATUM, MAX_HOPS, MAX_PENDINGS, MAX_PORTS, PortNumber};
 use cip_target::AssemblyConfig;
 
 fn is_name_byte(byte: u8) -> bool
@@ -169,10 +169,11 @@ fn are_assemblies(assemblies: &[AssemblyConfig]) -> bool
         && instances_differ(assemblies)
 }
 
-fn is_room(room: usize) -> bool
-    ensures { result ≡ is_room room }
+// From 1 on.
+fn is_room(room: usize, most: usize) -> bool
+    ensures { result ≡ is_room most room }
 {
-    room >= 1 && room <= MAX_HOPS
+    room >= 1 && room <= most
 }
 
 fn are_counts(settings: &ModuleSettings) -> bool
@@ -181,8 +182,8 @@ fn are_counts(settings: &ModuleSettings) -> bool
     settings.clock < 1 << 63
         && settings.first_id >= 1
         && settings.first_number >= 1
-        && is_room(settings.pending_room)
-        && is_room(settings.hop_room)
+        && is_room(settings.pending_room, MAX_PENDINGS)
+        && is_room(settings.hop_room, MAX_HOPS)
 }
 
 /// Whether a module can have these settings.

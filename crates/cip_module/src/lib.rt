@@ -2,47 +2,57 @@
 #![tactic(auto)]
 
 mod adapter;
+mod answers;
 mod close_rows;
 mod closes;
+mod command_rows;
 mod commands;
 mod config;
 mod contract;
 mod copies;
 mod datum;
-mod decisions;
+mod datum_rows;
 mod effects;
 mod event;
 mod keys;
+mod laws;
 mod legal;
 mod links;
 mod lists;
 mod messages;
 mod node;
-mod object;
 mod open_rows;
 mod opens;
 mod plain;
 mod ports;
 mod production;
-mod reception;
+mod refusals;
 mod replies;
 mod reply_rows;
+mod request_rows;
 mod requests;
-mod rows;
 mod show;
 mod spent;
 mod step;
 mod tables;
+mod targets;
+mod tick_rows;
 mod ticks;
 mod unconnected;
+mod unconnected_rows;
 
 pub use adapter::AdapterModule;
 pub use config::{LegalAddresses, ModuleConfig, ModuleKind, ModuleSettings, PortConfig};
 pub use contract::{Module, StepFault};
 pub use event::{Body, Command, Dropped, Event, OpenParams, Output, Refused};
+pub use laws::{
+    effects_tell, fresh_tables_are_of_the_first_state, ids_are_born_once, numbers_are_born_once,
+    ops_are_done_once, paths_shorten, requests_are_replied_once, requests_stem_from_turns,
+    tables_stay_in_order, what_goes_on_meets_its_group, what_is_written_is_read,
+};
 pub use lists::{Assemblies, Ports};
 pub use plain::PlainModule;
-pub use rows::{
+pub use refusals::{
     CloseRefusal, KeyPart, LinkRefusal, OpenRefusal, RequestRefusal, UnconnectedRefusal,
 };
 pub use tables::{

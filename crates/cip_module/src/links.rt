@@ -6,7 +6,7 @@ ghost use Rattle.cip_module.specs.Links.{wait_refusal, link_refusal, CanWait};
 use crate::config::{ModuleKind, ModuleSettings};
 use crate::legal::is_legal;
 use crate::ports::port_of;
-use crate::rows::LinkRefusal;
+use crate::refusals::LinkRefusal;
 use cip_base::{Address, PortNumber, Timing};
 use cip_pending::PendingTable;
 

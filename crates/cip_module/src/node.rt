@@ -1,7 +1,7 @@
 //! What the modules of each kind share: their tables, which fit one another.
 ghost use Rattle.std.specs.Prelude.{◌≡◌, IfOk};
 ghost use Rattle.cip_module.specs.declared.config.ModuleSettings.{ModuleSettings as Settings};
-ghost use Rattle.cip_module.specs.Fit.{Fit};
+ghost use Rattle.cip_module.specs.Code.Fit.{Fit};
 
 use crate::config::ModuleConfig;
 use crate::spent::SpentOps;
@@ -26,13 +26,13 @@ pub(crate) struct Node {
 }
 
 impl Node {
-    ghost use Rattle.cip_module.specs.State.{opening};
-    ghost use Rattle.cip_module.specs.Node.{config_of_node, state_of_node};
+    ghost use Rattle.cip_module.specs.State.{initial_state};
+    ghost use Rattle.cip_module.specs.Code.Node.{config_of_node, state_of_node};
 
-    /// A module in the opening state of its config.
+    /// A module in the initial state of its config.
     pub(crate) fn new(alloc: Global, config: ModuleConfig) -> Result<Node, NoMemory>
         ensures config { IfOk result (λ m. config_of_node m ≡ config) }
-        ensures state { IfOk result (λ m. state_of_node m ≡ opening config) }
+        ensures state { IfOk result (λ m. state_of_node m ≡ initial_state config) }
     {
         let settings = config.settings();
         let clock = Clock::new(settings.clock);

@@ -1,30 +1,30 @@
 //! Which row of the open group answers.
-ghost use Rattle.std.specs.Prelude.{◌≡◌, IfOk};
+ghost use Rattle.std.specs.Prelude.{◌≡◌};
 ghost use Rattle.cip_segment.specs.Reading.{hop_of, segments_of};
 ghost use Rattle.cip_open.specs.Reading.{open_of};
 ghost use Rattle.cip_open.specs.Params.{params_of};
-ghost use Rattle.cip_target.specs.Ends.{end_row, end_gives, row_at, Fits};
+ghost use Rattle.cip_target.specs.Ends.{end_row, row_at};
 ghost use Rattle.cip_hops.specs.Sides.{up_is_link};
 ghost use Rattle.cip_module.specs.Keys.{leading_mismatch};
-ghost use Rattle.cip_module.specs.OpenRows.{is_direction, is_supported, ids_on, is_consumed, here_row, hop_row, key_row, open_row, open_answer, unread_row};
-ghost use Rattle.cip_module.specs.Decisions.{open_told, OpenLeads};
-ghost use Rattle.cip_module.specs.Node.{state_of_node};
+ghost use Rattle.cip_module.specs.OpenRows.{is_direction, is_supported, ids_on, is_consumed, here_row, hop_row, key_row, open_row, unread_row};
+ghost use Rattle.cip_module.specs.Code.Decisions.{open_row_of, OpenLeads};
+ghost use Rattle.cip_module.specs.Code.Node.{state_of_node};
 
 use crate::keys::leading_mismatch;
 use crate::links::link_refusal;
 use crate::node::Node;
-use crate::rows::OpenRefusal;
-use cip_base::{Address, PortNumber, Status};
+use crate::refusals::OpenRefusal;
+use cip_base::{Address, PortNumber};
 use cip_hops::HopUp;
 use cip_message::DataFault;
-use cip_open::{ConnectionKind, OpenView, Params, params};
+use cip_open::{ConnectionKind, OPEN_FIXED_PART, OpenView, Params, params};
 use cip_segment::{FirstHop, PathView, first_hop, rest};
-use cip_target::EndLink;
+use cip_target::{EndLink, EndRefusal};
 
 /// The row that answers a Forward_Open.
 #[derive(Drop)]
 pub(crate) enum OpenDecision<'a> {
-    Refuses(Status),
+    Refuses(OpenRefusal),
     Forwarded {
         port: PortNumber,
         address: Address,
@@ -61,7 +61,7 @@ pub(crate) fn unread_row(data_: &[u8], fault: DataFault) -> OpenRefusal
 {
     match fault {
         DataFault::Short => {
-            if data_.len() < 36 {
+            if data_.len() < OPEN_FIXED_PART {
                 OpenRefusal::CutInTheFixedPart
             } else {
                 OpenRefusal::CutInThePath
@@ -74,34 +74,39 @@ pub(crate) fn unread_row(data_: &[u8], fault: DataFault) -> OpenRefusal
 
 impl Node {
     // What the target says to an open, by the connections that end here.
-    fn check(&self, view: &OpenView<'_>) -> Result<EndLink, Status>
-        ensures gives { result ≡ end_gives (end_row self.now.target.objects.assemblies (is_consumed self.now.hops) (open_of view.now)) }
-        ensures fits { IfOk result (λ link. row_at self.now.target (open_of view.now) ≡ Fits link) }
+    fn end_row(&self, view: &OpenView<'_>) -> Result<EndLink, EndRefusal>
+        ensures row { result ≡ end_row self.now.target.objects.assemblies
+            (is_consumed self.now.hops)
+            (open_of view.now) }
+        ensures fits { result ≡ row_at self.now.target (open_of view.now) }
     {
-        self.target.check(view)
+        self.target.end_row(view)
     }
 
     // A connection that ends here.
     fn open_here(&self, up: &HopUp, view: &OpenView<'_>) -> OpenDecision<'static>
-        ensures row { open_told result ≡ open_answer (here_row (state_of_node self.now) up.now (open_of view.now)) }
+        ensures row { open_row_of result
+            ≡ here_row (state_of_node self.now) up.now (open_of view.now) }
         ensures leads { OpenLeads self.now up.now (open_of view.now) result }
     {
         if !up.is_link() {
-            return OpenDecision::Refuses(OpenRefusal::NotAnApplicationPath.status());
+            let refusal = EndRefusal::NotAnApplicationPath;
+            return OpenDecision::Refuses(OpenRefusal::NotAccepted(refusal));
         }
-        let link = match self.check(view) {
+        let link = match self.end_row(view) {
             Ok(link) => link,
-            Err(status) => return OpenDecision::Refuses(status),
+            Err(refusal) => return OpenDecision::Refuses(OpenRefusal::NotAccepted(refusal)),
         };
         if self.hops.can_begin(&view.fields.triad, 1).is_some() {
-            return OpenDecision::Refuses(OpenRefusal::NoRoomOrIdLeft.status());
+            return OpenDecision::Refuses(OpenRefusal::NoRoomToEndHere);
         }
         OpenDecision::Accepted(link)
     }
 
     // A connection that ends here, or goes on.
     fn open_by_hop<'a>(&self, up: &HopUp, view: &OpenView<'a>) -> OpenDecision<'a>
-        ensures row { open_told result ≡ open_answer (hop_row self.now.config (state_of_node self.now) up.now (open_of view.now) (hop_of view.now.path.bytes.now)) }
+        ensures row { open_row_of result ≡ hop_row self.now.config (state_of_node self.now) up.now
+            (open_of view.now) (hop_of view.now.path.bytes.now) }
         ensures leads { OpenLeads self.now up.now (open_of view.now) result }
     {
         match first_hop(view.path) {
@@ -122,14 +127,14 @@ impl Node {
                     port,
                     &address,
                 ) {
-                    return OpenDecision::Refuses(refusal.status());
+                    return OpenDecision::Refuses(OpenRefusal::NotSentOn(refusal));
                 }
                 if self
                     .hops
                     .can_begin(&view.fields.triad, ids_on(up))
                     .is_some()
                 {
-                    return OpenDecision::Refuses(OpenRefusal::NoRoomOrIdsLeft.status());
+                    return OpenDecision::Refuses(OpenRefusal::NoRoomToPassOn);
                 }
                 OpenDecision::Forwarded {
                     port,
@@ -141,11 +146,13 @@ impl Node {
     }
 
     fn open_by_key<'a>(&self, up: &HopUp, view: &OpenView<'a>) -> OpenDecision<'a>
-        ensures row { open_told result ≡ open_answer (key_row self.now.config (state_of_node self.now) up.now (open_of view.now) (leading_mismatch self.now.config (segments_of view.now.path.bytes.now))) }
+        ensures row { open_row_of result ≡ key_row self.now.config (state_of_node self.now) up.now
+            (open_of view.now) (leading_mismatch self.now.config
+            (segments_of view.now.path.bytes.now)) }
         ensures leads { OpenLeads self.now up.now (open_of view.now) result }
     {
         match leading_mismatch(self.config.settings(), view.path) {
-            Some(part) => OpenDecision::Refuses(OpenRefusal::KeyMismatch(part).status()),
+            Some(part) => OpenDecision::Refuses(OpenRefusal::KeyMismatch(part)),
             None => self.open_by_hop(up, view),
         }
     }
@@ -153,17 +160,18 @@ impl Node {
     /// The row that answers a Forward_Open which was read (Volume 1, chapter 3, Forward_Open).
     #[tactic(auto, unfolding(crate::specs::OpenRows::open_row))]
     pub(crate) fn open_row<'a>(&self, up: &HopUp, view: &OpenView<'a>) -> OpenDecision<'a>
-        ensures row { open_told result ≡ open_answer (open_row self.now.config (state_of_node self.now) up.now (open_of view.now)) }
+        ensures row { open_row_of result ≡ open_row self.now.config (state_of_node self.now) up.now
+            (open_of view.now) }
         ensures leads { OpenLeads self.now up.now (open_of view.now) result }
     {
         if !is_supported(view) {
-            return OpenDecision::Refuses(OpenRefusal::ConnectionTypeNotSupported.status());
+            return OpenDecision::Refuses(OpenRefusal::ConnectionTypeNotSupported);
         }
         if view.fields.ot_rpi == 0 || view.fields.to_rpi == 0 {
-            return OpenDecision::Refuses(OpenRefusal::RpiOfZero.status());
+            return OpenDecision::Refuses(OpenRefusal::RpiOfZero);
         }
         if self.hops.held(&view.fields.triad).is_some() {
-            return OpenDecision::Refuses(OpenRefusal::TriadInUse.status());
+            return OpenDecision::Refuses(OpenRefusal::TriadInUse);
         }
         self.open_by_key(up, view)
     }

@@ -6,13 +6,13 @@ ghost use Rattle.cip_open.specs.declared.request.OpenView.{OpenView as Views};
 ghost use Rattle.cip_pending.specs.Pendings.{refusal};
 ghost use Rattle.cip_hops.specs.Hops as hops;
 ghost use Rattle.cip_hops.specs.Sides.{up_is_link};
-ghost use Rattle.cip_target.specs.Ends.{row_at, Fits};
+ghost use Rattle.cip_target.specs.Ends.{row_at};
 ghost use Rattle.cip_module.specs.Answers.{open_failed};
-ghost use Rattle.cip_module.specs.OpenRows.{open_row, opening_with, ids_on, end_down, Fails, GoesOn, EndsHere};
-ghost use Rattle.cip_module.specs.Table.{opener, open_on, accepted_bytes, open_answered, open_effects, asked_effects, unread_open_bytes, with_spending};
-ghost use Rattle.cip_module.specs.Ready.{CanSpend, IsAsked};
-ghost use Rattle.cip_module.specs.Does.{Does};
-ghost use Rattle.cip_module.specs.Node.{state_of_node};
+ghost use Rattle.cip_module.specs.OpenRows.{open_row, opening_with, ids_on, end_down, Forwarded, Accepted};
+ghost use Rattle.cip_module.specs.Table.{opener, open_on, accepted_bytes, open_effects, open_data_effects, unread_open_bytes, with_spending};
+ghost use Rattle.cip_module.specs.Code.Ready.{CanSpend, IsAsked};
+ghost use Rattle.cip_module.specs.Code.Does.{Handles};
+ghost use Rattle.cip_module.specs.Code.Node.{state_of_node};
 
 use crate::event::{Body, Output};
 use crate::messages::reply_to;
@@ -22,8 +22,8 @@ use cip_base::{Address, Bytes, NoMemory, PortNumber, Status, Timing, Triad};
 use cip_hops::{HopDown, HopUp, Opening};
 use cip_message::DataFault;
 use cip_open::{
-    OpenFailure, OpenFields, OpenReply, OpenView, params, read_open, triad_at, words_at,
-    write_open, write_open_failure, write_open_reply,
+    OPEN_FIXED_PART, OpenFailure, OpenFields, OpenReply, OpenView, params, read_open, triad_at,
+    words_at, write_open, write_open_failure, write_open_reply,
 };
 use cip_pending::{Entry, Kind, UpSide};
 use cip_segment::{Path, PathView};
@@ -78,12 +78,13 @@ pub(crate) fn open_failed(
     write_open_failure(alloc, status, &failure)
 }
 
-// The failure of a Forward_Open that cannot be read: nothing where its fixed part is cut, else its triad and its path size.
+// The failure of a Forward_Open that cannot be read: nothing where its fixed part is cut, else its
+// triad and its path size.
 fn unread_open(alloc: Global, data_: &[u8], fault: DataFault) -> Result<Bytes, NoMemory>
     ensures { IfOk result (λ b. b ≡ unread_open_bytes data_.now fault) }
 {
     let status = unread_row(data_, fault).status();
-    let failure = if data_.len() < 36 {
+    let failure = if data_.len() < OPEN_FIXED_PART {
         OpenFailure {
             triad: None,
             words: None,
@@ -115,7 +116,8 @@ fn open_on(
 
 // The success of an end: its own up id, and no application reply.
 fn accepted(alloc: Global, fields: &OpenFields, up_id: u32) -> Result<Bytes, NoMemory>
-    ensures { IfOk result (λ b. b ≡ accepted_bytes (record { fields = fields.now; path = [] }) up_id) }
+    ensures { IfOk result (λ b. b ≡ accepted_bytes (record { fields = fields.now; path = [] })
+        up_id) }
 {
     let reply = OpenReply {
         ot_id: up_id,
@@ -142,10 +144,11 @@ impl Node {
         requires multiplier { view.now.fields.multiplier < 8 }
         requires ticks { 2 ≤ view.now.fields.timing.ticks }
         requires pending { refusal self.old.pendings ≡ None }
-        requires room { hops.refusal self.old.hops view.now.fields.triad (ids_on (opener up view.now.fields.to_id)) ≡ None }
-        ensures done { IfOk result (λ o. Does self.old.config (state_of_node self.old) (with_spending up (open_answered (state_of_node self.old) up (open_of view.now) (GoesOn port address rest.entry.bytes.now))) (state_of_node self.new) (o ∷ [])) }
-        ensures same { OnErr result (state_of_node self.new ≡ state_of_node self.old) }
-        ensures config { self.new.config ≡ self.old.config }
+        requires room { hops.refusal self.old.hops view.now.fields.triad
+            (ids_on (opener up view.now.fields.to_id)) ≡ None }
+        ensures { Handles self.old self.new (with_spending up
+            (open_effects (state_of_node self.old) up (open_of view.now)
+            (Forwarded port address rest.entry.bytes.now))) result }
     {
         let bytes = open_on(self.alloc, view, self.hops.last() + 1, rest)?;
         let path = view.path.to_path(self.alloc)?;
@@ -184,10 +187,10 @@ impl Node {
         requires multiplier { view.now.fields.multiplier < 8 }
         requires link { up_is_link (opener up view.now.fields.to_id) ≡ true }
         requires room { hops.refusal self.old.hops view.now.fields.triad 1 ≡ None }
-        requires fits { row_at self.old.target (open_of view.now) ≡ Fits link }
-        ensures done { IfOk result (λ o. Does self.old.config (state_of_node self.old) (with_spending up (open_answered (state_of_node self.old) up (open_of view.now) (EndsHere link))) (state_of_node self.new) (o ∷ [])) }
-        ensures same { OnErr result (state_of_node self.new ≡ state_of_node self.old) }
-        ensures config { self.new.config ≡ self.old.config }
+        requires fits { row_at self.old.target (open_of view.now) ≡ Ok link }
+        ensures { Handles self.old self.new (with_spending up
+            (open_effects (state_of_node self.old) up (open_of view.now) (Accepted link)))
+            result }
     {
         let bytes = accepted(self.alloc, &view.fields, self.hops.last() + 1)?;
         let path = view.path.to_path(self.alloc)?;
@@ -204,15 +207,16 @@ impl Node {
     /// A Forward_Open that was read.
     pub(crate) fn open(&mut self, up: UpSide, view: &OpenView<'_>) -> Result<Output, NoMemory>
         requires spend { CanSpend self.old up }
-        ensures done { IfOk result (λ o. Does self.old.config (state_of_node self.old) (with_spending up (open_effects (state_of_node self.old) up (open_of view.now) (open_row self.old.config (state_of_node self.old) (opener up view.now.fields.to_id) (open_of view.now)))) (state_of_node self.new) (o ∷ [])) }
-        ensures same { OnErr result (state_of_node self.new ≡ state_of_node self.old) }
-        ensures config { self.new.config ≡ self.old.config }
+        ensures { Handles self.old self.new (with_spending up
+            (open_effects (state_of_node self.old) up (open_of view.now)
+            (open_row self.old.config (state_of_node self.old) (opener up view.now.fields.to_id)
+            (open_of view.now)))) result }
     {
         let asker = opener(&up, view.fields.to_id);
         match self.open_row(&asker, view) {
-            OpenDecision::Refuses(status) => {
+            OpenDecision::Refuses(refusal) => {
                 let words = view.path.words();
-                let bytes = open_failed(self.alloc, status, view.fields.triad, words)?;
+                let bytes = open_failed(self.alloc, refusal.status(), view.fields.triad, words)?;
                 self.spend_for(&up);
                 Ok(reply_to(up, bytes))
             }
@@ -228,9 +232,9 @@ impl Node {
     /// A Forward_Open, by its data.
     pub(crate) fn forward_open(&mut self, up: UpSide, data_: &[u8]) -> Result<Output, NoMemory>
         requires { IsAsked up }
-        ensures done { IfOk result (λ o. Does self.old.config (state_of_node self.old) (asked_effects self.old.config (state_of_node self.old) up data_.now (open_at data_.now)) (state_of_node self.new) (o ∷ [])) }
-        ensures same { OnErr result (state_of_node self.new ≡ state_of_node self.old) }
-        ensures config { self.new.config ≡ self.old.config }
+        ensures { Handles self.old self.new
+            (open_data_effects self.old.config (state_of_node self.old) up
+            data_.now (open_at data_.now)) result }
     {
         match read_open(data_) {
             Ok(view) => self.open(up, &view),

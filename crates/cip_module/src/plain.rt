@@ -1,8 +1,9 @@
-//! A module that originates, routes and answers. It decodes each message and writes what goes on anew.
+//! A module that originates, routes and answers. It decodes each message and writes what goes on
+//! anew.
 ghost use Rattle.std.specs.Prelude.{◌≡◌, IfOk};
 ghost use Rattle.cip_module.specs.declared.config.ModuleKind.{ModuleKind as Kind};
-ghost use Rattle.cip_module.specs.State.{opening};
-ghost use Rattle.cip_module.specs.Node.{config_of_plain, state_of_plain};
+ghost use Rattle.cip_module.specs.State.{initial_state};
+ghost use Rattle.cip_module.specs.Code.Node.{config_of_plain, state_of_plain};
 
 use crate::config::{ModuleConfig, ModuleKind};
 use crate::contract::{Module, StepFault};
@@ -12,18 +13,19 @@ use crate::tables::Tables;
 use cip_base::NoMemory;
 use std::alloc::Global;
 
-/// A module that originates, routes and answers. It decodes each message and writes what goes on anew.
+/// A module that originates, routes and answers. It decodes each message and writes what goes on
+/// anew.
 #[derive(Drop)]
 pub struct PlainModule {
     pub(crate) node: Node,
 }
 
 impl PlainModule {
-    /// Such a module in the opening state of its config; NoMemory where a growth is refused.
+    /// Such a module in the initial state of its config; NoMemory where a growth is refused.
     pub fn new(alloc: Global, config: ModuleConfig) -> Result<PlainModule, NoMemory>
         requires { config.kind ≡ ModuleKind.Plain }
         ensures config { IfOk result (λ m. config_of_plain m ≡ config) }
-        ensures state { IfOk result (λ m. state_of_plain m ≡ opening config) }
+        ensures state { IfOk result (λ m. state_of_plain m ≡ initial_state config) }
     {
         let node = Node::new(alloc, config)?;
         Ok(PlainModule { node })
@@ -31,13 +33,16 @@ impl PlainModule {
 }
 
 impl Module for PlainModule {
-    ghost use Rattle.cip_module.specs.Node.{config_of_plain, state_of_plain};
+    ghost use Rattle.cip_module.specs.Code.Node.{config_of_plain, state_of_plain};
 
     ghost config_of = { config_of_plain };
 
     ghost state_of = { state_of_plain };
 
     ghost paired = { λ m. m.node.fit.paired };
+
+    ghost rooms = { λ m. record
+        { pendings = m.node.fit.pending_room; hops = m.node.fit.hop_room } };
 
     fn config(&self) -> &ModuleConfig {
         &self.node.config

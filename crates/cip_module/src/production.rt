@@ -1,12 +1,14 @@
-//! What an end sends of an assembly: a datum by each connection that takes its data from it, in rising triad.
+//! What an end sends of an assembly: a datum by each connection that takes its data from it, in
+//! rising triad.
 ghost use Rattle.std.specs.Prelude.{◌≡◌, ◌≤◌, length, IfOk, OnErr};
 ghost use Rattle.std.specs.FinMap as map;
-ghost use Rattle.cip_module.specs.Does.{Does};
-ghost use Rattle.cip_module.specs.Node.{state_of_node};
-ghost use Rattle.cip_module.specs.Produced.{reads_from, next_count, datum_bytes, made_all, count_for, counted_all, open_hops};
+ghost use Rattle.cip_module.specs.Code.Does.{HandlesAs};
+ghost use Rattle.cip_module.specs.Code.Node.{state_of_node};
+ghost use Rattle.cip_module.specs.Produced.{reads_from, next_count, datum_bytes};
+ghost use Rattle.cip_module.specs.Code.Made.{made_all, count_for, counted_all, open_hops};
 ghost use Rattle.cip_module.specs.Table.{produce_effects};
 
-use crate::datum::datum_up;
+use crate::datum_rows::datum_up;
 use crate::event::{Output, Refused};
 use crate::node::Node;
 use cip_base::{Bytes, NoMemory};
@@ -64,9 +66,10 @@ impl Node {
     // The data that go up, in rising triad.
     fn data_of(&self, instance: u32, held: &[u8]) -> Result<Vec<Output>, NoMemory>
         requires { length held.now ≤ 511 }
-        ensures { IfOk result (λ outputs. outputs.items ≡ made_all instance held.now (open_hops self.now.hops)) }
+        ensures { IfOk result (λ outputs. outputs.items
+            ≡ made_all instance held.now (open_hops self.now.hops)) }
     {
-        let _last = self.hops.last();
+        self.hops.is_within();
         let mut outputs = Vec::new(self.alloc);
         let mut after = None;
         while let Some(hop) = self.hops.next_after(after.as_ref()) {
@@ -81,12 +84,13 @@ impl Node {
 
     // Each of these connections counts one more.
     fn count_data(&mut self, instance: u32)
-        ensures after { state_of_node self.new ≡ record (state_of_node self.old) { hops = counted_all instance (open_hops self.old.hops) self.old.hops } }
+        ensures after { state_of_node self.new ≡ record (state_of_node self.old)
+            { hops = counted_all instance (open_hops self.old.hops) self.old.hops } }
         ensures config { self.new.config ≡ self.old.config }
     {
         let mut after = None;
         while let Some(hop) = self.hops.next_after(after.as_ref()) {
-            let _last = self.hops.last();
+            self.hops.is_within();
             let triad = hop.opening.triad;
             if let Some(count) = count_for(hop, instance) {
                 self.counts(&triad, Side::Down, count);
@@ -97,16 +101,16 @@ impl Node {
 
     /// A Produce of an assembly.
     pub(crate) fn produce(&mut self, instance: u32) -> Result<Vec<Output>, NoMemory>
-        ensures done { IfOk result (λ o. Does self.old.config (state_of_node self.old) (produce_effects (state_of_node self.old) instance (map.get self.old.target.objects.assemblies instance)) (state_of_node self.new) o.items) }
-        ensures same { OnErr result (state_of_node self.new ≡ state_of_node self.old) }
-        ensures config { self.new.config ≡ self.old.config }
+        ensures { HandlesAs (λ v. v.items) self.old self.new
+            (produce_effects (state_of_node self.old) instance
+            (map.get self.old.target.objects.assemblies instance)) result }
     {
         let Some(assembly) = self.target.assembly(instance) else {
             let mut outputs = Vec::with_capacity(self.alloc, 1)?;
             outputs.push_reserved(Output::Refused(Refused::NoInstance));
             return Ok(outputs);
         };
-        let _last = self.hops.last();
+        self.hops.is_within();
         let outputs = self.data_of(instance, self.target.produce(assembly.instance))?;
         self.count_data(instance);
         Ok(outputs)

@@ -1,60 +1,82 @@
-//! The replies that rows answer.
-ghost use Rattle.std.specs.Prelude.{◌≡◌, ◌≤◌, ◌<◌, ◌+◌, length, IfOk};
-ghost use Rattle.cip_module.specs.Answers.{answered, failure_bytes, unconnected_failed, unconnected_failure};
+//! The reply group: a reply on its way up.
+ghost use Rattle.std.specs.Prelude.{◌≡◌, ◌≤◌, ◌%◌, ◌∷◌, [], length, IfOk, OnErr};
+ghost use Rattle.std.specs.FinMap as map;
+ghost use Rattle.cip_open.specs.Reading.{success_of};
+ghost use Rattle.cip_module.specs.Effects.{succeeded};
+ghost use Rattle.cip_module.specs.ReplyRows.{reply_row};
+ghost use Rattle.cip_module.specs.Code.Node.{state_of_node};
+ghost use Rattle.cip_module.specs.Code.Does.{Handles};
+ghost use Rattle.cip_module.specs.Table.{reply_effects};
 
-use crate::rows::UnconnectedRefusal;
-use cip_base::{Bytes, NoMemory, Status};
-use cip_message::{WriteFault, write_reply};
-use std::alloc::Global;
+use crate::event::{Dropped, Output};
+use crate::messages::reply_to;
+use crate::node::Node;
+use crate::reply_rows::{ReplyDecision, reply_row};
+use crate::request_rows::is_malformed;
+use cip_base::{Address, Bytes, NoMemory, PortNumber, Triad};
+use cip_hops::HopUp;
+use cip_open::{OpenReply, write_open_reply};
 
-/// The reply of a service, which is below 80 and is answered with bit 7 set.
-pub(crate) fn answered(
-    alloc: Global,
-    service: u8,
-    status: Status,
-    bytes: &[u8],
-) -> Result<Bytes, NoMemory>
-    requires service { service < 128 }
-    requires room { length bytes.now ≤ 1394 }
-    ensures { IfOk result (λ b. b ≡ answered service status bytes.now) }
-{
-    match write_reply(alloc, 128 + service, status, bytes) {
-        Ok(reply) => Ok(reply),
-        Err(WriteFault::NoMemory) => Err(NoMemory),
-        Err(WriteFault::TooLong) => unreachable!(),
+impl Node {
+    // A success as it goes up: with the own up id, and the T to O id of the node above; a command
+    // gets the bytes as received.
+    fn success_up(
+        &self,
+        triad: &Triad,
+        bytes: &[u8],
+        success: OpenReply<'_>,
+    ) -> Result<Bytes, NoMemory>
+        requires even { length success.reply.now % 2 ≡ 0 }
+        requires most { length success.reply.now ≤ 510 }
+        ensures { IfOk result (λ b. b ≡ succeeded (map.get self.now.hops.held triad.now) bytes.now
+            (success_of success.entry)) }
+    {
+        if let Some(held) = self.hops.held(triad) {
+            if let HopUp::Link { their_id, .. } = &held.opening().up {
+                let mut reply = success;
+                reply.ot_id = held.ids().up.unwrap_or(0);
+                reply.to_id = *their_id;
+                return write_open_reply(self.alloc, &reply);
+            }
+        }
+        Ok(Bytes::of(Vec::from_slice(self.alloc, bytes)?))
     }
-}
 
-/// The failure of a request: its status, and no data.
-pub(crate) fn failure(alloc: Global, service: u8, status: Status) -> Result<Bytes, NoMemory>
-    requires { service < 128 }
-    ensures { IfOk result (λ b. b ≡ failure_bytes service status) }
-{
-    answered(alloc, service, status, &[])
-}
-
-/// The failure of an Unconnected_Send: its status, and the words of the path as received, where they are known
-/// (Volume 1, chapter 3, Unconnected_Send's unsuccessful response).
-pub(crate) fn unconnected_failed(
-    alloc: Global,
-    status: Status,
-    words: Option<u8>,
-) -> Result<Bytes, NoMemory>
-    ensures { IfOk result (λ b. b ≡ unconnected_failed status words) }
-{
-    match words {
-        None => answered(alloc, 0x52, status, &[]),
-        Some(words) => answered(alloc, 0x52, status, &[words]),
+    /// A reply that came in by a port from an address.
+    #[tactic(auto, unfolding(crate::specs::ReplyRows::reply_row))]
+    pub(crate) fn reply(
+        &mut self,
+        port: PortNumber,
+        from: &Address,
+        number: u32,
+        bytes: &Bytes,
+    ) -> Result<Output, NoMemory>
+        ensures { Handles self.old self.new (reply_effects number bytes.now
+            (reply_row self.old.config (state_of_node self.old) port from.now number bytes.now))
+            result }
+    {
+        if is_malformed(self.config.settings(), port, bytes.as_slice()) {
+            return Ok(Output::Dropped(Dropped::Malformed));
+        }
+        let Some(entry) = self.pendings.look(number, port, from) else {
+            return Ok(Output::Dropped(Dropped::Late));
+        };
+        match reply_row(entry.kind, bytes.as_slice()) {
+            ReplyDecision::Malformed => Ok(Output::Dropped(Dropped::Malformed)),
+            ReplyDecision::OpenSucceeded(triad, success) => {
+                let reply = self.success_up(&triad, bytes.as_slice(), success)?;
+                let Some(up) = self.finishes(number, port, from, &triad, success.ot_id) else {
+                    unreachable!()
+                };
+                Ok(reply_to(up, reply))
+            }
+            ReplyDecision::PassedUp => {
+                let reply = Bytes::of(Vec::from_slice(self.alloc, bytes.as_slice())?);
+                let Some(up) = self.takes(number, port, from) else {
+                    unreachable!()
+                };
+                Ok(reply_to(up, reply))
+            }
+        }
     }
-}
-
-/// The failure of an Unconnected_Send by the row that refuses it.
-pub(crate) fn unconnected_failure(
-    alloc: Global,
-    refusal: UnconnectedRefusal,
-    words: Option<u8>,
-) -> Result<Bytes, NoMemory>
-    ensures { IfOk result (λ b. b ≡ unconnected_failure refusal words) }
-{
-    unconnected_failed(alloc, refusal.status(), words)
 }

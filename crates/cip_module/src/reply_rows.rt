@@ -9,12 +9,12 @@ ghost use Rattle.cip_close.specs.SuccessAt.{close_reply_at};
 ghost use Rattle.cip_module.specs.ReplyRows.{triad_eq, failure_row, opened_row, closed_row, opening_row, closing_row, kind_row, read_row};
 ghost use Rattle.cip_pending.specs.declared.entry.Kind.{Kind as Kinds};
 ghost use Rattle.cip_pending.specs.declared.entry.Kind.TheVariants as kinds;
-ghost use Rattle.cip_module.specs.Decisions.{reply_told, ReplyLeads};
+ghost use Rattle.cip_module.specs.Code.Decisions.{reply_row_of, ReplyLeads};
 
 use cip_base::Triad;
-use cip_close::read_close_reply;
+use cip_close::{FORWARD_CLOSE_REPLY, read_close_reply};
 use cip_message::{ReplyView, read_failure, read_reply};
-use cip_open::{OpenReply, read_open_reply};
+use cip_open::{FORWARD_OPEN_REPLY, OpenReply, read_open_reply};
 use cip_pending::Kind;
 
 /// What a reply that was waited for says.
@@ -27,7 +27,7 @@ pub(crate) enum ReplyDecision<'a> {
 
 // A failure tells no triad, or the one that was asked.
 fn failed(triad: Triad, data_: &[u8]) -> ReplyDecision<'_>
-    ensures row { reply_told result ≡ failure_row triad (failure_at data_.entry.now) }
+    ensures row { reply_row_of result ≡ failure_row triad (failure_at data_.entry.now) }
     ensures leads { (kind : Kinds) → ReplyLeads kind result }
 {
     match read_failure(data_) {
@@ -46,7 +46,7 @@ fn failed(triad: Triad, data_: &[u8]) -> ReplyDecision<'_>
 }
 
 fn opened(triad: Triad, data_: &[u8]) -> ReplyDecision<'_>
-    ensures row { reply_told result ≡ opened_row triad (open_reply_at data_.entry.now) }
+    ensures row { reply_row_of result ≡ opened_row triad (open_reply_at data_.entry.now) }
     ensures leads { ReplyLeads (kinds.Opening triad) result }
 {
     match read_open_reply(data_) {
@@ -62,7 +62,7 @@ fn opened(triad: Triad, data_: &[u8]) -> ReplyDecision<'_>
 }
 
 fn closed(triad: Triad, data_: &[u8]) -> ReplyDecision<'_>
-    ensures row { reply_told result ≡ closed_row triad (close_reply_at data_.entry.now) }
+    ensures row { reply_row_of result ≡ closed_row triad (close_reply_at data_.entry.now) }
     ensures leads { (kind : Kinds) → ReplyLeads kind result }
 {
     match read_close_reply(data_) {
@@ -79,7 +79,7 @@ fn closed(triad: Triad, data_: &[u8]) -> ReplyDecision<'_>
 
 // A success has no additional status and exactly its layout.
 fn opening<'a>(triad: Triad, reply: ReplyView<'a>) -> ReplyDecision<'a>
-    ensures row { reply_told result ≡ opening_row triad (reply_of reply.entry) }
+    ensures row { reply_row_of result ≡ opening_row triad (reply_of reply.entry) }
     ensures leads { ReplyLeads (kinds.Opening triad) result }
 {
     if reply.general != 0 {
@@ -92,7 +92,7 @@ fn opening<'a>(triad: Triad, reply: ReplyView<'a>) -> ReplyDecision<'a>
 }
 
 fn closing<'a>(triad: Triad, reply: ReplyView<'a>) -> ReplyDecision<'a>
-    ensures row { reply_told result ≡ closing_row triad (reply_of reply.entry) }
+    ensures row { reply_row_of result ≡ closing_row triad (reply_of reply.entry) }
     ensures leads { ReplyLeads (kinds.Closing triad) result }
 {
     if reply.general != 0 {
@@ -105,20 +105,20 @@ fn closing<'a>(triad: Triad, reply: ReplyView<'a>) -> ReplyDecision<'a>
 }
 
 fn by_kind<'a>(kind: Kind, reply: ReplyView<'a>) -> ReplyDecision<'a>
-    ensures row { reply_told result ≡ kind_row kind (reply_of reply.entry) }
+    ensures row { reply_row_of result ≡ kind_row kind (reply_of reply.entry) }
     ensures leads { ReplyLeads kind result }
 {
     match kind {
         Kind::Unconnected => ReplyDecision::PassedUp,
         Kind::Opening(triad) => {
-            if reply.service == 0xD4 {
+            if reply.service == FORWARD_OPEN_REPLY {
                 opening(triad, reply)
             } else {
                 ReplyDecision::Malformed
             }
         }
         Kind::Closing(triad) => {
-            if reply.service == 0xCE {
+            if reply.service == FORWARD_CLOSE_REPLY {
                 closing(triad, reply)
             } else {
                 ReplyDecision::Malformed
@@ -129,7 +129,7 @@ fn by_kind<'a>(kind: Kind, reply: ReplyView<'a>) -> ReplyDecision<'a>
 
 /// The row of a reply to a request of this kind.
 pub(crate) fn reply_row(kind: Kind, bytes: &[u8]) -> ReplyDecision<'_>
-    ensures row { reply_told result ≡ read_row kind (reply_at bytes.entry.now) }
+    ensures row { reply_row_of result ≡ read_row kind (reply_at bytes.entry.now) }
     ensures leads { ReplyLeads kind result }
 {
     match read_reply(bytes) {

@@ -3,7 +3,7 @@ ghost use Rattle.std.specs.Prelude.{◌≡◌, map, filter_map, IfOk};
 ghost use Rattle.std.specs.FinMap as finite;
 ghost use Rattle.cip_hops.specs.Hops.{as_hop};
 ghost use Rattle.cip_module.specs.Views.{row_of, hop_row_of, assembly_row_of, ShowsState};
-ghost use Rattle.cip_module.specs.Node.{state_of_node};
+ghost use Rattle.cip_module.specs.Code.Node.{state_of_node};
 
 use crate::node::Node;
 use crate::tables::{
@@ -52,9 +52,10 @@ fn hop_row(alloc: Global, hop: &Hop) -> Result<HopRow, NoMemory>
 
 // The connections that are open, in rising triad.
 fn hop_rows(alloc: Global, hops: &HopTable) -> Result<Vec<HopRow>, NoMemory>
-    ensures { IfOk result (λ rows. rows.items ≡ map hop_row_of (filter_map (λ e. as_hop e.1) (finite.entries hops.now.held))) }
+    ensures { IfOk result (λ rows. rows.items ≡ map hop_row_of
+        (filter_map (λ e. as_hop e.1) (finite.entries hops.now.held))) }
 {
-    let _last = hops.last();
+    hops.is_within();
     let mut rows = Vec::new(alloc);
     let mut after = None;
     while let Some(hop) = hops.next_after(after.as_ref()) {
@@ -66,7 +67,8 @@ fn hop_rows(alloc: Global, hops: &HopTable) -> Result<Vec<HopRow>, NoMemory>
 
 // The assemblies, in rising instance.
 fn assembly_rows(alloc: Global, target: &Target) -> Result<Vec<AssemblyRow>, NoMemory>
-    ensures { IfOk result (λ rows. rows.items ≡ map assembly_row_of (finite.entries target.now.objects.assemblies)) }
+    ensures { IfOk result (λ rows. rows.items ≡ map assembly_row_of
+        (finite.entries target.now.objects.assemblies)) }
 {
     let mut rows = Vec::new(alloc);
     let mut after = None;

@@ -1,37 +1,25 @@
 //! The step of a module of any kind.
-ghost use Rattle.std.specs.Prelude.{◌≡◌, ◌∷◌, [], IfOk, OnErr};
+ghost use Rattle.std.specs.Prelude.{◌≡◌, IfOk, OnErr};
 ghost use Rattle.std.specs.Option.{option_to_list};
-ghost use Rattle.cip_module.specs.Tick.{TickGives, IsNoTick, IsSingle};
+ghost use Rattle.cip_module.specs.Code.Ticks.{IsNoTick, IsSingle};
 ghost use Rattle.cip_module.specs.Steps.{IsStep, IsStepFault};
 ghost use Rattle.cip_module.specs.Table.{command_effects, frame_effects};
-ghost use Rattle.cip_module.specs.Node.{state_of_node};
-ghost use Rattle.cip_module.specs.Does.{Does};
+ghost use Rattle.cip_module.specs.Code.Node.{state_of_node};
+ghost use Rattle.cip_module.specs.Code.Does.{Handles, HandlesAs};
 
 use crate::contract::StepFault;
 use crate::event::{Body, Command, Event, Output};
 use crate::node::Node;
-use crate::ticks::timed_out_all;
-use cip_base::{Address, Ms, NoMemory, PortNumber};
+use crate::ticks::TickFault;
+use cip_base::{Address, NoMemory, PortNumber};
 use cip_unconnected::UnconnectedView;
 
-/// Why a tick does not happen.
-#[derive(Clone, Copy, Debug, PartialEq, Eq)]
-pub(crate) enum TickFault {
-    OutOfMemory,
-    Full,
-}
-
 impl Node {
-    ghost use Rattle.std.specs.Prelude.{◌++◌};
-    ghost use Rattle.cip_hops.specs.Hops.{due};
-    ghost use Rattle.cip_module.specs.Effects.{applied};
-    ghost use Rattle.cip_module.specs.Table.{expiries, lapsings};
-
     // A frame.
     fn frame(&mut self, port: PortNumber, from: &Address, body: &Body) -> Result<Output, NoMemory>
-        ensures done { IfOk result (λ o. Does self.old.config (state_of_node self.old) (frame_effects self.old.config (state_of_node self.old) port from.now body.now) (state_of_node self.new) (o ∷ [])) }
-        ensures same { OnErr result (state_of_node self.new ≡ state_of_node self.old) }
-        ensures config { self.new.config ≡ self.old.config }
+        ensures { Handles self.old self.new
+            (frame_effects self.old.config (state_of_node self.old) port
+            from.now body.now) result }
     {
         match body {
             Body::Request { number, bytes } => self.request(port, from, *number, bytes.as_slice()),
@@ -43,9 +31,8 @@ impl Node {
     // A command that has one output at the most.
     fn command(&mut self, command: &Command) -> Result<Option<Output>, NoMemory>
         requires { IsSingle command.now }
-        ensures done { IfOk result (λ o. Does self.old.config (state_of_node self.old) (command_effects self.old.config (state_of_node self.old) command.now) (state_of_node self.new) (option_to_list o)) }
-        ensures same { OnErr result (state_of_node self.new ≡ state_of_node self.old) }
-        ensures config { self.new.config ≡ self.old.config }
+        ensures { HandlesAs option_to_list self.old self.new
+            (command_effects self.old.config (state_of_node self.old) command.now) result }
     {
         match command {
             Command::Open {
@@ -77,7 +64,8 @@ impl Node {
     // A command or a frame.
     fn occur(&mut self, event: &Event) -> Result<Vec<Output>, NoMemory>
         requires { IsNoTick event.now }
-        ensures done { IfOk result (λ o. IsStep self.old.config (state_of_node self.old) event.now (state_of_node self.new) o.items) }
+        ensures done { IfOk result (λ o. IsStep self.old.config (state_of_node self.old) event.now
+            (state_of_node self.new) o.items) }
         ensures same { OnErr result (state_of_node self.new ≡ state_of_node self.old) }
         ensures config { self.new.config ≡ self.old.config }
     {
@@ -96,54 +84,13 @@ impl Node {
         Ok(outputs)
     }
 
-    // So many milliseconds go by: what is due goes up, in rising number, then what was silent is gone, in rising triad.
-    fn tick(&mut self, by: Ms) -> Result<Vec<Output>, TickFault>
-        ensures gives { TickGives (λ v. v.items) self.old.config (state_of_node self.old) (state_of_node self.new) by result }
-        ensures config { self.new.config ≡ self.old.config }
-    {
-        let mut clock = self.clock;
-        let Ok(()) = clock.advance(by) else {
-            return Err(TickFault::Full);
-        };
-        let now = clock.now();
-        let Ok(outputs) = timed_out_all(self.alloc, &self.pendings, &self.hops, now) else {
-            return Err(TickFault::OutOfMemory);
-        };
-        self.clock = clock;
-        self.clear_due(now);
-        Ok(outputs)
-    }
-
-    // Takes out the pendings that are due.
-    fn clear_pendings(&mut self, now: u64)
-        ensures after { state_of_node self.new ≡ applied self.old.config (state_of_node self.old) (expiries now self.old.pendings) }
-        ensures hops { due now self.new.hops ≡ due now self.old.hops }
-        ensures config { self.new.config ≡ self.old.config }
-    {
-        while self.expires_one(now) {}
-    }
-
-    // Takes out the connections that are due.
-    fn clear_hops(&mut self, now: u64)
-        ensures after { state_of_node self.new ≡ applied self.old.config (state_of_node self.old) (lapsings now self.old.hops) }
-        ensures config { self.new.config ≡ self.old.config }
-    {
-        while self.lapses_one(now) {}
-    }
-
-    // Takes out all that are due.
-    fn clear_due(&mut self, now: u64)
-        ensures after { state_of_node self.new ≡ applied self.old.config (state_of_node self.old) (expiries now self.old.pendings ++ lapsings now self.old.hops) }
-        ensures config { self.new.config ≡ self.old.config }
-    {
-        self.clear_pendings(now);
-        self.clear_hops(now);
-    }
-
     /// One event, as the contract of a module says.
     pub(crate) fn step(&mut self, event: Event) -> Result<Vec<Output>, StepFault>
-        ensures ok { IfOk result (λ outputs. IsStep self.old.config (state_of_node self.old) event (state_of_node self.new) outputs.items) }
-        ensures fault { IsStepFault self.old.config (state_of_node self.old) event (state_of_node self.new) result }
+        ensures ok { IfOk result (λ outputs. IsStep self.old.config (state_of_node self.old) event
+            (state_of_node self.new) outputs.items) }
+        ensures fault { IsStepFault self.old.config (state_of_node self.old) event
+            (state_of_node self.new)
+            result }
         ensures config { self.new.config ≡ self.old.config }
     {
         if let Event::Tick(by) = event {

@@ -89,7 +89,8 @@ pub struct HopRow {
     /// The sizes of a datum in bytes.
     pub ot_size: u16,
     pub to_size: u16,
-    /// The times in microseconds at which each side has been silent for too long; None where the side is no link.
+    /// The times in microseconds at which each side has been silent for too long; None where the
+    /// side is no link.
     pub up_deadline: Option<u64>,
     pub down_deadline: Option<u64>,
 }
@@ -163,9 +164,9 @@ impl AssemblyRows {
     }
 }
 
-/// The state of a module: its time in microseconds, the last connection id and the last pending number (one less than the
-/// next), the requests that wait, the connections that are open, the assemblies and the ops that were used, each list in
-/// rising key.
+/// The state of a module: its time in microseconds, the last connection id and the last pending
+/// number (one less than the next), the requests that wait, the connections that are open, the
+/// assemblies and the ops that were used, each list in rising key.
 #[derive(Drop)]
 pub struct Tables {
     pub now: u64,

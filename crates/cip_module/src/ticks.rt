@@ -1,86 +1,70 @@
-//! What a tick tells of what ran out.
-ghost use Rattle.std.specs.Prelude.{◌≡◌, ◌++◌, IfOk, OnOk};
-ghost use Rattle.cip_module.specs.Effects.{late_bytes};
-ghost use Rattle.cip_module.specs.Tick.{shown, shown_all, lapsed_all};
+//! The tick group: time that goes by.
+ghost use Rattle.std.specs.Prelude.{◌≡◌, ◌++◌};
+ghost use Rattle.cip_hops.specs.Hops.{due};
+ghost use Rattle.cip_module.specs.Effects.{applied};
+ghost use Rattle.cip_module.specs.Table.{pending_time_outs, hop_time_outs};
+ghost use Rattle.cip_module.specs.Code.Ticks.{TickGives};
+ghost use Rattle.cip_module.specs.Code.Node.{state_of_node};
 
-use crate::closes::close_failed;
 use crate::event::Output;
-use crate::messages::reply_to;
-use crate::opens::open_failed;
-use crate::replies::unconnected_failed;
-use crate::rows::LinkRefusal;
-use cip_base::{Bytes, NoMemory};
-use cip_hops::HopTable;
-use cip_pending::{Entry, Kind, PendingTable};
-use std::alloc::Global;
+use crate::node::Node;
+use crate::tick_rows::timed_out_all;
+use cip_base::Ms;
 
-// That no answer came in time.
-fn late(alloc: Global, kind: Kind, words: u8) -> Result<Bytes, NoMemory>
-    ensures { IfOk result (λ b. b ≡ late_bytes kind words) }
-{
-    let status = LinkRefusal::TicksSpent.status();
-    match kind {
-        Kind::Unconnected => unconnected_failed(alloc, status, Some(words)),
-        Kind::Opening(triad) => open_failed(alloc, status, triad, words),
-        Kind::Closing(triad) => close_failed(alloc, status, triad, words),
+/// Why a tick does not happen.
+#[derive(Clone, Copy, Debug, PartialEq, Eq)]
+pub(crate) enum TickFault {
+    OutOfMemory,
+    Full,
+}
+
+impl Node {
+    // So many milliseconds go by: what is due goes up, in rising number, then what was silent is
+    // gone, in rising triad.
+    pub(crate) fn tick(&mut self, by: Ms) -> Result<Vec<Output>, TickFault>
+        ensures gives { TickGives (λ v. v.items) self.old.config (state_of_node self.old)
+            (state_of_node self.new) by result }
+        ensures config { self.new.config ≡ self.old.config }
+    {
+        let mut clock = self.clock;
+        let Ok(()) = clock.advance(by) else {
+            return Err(TickFault::Full);
+        };
+        let now = clock.now();
+        let Ok(outputs) = timed_out_all(self.alloc, &self.pendings, &self.hops, now) else {
+            return Err(TickFault::OutOfMemory);
+        };
+        self.clock = clock;
+        self.clear_due(now);
+        Ok(outputs)
     }
-}
 
-// What goes up when the time of a pending ran out.
-fn timed_out(alloc: Global, number: u32, entry: &Entry) -> Result<Output, NoMemory>
-    ensures { IfOk result (λ o. o ≡ shown (number, entry.now)) }
-{
-    let bytes = late(alloc, entry.kind, entry.words)?;
-    Ok(reply_to(entry.up.copy(), bytes))
-}
-
-// What goes up of all pendings whose time ran out, in rising number.
-fn pendings_out(
-    outputs: &mut Vec<Output>,
-    alloc: Global,
-    pendings: &PendingTable,
-    now: u64,
-) -> Result<(), NoMemory>
-    ensures { OnOk result (outputs.new.items ≡ outputs.old.items ++ shown_all now pendings.now) }
-{
-    let mut after = None;
-    while let Some((number, entry)) = pendings.next_after(after) {
-        if entry.deadline <= now {
-            outputs.push(timed_out(alloc, number, entry)?)?;
-        }
-        after = Some(number);
+    // Takes out the pendings that are due.
+    fn clear_pendings(&mut self, now: u64)
+        ensures after { state_of_node self.new ≡ applied self.old.config (state_of_node self.old)
+            (pending_time_outs now self.old.pendings) }
+        ensures hops { due now self.new.hops ≡ due now self.old.hops }
+        ensures config { self.new.config ≡ self.old.config }
+    {
+        while self.time_out_pending(now) {}
     }
-    Ok(())
-}
 
-// The connections that were silent for too long, in rising triad.
-fn hops_out(outputs: &mut Vec<Output>, hops: &HopTable, now: u64) -> Result<(), NoMemory>
-    ensures { OnOk result (outputs.new.items ≡ outputs.old.items ++ lapsed_all now hops.now) }
-{
-    let _last = hops.last();
-    let mut after = None;
-    while let Some(hop) = hops.next_after(after.as_ref()) {
-        let triad = hop.opening.triad;
-        if hop.is_late(now) {
-            outputs.push(Output::Expired { triad })?;
-        }
-        after = Some(triad);
+    // Takes out the connections that are due.
+    fn clear_hops(&mut self, now: u64)
+        ensures after { state_of_node self.new ≡ applied self.old.config (state_of_node self.old)
+            (hop_time_outs now self.old.hops) }
+        ensures config { self.new.config ≡ self.old.config }
+    {
+        while self.time_out_hop(now) {}
     }
-    Ok(())
-}
 
-/// What a tick puts out: the pendings whose time ran out, in rising number, then the connections that were silent for too
-/// long, in rising triad.
-pub(crate) fn timed_out_all(
-    alloc: Global,
-    pendings: &PendingTable,
-    hops: &HopTable,
-    now: u64,
-) -> Result<Vec<Output>, NoMemory>
-    ensures { IfOk result (λ v. v.items ≡ shown_all now pendings.now ++ lapsed_all now hops.now) }
-{
-    let mut outputs = Vec::new(alloc);
-    pendings_out(&mut outputs, alloc, pendings, now)?;
-    hops_out(&mut outputs, hops, now)?;
-    Ok(outputs)
+    // Takes out all that are due.
+    fn clear_due(&mut self, now: u64)
+        ensures after { state_of_node self.new ≡ applied self.old.config (state_of_node self.old)
+            (pending_time_outs now self.old.pendings ++ hop_time_outs now self.old.hops) }
+        ensures config { self.new.config ≡ self.old.config }
+    {
+        self.clear_pendings(now);
+        self.clear_hops(now);
+    }
 }

@@ -1,48 +1,26 @@
 //! The unconnected send group: an Unconnected_Send at a router and at its end.
 ghost use Rattle.std.specs.Prelude.{◌≡◌, ◌≤◌, ◌<◌, ◌∷◌, [], length, IfOk, OnErr, None};
-ghost use Rattle.cip_message.specs.Reading.{request_of};
 ghost use Rattle.cip_unconnected.specs.Reading.{unconnected_of};
 ghost use Rattle.cip_unconnected.specs.Unconnected.{unconnected_bytes};
+ghost use Rattle.cip_unconnected.specs.UnconnectedAt.{unconnected_at};
 ghost use Rattle.cip_pending.specs.declared.entry.Kind.{Kind as Kinds};
 ghost use Rattle.cip_pending.specs.Pendings.{refusal};
 
-use crate::decisions::{Decision, unconnected_row};
+use crate::answers::unconnected_failure;
 use crate::event::{Body, Output};
 use crate::messages::{message_on, reply_to};
 use crate::node::Node;
-use crate::replies::unconnected_failure;
+use crate::unconnected_rows::{UnconnectedDecision, unconnected_row, unread_row};
 use cip_base::{Address, NoMemory, PortNumber};
-use cip_message::RequestView;
 use cip_pending::{Entry, Kind, UpSide};
 use cip_segment::PathView;
-use cip_unconnected::UnconnectedView;
+use cip_unconnected::{UnconnectedView, read_unconnected, route_words};
 
 impl Node {
-    ghost use Rattle.cip_module.specs.Node.{state_of_node};
-    ghost use Rattle.cip_module.specs.Does.{Does};
-    ghost use Rattle.cip_module.specs.Effects.{Answers};
-
-    /// The target answers a request.
-    pub(crate) fn answers(
-        &mut self,
-        up: UpSide,
-        request: RequestView<'_>,
-    ) -> Result<Output, NoMemory>
-        ensures done { IfOk result (λ o. Does self.old.config (state_of_node self.old) (Answers up (request_of request.entry) ∷ []) (state_of_node self.new) (o ∷ [])) }
-        ensures same { OnErr result (state_of_node self.new ≡ state_of_node self.old) }
-        ensures config { self.new.config ≡ self.old.config }
-        ensures ops { self.new.ops ≡ self.old.ops }
-    {
-        let bytes = self.target.answer(self.alloc, request)?;
-        Ok(reply_to(up, bytes))
-    }
-}
-
-impl Node {
-    ghost use Rattle.cip_module.specs.Node.{state_of_node};
-    ghost use Rattle.cip_module.specs.Does.{Does};
+    ghost use Rattle.cip_module.specs.Code.Node.{state_of_node};
+    ghost use Rattle.cip_module.specs.Code.Does.{Handles};
     ghost use Rattle.cip_module.specs.Effects.{Forwards};
-    ghost use Rattle.cip_module.specs.Table.{message_on, wait_of, words_of};
+    ghost use Rattle.cip_module.specs.Table.{send_below};
 
     // Sends on an Unconnected_Send, under the next number.
     fn forward(
@@ -57,9 +35,9 @@ impl Node {
         requires shorter { length rest.bytes.now ≤ length view.route.bytes.now }
         requires ticks { 2 ≤ view.timing.ticks }
         requires room { refusal self.old.pendings ≡ None }
-        ensures done { IfOk result (λ o. Does self.old.config (state_of_node self.old) (Forwards up port address (message_on (unconnected_of view.entry) rest.entry.bytes.now) (wait_of view.entry.timing) (words_of view.entry.route.bytes.now) Kinds.Unconnected ∷ []) (state_of_node self.new) (o ∷ [])) }
-        ensures same { OnErr result (state_of_node self.new ≡ state_of_node self.old) }
-        ensures config { self.new.config ≡ self.old.config }
+        ensures handled { Handles self.old self.new (Forwards
+            (send_below up (unconnected_of view.entry) port address rest.entry.bytes.now)
+            Kinds.Unconnected ∷ []) result }
         ensures ops { self.new.ops ≡ self.old.ops }
     {
         let bytes = message_on(self.alloc, view, rest)?;
@@ -86,10 +64,10 @@ impl Node {
 }
 
 impl Node {
-    ghost use Rattle.cip_module.specs.Node.{state_of_node};
-    ghost use Rattle.cip_module.specs.Does.{Does};
+    ghost use Rattle.cip_module.specs.Code.Node.{state_of_node};
+    ghost use Rattle.cip_module.specs.Code.Does.{Handles};
     ghost use Rattle.cip_module.specs.UnconnectedRows.{unconnected_row};
-    ghost use Rattle.cip_module.specs.Table.{unconnected_effects};
+    ghost use Rattle.cip_module.specs.Table.{unconnected_effects, unconnected_data_effects};
 
     // An Unconnected_Send that was read.
     pub(crate) fn unconnected(
@@ -98,23 +76,40 @@ impl Node {
         view: UnconnectedView<'_>,
     ) -> Result<Output, NoMemory>
         requires { length (unconnected_bytes (unconnected_of view)) ≤ 1400 }
-        ensures done { IfOk result (λ o. Does self.old.config (state_of_node self.old) (unconnected_effects up (unconnected_of view.entry) (unconnected_row self.old.config self.old.pendings (unconnected_of view.entry))) (state_of_node self.new) (o ∷ [])) }
-        ensures same { OnErr result (state_of_node self.new ≡ state_of_node self.old) }
-        ensures config { self.new.config ≡ self.old.config }
+        ensures handled { Handles self.old self.new
+            (unconnected_effects up (unconnected_of view.entry)
+            (unconnected_row self.old.config self.old.pendings (unconnected_of view.entry)))
+            result }
         ensures ops { self.new.ops ≡ self.old.ops }
     {
         match unconnected_row(self.config.settings(), &self.pendings, view) {
-            Decision::Refuses(refusal) => {
+            UnconnectedDecision::Refuses(refusal) => {
                 let words = Some(view.route.words());
                 let bytes = unconnected_failure(self.alloc, refusal, words)?;
                 Ok(reply_to(up, bytes))
             }
-            Decision::AnsweredHere(request) => { self.answers(up, request) }
-            Decision::Forwarded {
+            UnconnectedDecision::AnsweredHere(request) => { self.answers(up, request) }
+            UnconnectedDecision::Forwarded {
                 port,
                 address,
                 rest,
             } => self.forward(up, view, port, address, rest),
+        }
+    }
+
+    /// An Unconnected_Send, by its data.
+    pub(crate) fn unconnected_send(&mut self, up: UpSide, data_: &[u8]) -> Result<Output, NoMemory>
+        requires { length data_.now ≤ 1394 }
+        ensures { Handles self.old self.new (unconnected_data_effects self.old.config
+            (state_of_node self.old) up data_.now (unconnected_at data_.now)) result }
+    {
+        match read_unconnected(data_) {
+            Ok(view) => self.unconnected(up, view),
+            Err(fault) => {
+                let refusal = unread_row(data_, fault);
+                let bytes = unconnected_failure(self.alloc, refusal, route_words(data_))?;
+                Ok(reply_to(up, bytes))
+            }
         }
     }
 }

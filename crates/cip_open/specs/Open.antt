@@ -2,6 +2,7 @@
 use Rattle.std.specs.Prelude.{◌≡◌, ℕ, ◌*◌, ◌/◌, ◌∷◌, ◌++◌, length}
 use Rattle.cip_base.specs.Fields.{word, double}
 use Rattle.cip_base.specs.Words.{Octets, WordCount}
+use Rattle.cip_open.specs.declared.request.TheConstants.{FORWARD_OPEN}
 use Rattle.cip_segment.specs.Spelling.{IsReadable}
 use Rattle.cip_message.specs.declared.fault.DataFault.{DataFault}
 use Rattle.cip_message.specs.Numbers.{triad_bytes}
@@ -51,4 +52,4 @@ open_data o = open_layout 0 0 0 (length o.path / 2) o
 
 -- the whole message, with the header of a request to the Connection Manager
 abbrev pub open_bytes : Open → Octets
-open_bytes o = manager_bytes 0x54 (open_data o)
+open_bytes o = manager_bytes FORWARD_OPEN (open_data o)

@@ -4,6 +4,7 @@
 use Rattle.std.specs.Prelude.{slice_index, slice_get, Option, Result}
 use Rattle.cip_base.specs.Words.{Octets, WordCount}
 use Rattle.cip_base.specs.declared.triad.Triad.{Triad}
+use Rattle.cip_open.specs.declared.request.TheConstants.{OPEN_FIXED_PART}
 use Rattle.cip_message.specs.declared.fault.DataFault.{DataFault}
 use Rattle.cip_message.specs.Numbers.{word_in, double_in, triad_in, triad_within}
 use Rattle.cip_message.specs.Counted.{counted_path_at, with_part}
@@ -30,7 +31,7 @@ open_in b path = open_with (open_fields_in b) path
 -- the record, or the first fault that fits: the path size is byte 35, and the path begins at byte
 -- 36
 unfoldable pub open_at : Octets → Result Open DataFault
-open_at b = with_part (open_in b) (counted_path_at 35 36 b)
+open_at b = with_part (open_in b) (counted_path_at 35 OPEN_FIXED_PART b)
 
 -- the triad and the path size, each where its bytes are there
 abbrev pub open_triad_of : Octets → Option Triad

@@ -4,6 +4,7 @@ use Rattle.std.specs.Prelude.{◌≡◌, ℕ, ◌*◌, ◌/◌, ◌∷◌, ◌++
 use Rattle.cip_base.specs.Fields.{double}
 use Rattle.cip_base.specs.Words.{Octets, ConnectionId, Microseconds, WordCount}
 use Rattle.cip_base.specs.declared.triad.Triad.{Triad}
+use Rattle.cip_open.specs.declared.request.TheConstants.{FORWARD_OPEN_REPLY}
 use Rattle.cip_message.specs.declared.fault.DataFault.{DataFault}
 use Rattle.cip_message.specs.Numbers.{triad_bytes}
 use Rattle.cip_message.specs.Cut.{IsPartFault}
@@ -43,4 +44,4 @@ open_reply_data s = open_reply_layout (length s.reply / 2) 0 s
 
 -- the whole message: a reply of Forward_Open with status 00
 abbrev pub open_reply_bytes : OpenSuccess → Octets
-open_reply_bytes s = reply_bytes (done_with 0xD4 (open_reply_data s))
+open_reply_bytes s = reply_bytes (done_with FORWARD_OPEN_REPLY (open_reply_data s))

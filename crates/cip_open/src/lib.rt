@@ -14,9 +14,9 @@ pub use laws::{
     written_open_reply_is_read,
 };
 pub use parameters::{ConnectionKind, Params, Priority};
-pub use request::{OpenFields, OpenView, read_open, triad_at, words_at, write_open};
+pub use request::{
+    FORWARD_OPEN, FORWARD_OPEN_REPLY, OPEN_FIXED_PART, OpenFields, OpenView, read_open, triad_at,
+    words_at, write_open,
+};
 pub use splitting::params;
 pub use success::{OpenReply, read_open_reply, write_open_reply};
-
-#[cfg(test)]
-mod tests;

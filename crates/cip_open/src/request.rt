@@ -14,9 +14,11 @@ use cip_segment::PathView;
 use std::alloc::{AllocError, Global};
 
 /// The service Forward_Open of the Connection Manager.
-const FORWARD_OPEN: u8 = 0x54;
+pub const FORWARD_OPEN: u8 = 0x54;
 /// The service of its reply.
-pub(crate) const FORWARD_OPEN_REPLY: u8 = 0xD4;
+pub const FORWARD_OPEN_REPLY: u8 = 0xD4;
+/// The bytes of its data before the path.
+pub const OPEN_FIXED_PART: usize = 36;
 
 /// The fixed fields of Forward_Open (Volume 1, chapter 3, Forward_Open). Reserved bits stay as they
 /// are.
@@ -52,7 +54,7 @@ pub struct OpenView<'a> {
 
 // The fields of the fixed part, each at its place.
 fn fields(data_: &[u8]) -> OpenFields
-    requires { 36 ≤ length data_.now }
+    requires { OPEN_FIXED_PART ≤ length data_.now }
     ensures { result ≡ open_fields_in data_.now }
 {
     OpenFields {
@@ -76,7 +78,7 @@ fn fields(data_: &[u8]) -> OpenFields
 fn view(data_: &[u8]) -> Result<OpenView<'_>, DataFault>
     ensures { Gives open_of result (open_at data_.now) }
 {
-    match counted_path(data_, 35, 36) {
+    match counted_path(data_, 35, OPEN_FIXED_PART) {
         Ok(path) => Ok(OpenView {
             fields: fields(data_),
             path,

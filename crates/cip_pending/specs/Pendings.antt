@@ -1,9 +1,10 @@
 -- What a table of pendings is: a room, the next number, and a finite map from numbers to entries.
-use Rattle.std.specs.Prelude.{◌≡◌, ℕ, ◌+◌, ◌^◌, ◌<◌, ◌≤◌, Bool, true, not, ◌&&◌, ◌==◌, List, Option, Some, None, Result, Ok, Err, nat_le, nat_lt, MatchOption, if◌then◌else◌, find, filter, option_and_then}
+use Rattle.std.specs.Prelude.{◌≡◌, ℕ, ◌+◌, ◌<◌, ◌≤◌, Bool, true, not, ◌&&◌, ◌==◌, List, Option, Some, None, Result, Ok, Err, nat_le, nat_lt, MatchOption, if◌then◌else◌, find, filter, option_and_then}
 use Rattle.std.specs.Str.{bytes_eq}
 use Rattle.std.specs.Ordering.{nat_cmp}
 use Rattle.std.specs.FinMap as map
 use Rattle.cip_base.specs.Words.{LinkAddress, PortIdentifier, RequestNumber, Microseconds}
+use Rattle.cip_base.specs.declared.limits.TheConstants.{LAST_COUNT}
 use Rattle.cip_pending.specs.declared.entry.Entry.{Entry}
 use Rattle.cip_pending.specs.declared.entry.AddReason.{AddReason}
 use Rattle.cip_pending.specs.declared.entry.AddReason.TheVariants.{Full, NumbersSpent}
@@ -19,7 +20,7 @@ pub record Pendings : Type 0 where
 abbrev pub refusal : Pendings → Option AddReason
 refusal p =
     if nat_le p.room (map.len p.entries) then Some Full
-    else (if nat_lt 4294967295 p.next then Some NumbersSpent else None)
+    else (if nat_lt LAST_COUNT p.next then Some NumbersSpent else None)
 
 -- with the entry under the next number
 abbrev pub added : Pendings → Entry → Pendings
@@ -90,7 +91,7 @@ first_after after p = find (λ e. is_after after e.0) (map.entries p.entries)
 -- no more entries than room
 pub record IsWithin (p : Pendings) : Type 0 where
   pub some : 0 < p.next
-  pub spent : p.next ≤ 2 ^ 32
+  pub spent : p.next ≤ LAST_COUNT + 1
   pub below : (number : RequestNumber) (entry : Entry)
       → map.get p.entries number ≡ Some entry → number < p.next
   pub fits : map.len p.entries ≤ p.room

@@ -10,7 +10,7 @@ ghost use Rattle.cip_base.specs.Joined.{passes};
 ghost use Rattle.cip_base.specs.Rising.{IsRising, Divides};
 
 use crate::entry::{AddFault, AddReason, Entry};
-use cip_base::{Address, NoMemory, NumberIndex, PortNumber};
+use cip_base::{Address, LAST_COUNT, NoMemory, NumberIndex, PortNumber};
 use slab::Slab;
 use std::alloc::Global;
 use std::marker::Model;
@@ -67,7 +67,7 @@ impl PendingTable {
     {
         if self.order.len() >= self.room {
             Some(AddReason::Full)
-        } else if self.next > u64::from(u32::MAX) {
+        } else if self.next > LAST_COUNT {
             Some(AddReason::NumbersSpent)
         } else {
             None
@@ -155,6 +155,13 @@ impl PendingTable {
         ensures within { IsWithin self.now }
     {
         (self.next - 1) as u32
+    }
+
+    /// That numbers rise and end: a fact for the proof of a caller, and no work.
+    pub fn is_within(&self)
+        ensures { IsWithin self.now }
+    {
+        let _last = self.last();
     }
 }
 

@@ -13,11 +13,12 @@ use Rattle.cip_target.specs.declared.identity.IdentityFields.{IdentityFields}
 use Rattle.cip_target.specs.declared.config.AssemblyConfig.{AssemblyConfig}
 use Rattle.cip_target.specs.declared.link.EndLink.{EndLink}
 use Rattle.cip_target.specs.declared.ends.Joined.{Joined}
+use Rattle.cip_target.specs.declared.ends.EndRefusal.TheVariants.{NoSuchInstanceOrConfiguration, TransportClassNotSupported, SizeMismatch, OutputOwned}
 use Rattle.cip_target.specs.ApplicationPath.{Application, application_of}
 use Rattle.cip_target.specs.Assemblies.{AssemblyMap, size_in, config_in, config_with, written_over, owned_with}
 use Rattle.cip_target.specs.Held.{Holdings}
-use Rattle.cip_target.specs.Ends.{Ends, EndRow, NotAnApplicationPath, NoSuchInstanceOrConfiguration, ClassNotSupported, SizeMismatch, OutputOwned, Fits, class_of, is_configuration, are_sizes, link_of, sized_row, application_row, end_row, row_at, end_gives, accepted}
-use Rattle.cip_target.specs.Viewed.{application_joined, IsJoined}
+use Rattle.cip_target.specs.Ends.{Ends, EndRow, class_of, is_configuration, are_sizes, link_of, sized_row, application_row, end_row, row_at, accepted}
+use Rattle.cip_target.specs.Viewed.{application_joined, row_joined, IsJoined}
 
 size_is : (m : AssemblyMap) (i : ℕ) → option_map (λ c. c.size) (config_in m i) ≡ size_in m i
 size_is m i = elim (map.get m i) as (λ (o : Option (List ℕ)). option_map (λ c. c.size) (option_map (config_with i) o) ≡ option_map length o) [
@@ -29,9 +30,8 @@ size_at : (m : AssemblyMap) (i : ℕ) (c : AssemblyConfig) → config_in m i ≡
 size_at m i c e = sym (size_is m i) ∙ ap (option_map (λ (c : AssemblyConfig). c.size)) e
 
 -- the row of an open whose assemblies are found
-pub joined_is : (m : AssemblyMap) (owned : ℕ → Bool) (f : OpenFields) (a : Application) (j : Joined) (b : Bool) → IsJoined m a j
-    → b ≡ owned j.consume.instance → sized_row (λ _. b) f (application_joined j) (Some j.config.size) (Some j.consume.size) (Some j.produce.size)
-    ≡ application_row m owned f (Some a)
+pub joined_is : (m : AssemblyMap) (owned : ℕ → Bool) (f : OpenFields) (a : Application) (j : Joined) (b : Bool) → IsJoined m a j → b ≡ owned j.consume.instance
+    → row_joined b f j ≡ application_row m owned f (Some a)
 joined_is m owned f a j b h e =
     ap (λ (b : Bool). sized_row (λ _. b) f (application_joined j) (Some j.config.size) (Some j.consume.size) (Some j.produce.size)) e
     ∙ ap (λ (a : Application). sized_row owned f a (Some j.config.size) (Some j.consume.size) (Some j.produce.size)) h.same
@@ -41,25 +41,18 @@ joined_is m owned f a j b h e =
 
 -- ---- backwards
 
--- a link comes only from the row that fits
-pub gives_fits : (r : Result EndLink Status) (row : EndRow) → r ≡ end_gives row → IfOk r (λ link. row ≡ Fits link)
-gives_fits (Err status) row e = tt
-gives_fits (Ok link) NotAnApplicationPath e = absurd cc
-gives_fits (Ok link) NoSuchInstanceOrConfiguration e = absurd cc
-gives_fits (Ok link) ClassNotSupported e = absurd cc
-gives_fits (Ok link) SizeMismatch e = absurd cc
-gives_fits (Ok link) OutputOwned e = absurd cc
-gives_fits (Ok link) (Fits other) e = let same : other ≡ link = cc in ap (λ (l : EndLink). Fits l) same
-
-unless_first : (b : Bool) (x y : EndRow) (link : EndLink) → cond (not b) x y ≡ Fits link → (x ≡ Fits link → ⊥) → (b ≡ true) × (y ≡ Fits link)
+unless_first : (b : Bool) (x y : EndRow) (link : EndLink) → cond (not b) x y ≡ Ok link → (x ≡ Ok link → ⊥) → (b ≡ true) × (y ≡ Ok link)
 unless_first true x y link e other = (refl, e)
 unless_first false x y link e other = absurd (other e)
 
-past_first : (b : Bool) (x y : EndRow) (link : EndLink) → cond b x y ≡ Fits link → (x ≡ Fits link → ⊥) → y ≡ Fits link
+past_first : (b : Bool) (x y : EndRow) (link : EndLink) → cond b x y ≡ Ok link → (x ≡ Ok link → ⊥) → y ≡ Ok link
 past_first true x y link e other = absurd (other e)
 past_first false x y link e other = e
 
-link_is : (a b : EndLink) → Fits a ≡ Fits b → a ≡ b
+abbrev fits : EndLink → EndRow
+fits link = Ok link
+
+link_is : (a b : EndLink) → fits a ≡ fits b → a ≡ b
 link_is a b e = cc
 
 -- the configuration assembly exists, and the bytes fit it
@@ -69,16 +62,15 @@ record Sized (f : OpenFields) (a : Application) (config : Option ℕ) (link : En
   fits : is_configuration size a.bytes ≡ true
   same : link_of f a ≡ link
 
-sized_fits : (owned : ℕ → Bool) (f : OpenFields) (a : Application) (x y z : Option ℕ) (link : EndLink) → sized_row owned f a x y z ≡ Fits link
-    → Sized f a x link
-sized_fits owned f a None y z link e = absurd (let no : NoSuchInstanceOrConfiguration ≡ Fits link = e in cc)
-sized_fits owned f a (Some config) None z link e = absurd (let no : NoSuchInstanceOrConfiguration ≡ Fits link = e in cc)
-sized_fits owned f a (Some config) (Some consume) None link e = absurd (let no : NoSuchInstanceOrConfiguration ≡ Fits link = e in cc)
+sized_fits : (owned : ℕ → Bool) (f : OpenFields) (a : Application) (x y z : Option ℕ) (link : EndLink) → sized_row owned f a x y z ≡ Ok link → Sized f a x link
+sized_fits owned f a None y z link e = absurd (let no : (Err NoSuchInstanceOrConfiguration) ≡ Ok link = e in cc)
+sized_fits owned f a (Some config) None z link e = absurd (let no : (Err NoSuchInstanceOrConfiguration) ≡ Ok link = e in cc)
+sized_fits owned f a (Some config) (Some consume) None link e = absurd (let no : (Err NoSuchInstanceOrConfiguration) ≡ Ok link = e in cc)
 sized_fits owned f a (Some config) (Some consume) (Some produce) link e =
-    let first = unless_first (is_configuration config a.bytes) NoSuchInstanceOrConfiguration _ link e (λ no. cc) in
-    let second = past_first (nat_lt 1 (class_of f.transport)) ClassNotSupported _ link first.1 (λ no. cc) in
-    let third = unless_first (are_sizes f consume produce) SizeMismatch _ link second (λ no. cc) in
-    let fourth = past_first (nat_lt 0 consume && owned a.consume) OutputOwned _ link third.1 (λ no. cc) in
+    let first = unless_first (is_configuration config a.bytes) (Err NoSuchInstanceOrConfiguration) _ link e (λ no. cc) in
+    let second = past_first (nat_lt 1 (class_of f.transport)) (Err TransportClassNotSupported) _ link first.1 (λ no. cc) in
+    let third = unless_first (are_sizes f consume produce) (Err SizeMismatch) _ link second (λ no. cc) in
+    let fourth = past_first (nat_lt 0 consume && owned a.consume) (Err OutputOwned) _ link third.1 (λ no. cc) in
     record { size = config; stands = refl; fits = first.0; same = link_is _ _ fourth }
 
 -- at least as many bytes as the assembly has
@@ -100,11 +92,11 @@ FitsWith m link None = ⊥
 FitsWith m link (Some a) = IsSomeAnd (map.get m link.config) (λ held. length held ≤ length a.bytes)
 
 -- an open that fits has an application path, whose configuration bytes are at least as many as the assembly has
-pub fitting : (t : Ends) (o : Open) (link : EndLink) → row_at t o ≡ Fits link → FitsWith t.objects.assemblies link (application_of (segments_of o.path))
+pub fitting : (t : Ends) (o : Open) (link : EndLink) → row_at t o ≡ Ok link → FitsWith t.objects.assemblies link (application_of (segments_of o.path))
 unfolding end_row
 fitting t o link e =
-    elim (application_of (segments_of o.path)) as (λ (p : Option Application). application_row t.objects.assemblies
-    (λ i. is_some (map.get t.owners i)) o.fields p ≡ Fits link → FitsWith t.objects.assemblies link p) [
+    elim (application_of (segments_of o.path)) as (λ (p : Option Application). application_row t.objects.assemblies (λ i. is_some (map.get t.owners i)) o.fields
+    p ≡ Ok link → FitsWith t.objects.assemblies link p) [
       | None ↦ λ e. cc
       | Some a ↦ λ e. held_fits t.objects.assemblies o.fields a link
           (sized_fits (λ i. is_some (map.get t.owners i)) o.fields a (size_in t.objects.assemblies a.config) (size_in t.objects.assemblies a.consume)
@@ -113,9 +105,8 @@ fitting t o link e =
 
 -- ---- as `accept` does it
 
-pub accept_asks : (t : Ends) (o : Open) (link : EndLink) (a : Application) (m : AssemblyMap) (i : ℕ) → row_at t o ≡ Fits link
-    → Some a ≡ application_of (segments_of o.path) → m ≡ t.objects.assemblies → i ≡ link.config
-    → IsSomeAnd (map.get m i) (λ held. length held ≤ length a.bytes)
+pub accept_asks : (t : Ends) (o : Open) (link : EndLink) (a : Application) (m : AssemblyMap) (i : ℕ) → row_at t o ≡ Ok link
+    → Some a ≡ application_of (segments_of o.path) → m ≡ t.objects.assemblies → i ≡ link.config → IsSomeAnd (map.get m i) (λ held. length held ≤ length a.bytes)
 accept_asks t o link a m i e path same at =
     let there : FitsWith t.objects.assemblies link (Some a) = subst (FitsWith t.objects.assemblies link) (sym path) (fitting t o link e) in
     let here : IsSomeAnd (map.get m link.config) (λ held. length held ≤ length a.bytes) =
@@ -159,9 +150,9 @@ sized_alike owned other f a None y z same = refl
 sized_alike owned other f a (Some config) None z same = refl
 sized_alike owned other f a (Some config) (Some consume) None same = refl
 sized_alike owned other f a (Some config) (Some consume) (Some produce) same =
-    ap (λ (b : Bool). cond (not (is_configuration config a.bytes)) NoSuchInstanceOrConfiguration
-    (cond (nat_lt 1 (class_of f.transport)) ClassNotSupported
-    (cond (not (are_sizes f consume produce)) SizeMismatch (cond b OutputOwned (Fits (link_of f a))))))
+    ap (λ (b : Bool). cond (not (is_configuration config a.bytes)) (Err NoSuchInstanceOrConfiguration)
+    (cond (nat_lt 1 (class_of f.transport)) (Err TransportClassNotSupported)
+    (cond (not (are_sizes f consume produce)) (Err SizeMismatch) (cond b (Err OutputOwned) (Ok (link_of f a))))))
     (owned_alike consume (owned a.consume) (other a.consume) (same consume refl))
 
 -- the row of an open looks at the owners of instances that have bytes alone

@@ -11,6 +11,8 @@ use Rattle.cip_message.specs.Request.{Request}
 use Rattle.cip_open.specs.declared.request.OpenFields.{OpenFields}
 use Rattle.cip_open.specs.Open.{Open}
 use Rattle.cip_open.specs.Params.{params_of}
+use Rattle.cip_target.specs.declared.ends.EndRefusal.{EndRefusal}
+use Rattle.cip_target.specs.declared.ends.EndRefusal.TheVariants.{NotAnApplicationPath, NoSuchInstanceOrConfiguration, TransportClassNotSupported, SizeMismatch, OutputOwned}
 use Rattle.cip_target.specs.declared.config.AssemblyConfig.{AssemblyConfig}
 use Rattle.cip_target.specs.declared.identity.IdentityFields.{IdentityFields}
 use Rattle.cip_target.specs.declared.link.EndLink.{EndLink}
@@ -19,13 +21,9 @@ use Rattle.cip_target.specs.Assemblies.{AssemblyMap, Owners, zeroed, size_in, wr
 use Rattle.cip_target.specs.Held.{Holdings, unowned}
 use Rattle.cip_target.specs.Objects.{Objects, target_after}
 
-pub data EndRow : Type 0 where
-  NotAnApplicationPath : EndRow
-  NoSuchInstanceOrConfiguration : EndRow
-  ClassNotSupported : EndRow
-  SizeMismatch : EndRow
-  OutputOwned : EndRow
-  Fits : EndLink → EndRow
+-- the link that an open fits, or why it is refused
+abbrev pub EndRow : Type 0
+EndRow = Result EndLink EndRefusal
 
 -- the transport class: the low four bits
 abbrev pub class_of : ℕ → ℕ
@@ -58,16 +56,16 @@ link_of f a = record {
 abbrev pub sized_row : (InstanceNumber → Bool) → OpenFields → Application
     → Option ℕ → Option ℕ → Option ℕ → EndRow
 sized_row owned f a (Some config) (Some consume) (Some produce) =
-    if not (is_configuration config a.bytes) then NoSuchInstanceOrConfiguration
-    else if nat_lt 1 (class_of f.transport) then ClassNotSupported
-    else if not (are_sizes f consume produce) then SizeMismatch
-    else if nat_lt 0 consume && owned a.consume then OutputOwned
-    else Fits (link_of f a)
-sized_row owned f a config consume produce = NoSuchInstanceOrConfiguration
+    if not (is_configuration config a.bytes) then Err NoSuchInstanceOrConfiguration
+    else if nat_lt 1 (class_of f.transport) then Err TransportClassNotSupported
+    else if not (are_sizes f consume produce) then Err SizeMismatch
+    else if nat_lt 0 consume && owned a.consume then Err OutputOwned
+    else Ok (link_of f a)
+sized_row owned f a config consume produce = Err NoSuchInstanceOrConfiguration
 
 abbrev pub application_row : AssemblyMap → (InstanceNumber → Bool) → OpenFields
     → Option Application → EndRow
-application_row m owned f None = NotAnApplicationPath
+application_row m owned f None = Err NotAnApplicationPath
 application_row m owned f (Some a) =
     sized_row owned f a (size_in m a.config) (size_in m a.consume) (size_in m a.produce)
 
@@ -75,26 +73,22 @@ application_row m owned f (Some a) =
 unfoldable pub end_row : AssemblyMap → (InstanceNumber → Bool) → Open → EndRow
 end_row m owned o = application_row m owned o.fields (application_of (segments_of o.path))
 
--- the additional status of a row that refuses; its general status is 01 (connection failure)
-abbrev pub end_extra : EndRow → Option ℕ
-end_extra NotAnApplicationPath = Some 0x0315
-end_extra NoSuchInstanceOrConfiguration = Some 0x0117
-end_extra ClassNotSupported = Some 0x0103
-end_extra SizeMismatch = Some 0x0109
-end_extra OutputOwned = Some 0x0106
-end_extra (Fits link) = None
+-- general status 01, connection failure, with a word of additional status
+abbrev pub refused_with : ℕ → Status
+refused_with extra = record { general = 0x01; extra = Some extra }
 
--- the status of a row
-abbrev pub end_status : EndRow → Status
-end_status row = record {
-  general = if is_some (end_extra row) then 0x01 else 0x00;
-  extra = end_extra row;
-}
+-- the status of a row that refuses
+abbrev pub end_status : EndRefusal → Status
+end_status NotAnApplicationPath = refused_with 0x0315
+end_status NoSuchInstanceOrConfiguration = refused_with 0x0117
+end_status TransportClassNotSupported = refused_with 0x0103
+end_status SizeMismatch = refused_with 0x0109
+end_status OutputOwned = refused_with 0x0106
 
 -- the link, or the status of the row that refuses
 abbrev pub end_gives : EndRow → Result EndLink Status
-end_gives (Fits link) = Ok link
-end_gives row = Err (end_status row)
+end_gives (Ok link) = Ok link
+end_gives (Err refusal) = Err (end_status refusal)
 
 -- ---- the target while connections end here
 

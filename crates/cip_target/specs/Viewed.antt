@@ -1,5 +1,5 @@
 -- What a borrowed application path says, and the assemblies that it names.
-use Rattle.std.specs.Prelude.{◌≡◌, ◌≤◌, Bool, List, [], ◌∷◌, Option, Some, None, option_map, MatchOption}
+use Rattle.std.specs.Prelude.{◌≡◌, ◌≤◌, Bool, List, [], ◌∷◌, Option, Some, None, option_map, MatchOption, Err}
 use Rattle.cip_base.specs.Words.{InstanceNumber}
 use Rattle.cip_segment.specs.declared.segment.Segment.{Segment}
 use Rattle.cip_segment.specs.declared.segment.SegmentView.{SegmentView}
@@ -10,7 +10,8 @@ use Rattle.cip_target.specs.declared.application.ApplicationView.{ApplicationVie
 use Rattle.cip_target.specs.declared.ends.Joined.{Joined}
 use Rattle.cip_open.specs.declared.request.OpenFields.{OpenFields}
 use Rattle.cip_target.specs.Assemblies.{AssemblyMap, config_in}
-use Rattle.cip_target.specs.Ends.{EndRow, NoSuchInstanceOrConfiguration, sized_row, application_row}
+use Rattle.cip_target.specs.declared.ends.EndRefusal.TheVariants.{NoSuchInstanceOrConfiguration}
+use Rattle.cip_target.specs.Ends.{EndRow, sized_row, application_row}
 use Rattle.cip_target.specs.ApplicationPath.{Application, without_inhibits, point_of}
 
 abbrev pub application_seen : ApplicationView → Application
@@ -76,7 +77,7 @@ pub record IsJoined (m : AssemblyMap) (a : Application) (j : Joined) : Type 0 wh
 abbrev pub Misses : AssemblyMap → Application → Type 0
 Misses m a =
     (owned : InstanceNumber → Bool) (f : OpenFields)
-    → application_row m owned f (Some a) ≡ NoSuchInstanceOrConfiguration
+    → application_row m owned f (Some a) ≡ Err NoSuchInstanceOrConfiguration
 
 -- what is found of the assemblies that a path names
 abbrev pub IsJoining : AssemblyMap → Application → Option Joined → Type 0

@@ -1,16 +1,14 @@
 //! The target as the end of connections.
-ghost use Rattle.std.specs.Prelude.{◌≡◌, ◌≤◌, length, IfOk, IfSome, IsSome};
+ghost use Rattle.std.specs.Prelude.{◌≡◌, ◌≤◌, length, Ok, IfSome, IsSome};
 ghost use Rattle.std.specs.FinMap as map;
 ghost use Rattle.cip_open.specs.Reading.{open_of};
 ghost use Rattle.cip_target.specs.Assemblies.{HasSize, config_in};
-ghost use Rattle.cip_target.specs.Ends.{Fits, end_gives, row_at, accepted, consumed, released};
+ghost use Rattle.cip_target.specs.Ends.{end_gives, row_at, accepted, consumed, released};
 ghost use Rattle.cip_target.specs.Viewed.{application_seen, IsJoining};
 
 use crate::application::{ApplicationView, application};
 use crate::config::AssemblyConfig;
-use crate::ends::{
-    Joined, NO_SUCH_INSTANCE_OR_CONFIGURATION, NOT_AN_APPLICATION_PATH, failure, joined_row,
-};
+use crate::ends::{EndRefusal, Joined, joined_row};
 use crate::link::EndLink;
 use crate::target::Target;
 use cip_base::Status;
@@ -48,20 +46,15 @@ impl Target {
     }
 
     /// Whether an open can end here (Volume 1, chapter 3, Forward_Open): what it joins, or the
-    /// status of the first row that fits. General status 01, and as extended status, in this order:
-    /// 0315 where the path is no application path, 0117 where one of the three instances does not
-    /// exist or the configuration bytes do not fit, 0103 for a transport class other than 0 and 1,
-    /// 0109 where a size is not that of its assembly, with 2 more in class 1, 0106 where the O→T
-    /// instance has an owner. It takes no memory.
+    /// first row that fits, in the order of `EndRefusal`. It takes no memory.
     #[tactic(auto, unfolding(crate::specs::Ends::end_row))]
-    pub fn check(&self, asked: &OpenView<'_>) -> Result<EndLink, Status>
-        ensures gives { result ≡ end_gives (row_at self.now (open_of asked.now)) }
-        ensures fits { IfOk result (λ link. row_at self.now (open_of asked.now) ≡ Fits link) }
+    pub fn end_row(&self, asked: &OpenView<'_>) -> Result<EndLink, EndRefusal>
+        ensures { result ≡ row_at self.now (open_of asked.now) }
     {
         match application(asked.path) {
-            None => Err(failure(NOT_AN_APPLICATION_PATH)),
+            None => Err(EndRefusal::NotAnApplicationPath),
             Some(application) => match self.joined(application) {
-                None => Err(failure(NO_SUCH_INSTANCE_OR_CONFIGURATION)),
+                None => Err(EndRefusal::NoSuchInstanceOrConfiguration),
                 Some(joined) => {
                     let owned = self.assemblies.is_owned(u32::from(joined.consume.instance));
                     joined_row(&asked.fields, &joined, owned)
@@ -70,11 +63,22 @@ impl Target {
         }
     }
 
+    /// Whether an open can end here: what it joins, or the status of the first row that fits. It
+    /// takes no memory.
+    pub fn check(&self, asked: &OpenView<'_>) -> Result<EndLink, Status>
+        ensures { result ≡ end_gives (row_at self.now (open_of asked.now)) }
+    {
+        match self.end_row(asked) {
+            Ok(link) => Ok(link),
+            Err(refusal) => Err(refusal.status()),
+        }
+    }
+
     /// Takes an open that `check` gave this link: enters the connection as the owner of the O→T
     /// instance if that has bytes, and writes the configuration bytes, without a pad. It takes no
     /// memory.
     pub fn accept(&mut self, link: &EndLink, asked: &OpenView<'_>)
-        requires { row_at self.old (open_of asked.now) ≡ Fits link.now }
+        requires { row_at self.old (open_of asked.now) ≡ Ok link.now }
         ensures { self.new ≡ accepted self.old link.now (open_of asked.now) }
     {
         let Some(application) = application(asked.path) else {

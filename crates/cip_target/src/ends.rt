@@ -1,7 +1,7 @@
 //! The rows of an open that is to end here, from an application path on, in the order of the
 //! routing table (Volume 1, chapter 3, Forward_Open).
-ghost use Rattle.std.specs.Prelude.{◌≡◌, ◌≤◌, Some};
-ghost use Rattle.cip_target.specs.Ends.{is_configuration, datum_size, are_sizes, end_gives};
+ghost use Rattle.std.specs.Prelude.{◌≡◌, ◌≤◌};
+ghost use Rattle.cip_target.specs.Ends.{is_configuration, datum_size, are_sizes, end_status};
 ghost use Rattle.cip_target.specs.Viewed.{row_joined};
 
 use crate::config::AssemblyConfig;
@@ -9,16 +9,39 @@ use crate::link::EndLink;
 use cip_base::Status;
 use cip_open::{OpenFields, params};
 
-/// The extended status of a path that is no application path.
-pub(crate) const NOT_AN_APPLICATION_PATH: u16 = 0x0315;
-/// The extended status of a missing instance, and of configuration bytes that do not fit.
-pub(crate) const NO_SUCH_INSTANCE_OR_CONFIGURATION: u16 = 0x0117;
-/// The extended status of a transport class other than 0 and 1.
-const CLASS_NOT_SUPPORTED: u16 = 0x0103;
-/// The extended status of a size that is not that of its assembly.
-const SIZE_MISMATCH: u16 = 0x0109;
-/// The extended status of an output that another connection owns.
-const OUTPUT_OWNED: u16 = 0x0106;
+/// Why an open cannot end here.
+#[derive(Clone, Copy, Debug, PartialEq, Eq)]
+pub enum EndRefusal {
+    NotAnApplicationPath,
+    /// One of the three instances does not exist, or the configuration bytes do not fit.
+    NoSuchInstanceOrConfiguration,
+    /// A transport class other than 0 and 1.
+    TransportClassNotSupported,
+    /// A size is not that of its assembly, with 2 more in class 1.
+    SizeMismatch,
+    /// Another connection writes the O→T instance.
+    OutputOwned,
+}
+
+impl EndRefusal {
+    /// The status that the row answers: general status 01 and an extended status (Volume 1,
+    /// chapter 3, Forward_Open).
+    pub fn status(self) -> Status
+        ensures { result ≡ end_status self }
+    {
+        let extra = match self {
+            EndRefusal::NotAnApplicationPath => 0x0315,
+            EndRefusal::NoSuchInstanceOrConfiguration => 0x0117,
+            EndRefusal::TransportClassNotSupported => 0x0103,
+            EndRefusal::SizeMismatch => 0x0109,
+            EndRefusal::OutputOwned => 0x0106,
+        };
+        Status {
+            general: 0x01,
+            extra: Some(extra),
+        }
+    }
+}
 
 /// The assemblies that an application path names, and the configuration bytes that come with it.
 #[derive(Clone, Copy)]
@@ -27,16 +50,6 @@ pub(crate) struct Joined<'a> {
     pub(crate) consume: AssemblyConfig,
     pub(crate) produce: AssemblyConfig,
     pub(crate) bytes: &'a [u8],
-}
-
-/// The status of a connection that fails.
-pub(crate) fn failure(extra: u16) -> Status
-    ensures { result ≡ record { general = 0x01; extra = Some extra } }
-{
-    Status {
-        general: 0x01,
-        extra: Some(extra),
-    }
 }
 
 // Whether the configuration bytes fit an assembly of this size.
@@ -73,24 +86,24 @@ pub(crate) fn joined_row(
     fields: &OpenFields,
     joined: &Joined<'_>,
     owned: bool,
-) -> Result<EndLink, Status>
+) -> Result<EndLink, EndRefusal>
     requires config { joined.now.config.size ≤ 511 }
     requires consume { joined.now.consume.size ≤ 511 }
     requires produce { joined.now.produce.size ≤ 511 }
-    ensures { result ≡ end_gives (row_joined owned fields.now joined.now) }
+    ensures { result ≡ row_joined owned fields.now joined.now }
 {
     let class = fields.transport % 16;
     if !is_configuration(joined.config.size, joined.bytes) {
-        return Err(failure(NO_SUCH_INSTANCE_OR_CONFIGURATION));
+        return Err(EndRefusal::NoSuchInstanceOrConfiguration);
     }
     if class > 1 {
-        return Err(failure(CLASS_NOT_SUPPORTED));
+        return Err(EndRefusal::TransportClassNotSupported);
     }
     if !are_sizes(fields, joined.consume.size, joined.produce.size) {
-        return Err(failure(SIZE_MISMATCH));
+        return Err(EndRefusal::SizeMismatch);
     }
     if joined.consume.size > 0 && owned {
-        return Err(failure(OUTPUT_OWNED));
+        return Err(EndRefusal::OutputOwned);
     }
     Ok(EndLink {
         config: joined.config.instance,

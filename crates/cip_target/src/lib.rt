@@ -15,13 +15,9 @@ mod rows;
 mod target;
 
 pub use config::AssemblyConfig;
+pub use ends::EndRefusal;
 pub use identity::{Identity, IdentityFields};
 pub use link::EndLink;
 pub use object::{ObjectPath, object_path};
 pub use rows::TargetRefusal;
 pub use target::Target;
-
-#[cfg(test)]
-mod connection_tests;
-#[cfg(test)]
-mod tests;

@@ -3,6 +3,7 @@ use Rattle.std.specs.Prelude.{◌≡◌, ℕ, ◌*◌, ◌/◌, ◌%◌, ◌∷�
 use Rattle.cip_base.specs.Fields.{word, pad}
 use Rattle.cip_base.specs.Words.{Octets, WordCount}
 use Rattle.cip_base.specs.declared.timing.Timing.{Timing}
+use Rattle.cip_unconnected.specs.declared.unconnected.TheConstants.{UNCONNECTED_SEND}
 use Rattle.cip_segment.specs.Spelling.{IsReadable, IsFault}
 use Rattle.cip_message.specs.Cut.{IsCutOff, IsOverlong}
 use Rattle.cip_message.specs.Manager.{manager_bytes}
@@ -52,4 +53,4 @@ unconnected_data u = unconnected_layout (pad (length u.request)) (length u.route
 
 -- the whole message, with the header of a request to the Connection Manager
 abbrev pub unconnected_bytes : Unconnected → Octets
-unconnected_bytes u = manager_bytes 0x52 (unconnected_data u)
+unconnected_bytes u = manager_bytes UNCONNECTED_SEND (unconnected_data u)

@@ -8,7 +8,6 @@ mod unconnected;
 
 pub use fault::UnconnectedFault;
 pub use laws::{unconnected_is_exact, written_unconnected_is_read};
-pub use unconnected::{UnconnectedView, inner, read_unconnected, route_words, write_unconnected};
-
-#[cfg(test)]
-mod tests;
+pub use unconnected::{
+    UNCONNECTED_SEND, UnconnectedView, inner, read_unconnected, route_words, write_unconnected,
+};

@@ -14,7 +14,7 @@ use cip_segment::PathView;
 use std::alloc::{AllocError, Global};
 
 /// The service Unconnected_Send of the Connection Manager.
-const UNCONNECTED_SEND: u8 = 0x52;
+pub const UNCONNECTED_SEND: u8 = 0x52;
 
 /// The data of an Unconnected_Send whose embedded request and route are borrowed
 /// (Volume 1, chapter 3, Unconnected_Send).
@@ -78,7 +78,8 @@ fn unconnected(data_: &[u8]) -> Result<UnconnectedView<'_>, UnconnectedFault>
 /// Otherwise the first that fits: Short where bytes are missing, Long where bytes stand after the
 /// route, Route of the route's fault.
 pub fn read_unconnected(data_: &[u8]) -> Result<UnconnectedView<'_>, UnconnectedFault>
-    ensures { IsRead unconnected_of unconnected_at ReadsUnconnected IsUnconnectedFault data_.now result }
+    ensures { IsRead unconnected_of unconnected_at ReadsUnconnected IsUnconnectedFault data_.now
+        result }
 {
     unconnected(data_)
 }

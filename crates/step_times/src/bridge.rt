@@ -1,14 +1,11 @@
 //! The bridge, its steps, and the nodes beside it.
-ghost use Rattle.std.specs.Prelude.{◌≡◌, ◌<◌, IfOk};
+ghost use Rattle.std.specs.Prelude.{◌<◌};
 
 use crate::fault::Fault;
 use crate::frames::{ANSWER, DATUM, SEND, close, closed, open, opened};
+use bench::{AnyModule, device_of, make};
 use cip_base::{Address, Bytes, PortNumber};
-use cip_module::{
-    Assemblies, Body, Event, LegalAddresses, Module, ModuleConfig, ModuleKind, ModuleSettings,
-    Output, PlainModule, PortConfig, Ports,
-};
-use cip_target::{Identity, IdentityFields};
+use cip_module::{Body, Event, Output};
 use std::alloc::Global;
 
 /// The first id that the bridge draws.
@@ -30,64 +27,6 @@ fn address(byte: u8) -> Address {
     address
 }
 
-fn port(number: u16, link: usize, byte: u8) -> PortConfig
-    requires { 0 < number }
-{
-    PortConfig {
-        number: port_number(number),
-        link,
-        legal: LegalAddresses::Byte {
-            first: 0,
-            last: 0xFE,
-        },
-        address: address(byte),
-    }
-}
-
-fn ports(alloc: Global) -> Result<Ports, Fault> {
-    let mut ports = Vec::new(alloc);
-    ports.push(port(2, 0, 0x05))?;
-    ports.push(port(1, 1, 0x00))?;
-    Ok(Ports::of(ports))
-}
-
-fn identity(alloc: Global) -> Result<Identity, Fault> {
-    let fields = IdentityFields {
-        vendor: 0x0101,
-        device_type: 12,
-        product: 1,
-        major: 1,
-        minor: 3,
-        status: 0,
-        serial: 0x0000_0A0A,
-        name: Bytes::of(Vec::from_slice(alloc, b"AR")?),
-    };
-    Identity::new(fields).ok_or(Fault::Unexpected)
-}
-
-fn settings(alloc: Global) -> Result<ModuleSettings, Fault>
-    ensures { IfOk result (λ s. s.kind ≡ ModuleKind.Plain) }
-{
-    Ok(ModuleSettings {
-        name: Bytes::of(Vec::from_slice(alloc, b"A")?),
-        kind: ModuleKind::Plain,
-        identity: identity(alloc)?,
-        clock: 0,
-        first_id: FIRST_ID,
-        first_number: 1,
-        pending_room: 256,
-        hop_room: 256,
-        ports: ports(alloc)?,
-        assemblies: Assemblies::of(Vec::new(alloc)),
-    })
-}
-
-fn made(alloc: Global) -> Result<PlainModule, Fault> {
-    let settings = settings(alloc)?;
-    let config = ModuleConfig::new(settings).ok_or(Fault::Unexpected)?;
-    Ok(PlainModule::new(alloc, config)?)
-}
-
 // A frame from the node above or below.
 fn from_above(body: Body) -> Event {
     Event::Frame {
@@ -105,17 +44,18 @@ fn from_below(body: Body) -> Event {
     }
 }
 
-/// A bridge between a node above and a node below. The clock stands still.
+/// The bridge A of the bench, between a node above and a node below. The clock stands still.
 #[derive(Drop)]
 pub struct Bridge {
     alloc: Global,
-    module_: PlainModule,
+    module_: AnyModule,
 }
 
 impl Bridge {
     /// With room for 256 requests that wait, and for 256 connections.
     pub fn new(alloc: Global) -> Result<Bridge, Fault> {
-        let module_ = made(alloc)?;
+        let bridge = device_of("A").ok_or(Fault::Unexpected)?;
+        let module_ = make(alloc, &bridge).ok_or(Fault::NoMemory)?;
         Ok(Bridge { alloc, module_ })
     }
 

@@ -1,7 +1,7 @@
 //! Takes steps of a bridge many times over, so that they can be timed from outside.
 //!
-//! `step_times STEP TIMES` with one of the steps `send`, `open`, `datum`, `send-full`, `open-full` and `datum-full`; with no
-//! arguments each of them 1,000 times.
+//! `step_times STEP TIMES` with one of the steps `send`, `open`, `datum`, `send-full`, `open-full`
+//! and `datum-full`; with no arguments each of them 1,000 times.
 #![tactic(auto)]
 
 mod bridge;

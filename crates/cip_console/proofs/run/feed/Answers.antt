@@ -11,9 +11,9 @@ pub returns-in-Err-clause-plays : goal.returns-in-Err-clause-plays
 returns-in-Err-clause-plays g c = λ run stands.
     fed_unwritten _ run c.args.place c.args.command _ _ _ _ (standing_of c.args.world.now) _ stands c.in-Ok.ensures.happens c.in-Err.ensures.err
 
-pub returns-in-Err-Full-clause-plays : goal.returns-in-Err-Full-clause-plays
-returns-in-Err-Full-clause-plays g c = λ run stands.
-    let h = rw c.in-Err-Full.field-0-is at c.in-Err-Full.ensures.happens in
+pub returns-in-Err-NoStep-clause-plays : goal.returns-in-Err-NoStep-clause-plays
+returns-in-Err-NoStep-clause-plays g c = λ run stands.
+    let h = rw c.in-Err-NoStep.field-0-is at c.in-Err-NoStep.ensures.happens in
     fed_stopped _ run c.args.place c.args.command _ _ _ (standing_of c.args.world.now) stands h.0 h.1
 
 pub returns-in-Err-NoMemory-clause-plays : goal.returns-in-Err-NoMemory-clause-plays

@@ -7,7 +7,8 @@ abbrev pub invariant-loop-numbered : goal.invariant-loop-numbered
 invariant-loop-numbered g l =
     record {
       same : configs_of l.world ≡ configs_of l.initial.world;
-      running : Running (configs_of l.initial.world) l.fn.steps.items (g.W.Sink.contents l.initial.writer) (g.W.Sink.contents l.writer) l.text.items (standing_of l.world) l.left.items;
+      running : Running (configs_of l.initial.world) l.fn.steps.items (g.W.Sink.contents l.initial.writer) (g.W.Sink.contents l.writer) l.text.items
+          (standing_of l.world) l.left.items;
     }
 
 abbrev pub decreases-loop-numbered : goal.decreases-loop-numbered

@@ -1,6 +1,6 @@
 use Rattle.std.proofs.Common.{ap, ◌∙◌}
 use Rattle.std.proofs.Math.Seq.{map-set_same}
-use Rattle.cip_module.specs.Node.{config_of_plain}
+use Rattle.cip_module.specs.Code.Node.{config_of_plain}
 use Rattle.cip_console.proofs.StepAt.{found_here, step_placed}
 use Rattle.cip_console.proofs.world.step_at.Goals as goal
 
@@ -12,5 +12,6 @@ returns-clause-configs c =
 pub returns-clause-steps : goal.returns-clause-steps
 returns-clause-steps c =
     let item = c.in-Some.ensures.item in
-    step_placed (λ v. v.items) c.args.modules.now.items c.args.place c.in-Some.stepped.now c.step_of.new.stepped c.args.event _ (found_here _ _ _ item.3.0 item.1)
+    step_placed (λ v. v.items) c.args.modules.now.items c.args.place c.in-Some.stepped.now c.step_of.new.stepped c.args.event _
+    (found_here _ _ _ item.3.0 item.1)
     c.step_of.ensures.steps

@@ -20,7 +20,8 @@ loop-number-preserved c =
     let left : List (ℕ × Entry) = above (Some c.in-Some.number) (finite.entries c.args.pendings.now.entries) in
     ap (λ (z : List PendingRow). z ++ map row_of left) c.in_ok-push.ensures.items
     ∙ ap (λ (z : Entry). (c.loop-number.rows.items ++ record { number = c.in-Some.number; entry = z } ∷ []) ++ map row_of left) c.copy.ensures
-    ∙ row_more row_of (c.in-Some.number, c.in-Some.entry.now) left _ c.loop-number.rows.items (walks c.args.pendings.now c.loop-number.after (c.in-Some.number, c.in-Some.entry.now) c.in-Some.ensures)
+    ∙ row_more row_of (c.in-Some.number, c.in-Some.entry.now) left _ c.loop-number.rows.items
+    (walks c.args.pendings.now c.loop-number.after (c.in-Some.number, c.in-Some.entry.now) c.in-Some.ensures)
     ∙ c.loop-number.invariant
 
 pub returns : goal.returns

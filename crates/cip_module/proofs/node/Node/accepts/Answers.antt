@@ -15,7 +15,8 @@ invariant_of-self c =
     let m = c.args.self.now in
     let o = c.args.opening in
     record {
-      fit = fit_accepts m.config m.pendings m.hops c.finish.new.self m.target c.accept.new.self m.ops.ops.items o (open_of c.args.view.now) c.args.link.now c.now-now.result m.fit
+      fit = fit_accepts m.config m.pendings m.hops c.finish.new.self m.target c.accept.new.self m.ops.ops.items o (open_of c.args.view.now) c.args.link.now
+          c.now-now.result m.fit
           (free_if m.hops o.triad (ids_drawn o) c.requires.ready.room) c.requires.down (sym c.requires.triad) c.requires.fits c.requires.ready.spent
           (c.finish.ensures ∙ ap (λ (h : Hops). finished h o.triad 0 c.now-now.result) c.in-Ok.ensures.after) c.accept.ensures;
     }

@@ -6,4 +6,7 @@ use Rattle.cip_module.proofs.node.Node.answers.Goals as goal
 pub invariant_of-self : goal.invariant_of-self
 invariant_of-self c =
     let m = c.args.self.now in
-    record { fit = fit_answered m.config m.pendings m.hops m.target c.answer.new.self m.ops.ops.items (request_of c.args.request) (is_ok c.answer.result) m.fit c.answer.ensures.after }
+    record {
+      fit = fit_answered m.config m.pendings m.hops m.target c.answer.new.self m.ops.ops.items (request_of c.args.request) (is_ok c.answer.result) m.fit
+          c.answer.ensures.after;
+    }

@@ -11,6 +11,6 @@ invariant_of-self c =
     let g = if_true (is_ok c.begin.result) (begun m.hops o) m.hops c.begin.new.self c.begin.ensures.after
     (ap is_ok (c.begin.ensures.value ∙ ap (λ r. unless_refused r m.hops.next o) c.requires.ready.room)) in
     record {
-      fit = fit_begins m.config m.pendings c.add.new.self m.hops c.begin.new.self m.target m.ops.ops.items c.args.entry o m.fit c.last-last.ensures.within
+      fit = fit_begins m.config m.pendings c.add.new.self m.hops c.begin.new.self m.target m.ops.ops.items c.args.entry o m.fit c.is_within.ensures
           c.in-Ok.ensures.after g c.requires.kind c.requires.link c.requires.ready.spent c.requires.ready.room;
     }

@@ -3,10 +3,10 @@ use Rattle.std.specs.Prelude.{map}
 use Rattle.cip_hops.specs.declared.hop.Hop.{Hop}
 use Rattle.cip_module.specs.declared.config.ModuleSettings.{ModuleSettings}
 use Rattle.cip_module.specs.Effects.{applied}
-use Rattle.cip_module.specs.Node.{state_of_node}
+use Rattle.cip_module.specs.Code.Node.{state_of_node}
 use Rattle.cip_module.specs.State.{State}
-use Rattle.cip_module.specs.Table.{expiries, lapses, lapsings}
-use Rattle.cip_module.proofs.Expiries.{applied_more}
+use Rattle.cip_module.specs.Table.{pending_time_outs, hop_times_out, hop_time_outs}
+use Rattle.cip_module.proofs.TimeOuts.{applied_more}
 use Rattle.cip_module.proofs.node.Node.clear_due.Goals as goal
 
 pub returns-clause-after : goal.returns-clause-after
@@ -15,7 +15,7 @@ returns-clause-after c =
     let mid = c.clear_pendings.new.self in
     let t = c.args.now in
     c.clear_hops.ensures.after
-    ∙ ap (λ (z : ModuleSettings). applied z (state_of_node mid) (lapsings t mid.hops)) c.clear_pendings.ensures.config
-    ∙ ap (λ (hs : List Hop). applied m.config (state_of_node mid) (map lapses hs)) c.clear_pendings.ensures.hops
-    ∙ ap (λ (s : State). applied m.config s (lapsings t m.hops)) c.clear_pendings.ensures.after
-    ∙ sym (applied_more m.config (state_of_node m) (expiries t m.pendings) (lapsings t m.hops))
+    ∙ ap (λ (z : ModuleSettings). applied z (state_of_node mid) (hop_time_outs t mid.hops)) c.clear_pendings.ensures.config
+    ∙ ap (λ (hs : List Hop). applied m.config (state_of_node mid) (map hop_times_out hs)) c.clear_pendings.ensures.hops
+    ∙ ap (λ (s : State). applied m.config s (hop_time_outs t m.hops)) c.clear_pendings.ensures.after
+    ∙ sym (applied_more m.config (state_of_node m) (pending_time_outs t m.pendings) (hop_time_outs t m.hops))

@@ -1,8 +1,8 @@
 use Rattle.std.proofs.Common.{◌≡◌, ℕ, Option, length}
 use Rattle.cip_base.specs.declared.triad.Triad.{Triad}
 use Rattle.cip_module.specs.declared.node.Node.{Node}
-use Rattle.cip_module.specs.Node.{state_of_node}
-use Rattle.cip_module.specs.Produced.{counted_all, open_hops}
+use Rattle.cip_module.specs.Code.Node.{state_of_node}
+use Rattle.cip_module.specs.Code.Made.{counted_all, open_hops}
 use Rattle.cip_module.proofs.Made.{counted_from}
 use Rattle.cip_module.proofs.Walks.{opens_above}
 use Rattle.cip_module.proofs.node.Node.count_data.Given as goal

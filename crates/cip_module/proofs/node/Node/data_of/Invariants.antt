@@ -1,5 +1,5 @@
 use Rattle.std.proofs.Common.{◌≡◌, ◌++◌, length}
-use Rattle.cip_module.specs.Produced.{made_all, open_hops}
+use Rattle.cip_module.specs.Code.Made.{made_all, open_hops}
 use Rattle.cip_module.proofs.Walks.{opens_above}
 use Rattle.cip_module.proofs.node.Node.data_of.Given as goal
 

@@ -15,7 +15,8 @@ invariant_of-self-2 c =
     let m = c.args.self.now in
     let at = sym c.in_ok-entry.ensures.value in
     record {
-      fit = fit_finished m.config m.pendings c.take.new.self m.hops c.finish.new.self m.target m.ops.ops.items c.args.number c.args.their_id c.now-now.result c.args.triad.now m.fit
+      fit = fit_finished m.config m.pendings c.take.new.self m.hops c.finish.new.self m.target m.ops.ops.items c.args.number c.args.their_id c.now-now.result
+          c.args.triad.now m.fit
           (awaited_at m.pendings c.args.number c.args.port c.args.from.now c.in_ok-entry.entry c.args.triad.now at
           (c.requires.kind c.in_ok-entry.entry at))
           c.in_ok-entry.ensures.after c.finish.ensures;

@@ -9,4 +9,7 @@ invariant_of-self c =
     let m = c.args.self.now in
     let e = if_true (is_ok c.add.result) (added m.pendings c.args.entry) m.pendings c.add.new.self c.add.ensures.after
     (ap is_ok (c.add.ensures.value ∙ ap (λ r. unless_refused r m.pendings.next c.args.entry) c.requires.room)) in
-    record { fit = fit_forwards m.config m.pendings c.add.new.self m.hops m.target m.ops.ops.items c.args.entry m.fit c.last-last.ensures.within e c.requires.other }
+    record {
+      fit = fit_forwards m.config m.pendings c.add.new.self m.hops m.target m.ops.ops.items c.args.entry m.fit c.is_within.ensures e
+          c.requires.other;
+    }

@@ -12,11 +12,16 @@ use Rattle.cip_module.proofs.Kept.{fresh_fit}
 use Rattle.cip_module.proofs.node.Node.new.Goals as goal
 
 pub new-requires : goal.new-requires
-new-requires c = subst (λ (z : List AssemblyConfig). IsTrue (list_all is_assembly z)) (sym c.as_slice.ensures) (assemblies_fit c.settings-settings.result.now c.settings-settings.ensures.legal)
+new-requires c = subst (λ (z : List AssemblyConfig). IsTrue (list_all is_assembly z)) (sym c.as_slice.ensures)
+    (assemblies_fit c.settings-settings.result.now c.settings-settings.ensures.legal)
 
 pub invariant_of-result : goal.invariant_of-result
 invariant_of-result c = record {
   fit = fresh_fit c.args.config c.in_ok-pendings.pendings c.in_ok-hops.hops c.in_ok-target.target c.new-2.result.ops.items
-      (ap (λ (p : Pendings). p.entries) c.in_ok-pendings.ensures) (ap (λ (h : Hops). h.held) c.in_ok-hops.ensures) (ap (λ (t : Ends). t.owners) c.in_ok-target.ensures)
-      (ap (λ (t : Ends). t.objects.identity) c.in_ok-target.ensures ∙ c.in_ok-identity.ensures ∙ ap (λ (z : ModuleSettings). z.identity) c.settings-settings.ensures.value);
+      (ap (λ (p : Pendings). p.entries) c.in_ok-pendings.ensures) (ap (λ (h : Hops). h.held) c.in_ok-hops.ensures)
+      (ap (λ (t : Ends). t.owners) c.in_ok-target.ensures)
+      (ap (λ (t : Ends). t.objects.identity) c.in_ok-target.ensures ∙ c.in_ok-identity.ensures
+      ∙ ap (λ (z : ModuleSettings). z.identity) c.settings-settings.ensures.value)
+      (ap (λ (p : Pendings). p.room) c.in_ok-pendings.ensures ∙ ap (λ (z : ModuleSettings). z.pending_room) c.settings-settings.ensures.value)
+      (ap (λ (h : Hops). h.room) c.in_ok-hops.ensures ∙ ap (λ (z : ModuleSettings). z.hop_room) c.settings-settings.ensures.value);
 }

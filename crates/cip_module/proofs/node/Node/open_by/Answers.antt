@@ -5,5 +5,6 @@ use Rattle.cip_module.proofs.node.Node.open_by.Goals as goal
 
 pub begins-number-requires-clause-ready : goal.begins-number-requires-clause-ready
 begins-number-requires-clause-ready c =
-    ready c.args.self.now c.spend_for.new.self c.args.up c.args.view.now.fields.to_id c.args.port c.args.address (open_of c.args.view.now) c.opening_with-opening.result c.spend_for.ensures.after c.requires.spend
+    ready c.args.self.now c.spend_for.new.self c.args.up c.args.view.now.fields.to_id c.args.port c.args.address (open_of c.args.view.now)
+    c.opening_with-opening.result c.spend_for.ensures.after c.requires.spend
     (search rules) c.requires.multiplier c.requires.room

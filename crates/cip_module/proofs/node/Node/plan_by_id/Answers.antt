@@ -8,10 +8,12 @@ pub returns-in-Some-clause-on : goal.returns-in-Some-clause-on
 returns-in-Some-clause-on c =
     let h = c.args.self.now.hops in
     each_passes_on h c.in-Some.hop.now c.args.bytes.now c.from_above.result
-    (found_held (is_hop_by_up c.args.id c.args.port c.args.from.now) h c.in-Some.hop.now (sym c.in-Some.ensures) c.last-last.ensures.within) c.from_above.ensures.on
+    (found_held (is_hop_by_up c.args.id c.args.port c.args.from.now) h c.in-Some.hop.now (sym c.in-Some.ensures) c.is_within.ensures)
+    c.from_above.ensures.on
 
 pub returns-in-Some-by_down-clause-on : goal.returns-in-Some-by_down-clause-on
 returns-in-Some-by_down-clause-on c =
     let h = c.args.self.now.hops in
     each_passes_on h c.in-Some-by_down.hop.now c.args.bytes.now c.from_below.result
-    (found_held (is_hop_by_down c.args.id c.args.port c.args.from.now) h c.in-Some-by_down.hop.now (sym c.in-Some-by_down.ensures) c.last-last.ensures.within) c.from_below.ensures.on
+    (found_held (is_hop_by_down c.args.id c.args.port c.args.from.now) h c.in-Some-by_down.hop.now (sym c.in-Some-by_down.ensures) c.is_within.ensures)
+    c.from_below.ensures.on

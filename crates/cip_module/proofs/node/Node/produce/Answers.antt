@@ -1,12 +1,16 @@
 use Rattle.std.proofs.Common.{ap, sym, ◌∙◌}
 use Rattle.std.specs.FinMap as map
-use Rattle.cip_module.specs.Node.{state_of_node}
+use Rattle.cip_module.specs.Code.Node.{state_of_node}
 use Rattle.cip_module.proofs.Made.{makes, named_instance}
 use Rattle.cip_module.proofs.node.Node.produce.Goals as goal
 
-pub returns-clause-done : goal.returns-clause-done
-returns-clause-done c =
-    let m = c.args.self.now.target.objects.assemblies in
-    makes c.args.self.now.config (state_of_node c.args.self.now) (state_of_node c.count_data.new.self) c.args.instance c.produce.result.now (map.get m c.args.instance) c.in_ok-outputs-2.outputs.items c.last-last.ensures.within
-    (ap (map.get m) (sym (named_instance c.args.instance (map.get m c.args.instance) c.in-Some.assembly c.in-Some.ensures.value)) ∙ c.produce.ensures.value)
-    c.count_data.ensures.after c.in_ok-outputs-2.ensures
+pub returns : goal.returns
+returns c =
+    let m = c.args.self.now.target.objects.assemblies in record {
+      does = makes c.args.self.now.config (state_of_node c.args.self.now) (state_of_node c.count_data.new.self) c.args.instance c.produce.result.now
+          (map.get m c.args.instance) c.in_ok-outputs-2.outputs.items c.is_within.ensures
+          (ap (map.get m) (sym (named_instance c.args.instance (map.get m c.args.instance) c.in-Some.assembly c.in-Some.ensures.value))
+          ∙ c.produce.ensures.value)
+          c.count_data.ensures.after c.in_ok-outputs-2.ensures;
+      same_config = c.count_data.ensures.config;
+    }

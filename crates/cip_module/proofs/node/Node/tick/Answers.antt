@@ -1,9 +1,9 @@
 use Rattle.std.proofs.Common.{◌*◌, ◌++◌, ℕ, ap, ◌∙◌, arith}
 use Rattle.cip_module.specs.Effects.{applied}
-use Rattle.cip_module.specs.Node.{state_of_node}
-use Rattle.cip_module.specs.Table.{expiries, lapsings}
-use Rattle.cip_module.specs.Tick.{shown_all, lapsed_all}
-use Rattle.cip_module.proofs.Expiries.{ticked}
+use Rattle.cip_module.specs.Code.Node.{state_of_node}
+use Rattle.cip_module.specs.Table.{pending_time_outs, hop_time_outs}
+use Rattle.cip_module.specs.Code.Ticks.{pendings_timed_out, hops_timed_out}
+use Rattle.cip_module.proofs.TimeOuts.{ticked}
 use Rattle.cip_module.proofs.node.Node.tick.Goals as goal
 
 pub returns-clause-gives : goal.returns-clause-gives
@@ -14,6 +14,7 @@ returns-clause-gives c =
       ticked m.config s (state_of_node c.clear_due.new.self) (1000 * c.args.by) c.advance.new.self c.in-Ok-timed_out_all.outputs.items
           c.in-Ok.ensures.ok
           (c.clear_due.ensures.after
-          ∙ ap (λ (t : ℕ). applied m.config (record s { now = c.advance.new.self }) (expiries t m.pendings ++ lapsings t m.hops)) c.now-now.ensures.value)
-          (c.in-Ok-timed_out_all.ensures ∙ ap (λ (t : ℕ). shown_all t m.pendings ++ lapsed_all t m.hops) c.now-now.ensures.value),
+          ∙ ap (λ (t : ℕ). applied m.config (record s { now = c.advance.new.self }) (pending_time_outs t m.pendings ++ hop_time_outs t m.hops))
+          c.now-now.ensures.value)
+          (c.in-Ok-timed_out_all.ensures ∙ ap (λ (t : ℕ). pendings_timed_out t m.pendings ++ hops_timed_out t m.hops) c.now-now.ensures.value),
     )

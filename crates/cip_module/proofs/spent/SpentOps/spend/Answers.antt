@@ -7,7 +7,11 @@ use Rattle.cip_module.proofs.spent.SpentOps.spend.Goals as goal
 pub invariant_of-self : goal.invariant_of-self
 invariant_of-self c =
     let place = subst (λ (xs : List ℕ). IsPlace c.args.op xs (Err c.in-Err.at)) c.deref.ensures.value c.in-Err.ensures in
-    record { rising = subst IsRising (sym c.insert.ensures.items) (either_rising (is_ok c.insert.result) _ _ (rising_insert c.args.op c.args.self.now.ops.items c.in-Err.at c.args.self.now.rising place.0 place.1 place.2) c.args.self.now.rising) }
+    record {
+      rising = subst IsRising (sym c.insert.ensures.items)
+          (either_rising (is_ok c.insert.result) _ _ (rising_insert c.args.op c.args.self.now.ops.items c.in-Err.at c.args.self.now.rising place.0 place.1
+          place.2) c.args.self.now.rising);
+    }
 
 pub returns : goal.returns
 returns c =

@@ -1,0 +1,49 @@
+// To be preloaded into a program: it refuses memory, and fails input and output, as the environment says. Only what the
+// program itself calls is counted, from 1 on, and not what the C library or the loader calls.
+//
+//   REFUSE_ALLOC=N  the Nth allocation is refused         REFUSE_READ=N   the Nth read of standard input fails
+//   REFUSE_WRITE=N  the Nth write of standard output fails REFUSE_TAKE=N  the Nth write of standard output takes no byte
+//   ONE_BYTE=1      each read and write moves one byte     REFUSE_TELL=FD  a byte goes to this file where one was refused
+#define _GNU_SOURCE
+#include <dlfcn.h>
+#include <errno.h>
+#include <stdlib.h>
+#include <sys/auxv.h>
+#include <sys/syscall.h>
+#include <unistd.h>
+
+extern void *__libc_malloc(size_t), *__libc_calloc(size_t, size_t), *__libc_realloc(void *, size_t);
+
+static unsigned long allocations, reads, writes;
+
+static unsigned long word(const char *name) { return getenv(name) ? strtoul(getenv(name), 0, 10) : 0; }
+
+// Whether this call is the one to refuse, and tells so.
+static int is_refused(unsigned long count, const char *name) {
+  if (count != word(name)) return 0;
+  if (word("REFUSE_TELL")) syscall(SYS_write, word("REFUSE_TELL"), "x", 1);
+  return 1;
+}
+
+static int is_no_memory(void *caller) {
+  Dl_info from, program;
+  if (!dladdr(caller, &from) || !dladdr((void *)getauxval(AT_ENTRY), &program)) return 0;
+  if (from.dli_fbase != program.dli_fbase || !is_refused(++allocations, "REFUSE_ALLOC")) return 0;
+  errno = ENOMEM;
+  return 1;
+}
+
+void *malloc(size_t size) { return is_no_memory(__builtin_return_address(0)) ? 0 : __libc_malloc(size); }
+void *calloc(size_t n, size_t size) { return is_no_memory(__builtin_return_address(0)) ? 0 : __libc_calloc(n, size); }
+void *realloc(void *old, size_t size) { return is_no_memory(__builtin_return_address(0)) ? 0 : __libc_realloc(old, size); }
+
+ssize_t read(int file, void *to, size_t size) {
+  if (file == 0 && is_refused(++reads, "REFUSE_READ")) return errno = EIO, -1;
+  return syscall(SYS_read, file, to, file == 0 && word("ONE_BYTE") && size ? 1 : size);
+}
+
+ssize_t write(int file, const void *from, size_t size) {
+  if (file == 1 && is_refused(++writes, "REFUSE_WRITE")) return errno = EIO, -1;
+  if (file == 1 && is_refused(writes, "REFUSE_TAKE")) return 0;
+  return syscall(SYS_write, file, from, file == 1 && word("ONE_BYTE") && size ? 1 : size);
+}

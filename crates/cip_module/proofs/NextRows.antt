@@ -1,0 +1,34 @@
+-- What is sent on meets the group that it is meant for, at any module that has the port, or is dropped there as too long.
+use Rattle.std.proofs.Common.{◌≡◌, ℕ, true, false, cond, List, ap, ◌∙◌, ◌⊎◌, inl, inr, refl, arith}
+use Rattle.cip_message.specs.Manager.{manager_request}
+use Rattle.cip_message.specs.RequestAt.{request_at}
+use Rattle.cip_message.proofs.Managers.{manager_is_read}
+use Rattle.cip_unconnected.specs.Unconnected.{Unconnected, unconnected_bytes, unconnected_data}
+use Rattle.cip_close.specs.Close.{Close, close_data, close_bytes}
+use Rattle.cip_module.specs.declared.config.ModuleSettings.{ModuleSettings}
+use Rattle.cip_module.specs.RequestRows.{RequestRow, UnknownPortOrTooLong, UnconnectedSend, ForwardClose, is_malformed, read_row, object_row, request_row}
+use Rattle.cip_module.proofs.ReadBack.{manager_object}
+
+-- dropped, or this row
+abbrev MeetsOrDrops : ModuleSettings → ℕ → List ℕ → RequestRow → Type 0
+MeetsOrDrops config port bytes row = (request_row config port bytes ≡ UnknownPortOrTooLong) ⊎ (request_row config port bytes ≡ row)
+
+meets : (config : ModuleSettings) (port : ℕ) (bytes : List ℕ) (row : RequestRow) → read_row bytes (request_at bytes) ≡ row → MeetsOrDrops config port bytes row
+unfolding request_row
+meets config port bytes row e =
+    elim (is_malformed config port bytes) as (λ b. (cond b UnknownPortOrTooLong (read_row bytes (request_at bytes)) ≡ UnknownPortOrTooLong)
+    ⊎ (cond b UnknownPortOrTooLong (read_row bytes (request_at bytes)) ≡ row)) [ true ↦ inl refl | false ↦ inr e ]
+
+pub send_row_is : (config : ModuleSettings) (port : ℕ) (u : Unconnected)
+    → (request_row config port (unconnected_bytes u) ≡ UnknownPortOrTooLong)
+    ⊎ (request_row config port (unconnected_bytes u) ≡ UnconnectedSend (unconnected_data u))
+send_row_is config port u =
+    meets config port (unconnected_bytes u) (UnconnectedSend (unconnected_data u))
+    (ap (read_row (unconnected_bytes u)) (manager_is_read 0x52 (unconnected_data u) (omega arith))
+    ∙ ap (object_row (manager_request 0x52 (unconnected_data u))) manager_object)
+
+pub close_row_is : (config : ModuleSettings) (port : ℕ) (c : Close)
+    → (request_row config port (close_bytes c) ≡ UnknownPortOrTooLong) ⊎ (request_row config port (close_bytes c) ≡ ForwardClose (close_data c))
+close_row_is config port c =
+    meets config port (close_bytes c) (ForwardClose (close_data c))
+    (ap (read_row (close_bytes c)) (manager_is_read 0x4E (close_data c) (omega arith)) ∙ ap (object_row (manager_request 0x4E (close_data c))) manager_object)

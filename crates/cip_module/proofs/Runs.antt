@@ -1,0 +1,46 @@
+-- All that theorems over runs cite of one event, one turn and one history, in the order in which they need it.
+-- What each effect of an event tells, and which tables still stand where it is applied.
+pub use Rattle.cip_module.proofs.Tells.{decide_tells}
+pub use Rattle.cip_module.proofs.Standing.{all_stand}
+pub use Rattle.cip_module.proofs.Quiet.{alone, reply_alone}
+pub use Rattle.cip_module.proofs.PassedBy.{frame_alone, enter_alone}
+pub use Rattle.cip_module.proofs.ProducedStand.{produced_stood}
+-- One thing for whom an event asks.
+pub use Rattle.cip_module.proofs.Light.{light_once}
+pub use Rattle.cip_module.proofs.TakenUp.{takes_once}
+pub use Rattle.cip_module.proofs.Births.{born_once_a_turn}
+-- A turn is its effects; what each keeps, or conserves, a turn and a history do.
+pub use Rattle.cip_module.proofs.Turns.{Turned, turned, newest, by_turn, by_places}
+pub use Rattle.cip_module.proofs.Weighing.{conserved, history_conserved, weight_has, weight_gave, weight_at, one_place}
+-- Counts never fall; where what waits and what is held comes from, and what never changes of it.
+pub use Rattle.cip_module.proofs.Rises.{numbers_rise, ids_rise}
+pub use Rattle.cip_module.proofs.Puts.{pending_cases, next_number, next_id, AreBelow, below_after}
+pub use Rattle.cip_module.proofs.Stands.{SameCore, Stood, HeldCase, held_cases}
+pub use Rattle.cip_module.proofs.Triads.{HasOwnTriads, own_triads}
+-- Which effect an output comes from.
+pub use Rattle.cip_module.proofs.GaveBy.{GaveBy, gave_by, RepliesBy, reply_by}
+pub use Rattle.cip_module.proofs.GivenBy.{answered_by, EndedBy, ended_by}
+pub use Rattle.cip_module.proofs.RequestBy.{BornBy, born_tells, RequestBy, request_by}
+pub use Rattle.cip_module.proofs.PassedBy.{PassedBy, passed_by, found_own}
+-- Births: a number, a request that waits, an id, a reply, a Done.
+pub use Rattle.cip_module.proofs.Numbers.{numbers_conserved, sent_once}
+pub use Rattle.cip_module.proofs.Asking.{stems}
+pub use Rattle.cip_module.proofs.Births.{birth, held_born, birth_range, born_once}
+pub use Rattle.cip_module.proofs.OneReply.{claims, waits_counted}
+pub use Rattle.cip_module.proofs.Dones.{done_once}
+pub use Rattle.cip_module.proofs.AskedBy.{taken_waits, asked_there}
+-- Trails: an open waits beside its opening, and its path shortens; what is written is read back.
+pub use Rattle.cip_module.proofs.Joined.{OpenSent, Opens, Joined, joined}
+pub use Rattle.cip_module.proofs.OpenedBelow.{HopOpened, hop_opened}
+pub use Rattle.cip_module.proofs.PathsShorten.{hop_shortens}
+pub use Rattle.cip_module.proofs.ReadBack.{open_row_is, open_data_read, success_back, failure_back, reply_is}
+pub use Rattle.cip_module.proofs.ReadBackSends.{unconnected_data_read}
+pub use Rattle.cip_module.proofs.ReadBackOthers.{close_data_read, open_success_read, close_success_read, open_success_back, close_success_back}
+pub use Rattle.cip_module.proofs.NextRows.{send_row_is, close_row_is}
+pub use Rattle.cip_module.proofs.GoesOn.{allowed, message_no_open, close_no_open}
+pub use Rattle.cip_module.proofs.AtHand.{HasPoints, end_points, send_service}
+pub use Rattle.cip_module.proofs.Failures.{request_fails, unconnected_fails, open_fails, close_fails, link_fails, end_fails}
+-- Chains: a datum that is found goes on.
+pub use Rattle.cip_module.proofs.DataMet.{goes_down, goes_up}
+-- The first state, by its tables.
+pub use Rattle.cip_module.proofs.Shown.{Alike, alike, fresh}

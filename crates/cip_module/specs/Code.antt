@@ -1,0 +1,10 @@
+-- What the code alone speaks of: its decisions and plans, what its tables keep, and what it carries
+-- out.
+pub mod Does
+pub mod Node
+pub mod Ready
+pub mod Fit
+pub mod Decisions
+pub mod Plans
+pub mod Made
+pub mod Ticks

@@ -1,0 +1,69 @@
+-- What a tick tells of what ran out.
+use Rattle.std.specs.Prelude.{◌≡◌, ℕ, ◌+◌, ◌*◌, ◌^◌, ◌<◌, ◌≤◌, List, map, Option, Result, Ok, Err}
+use Rattle.std.specs.Option.{option_to_list}
+use Rattle.cip_base.specs.Words.{Microseconds}
+use Rattle.cip_pending.specs.declared.entry.Entry.{Entry}
+use Rattle.cip_pending.specs.Pendings.{due, Pendings}
+use Rattle.cip_hops.specs.declared.hop.Hop.{Hop}
+use Rattle.cip_hops.specs.Hops.{Hops}
+use Rattle.cip_hops.specs.Hops as hops
+use Rattle.cip_module.specs.declared.event.Event.{Event}
+use Rattle.cip_module.specs.declared.event.Event.TheVariants as events
+use Rattle.cip_module.specs.declared.event.Command.{Command}
+use Rattle.cip_module.specs.declared.event.Command.TheVariants as commands
+use Rattle.cip_module.specs.declared.event.Output.{Output}
+use Rattle.cip_module.specs.declared.event.Output.TheVariants as outputs
+use Rattle.cip_module.specs.declared.config.ModuleSettings.{ModuleSettings}
+use Rattle.cip_module.specs.declared.ticks.TickFault.{TickFault}
+use Rattle.cip_module.specs.declared.ticks.TickFault.TheVariants.{OutOfMemory, Full}
+use Rattle.cip_module.specs.Code.Does.{Does}
+use Rattle.cip_module.specs.Effects.{Effect, reply_up, late_bytes}
+use Rattle.cip_module.specs.State.{State}
+use Rattle.cip_module.specs.Table.{pending_times_out, hop_times_out, tick_effects}
+
+-- that no answer came in time
+abbrev pub shown : ℕ × Entry → Output
+shown waiting = reply_up waiting.1.up (late_bytes waiting.1.kind waiting.1.words)
+
+-- of the due pendings, in rising number
+abbrev pub pendings_timed_out : Microseconds → Pendings → List Output
+pendings_timed_out now p = map shown (due now p)
+
+abbrev pub hop_timed_out : Hop → Output
+hop_timed_out hop = outputs.Expired hop.opening.triad
+
+-- of the due connections, in rising triad
+abbrev pub hops_timed_out : Microseconds → Hops → List Output
+hops_timed_out now h = map hop_timed_out (hops.due now h)
+
+-- the effect of one due pending, and that of one due connection, where there is one
+abbrev pub pending_time_out : Option (ℕ × Entry) → List Effect
+pending_time_out waiting = map pending_times_out (option_to_list waiting)
+
+abbrev pub hop_time_out : Option Hop → List Effect
+hop_time_out hop = map hop_times_out (option_to_list hop)
+
+-- what a call that ticks answers: the clock is full exactly where the time would pass its last
+-- value, looked at first
+abbrev pub TickGives : {V : Type 0} → (V → List Output) → ModuleSettings → State → State → ℕ
+    → Result V TickFault → Type 0
+TickGives view config old new ms (Ok outputs) =
+    (old.now + 1000 * ms < 2 ^ 63) × Does config old (tick_effects old (1000 * ms)) new
+    (view outputs)
+TickGives view config old new ms (Err OutOfMemory) = (old.now + 1000 * ms < 2 ^ 63) × (new ≡ old)
+TickGives view config old new ms (Err Full) = (2 ^ 63 ≤ old.now + 1000 * ms) × (new ≡ old)
+
+-- a command or a frame
+abbrev pub IsNoTick : Event → Type 0
+IsNoTick (events.Command command) = Unit {0}
+IsNoTick (events.Frame port from body) = Unit {0}
+IsNoTick (events.Tick by) = ⊥
+
+-- a command that has one output at the most
+abbrev pub IsSingle : Command → Type 0
+IsSingle (commands.Open op timing path params) = Unit {0}
+IsSingle (commands.Close op of timing) = Unit {0}
+IsSingle (commands.Send op timing path asked) = Unit {0}
+IsSingle (commands.Enter of bytes) = Unit {0}
+IsSingle (commands.Set instance bytes) = Unit {0}
+IsSingle (commands.Produce instance) = ⊥

@@ -1,0 +1,121 @@
+//! Which row of the request group answers.
+ghost use Rattle.std.specs.Prelude.{◌≡◌, ◌≤◌, ◌<◌, ◌+◌, length};
+ghost use Rattle.cip_segment.specs.Reading.{segments_of};
+ghost use Rattle.cip_message.specs.Reading.{request_of};
+ghost use Rattle.cip_target.specs.Object.{object_of};
+ghost use Rattle.cip_module.specs.Object.{begins_with_manager};
+ghost use Rattle.cip_module.specs.RequestRows.{Refuses, is_malformed, manager_row, object_row, request_row};
+ghost use Rattle.cip_module.specs.Code.Decisions.{request_row_of, RequestLeads};
+
+use crate::config::ModuleSettings;
+use crate::ports::port_of;
+use crate::refusals::RequestRefusal;
+use cip_base::{MAX_MESSAGE, PortNumber};
+use cip_close::FORWARD_CLOSE;
+use cip_message::{CONNECTION_MANAGER, RequestFault, RequestView, read_request};
+use cip_open::FORWARD_OPEN;
+use cip_segment::{PathView, SegmentView, split_first};
+use cip_target::{ObjectPath, object_path};
+use cip_unconnected::UNCONNECTED_SEND;
+
+/// The row that answers a request.
+#[derive(Clone, Copy)]
+pub(crate) enum RequestDecision<'a> {
+    UnknownPortOrTooLong,
+    NotARequest,
+    Refuses {
+        service: u8,
+        refusal: RequestRefusal,
+    },
+    UnconnectedSend(&'a [u8]),
+    ForwardOpen(&'a [u8]),
+    ForwardClose(&'a [u8]),
+    Target(RequestView<'a>),
+}
+
+/// Whether a path begins with the Connection Manager's class.
+pub(crate) fn begins_with_manager(path: PathView<'_>) -> bool
+    ensures { result ≡ begins_with_manager (segments_of path.entry.bytes.now) }
+{
+    match split_first(path) {
+        None => false,
+        Some((first, _)) => match first {
+            SegmentView::Class(class_) => class_ == CONNECTION_MANAGER,
+            _ => false,
+        },
+    }
+}
+
+/// Whether a message came by a port that the module lacks, or is too long.
+pub(crate) fn is_malformed(settings: &ModuleSettings, port: PortNumber, bytes: &[u8]) -> bool
+    ensures { result ≡ is_malformed settings.now port bytes.now }
+{
+    port_of(settings, port).is_none() || bytes.len() > MAX_MESSAGE
+}
+
+fn refuses<'a>(service: u8, refusal: RequestRefusal) -> RequestDecision<'a>
+    requires { service < 128 }
+    ensures row { request_row_of result ≡ Refuses service refusal }
+    ensures leads { RequestLeads result }
+{
+    RequestDecision::Refuses { service, refusal }
+}
+
+// A request to the Connection Manager: its instance first, then its services.
+fn manager_row<'a>(request: RequestView<'a>, object: ObjectPath) -> RequestDecision<'a>
+    requires service { request.service < 128 }
+    requires fits { length request.data_.now ≤ 1394 }
+    ensures row { request_row_of result ≡ manager_row (request_of request.entry) object }
+    ensures leads { RequestLeads result }
+{
+    let service = request.service;
+    if object.instance != 1 {
+        return refuses(service, RequestRefusal::NoSuchManagerInstance);
+    }
+    match service {
+        UNCONNECTED_SEND => RequestDecision::UnconnectedSend(request.data_),
+        FORWARD_OPEN => RequestDecision::ForwardOpen(request.data_),
+        FORWARD_CLOSE => RequestDecision::ForwardClose(request.data_),
+        _ => refuses(service, RequestRefusal::ServiceNotSupported),
+    }
+}
+
+// A request that was read, by the object that its path names.
+fn object_row(request: RequestView<'_>) -> RequestDecision<'_>
+    requires service { request.service < 128 }
+    requires fits { 2 + length request.path.bytes.now + length request.data_.now ≤ 1400 }
+    ensures row { request_row_of result ≡ object_row (request_of request.entry)
+        (object_of (segments_of request.entry.path.bytes.now)) }
+    ensures leads { RequestLeads result }
+{
+    let Some(object) = object_path(request.path) else {
+        return refuses(request.service, RequestRefusal::PathFormNotSupported);
+    };
+    if object.class_ == CONNECTION_MANAGER {
+        manager_row(request, object)
+    } else {
+        RequestDecision::Target(request)
+    }
+}
+
+/// The row that answers a request which came in by a port.
+#[tactic(auto, unfolding(crate::specs::RequestRows::request_row))]
+pub(crate) fn request_row<'a>(
+    settings: &ModuleSettings,
+    port: PortNumber,
+    bytes: &'a [u8],
+) -> RequestDecision<'a>
+    ensures row { request_row_of result ≡ request_row settings.now port bytes.entry.now }
+    ensures leads { RequestLeads result }
+{
+    if is_malformed(settings, port, bytes) {
+        return RequestDecision::UnknownPortOrTooLong;
+    }
+    match read_request(bytes) {
+        Ok(request) => object_row(request),
+        Err(RequestFault::TooShort) => RequestDecision::NotARequest,
+        Err(RequestFault::NotRequest) => RequestDecision::NotARequest,
+        Err(RequestFault::PathSize) => refuses(bytes[0], RequestRefusal::PathPastTheEnd),
+        Err(RequestFault::Path(_)) => refuses(bytes[0], RequestRefusal::PathUnreadable),
+    }
+}

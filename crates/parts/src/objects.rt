@@ -1,0 +1,89 @@
+//! The Identity and Assembly objects, with bytes from outside.
+use crate::target::{identity, play_target};
+use cip_target::{AssemblyConfig, Target};
+use std::test::Fail;
+
+const ASSEMBLIES: [AssemblyConfig; 3] = [
+    AssemblyConfig {
+        instance: 0x0101,
+        size: 1,
+    },
+    AssemblyConfig {
+        instance: 101,
+        size: 4,
+    },
+    AssemblyConfig {
+        instance: 100,
+        size: 0,
+    },
+];
+
+fn play_objects(rt: &HostRuntime, rows: &str) -> Result<(), Fail> {
+    let alloc = rt.alloc();
+    let identity = identity(alloc).ok_or("no identity")?;
+    play_target(alloc, Target::new(alloc, identity, &ASSEMBLIES)?, rows)
+}
+
+#[test]
+fn each_row_by_its_bytes(rt: HostRuntime) -> Result<(), Fail> {
+    play_objects(
+        &rt,
+        "
+        answer 0E_03_2001_2401_3001 = 8E_00_00_00_0101
+        answer 0E_03_2001_2401_3002 = 8E_00_00_00_0C00
+        answer 0E_03_2001_2401_3003 = 8E_00_00_00_0200
+        answer 0E_03_2001_2401_3004 = 8E_00_00_00_0103
+        answer 0E_03_2001_2401_3005 = 8E_00_00_00_0000
+        answer 0E_03_2001_2401_3006 = 8E_00_00_00_0B0B0000
+        answer 0E_03_2001_2401_3007 = 8E_00_00_00_024252
+        answer 0E_03_2001_2401_3008 = 8E_00_14_00
+        answer 0E_02_2001_2401 = 8E_00_14_00
+        answer 01_02_2001_2401_00 = 81_00_15_00
+        answer 10_03_2001_2401_3001_0500 = 90_00_0E_00
+        answer 10_03_2001_2401_3008 = 90_00_14_00
+        answer 4B_02_2001_2401 = CB_00_08_00
+        answer 0E_02_2001_2400 = 8E_00_16_00
+        answer 0E_02_2005_2401 = 8E_00_05_00
+        answer 0E_01_2001 = 8E_00_05_00
+        answer 0E_03_2004_2C64_3003 = 8E_00_05_00
+        answer 01_02_2004_2465 = 81_00_08_00
+        answer 0E_03_2004_2463_3003 = 8E_00_16_00
+        answer 0E_03_2004_2465_3003 = 8E_00_00_00_00000000
+        answer 0E_03_2004_2464_3003_00 = 8E_00_15_00
+        answer 10_03_2004_2465_3003_AA = 90_00_13_00
+        answer 10_03_2004_2464_3003_AA = 90_00_15_00
+        answer 0E_03_2004_2465_3004 = 8E_00_14_00
+        ",
+    )
+}
+
+#[test]
+fn an_assembly_is_written_in_each_spelling(rt: HostRuntime) -> Result<(), Fail> {
+    play_objects(
+        &rt,
+        "
+        answer 10_03_2004_2465_3003_01020304 = 90_00_00_00
+        answer 0E_06_21000400_25006500_31000300 = 8E_00_00_00_01020304
+        answer 10_06_2004_260001010000_31000300_09 = 90_00_00_00
+        answer 01_03_2001_2401_3009 = 81_00_00_00_01010C000200010300000B0B0000024252
+        least = 100 -
+        after 100 = 101 01020304
+        after 101 = 257 09
+        after 257 = none
+        serial = 2827
+        ",
+    )
+}
+
+#[test]
+fn identities_in_their_ranges(rt: HostRuntime) -> Result<(), Fail> {
+    play_objects(
+        &rt,
+        "
+        # The names '~ ', 'AB', and one with the byte 7F.
+        legal 127 7E20 = true
+        legal 128 4142 = false
+        legal 1 7F41 = false
+        ",
+    )
+}

@@ -1,0 +1,29 @@
+//! Tests that cross crates: scripts of single steps over the modules of the bench, and the console over scripts in memory.
+#![tactic(auto)]
+
+#[cfg(test)]
+mod asking_objects;
+#[cfg(test)]
+mod closing;
+#[cfg(test)]
+mod console_streams;
+#[cfg(test)]
+mod console_transcripts;
+#[cfg(test)]
+mod falling_silent;
+#[cfg(test)]
+mod moving_data;
+#[cfg(test)]
+mod opening;
+#[cfg(test)]
+mod opening_at_the_adapter;
+#[cfg(test)]
+mod refused_commands;
+#[cfg(test)]
+mod refused_opens;
+#[cfg(test)]
+mod refused_requests;
+#[cfg(test)]
+mod sending_unconnected;
+#[cfg(test)]
+mod taking_replies;
