@@ -1,5 +1,7 @@
 pub mod Fields
+pub mod Index
 pub mod Joined
+pub mod Numbers
 pub mod Rising
 pub mod Triads
 pub mod Words

@@ -1,7 +1,6 @@
 //! What holds of the order of triads.
 ghost use Rattle.std.specs.Prelude.{◌≡◌};
 ghost use Rattle.std.specs.Cmp.{IsTotalOrder};
-ghost use Rattle.std.specs.declared.cmp.Ordering.{Ordering as Order};
 ghost use Rattle.std.specs.declared.cmp.Ordering.TheVariants.{Equal};
 ghost use Rattle.cip_base.specs.declared.triad.Triad.{Triad as Name};
 ghost use Rattle.cip_base.specs.Triads.{triad_cmp};

@@ -9,6 +9,7 @@ use std::alloc::{AllocError, Allocator};
 mod address;
 mod bytes;
 mod fields;
+mod index;
 mod key;
 mod laws;
 mod limits;
@@ -20,6 +21,7 @@ mod triad;
 pub use address::{Address, AddressFault};
 pub use bytes::Bytes;
 pub use fields::{put_double, put_word};
+pub use index::NumberIndex;
 pub use key::KeyFields;
 pub use laws::{triad_order, triads_are_ordered};
 pub use limits::{

@@ -1,5 +1,5 @@
 //! The request Forward_Close.
-ghost use Rattle.std.specs.Prelude.{◌≡◌, ◌≤◌, ◌++◌, length, IfOk};
+ghost use Rattle.std.specs.Prelude.{◌≡◌, IfOk};
 ghost use Rattle.cip_message.specs.Gives.{Gives};
 ghost use Rattle.cip_message.specs.Exact.{IsRead};
 ghost use Rattle.cip_close.specs.Close.{ReadsClose, IsCloseFault, close_bytes};

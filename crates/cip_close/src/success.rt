@@ -1,5 +1,5 @@
 //! The reply of a successful Forward_Close.
-ghost use Rattle.std.specs.Prelude.{◌≡◌, ◌≤◌, ◌%◌, ◌++◌, length, IfOk};
+ghost use Rattle.std.specs.Prelude.{◌≡◌, ◌≤◌, ◌%◌, length, IfOk};
 ghost use Rattle.cip_message.specs.Gives.{Gives};
 ghost use Rattle.cip_message.specs.Exact.{IsRead};
 ghost use Rattle.cip_close.specs.Success.{ReadsCloseReply, IsCloseReplyFault, close_reply_bytes};

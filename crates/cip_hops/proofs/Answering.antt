@@ -19,7 +19,8 @@ use Rattle.cip_hops.specs.declared.hop.Held.TheVariants.{Opening as IsOpening}
 use Rattle.cip_hops.specs.declared.table.HopTable.TheInside.{Inside}
 use Rattle.cip_hops.specs.Hops.{Hops, refusal, triad_of, up_id_of, down_id_of, held_op_of}
 use Rattle.cip_hops.specs.Kept.{Indexes, names, hops, IsKept}
-use Rattle.cip_hops.proofs.Views.{Finds, len-view}
+use Rattle.cip_base.specs.Joined.{Finds}
+use Rattle.cip_base.proofs.Views.{len-view}
 use Rattle.cip_hops.proofs.Counts.{tally-le}
 use Rattle.cip_hops.proofs.Steps.{triads_apart, finds, held_is, len_is}
 

@@ -18,9 +18,9 @@ use Rattle.cip_hops.specs.declared.hop.Held.TheVariants.{Opening as IsOpening, O
 use Rattle.cip_hops.specs.declared.table.HopTable.TheInside.{Inside}
 use Rattle.cip_hops.specs.Sides.{up_is_link, down_is_link}
 use Rattle.cip_hops.specs.Changes.{Suits, change_of}
-use Rattle.cip_hops.specs.Hops.{Hops, as_opening, as_hop, opened, open_in, finished, with_held, with_hop, ends_here, change_in, changed, is_link, touched, counted, IsHop, IsHeld}
+use Rattle.cip_hops.specs.Hops.{Hops, as_opening, as_hop, opened, open_in, finished, with_held, with_hop, ends_here, change_in, is_link, touched, counted, IsHop, IsHeld}
 use Rattle.cip_hops.specs.Kept.{hops, IsKept}
-use Rattle.cip_hops.proofs.Counts.{one_if}
+use Rattle.cip_base.proofs.Lengths.{one_if}
 use Rattle.cip_hops.proofs.Ids.{is_some-if}
 use Rattle.cip_hops.proofs.Steps.{SameNames, held_at, kept_changed, view_changed}
 
@@ -51,10 +51,6 @@ pub finished_is : (p : Hops) (triad : Triad) (their_id now : ℕ) (o : Opening) 
 finished_is p triad their_id now o ids e = ap (open_in p triad their_id now) e
 
 -- ---- a hop changes
-
-pub changed_is : (p : Hops) (triad : Triad) (change : Hop → Hop) (hop : Hop) → map.get p.held triad ≡ Some (Open hop)
-    → changed p triad change ≡ with_hop p triad (change hop)
-changed_is p triad change hop e = ap (λ o. change_in p triad change (option_and_then as_hop o)) e
 
 pub touched_alike : (side : Side) (now : ℕ) (hop : Hop) → SameNames (Open hop) (Open (touched side now hop))
 touched_alike Up now hop = record { triad = refl; up = refl; down = refl; op = refl }

@@ -9,10 +9,8 @@ use Rattle.std.specs.FinMap as map
 use Rattle.std.specs.FinMap.{FinMap, IsAntisymmetric}
 use Rattle.std.specs.FinMap.Entries.{find, put, by_order}
 use Rattle.std.proofs.lemmas.List.Sums.{count_by-le-length, sum_by-cons}
-use Rattle.cip_hops.proofs.Views.{tied_name}
-
-abbrev pub one_if : Bool → ℕ
-one_if b = cond b 1 0
+use Rattle.cip_base.proofs.Lengths.{one_if}
+use Rattle.cip_base.proofs.Views.{tied_name}
 
 module _ {K X : Type 0} (R : K → K → Ordering) (p : X → Bool) where
   abbrev pub tally : FinMap R X → ℕ

@@ -1,9 +1,7 @@
-pub mod Views
 pub mod Counts
 pub mod Indexing
 pub mod Ids
 pub mod Steps
-pub mod Places
 pub mod Named
 pub mod Answering
 pub mod Changes

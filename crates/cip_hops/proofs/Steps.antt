@@ -15,11 +15,14 @@ use Rattle.cip_hops.specs.declared.hop.Held.TheVariants.{Opening as IsOpening}
 use Rattle.cip_hops.specs.declared.table.HopTable.TheInside.{Inside}
 use Rattle.cip_hops.specs.Sides.{up_is_link, down_is_link, op_of, ids_drawn, own_ids}
 use Rattle.cip_hops.specs.Hops.{Hops, begun, without, triad_of, up_id_of, down_id_of, held_op_of, IsOpFree, IsHeld, IsWithin}
-use Rattle.cip_hops.specs.Index.{Index, noted, forgot}
+use Rattle.cip_base.specs.Index.{Index, noted, forgot}
 use Rattle.cip_hops.specs.Kept.{Indexes, names, hops, IsKept}
-use Rattle.cip_hops.proofs.Views.{Finds, get-view, len-view, view-insert, view-remove, view-change}
-use Rattle.cip_hops.proofs.Counts.{one_if, tally-insert, tally-remove, tally-change}
-use Rattle.cip_hops.proofs.Indexing.{same_or_not, Others, index_add, index_drop, index_change, len-noted, len-forgot}
+use Rattle.cip_base.specs.Joined.{Finds}
+use Rattle.cip_base.proofs.Views.{get-view, len-view, view-insert, view-remove, view-change}
+use Rattle.cip_base.proofs.Lengths.{one_if}
+use Rattle.cip_hops.proofs.Counts.{tally-insert, tally-remove, tally-change}
+use Rattle.cip_base.proofs.Lengths.{len-noted, len-forgot}
+use Rattle.cip_hops.proofs.Indexing.{same_or_not, Others, index_add, index_drop, index_change}
 use Rattle.cip_hops.proofs.Ids.{is_some-if, up_range, down_range, drawn_apart}
 
 pub triads_apart : IsAntisymmetric triad_cmp
@@ -209,11 +212,11 @@ module _ (t : Inside) (h : IsKept t) (o : Opening) (key : ℕ) (s : Slab Held) (
             (get s) key new_held _ h.by_down vacant updates.changed updates.others refl down_free;
         by_op = index_add nat_cmp nat_cmp_total nat_cmp-IsAntisymmetric held_op_of t.ops (get t.records)
             (get s) key new_held _ h.by_op vacant updates.changed updates.others refl op_unused;
-        ups_count = len-noted nat_cmp nat_cmp_total nat_cmp-IsAntisymmetric up_id_of t.ups _ key up_free
+        ups_count = len-noted nat_cmp nat_cmp_total t.ups _ key up_free
             ∙ ap (λ n. one_if (is_some (own_ids t.next o).up) + n) h.ups_count ∙ sym (begun_names up_id_of);
-        downs_count = len-noted nat_cmp nat_cmp_total nat_cmp-IsAntisymmetric down_id_of t.downs _ key down_free
+        downs_count = len-noted nat_cmp nat_cmp_total t.downs _ key down_free
             ∙ ap (λ n. one_if (is_some (own_ids t.next o).down) + n) h.downs_count ∙ sym (begun_names down_id_of);
-        ops_count = len-noted nat_cmp nat_cmp_total nat_cmp-IsAntisymmetric held_op_of t.ops _ key op_unused
+        ops_count = len-noted nat_cmp nat_cmp_total t.ops _ key op_unused
             ∙ ap (λ n. one_if (is_some (op_of o.up)) + n) h.ops_count ∙ sym (begun_names held_op_of);
         each = begun_each;
         apart = begun_apart;
@@ -225,7 +228,7 @@ module _ (t : Inside) (h : IsKept t) (o : Opening) (key : ℕ) (s : Slab Held) (
 
           len_more : map.len (map.insert t.triads.keys o.triad key) ≡ 1 + map.len t.triads.keys
           len_more =
-              len-noted triad_cmp triads_total triads_apart (λ x. Some (triad_of x)) t.triads (Some o.triad) key (λ n e. let same : o.triad ≡ n = cc in
+              len-noted triad_cmp triads_total t.triads (Some o.triad) key (λ n e. let same : o.triad ≡ n = cc in
               ap (map.get t.triads.keys) (sym same) ∙ free)
 
 -- ---- a record goes
@@ -308,13 +311,13 @@ module _ (t : Inside) (h : IsKept t) (triad : Triad) (key : ℕ) (x : Held) (s :
       by_op = index_drop nat_cmp nat_cmp_total nat_cmp-IsAntisymmetric held_op_of t.ops (get t.records)
           (get s) key x _ h.by_op found updates.changed updates.others refl;
       ups_count =
-          less_left _ _ _ _ _ (len-forgot nat_cmp nat_cmp_total nat_cmp-IsAntisymmetric up_id_of t.ups (up_id_of x) key up_noted) h.ups_count
+          less_left _ _ _ _ _ (len-forgot nat_cmp nat_cmp_total t.ups (up_id_of x) key up_noted) h.ups_count
           (dropped_names up_id_of);
       downs_count =
-          less_left _ _ _ _ _ (len-forgot nat_cmp nat_cmp_total nat_cmp-IsAntisymmetric down_id_of t.downs (down_id_of x) key down_noted) h.downs_count
+          less_left _ _ _ _ _ (len-forgot nat_cmp nat_cmp_total t.downs (down_id_of x) key down_noted) h.downs_count
           (dropped_names down_id_of);
       ops_count =
-          less_left _ _ _ _ _ (len-forgot nat_cmp nat_cmp_total nat_cmp-IsAntisymmetric held_op_of t.ops (held_op_of x) key op_noted) h.ops_count
+          less_left _ _ _ _ _ (len-forgot nat_cmp nat_cmp_total t.ops (held_op_of x) key op_noted) h.ops_count
           (dropped_names held_op_of);
       each = λ k y e. h.each k y (still k y e);
       apart = λ j k y z id e f. h.apart j k y z id (still j y e) (still k z f);
@@ -329,7 +332,7 @@ module _ (t : Inside) (h : IsKept t) (triad : Triad) (key : ℕ) (x : Held) (s :
 
         len_less : 1 + map.len (map.remove t.triads.keys triad) ≡ map.len t.triads.keys
         len_less =
-            len-forgot triad_cmp triads_total triads_apart (λ x. Some (triad_of x)) t.triads (Some triad) key (λ n e. let same : triad ≡ n = cc in
+            len-forgot triad_cmp triads_total t.triads (Some triad) key (λ n e. let same : triad ≡ n = cc in
             ap (map.get t.triads.keys) (sym same) ∙ at)
 
 -- ---- a record changes

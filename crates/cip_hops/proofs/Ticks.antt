@@ -20,7 +20,7 @@ use Rattle.cip_hops.specs.Hops.{Hops, triad_of, as_hop, is_hop, is_hop_due, is_e
 use Rattle.cip_base.specs.Joined.{passes}
 use Rattle.cip_hops.specs.Kept.{hops, IsKept}
 use Rattle.cip_base.proofs.Joined.{joined_none, joined_first}
-use Rattle.cip_hops.proofs.Views.{get-at, entries-view, found-gives}
+use Rattle.cip_base.proofs.Views.{get-at, entries-view, found-gives}
 use Rattle.cip_hops.proofs.Steps.{triads_apart, held_at}
 
 -- stands for what is past the end of the pairs

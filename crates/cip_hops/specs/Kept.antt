@@ -8,7 +8,7 @@ use Rattle.cip_base.specs.Words.{ConnectionId}
 use Rattle.cip_hops.specs.declared.hop.Held.{Held}
 use Rattle.cip_hops.specs.declared.table.HopTable.TheInside.{Inside}
 use Rattle.cip_hops.specs.Hops.{Hops, triad_of, up_id_of, down_id_of, held_op_of, IsHeld}
-use Rattle.cip_base.specs.Joined.{joined}
+use Rattle.cip_base.specs.Joined.{joined_map}
 use Rattle.cip_base.specs.declared.limits.TheConstants.{LAST_COUNT}
 
 -- the record under a key has this name
@@ -33,7 +33,7 @@ abbrev pub hops : Inside → Hops
 hops t = record {
   room = t.room;
   next = t.next;
-  held = map.from_sorted (joined (map.entries t.triads.keys) (get t.records));
+  held = joined_map t.triads.keys (get t.records);
 }
 
 pub record IsKept (t : Inside) : Type 0 where

@@ -1,6 +1,5 @@
 pub mod Sides
 pub mod Hops
 pub mod Changes
-pub mod Index
-pub mod Numbers
+pub mod TriadPairs
 pub mod Kept

@@ -2,7 +2,6 @@
 #![tactic(auto)]
 
 mod hop;
-mod index;
 mod opening;
 mod table;
 mod triads;

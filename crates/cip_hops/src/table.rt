@@ -1,20 +1,19 @@
 //! The table: records in a slab, and indexes of their keys by triad, by own ids and by op. All room
 //! is reserved.
-ghost use Rattle.std.specs.Prelude.{◌≡◌, ◌+◌, ◌++◌, ◌<◌, ◌^◌, not, false, IfOk, IsSome, IsSomeAnd, IsTrue, is_ok, is_some, if◌then◌else◌, MatchOption};
+ghost use Rattle.std.specs.Prelude.{◌≡◌, ◌+◌, ◌++◌, ◌<◌, ◌^◌, false, IfOk, IsSome, IsSomeAnd, IsTrue, is_ok, is_some, if◌then◌else◌};
 ghost use Rattle.std.specs.List.{position};
 ghost use Rattle.std.specs.Option.{option_copied, option_to_list, option_map_or};
 ghost use Rattle.std.specs.FinMap as map;
 ghost use Rattle.slab.specs.Slab.{get as get_record};
 ghost use Rattle.cip_base.specs.Joined.{passes};
-ghost use Rattle.cip_hops.specs.Sides.{op_of, down_is_link};
+ghost use Rattle.cip_hops.specs.Sides.{op_of};
 ghost use Rattle.cip_hops.specs.Changes.{Suits, IsChanged};
 ghost use Rattle.cip_hops.specs.Hops.{refusal, begin_gives, begun, IsOpFree, opening_at, hop_at, without, without_if, IsWithout, finished, changed, is_link, ends_here, touched, counted, hop_by_up, hop_by_down, hop_by_op, first_due, due, rest, first_after, as_hop, is_hop_due, is_entry_due, is_entry_open, IsWithin};
 
 use crate::hop::{Change, Held, Hop, Side};
-use crate::index::NumberIndex;
 use crate::opening::{BeginFault, BeginReason, Opening, OwnIds};
 use crate::triads::{TriadIndex, place_after};
-use cip_base::{Address, LAST_COUNT, NoMemory, PortNumber, Triad};
+use cip_base::{Address, LAST_COUNT, NoMemory, NumberIndex, PortNumber, Triad};
 use core::mem::replace_with;
 use slab::Slab;
 use std::alloc::Global;
@@ -35,7 +34,7 @@ pub struct HopTable {
 }
 
 impl Model for HopTable {
-    ghost use Rattle.std.specs.Coded.{codes, coded_ℕ};
+    ghost use Rattle.std.specs.Coded.{codes};
     ghost use Rattle.std.specs.FinMap as map;
     ghost use Rattle.cip_base.specs.Triads.{triad_cmp, coded_triad};
     ghost use Rattle.cip_hops.specs.contracts.hop.Held as kept;

@@ -5,7 +5,7 @@ ghost use Rattle.std.specs.FinMap as map;
 ghost use Rattle.cip_base.specs.Triads.{triad_cmp};
 ghost use Rattle.cip_hops.specs.Hops.{is_after};
 ghost use Rattle.cip_base.specs.Rising.{IsRising, IsPlaceOf, Divides};
-ghost use Rattle.cip_hops.specs.Index.{noted, forgot};
+ghost use Rattle.cip_base.specs.Index.{noted, forgot};
 
 use cip_base::Triad;
 use std::alloc::{AllocError, Global};
@@ -23,13 +23,13 @@ impl Model for TriadIndex {
     ghost use Rattle.std.specs.Coded.{codes, coded_ℕ};
     ghost use Rattle.std.specs.FinMap as map;
     ghost use Rattle.cip_base.specs.Triads.{triad_cmp, coded_triad};
-    ghost use Rattle.cip_hops.specs.Index.{Index};
+    ghost use Rattle.cip_base.specs.Index.{Index};
 
     ghost Value = { Index triad_cmp };
 
     ghost coded = { Prim.hlevel (codes, map.code {R = triad_cmp} coded_triad coded_ℕ) };
 
-    ghost use Rattle.cip_hops.specs.Numbers.{IsTriads, triads};
+    ghost use Rattle.cip_hops.specs.TriadPairs.{IsTriads, triads};
 
     ghost view = { triads };
 

@@ -1,5 +1,5 @@
 //! What stands at the end of the data of a Connection Manager service.
-ghost use Rattle.std.specs.Prelude.{◌≡◌, ◌<◌, ◌≤◌, length, OnOk};
+ghost use Rattle.std.specs.Prelude.{◌<◌, ◌≤◌, length, OnOk};
 ghost use Rattle.cip_message.specs.Gives.{Gives};
 ghost use Rattle.cip_message.specs.Counted.{counted_at, counted_path_at};
 

@@ -11,7 +11,7 @@ use Rattle.cip_hops.specs.declared.hop.Held.{Held}
 use Rattle.cip_hops.specs.declared.hop.Held.TheVariants.{Open}
 use Rattle.cip_hops.specs.Hops.{Hops, as_hop, is_hop, first_hop, hop_at, triad_of, IsWithin}
 use Rattle.cip_hops.proofs.Steps.{triads_apart}
-use Rattle.cip_hops.proofs.Views.{found-gives}
+use Rattle.cip_base.proofs.Views.{found-gives}
 use Rattle.cip_hops.proofs.Named.{is_open}
 
 found_in : (test : Hop → Bool) (h : Hops) (hop : Hop) (e : Option (Triad × Held)) → find (λ e. is_hop test e.1) (map.entries h.held) ≡ e

@@ -20,7 +20,7 @@ use Rattle.cip_hops.specs.declared.hop.Side.{Side}
 use Rattle.cip_hops.specs.declared.hop.Side.TheVariants.{Up, Down}
 use Rattle.cip_hops.specs.Hops.{Hops, IsWithin, triad_of, as_hop, hop_at, with_hop, change_in, counted, is_after, first_after}
 use Rattle.cip_hops.proofs.Steps.{triads_apart}
-use Rattle.cip_hops.proofs.Views.{get-at}
+use Rattle.cip_base.proofs.Views.{get-at}
 use Rattle.cip_hops.proofs.Named.{is_open}
 use Rattle.cip_target.specs.declared.config.AssemblyConfig.{AssemblyConfig}
 use Rattle.cip_target.specs.Assemblies.{config_with}

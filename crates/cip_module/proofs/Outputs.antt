@@ -15,7 +15,7 @@ use Rattle.cip_hops.specs.declared.hop.Held.{Held}
 use Rattle.cip_hops.specs.declared.hop.Held.TheVariants.{Opening as IsOpening, Open}
 use Rattle.cip_hops.specs.Hops.{Hops, as_hop, is_hop, refusal}
 use Rattle.cip_hops.proofs.Steps.{triads_apart}
-use Rattle.cip_hops.proofs.Views.{found-gives}
+use Rattle.cip_base.proofs.Views.{found-gives}
 use Rattle.cip_open.specs.declared.request.OpenFields.{OpenFields}
 use Rattle.cip_open.specs.Open.{Open as OpenRecord}
 use Rattle.cip_target.specs.ApplicationPath.{Application, application_of}

@@ -18,7 +18,7 @@ use Rattle.cip_hops.specs.declared.hop.Held.{Held}
 use Rattle.cip_hops.specs.declared.hop.Held.TheVariants.{Opening as IsOpening, Open as IsOpen}
 use Rattle.cip_hops.specs.Hops.{Hops, as_hop, hop_by_op}
 use Rattle.cip_hops.proofs.Steps.{triads_apart}
-use Rattle.cip_hops.proofs.Views.{get-at}
+use Rattle.cip_base.proofs.Views.{get-at}
 use Rattle.cip_target.specs.Assemblies.{size_in}
 use Rattle.cip_module.specs.declared.config.ModuleSettings.{ModuleSettings}
 use Rattle.cip_module.specs.declared.event.OpenParams.{OpenParams}

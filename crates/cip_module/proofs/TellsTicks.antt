@@ -14,7 +14,7 @@ use Rattle.cip_pending.specs.Pendings.{Pendings, is_due}
 use Rattle.cip_hops.specs.declared.hop.Held.{Held}
 use Rattle.cip_hops.specs.declared.hop.Held.TheVariants.{Opening as IsOpening, Open as IsOpen}
 use Rattle.cip_hops.specs.Hops.{as_hop, is_hop_due}
-use Rattle.cip_hops.proofs.Views.{get-at}
+use Rattle.cip_base.proofs.Views.{get-at}
 use Rattle.cip_module.specs.declared.config.ModuleSettings.{ModuleSettings}
 use Rattle.cip_module.specs.declared.event.Event.TheVariants.{Tick}
 use Rattle.cip_module.specs.State.{State}

@@ -23,7 +23,7 @@ use Rattle.cip_hops.specs.declared.hop.Held.TheVariants.{Opening as IsOpening, O
 use Rattle.cip_hops.specs.Hops.{Hops, as_hop, as_opening, hop_at, is_late, is_hop_due, IsWithin}
 use Rattle.cip_hops.specs.Hops as hops
 use Rattle.cip_hops.proofs.Steps.{triads_apart}
-use Rattle.cip_hops.proofs.Views.{found-gives, find-only, tied_name}
+use Rattle.cip_base.proofs.Views.{found-gives, find-only, tied_name}
 use Rattle.cip_module.specs.declared.config.ModuleSettings.{ModuleSettings}
 use Rattle.cip_module.specs.declared.event.Output.{Output}
 use Rattle.cip_module.specs.Effects.{Effect, PendingTimesOut, HopTimesOut, apply, applied, output_of, outputs_of, timed_out_reply, given_up, given_up_of}

@@ -22,7 +22,7 @@ use Rattle.cip_hops.specs.declared.hop.Held.TheVariants.{Opening as IsOpening, O
 use Rattle.cip_hops.specs.Hops.{Hops, IsWithin, triad_of, as_hop, is_hop, is_hop_due, is_late, due}
 use Rattle.cip_hops.specs.Hops as hops
 use Rattle.cip_hops.proofs.Steps.{triads_apart}
-use Rattle.cip_hops.proofs.Views.{get-at}
+use Rattle.cip_base.proofs.Views.{get-at}
 use Rattle.cip_target.specs.Assemblies.{AssemblyMap, is_above, first_above}
 
 -- ---- a list in rising key, walked by a test of what stands above a key

@@ -1,5 +1,5 @@
 //! The network connection parameters' word, split.
-ghost use Rattle.std.specs.Prelude.{◌≡◌, ◌<◌};
+ghost use Rattle.std.specs.Prelude.{◌≡◌};
 ghost use Rattle.cip_open.specs.Params.{priority_of, kind_of, params_of};
 
 use crate::parameters::{ConnectionKind, Params, Priority};

@@ -1,3 +1,4 @@
 pub mod Search
 pub mod Ticks
 pub mod Steps
+pub mod Fresh

@@ -1,11 +1,8 @@
 -- One due entry goes: the due ones lose their first, and the rest stay.
-use Rattle.std.proofs.Common.{◌≡◌, ℕ, suc, ◌<◌, true, false, cond, not, List, [], ◌∷◌, length, get_or, refl, sym, ap, subst, ◌∙◌, arith, Option, Some, None, MatchOption, ◌++◌}
+use Rattle.std.proofs.Common.{◌≡◌, ℕ, ◌<◌, not, List, [], ◌∷◌, length, sym, ap, subst, ◌∙◌, Option, Some, None, MatchOption, ◌++◌}
 use Rattle.std.specs.List.{find, filter, remove}
 use Rattle.std.specs.Option.{option_to_list}
-use Rattle.std.specs.Ordering.{nat_cmp, eq_by_cmp}
-use Rattle.std.proofs.lemmas.Bool.{eqb-true}
-use Rattle.std.specs.FinMap.Entries as entries
-use Rattle.cip_base.proofs.Places.{same_test}
+use Rattle.std.specs.Ordering.{nat_cmp}
 use Rattle.std.specs.Cmp.{nat_cmp_total}
 use Rattle.std.specs.FinMap as map
 use Rattle.std.specs.FinMap.{nat_cmp-IsAntisymmetric}
@@ -43,13 +40,3 @@ both_lists now p None new is after = (ap (due now) (sym after), ap (rest now) af
 both_lists now p (Some x) new is after =
     let goes = due_goes now p x (sym is) in
     (goes.chosen ∙ ap (λ q. x ∷ due now q) (sym after), ap (rest now) after ∙ sym goes.others)
-
--- a fact about each key holds of a key that is found
-pub found_key : {X : Type 0} (P : ℕ → Type 0) (q : ℕ) (x : X) (es : List (ℕ × X)) → ((k : ℕ) (d : ℕ × X) → k < length es → P (get_or es k d).0)
-    → entries.find nat_cmp q es ≡ Some x → P q
-found_key P q x [] h e = absurd (cc)
-found_key P q x (y ∷ es) h e =
-    elim (eq_by_cmp nat_cmp q y.0) as (λ b. eq_by_cmp nat_cmp q y.0 ≡ b → cond b (Some y.1) (entries.find nat_cmp q es) ≡ Some x → P q) [
-      | true ↦ λ t s. subst P (eqb-true _ _ (sym (same_test q y.0) ∙ t)) (h 0 y (omega arith))
-      | false ↦ λ t s. found_key P q x es (λ k d lt. h (suc k) d (omega arith)) s
-    ] refl e

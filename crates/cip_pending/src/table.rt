@@ -1,16 +1,16 @@
-//! The table: records in a slab, and an index of their keys in rising number. All room is reserved.
-ghost use Rattle.std.specs.Prelude.{◌≡◌, ◌+◌, ◌++◌, ◌<◌, ◌≤◌, true, false, length, IfOk, ◌==◌, is_ok, is_some, if◌then◌else◌, MatchOption, option_map};
+//! The table: records in a slab, and an index of their keys by number. All room is reserved.
+ghost use Rattle.std.specs.Prelude.{◌≡◌, ◌+◌, ◌++◌, ◌<◌, ◌≤◌, false, length, IfOk, ◌==◌, is_ok, is_some, if◌then◌else◌, option_map};
 ghost use Rattle.std.specs.List.{position};
 ghost use Rattle.std.specs.Ordering.{nat_cmp};
 ghost use Rattle.std.specs.Option.{option_copied, option_to_list};
 ghost use Rattle.std.specs.FinMap as map;
 ghost use Rattle.slab.specs.Slab.{get as get_record};
-ghost use Rattle.cip_pending.specs.Pendings.{refusal, add_gives, added, waiting_at, without, without_if, IsWithout, is_due, first_due, due, rest, first_after, is_after, IsWithin};
+ghost use Rattle.cip_pending.specs.Pendings.{refusal, add_gives, added, waiting_at, without_if, IsWithout, is_due, first_due, due, rest, first_after, is_after, IsWithin};
 ghost use Rattle.cip_base.specs.Joined.{passes};
 ghost use Rattle.cip_base.specs.Rising.{IsRising, Divides};
 
 use crate::entry::{AddFault, AddReason, Entry};
-use cip_base::{Address, LAST_COUNT, NoMemory, PortNumber};
+use cip_base::{Address, LAST_COUNT, NoMemory, NumberIndex, PortNumber};
 use slab::Slab;
 use std::alloc::Global;
 use std::marker::Model;
@@ -22,8 +22,7 @@ pub struct PendingTable {
     room: usize,
     // Up to one past the last number of 32 bits.
     next: u64,
-    // Each number with the key of its record, in rising number.
-    order: Vec<(u32, usize)>,
+    order: NumberIndex,
     records: Slab<Entry>,
 }
 
@@ -52,7 +51,7 @@ impl PendingTable {
         requires { 0 < first }
         ensures { IfOk result (λ t. t ≡ record { room = room; next = first; entries = map.empty }) }
     {
-        let order = Vec::with_capacity(alloc, room)?;
+        let order = NumberIndex::with_room(alloc, room)?;
         let records = Slab::with_capacity(alloc, room)?;
         Ok(PendingTable {
             room,
@@ -88,9 +87,7 @@ impl PendingTable {
             None => {
                 let number = self.next as u32;
                 let key = self.records.insert_reserved(entry);
-                let Ok(()) = self.order.push((number, key)) else {
-                    unreachable!()
-                };
+                self.order.note(Some(number), key);
                 self.next += 1;
                 Ok(number)
             }
@@ -101,8 +98,8 @@ impl PendingTable {
     pub fn look(&self, number: u32, port: PortNumber, address: &Address) -> Option<&Entry>
         ensures { option_copied result ≡ waiting_at self.now number port address.now }
     {
-        let at = place_of(&self.order, number)?;
-        let entry = self.records.get(self.order[at].1)?;
+        let key = self.order.find(number)?;
+        let entry = self.records.get(key)?;
         if entry.is_asked(port, address) {
             Some(entry)
         } else {
@@ -115,12 +112,11 @@ impl PendingTable {
         ensures value { result ≡ waiting_at self.old number port address.now }
         ensures after { self.new ≡ without_if (is_some result) self.old number }
     {
-        let at = place_of(&self.order, number)?;
-        let key = self.order[at].1;
+        let key = self.order.find(number)?;
         if !self.records.get(key)?.is_asked(port, address) {
             return None;
         }
-        self.order.remove(at);
+        self.order.forget(Some(number));
         Some(self.records.remove(key))
     }
 
@@ -133,8 +129,10 @@ impl PendingTable {
         ensures due { due now self.old ≡ option_to_list result ++ due now self.new }
         ensures rest { rest now self.new ≡ rest now self.old }
     {
-        let at = first_due_place(&self.order, &self.records, now)?;
-        let (number, key) = self.order.remove(at);
+        let pairs = self.order.pairs();
+        let at = first_due_place(pairs, &self.records, now)?;
+        let (number, key) = pairs[at];
+        self.order.forget(Some(number));
         Some((number, self.records.remove(key)))
     }
 
@@ -142,11 +140,12 @@ impl PendingTable {
     pub fn next_after(&self, after: Option<u32>) -> Option<(u32, &Entry)>
         ensures { option_map (λ e. (e.0, e.1.now)) result ≡ first_after after self.now }
     {
-        let at = place_after(&self.order, after);
-        if at == self.order.len() {
+        let pairs = self.order.pairs();
+        let at = place_after(pairs, after);
+        if at == pairs.len() {
             return None;
         }
-        let (number, key) = self.order[at];
+        let (number, key) = pairs[at];
         Some((number, self.records.get(key)?))
     }
 
@@ -166,21 +165,11 @@ impl PendingTable {
     }
 }
 
-// Where the number stands, by binary search.
-fn place_of(order: &[(u32, usize)], number: u32) -> Option<usize>
-    requires { IsRising nat_cmp order.now }
-    ensures { result ≡ position (λ p. p.0 == number) order.now }
-{
-    order
-        .binary_search_by_key(&number, |&(number, _)| number)
-        .ok()
-}
-
 // Where the first number stands whose record is due.
-fn first_due_place(order: &[(u32, usize)], records: &Slab<Entry>, now: u64) -> Option<usize>
-    ensures { result ≡ position (passes (is_due now) (get_record records.now)) order.now }
+fn first_due_place(pairs: &[(u32, usize)], records: &Slab<Entry>, now: u64) -> Option<usize>
+    ensures { result ≡ position (passes (is_due now) (get_record records.now)) pairs.now }
 {
-    order.iter().position(|p| is_due_at(records, p.1, now))
+    pairs.iter().position(|p| is_due_at(records, p.1, now))
 }
 
 fn is_due_at(records: &Slab<Entry>, key: usize, now: u64) -> bool
@@ -193,13 +182,13 @@ fn is_due_at(records: &Slab<Entry>, key: usize, now: u64) -> bool
 }
 
 // Where the numbers above begin, by binary search.
-fn place_after(order: &[(u32, usize)], after: Option<u32>) -> usize
-    requires { IsRising nat_cmp order.now }
-    ensures bound { result ≤ length order.now }
-    ensures parts { Divides (λ p. is_after after p.0) order.now result }
+fn place_after(pairs: &[(u32, usize)], after: Option<u32>) -> usize
+    requires { IsRising nat_cmp pairs.now }
+    ensures bound { result ≤ length pairs.now }
+    ensures parts { Divides (λ p. is_after after p.0) pairs.now result }
 {
     match after {
         None => 0,
-        Some(last) => order.partition_point(|&(number, _)| number <= last),
+        Some(last) => pairs.partition_point(|&(number, _)| number <= last),
     }
 }

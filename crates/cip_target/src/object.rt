@@ -1,7 +1,7 @@
 //! The object that a request names.
 ghost use Rattle.std.specs.Prelude.{◌≡◌, ◌≤◌, length, IfSome};
 ghost use Rattle.cip_segment.specs.Reading.{segments_of};
-ghost use Rattle.cip_target.specs.Object.{attribute_in, with_attribute, instance_in, object_of};
+ghost use Rattle.cip_target.specs.Object.{attribute_in, instance_in, object_of};
 
 use cip_segment::{PathView, SegmentView, split_first};
 

@@ -1,6 +1,5 @@
 //! The data of Unconnected_Send, read and written.
-ghost use Rattle.std.specs.Prelude.{◌≡◌, ◌+◌, ◌<◌, ◌≤◌, ◌↔◌, ◌++◌, length, IfOk, IsErrOf, OnOk, IfSome, IsNone, take, drop};
-ghost use Rattle.cip_base.specs.Fields.{pad};
+ghost use Rattle.std.specs.Prelude.{◌≡◌, ◌+◌, ◌<◌, ◌≤◌, ◌↔◌, length, IfOk, IsErrOf, IfSome, IsNone, take, drop};
 ghost use Rattle.cip_message.specs.Gives.{Gives};
 ghost use Rattle.cip_message.specs.Exact.{IsRead};
 ghost use Rattle.cip_message.specs.Numbers.{word_in};

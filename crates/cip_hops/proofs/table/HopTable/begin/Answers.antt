@@ -2,7 +2,7 @@ use Rattle.std.proofs.Common.{ℕ, ◌+◌, ◌≤◌, Option, sym, ap, subst, �
 use Rattle.cip_hops.specs.declared.opening.OwnIds.{OwnIds}
 use Rattle.cip_hops.specs.Sides.{op_of, ids_drawn}
 use Rattle.cip_hops.specs.Hops.{begun, IsOpFree}
-use Rattle.cip_hops.specs.Index.{noted}
+use Rattle.cip_base.specs.Index.{noted}
 use Rattle.cip_hops.specs.Kept.{IsKept, hops}
 use Rattle.cip_hops.proofs.Answering.{accepted_at, inserted, if_some, ups_left, downs_left, ops_left}
 use Rattle.cip_hops.proofs.Steps.{same_inside, kept_begun, view_begun, up_free, down_free, op_unused}

@@ -5,7 +5,7 @@ use Rattle.cip_hops.specs.declared.opening.OwnIds.{OwnIds}
 use Rattle.cip_hops.specs.declared.hop.Held.{Held}
 use Rattle.cip_hops.specs.Sides.{op_of}
 use Rattle.cip_hops.specs.Hops.{Hops, without}
-use Rattle.cip_hops.specs.Index.{forgot}
+use Rattle.cip_base.specs.Index.{forgot}
 use Rattle.cip_hops.specs.Kept.{IsKept, hops}
 use Rattle.cip_hops.proofs.Steps.{held_none, held_at, finds, same_inside, kept_dropped, view_dropped}
 use Rattle.cip_hops.proofs.table.HopTable.take_out.Goals as goal

@@ -4,8 +4,8 @@ use Rattle.cip_base.specs.Triads.{triad_cmp}
 use Rattle.cip_base.specs.declared.triad.Triad.{Triad}
 use Rattle.cip_base.proofs.Triads.{triads_total}
 use Rattle.cip_base.specs.Rising.{StandsAt, FitsAt}
-use Rattle.cip_hops.specs.Index.{Index}
-use Rattle.cip_hops.proofs.Places.{found_at, not_found}
+use Rattle.cip_base.specs.Index.{Index}
+use Rattle.cip_base.proofs.Standing.{found_at, not_found}
 use Rattle.cip_hops.proofs.triads.TriadIndex.find.Goals as goal
 
 pub returns-in-Ok : goal.returns-in-Ok

@@ -4,8 +4,8 @@ use Rattle.cip_base.specs.Triads.{triad_cmp}
 use Rattle.cip_base.specs.declared.triad.Triad.{Triad}
 use Rattle.cip_base.proofs.Triads.{triads_total, exact_triads}
 use Rattle.cip_base.specs.Rising.{IsRising, StandsAt, FitsAt}
-use Rattle.cip_hops.specs.Index.{Index, forgot}
-use Rattle.cip_hops.proofs.Places.{not_found, rising_remove, map_remove}
+use Rattle.cip_base.specs.Index.{Index, forgot}
+use Rattle.cip_base.proofs.Standing.{not_found, rising_remove, map_remove}
 use Rattle.cip_hops.proofs.triads.TriadIndex.forget.Goals as goal
 
 pub unreachable-requires : goal.unreachable-requires

@@ -2,8 +2,8 @@ use Rattle.std.proofs.Common.{ap, arith}
 use Rattle.std.specs.FinMap as map
 use Rattle.cip_base.specs.Triads.{triad_cmp}
 use Rattle.cip_base.proofs.Triads.{triads_total}
-use Rattle.cip_hops.specs.Index.{Index}
-use Rattle.cip_hops.proofs.Places.{len_of}
+use Rattle.cip_base.specs.Index.{Index}
+use Rattle.cip_base.proofs.Standing.{len_of}
 use Rattle.cip_hops.proofs.triads.TriadIndex.len.Goals as goal
 
 pub returns : goal.returns

@@ -4,8 +4,8 @@ use Rattle.cip_base.specs.Triads.{triad_cmp}
 use Rattle.cip_base.specs.declared.triad.Triad.{Triad}
 use Rattle.cip_base.proofs.Triads.{triads_total}
 use Rattle.cip_base.specs.Rising.{IsRising, StandsAt, FitsAt}
-use Rattle.cip_hops.specs.Index.{Index, noted}
-use Rattle.cip_hops.proofs.Places.{found_at, rising_insert, map_insert, len_of}
+use Rattle.cip_base.specs.Index.{Index, noted}
+use Rattle.cip_base.proofs.Standing.{found_at, rising_insert, map_insert, len_of}
 use Rattle.cip_hops.proofs.triads.TriadIndex.note.Goals as goal
 
 pub unreachable-requires : goal.unreachable-requires

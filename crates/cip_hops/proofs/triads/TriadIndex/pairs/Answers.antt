@@ -1,7 +1,7 @@
 use Rattle.std.proofs.Common.{sym, ap, ◌∙◌}
 use Rattle.std.specs.FinMap as map
 use Rattle.cip_base.specs.Triads.{triad_cmp}
-use Rattle.cip_hops.specs.Index.{Index}
+use Rattle.cip_base.specs.Index.{Index}
 use Rattle.cip_hops.proofs.triads.TriadIndex.pairs.Goals as goal
 
 pub returns-clause-all : goal.returns-clause-all

@@ -4,10 +4,13 @@ use Rattle.cip_pending.proofs.Steps.{refusal_full, refusal_spent, refusal_none}
 use Rattle.cip_pending.proofs.table.PendingTable.can_add.Goals as goal
 
 pub returns-then-len-self : goal.returns-then-len-self
-returns-then-len-self c = sym (refusal_full c.self.inside c.self.invariant (omega arith)) ∙ ap refusal c.self.view_is
+returns-then-len-self c =
+    sym (refusal_full c.self.inside c.self.invariant (omega (arith, c.len.ensures, c.if-len-self.true))) ∙ ap refusal c.self.view_is
 
 pub returns-then-self-gt-LAST_COUNT : goal.returns-then-self-gt-LAST_COUNT
-returns-then-self-gt-LAST_COUNT c = sym (refusal_spent c.self.inside c.self.invariant (omega arith) (omega arith)) ∙ ap refusal c.self.view_is
+returns-then-self-gt-LAST_COUNT c =
+    sym (refusal_spent c.self.inside c.self.invariant (omega (arith, c.len.ensures, c.if-len-self.false)) (omega arith)) ∙ ap refusal c.self.view_is
 
 pub returns-else-self-gt-LAST_COUNT : goal.returns-else-self-gt-LAST_COUNT
-returns-else-self-gt-LAST_COUNT c = sym (refusal_none c.self.inside c.self.invariant (omega arith) (omega arith)) ∙ ap refusal c.self.view_is
+returns-else-self-gt-LAST_COUNT c =
+    sym (refusal_none c.self.inside c.self.invariant (omega (arith, c.len.ensures, c.if-len-self.false)) (omega arith)) ∙ ap refusal c.self.view_is

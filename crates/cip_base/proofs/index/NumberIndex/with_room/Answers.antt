@@ -2,7 +2,7 @@ use Rattle.std.proofs.Common.{◌≡◌, ap, ◌∙◌}
 use Rattle.std.specs.FinMap as map
 use Rattle.std.specs.Ordering.{nat_cmp}
 use Rattle.cip_base.proofs.Sorted.{from_sorted-none}
-use Rattle.cip_hops.proofs.index.NumberIndex.with_room.Goals as goal
+use Rattle.cip_base.proofs.index.NumberIndex.with_room.Goals as goal
 
 pub returns : goal.returns
 returns c =

@@ -3,9 +3,9 @@ use Rattle.std.specs.FinMap as map
 use Rattle.std.specs.Ordering.{nat_cmp}
 use Rattle.std.specs.Cmp.{nat_cmp_total}
 use Rattle.cip_base.specs.Rising.{StandsAt, FitsAt}
-use Rattle.cip_hops.specs.Index.{Index}
-use Rattle.cip_hops.proofs.Places.{found_at, not_found}
-use Rattle.cip_hops.proofs.index.NumberIndex.find.Goals as goal
+use Rattle.cip_base.specs.Index.{Index}
+use Rattle.cip_base.proofs.Standing.{found_at, not_found}
+use Rattle.cip_base.proofs.index.NumberIndex.find.Goals as goal
 
 pub returns-in-Ok : goal.returns-in-Ok
 returns-in-Ok c =

@@ -3,7 +3,7 @@ use Rattle.std.specs.Cmp.{nat_cmp_total}
 use Rattle.std.specs.FinMap.{nat_cmp-IsAntisymmetric}
 use Rattle.std.proofs.lemmas.List.Sorted.{answers_always}
 use Rattle.cip_base.proofs.Search.{searched}
-use Rattle.cip_hops.proofs.index.place_of.Goals as goal
+use Rattle.cip_base.proofs.index.place_of.Goals as goal
 
 pub returns : goal.returns
 returns c =

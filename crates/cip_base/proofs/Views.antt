@@ -10,15 +10,8 @@ use Rattle.std.specs.FinMap.{FinMap, IsAntisymmetric}
 use Rattle.std.specs.FinMap.Entries as entries
 use Rattle.cip_base.proofs.Sorted.{find-at}
 use Rattle.cip_base.proofs.Places.{find-misses}
-use Rattle.cip_base.specs.Joined.{put_before, joined, IsPresent}
+use Rattle.cip_base.specs.Joined.{put_before, joined, IsPresent, Finds, joined_map}
 use Rattle.cip_base.proofs.Joined.{sorted_joined, length_joined}
-
--- each key that the index finds has a record
-abbrev pub Finds : {K X : Type 0} {R : K → K → Ordering} → FinMap R ℕ → (ℕ → Option X) → Type 0
-Finds {K} m found = (q : K) (key : ℕ) → map.get m q ≡ Some key → IsSome (found key)
-
-abbrev pub view : {K X : Type 0} {R : K → K → Ordering} → FinMap R ℕ → (ℕ → Option X) → FinMap R X
-view m found = map.from_sorted (joined (map.entries m) found)
 
 same_then : {X : Type 0} (o : Option ℕ) (found new : ℕ → Option X) → ((key : ℕ) → o ≡ Some key → new key ≡ found key)
     → option_and_then new o ≡ option_and_then found o
@@ -63,33 +56,34 @@ module _ {K X : Type 0} (R : K → K → Ordering) (o : IsTotalOrder R) (same : 
         | false ↦ find-joined q ps found (λ k d lt. h (suc k) d (omega arith))
       ]
 
-  pub entries-view : (m : FinMap R ℕ) (found : ℕ → Option X) → map.entries (view m found) ≡ joined (map.entries m) found
+  pub entries-view : (m : FinMap R ℕ) (found : ℕ → Option X) → map.entries (joined_map m found) ≡ joined (map.entries m) found
   entries-view m found = map.entries-from_sorted R _ (sorted_joined R (map.entries m) found (map.entries_sorted m))
 
-  pub get-view : (m : FinMap R ℕ) (found : ℕ → Option X) → Finds m found → (q : K) → map.get (view m found) q ≡ option_and_then found (map.get m q)
+  pub get-view : (m : FinMap R ℕ) (found : ℕ → Option X) → Finds m found → (q : K) → map.get (joined_map m found) q ≡ option_and_then found (map.get m q)
   get-view m found h q =
       map.get-from_sorted R _ q (sorted_joined R (map.entries m) found (map.entries_sorted m))
       ∙ find-joined q (map.entries m) found (present m found h) ∙ ap (option_and_then found) (sym (map.get-entries m q))
 
-  pub len-view : (m : FinMap R ℕ) (found : ℕ → Option X) → Finds m found → map.len (view m found) ≡ map.len m
+  pub len-view : (m : FinMap R ℕ) (found : ℕ → Option X) → Finds m found → map.len (joined_map m found) ≡ map.len m
   len-view m found h = map.len-entries _ ∙ ap length (entries-view m found) ∙ length_joined (map.entries m) found (present m found h)
       ∙ sym (map.len-entries m)
 
   -- a record under a new key
   pub view-insert : (m : FinMap R ℕ) (found new : ℕ → Option X) (name : K) (key : ℕ) (x : X) → Finds m found → Finds (map.insert m name key) new
-      → new key ≡ Some x → ((q : K) (k : ℕ) → map.get m q ≡ Some k → new k ≡ found k) → view (map.insert m name key) new ≡ map.insert (view m found) name x
+      → new key ≡ Some x → ((q : K) (k : ℕ) → map.get m q ≡ Some k → new k ≡ found k)
+      → joined_map (map.insert m name key) new ≡ map.insert (joined_map m found) name x
   view-insert m found new name key x h h' is others =
       map.same_map o same _ _ (λ q. get-view (map.insert m name key) new h' q ∙ ap (option_and_then new) (map.get-insert o m name key q)
       ∙ elim (eq_by_cmp R q name) as (λ b. option_and_then new (cond b (Some key) (map.get m q)) ≡ cond b (Some x) (option_and_then found (map.get m q))) [
         | true ↦ is
         | false ↦ same_then (map.get m q) found new (others q)
       ]
-      ∙ sym (map.get-insert o (view m found) name x q ∙ ap (cond (eq_by_cmp R q name) (Some x)) (get-view m found h q)))
+      ∙ sym (map.get-insert o (joined_map m found) name x q ∙ ap (cond (eq_by_cmp R q name) (Some x)) (get-view m found h q)))
 
   -- a record goes
   pub view-remove : (m : FinMap R ℕ) (found new : ℕ → Option X) (name : K) → Finds m found → Finds (map.remove m name) new
       → ((q : K) (k : ℕ) → map.get m q ≡ Some k → eq_by_cmp R q name ≡ false → new k ≡ found k)
-      → view (map.remove m name) new ≡ map.remove (view m found) name
+      → joined_map (map.remove m name) new ≡ map.remove (joined_map m found) name
   view-remove m found new name h h' others =
       map.same_map o same _ _ (λ q. get-view (map.remove m name) new h' q ∙ ap (option_and_then new) (map.get-remove o m name q)
       ∙ elim (eq_by_cmp R q name) as (λ b. eq_by_cmp R q name ≡ b
@@ -97,12 +91,12 @@ module _ {K X : Type 0} (R : K → K → Ordering) (o : IsTotalOrder R) (same : 
         | true ↦ λ t. refl
         | false ↦ λ t. same_then (map.get m q) found new (λ k e. others q k e t)
       ] refl
-      ∙ sym (map.get-remove o (view m found) name q ∙ ap (cond (eq_by_cmp R q name) None) (get-view m found h q)))
+      ∙ sym (map.get-remove o (joined_map m found) name q ∙ ap (cond (eq_by_cmp R q name) None) (get-view m found h q)))
 
   -- another record under the same key
   pub view-change : (m : FinMap R ℕ) (found new : ℕ → Option X) (name : K) (key : ℕ) (x : X) → Finds m found → Finds m new → map.get m name ≡ Some key
       → new key ≡ Some x → ((q : K) (k : ℕ) → map.get m q ≡ Some k → eq_by_cmp R q name ≡ false → new k ≡ found k)
-      → view m new ≡ map.insert (view m found) name x
+      → joined_map m new ≡ map.insert (joined_map m found) name x
   view-change m found new name key x h h' stands is others =
       map.same_map o same _ _ (λ q. get-view m new h' q
       ∙ elim (eq_by_cmp R q name) as (λ b. eq_by_cmp R q name ≡ b
@@ -110,7 +104,7 @@ module _ {K X : Type 0} (R : K → K → Ordering) (o : IsTotalOrder R) (same : 
         | true ↦ λ t. ap (λ r. option_and_then new (map.get m r)) (tied_name same q name t) ∙ ap (option_and_then new) stands ∙ is
         | false ↦ λ t. same_then (map.get m q) found new (λ k e. others q k e t)
       ] refl
-      ∙ sym (map.get-insert o (view m found) name x q ∙ ap (cond (eq_by_cmp R q name) (Some x)) (get-view m found h q)))
+      ∙ sym (map.get-insert o (joined_map m found) name x q ∙ ap (cond (eq_by_cmp R q name) (Some x)) (get-view m found h q)))
 
   -- ---- the first entry that passes a test
 

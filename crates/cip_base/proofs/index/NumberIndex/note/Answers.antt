@@ -3,9 +3,9 @@ use Rattle.std.specs.FinMap as map
 use Rattle.std.specs.Ordering.{nat_cmp}
 use Rattle.std.specs.Cmp.{nat_cmp_total}
 use Rattle.cip_base.specs.Rising.{IsRising, StandsAt, FitsAt}
-use Rattle.cip_hops.specs.Index.{Index, noted}
-use Rattle.cip_hops.proofs.Places.{found_at, rising_insert, map_insert, len_of}
-use Rattle.cip_hops.proofs.index.NumberIndex.note.Goals as goal
+use Rattle.cip_base.specs.Index.{Index, noted}
+use Rattle.cip_base.proofs.Standing.{found_at, rising_insert, map_insert, len_of}
+use Rattle.cip_base.proofs.index.NumberIndex.note.Goals as goal
 
 pub unreachable-requires : goal.unreachable-requires
 unreachable-requires c =

@@ -4,9 +4,9 @@ use Rattle.std.specs.Ordering.{nat_cmp}
 use Rattle.std.specs.Cmp.{nat_cmp_total}
 use Rattle.std.specs.FinMap.{nat_cmp-IsAntisymmetric}
 use Rattle.cip_base.specs.Rising.{IsRising, StandsAt, FitsAt}
-use Rattle.cip_hops.specs.Index.{Index, forgot}
-use Rattle.cip_hops.proofs.Places.{not_found, rising_remove, map_remove}
-use Rattle.cip_hops.proofs.index.NumberIndex.forget.Goals as goal
+use Rattle.cip_base.specs.Index.{Index, forgot}
+use Rattle.cip_base.proofs.Standing.{not_found, rising_remove, map_remove}
+use Rattle.cip_base.proofs.index.NumberIndex.forget.Goals as goal
 
 pub unreachable-requires : goal.unreachable-requires
 unreachable-requires c =

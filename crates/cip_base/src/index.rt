@@ -1,16 +1,16 @@
-//! An index by number: of records by their own ids, or by the ops of their commands.
+//! An index by number, of records that stand in a table of their own.
 ghost use Rattle.std.specs.Prelude.{◌≡◌, ◌<◌, None, IfOk, IfSome, IsSome};
 ghost use Rattle.std.specs.Ordering.{nat_cmp};
 ghost use Rattle.std.specs.FinMap as map;
 ghost use Rattle.cip_base.specs.Rising.{IsRising, IsPlaceOf};
-ghost use Rattle.cip_hops.specs.Index.{noted, forgot};
+ghost use Rattle.cip_base.specs.Index.{noted, forgot};
 
 use std::alloc::{AllocError, Global};
 use std::marker::Model;
 
-/// Under each number the key of a record. The room is reserved.
+/// Under each number the key of a record, in rising number. The room is reserved.
 #[derive(Drop)]
-pub(crate) struct NumberIndex {
+pub struct NumberIndex {
     room: usize,
     // In rising number.
     pairs: Vec<(u32, usize)>,
@@ -20,13 +20,13 @@ impl Model for NumberIndex {
     ghost use Rattle.std.specs.Coded.{codes, coded_ℕ};
     ghost use Rattle.std.specs.FinMap as map;
     ghost use Rattle.std.specs.Ordering.{nat_cmp};
-    ghost use Rattle.cip_hops.specs.Index.{Index};
+    ghost use Rattle.cip_base.specs.Index.{Index};
 
     ghost Value = { Index nat_cmp };
 
     ghost coded = { Prim.hlevel (codes, map.code {R = nat_cmp} coded_ℕ coded_ℕ) };
 
-    ghost use Rattle.cip_hops.specs.Numbers.{IsNumbers, numbers};
+    ghost use Rattle.cip_base.specs.Numbers.{IsNumbers, numbers};
 
     ghost view = { numbers };
 
@@ -34,7 +34,8 @@ impl Model for NumberIndex {
 }
 
 impl NumberIndex {
-    pub(crate) fn with_room(alloc: Global, room: usize) -> Result<NumberIndex, AllocError>
+    /// An empty index with room for so many numbers.
+    pub fn with_room(alloc: Global, room: usize) -> Result<NumberIndex, AllocError>
         ensures { IfOk result (λ m. m ≡ record { room = room; keys = map.empty }) }
     {
         Ok(NumberIndex {
@@ -43,7 +44,23 @@ impl NumberIndex {
         })
     }
 
-    pub(crate) fn find(&self, number: u32) -> Option<usize>
+    /// How many numbers it has.
+    pub fn len(&self) -> usize
+        ensures { result ≡ map.len self.now.keys }
+    {
+        self.pairs.len()
+    }
+
+    /// The numbers with their keys, in rising number.
+    pub fn pairs(&self) -> &[(u32, usize)]
+        ensures all { result.now ≡ map.entries self.now.keys }
+        ensures rising { IsRising nat_cmp result.now }
+    {
+        &self.pairs
+    }
+
+    /// The key under a number.
+    pub fn find(&self, number: u32) -> Option<usize>
         ensures { result ≡ map.get self.now.keys number }
     {
         match place_of(&self.pairs, number) {
@@ -53,7 +70,7 @@ impl NumberIndex {
     }
 
     /// Notes a key under a number that has none, if there is a number.
-    pub(crate) fn note(&mut self, number: Option<u32>, key: usize)
+    pub fn note(&mut self, number: Option<u32>, key: usize)
         requires free { IfSome number (λ n. map.get self.old.keys n ≡ None) }
         requires room { map.len self.old.keys < self.old.room }
         ensures { self.new ≡ noted self.old number key }
@@ -69,7 +86,7 @@ impl NumberIndex {
     }
 
     /// Forgets a number, if there is one.
-    pub(crate) fn forget(&mut self, number: Option<u32>)
+    pub fn forget(&mut self, number: Option<u32>)
         requires { IfSome number (λ n. IsSome (map.get self.old.keys n)) }
         ensures { self.new ≡ forgot self.old number }
     {
