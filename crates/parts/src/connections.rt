@@ -1,5 +1,5 @@
 //! The table of connections, on worked values and with its room refused.
-ghost use Rattle.std.specs.Prelude.{◌≡◌, ◌<◌, IfOk, IfSome, None};
+ghost use Rattle.std.specs.Prelude.{◌≡◌, ◌<◌, IfSome, None};
 ghost use Rattle.std.specs.FinMap as map;
 ghost use Rattle.cip_hops.specs.Sides.{op_of};
 
