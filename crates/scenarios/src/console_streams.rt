@@ -1,6 +1,5 @@
 //! The console over readers and writers that fail or are slow: whole transcripts, and the first
-//! fault of a script. Each test
-//! passes too where one allocation, whichever, is refused.
+//! fault of a script. Each test passes too where one allocation, whichever, is refused.
 ghost use Rattle.std.specs.Prelude.{None};
 
 use cip_console::{ConsoleFault, Out, Plain, SCRIPT_LIMIT, ScriptFault, Sink, Source, run_fixed};
