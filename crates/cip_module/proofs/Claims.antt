@@ -16,7 +16,8 @@ use Rattle.cip_hops.specs.declared.hop.Hop.{Hop}
 use Rattle.cip_hops.specs.declared.hop.Side.{Side}
 use Rattle.cip_hops.specs.declared.hop.Side.TheVariants.{Up, Down}
 use Rattle.cip_hops.specs.Hops.{hop_at}
-use Rattle.cip_hops.proofs.Counts.{tally, one_if, tally-insert, tally-remove}
+use Rattle.cip_base.proofs.Lengths.{one_if}
+use Rattle.cip_hops.proofs.Counts.{tally, tally-insert, tally-remove}
 use Rattle.cip_message.specs.Reply.{reply_bytes}
 use Rattle.cip_target.specs.Objects.{target_answer}
 use Rattle.cip_module.specs.EffectLists.{takes_up}

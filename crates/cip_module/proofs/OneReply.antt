@@ -5,7 +5,8 @@ use Rattle.std.specs.Cmp.{nat_cmp_total}
 use Rattle.std.specs.Ordering.{nat_cmp}
 use Rattle.cip_pending.specs.declared.entry.Entry as entries
 use Rattle.cip_pending.specs.declared.entry.UpSide.{UpSide}
-use Rattle.cip_hops.proofs.Counts.{one_if, tally-le, tally-remove}
+use Rattle.cip_base.proofs.Lengths.{one_if}
+use Rattle.cip_hops.proofs.Counts.{tally-le, tally-remove}
 use Rattle.cip_module.specs.EffectLists.{takes_up}
 use Rattle.cip_module.specs.declared.config.ModuleSettings.{ModuleSettings}
 use Rattle.cip_module.specs.State.{State, initial_state}

@@ -10,7 +10,7 @@ use Rattle.cip_base.specs.declared.triad.Triad.{Triad}
 use Rattle.cip_base.specs.Triads.{triad_cmp}
 use Rattle.cip_base.proofs.Triads.{triads_total}
 use Rattle.cip_hops.proofs.Steps.{triads_apart}
-use Rattle.cip_hops.proofs.Views.{found-gives}
+use Rattle.cip_base.proofs.Views.{found-gives}
 use Rattle.cip_hops.proofs.Named.{is_open}
 use Rattle.cip_message.specs.Reply.{reply_bytes}
 use Rattle.cip_pending.specs.declared.entry.Entry as entries

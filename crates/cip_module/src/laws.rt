@@ -1,5 +1,5 @@
 //! What holds of every event, and of all that a module ever did.
-ghost use Rattle.std.specs.Prelude.{◌≡◌, ◌⊎◌, ℕ, ◌+◌, ◌≤◌, ◌<◌, List, ◌∷◌, length, Some, Ok, true};
+ghost use Rattle.std.specs.Prelude.{◌≡◌, ◌⊎◌, ℕ, ◌+◌, ◌≤◌, ◌<◌, List, [], ◌∷◌, length, Some, None, Ok, true, is_some};
 ghost use Rattle.std.specs.FinMap as map;
 ghost use Rattle.cip_base.specs.declared.triad.Triad.{Triad};
 ghost use Rattle.cip_segment.specs.Reading.{HopAt, hop_of};
@@ -19,18 +19,28 @@ ghost use Rattle.cip_pending.specs.declared.entry.UpSide.TheVariants.{Local};
 ghost use Rattle.cip_hops.specs.declared.opening.Opening.{Opening};
 ghost use Rattle.cip_hops.specs.declared.opening.OwnIds.{OwnIds};
 ghost use Rattle.cip_hops.specs.declared.hop.Held.{Held};
-ghost use Rattle.cip_hops.specs.Hops.{opening_of, ids_of, triad_of};
+ghost use Rattle.cip_hops.specs.declared.hop.Hop.{Hop};
+ghost use Rattle.cip_hops.specs.declared.hop.Side.TheVariants.{Up, Down};
+ghost use Rattle.cip_hops.specs.Hops.{opening_of, ids_of, triad_of, hop_by_up, hop_by_down};
 ghost use Rattle.cip_module.specs.declared.config.ModuleSettings.{ModuleSettings as Settings};
+ghost use Rattle.cip_module.specs.declared.event.Body.TheVariants.{Data};
 ghost use Rattle.cip_module.specs.declared.event.Event.{Event as Input};
+ghost use Rattle.cip_module.specs.declared.event.Event.TheVariants.{Frame};
+ghost use Rattle.cip_module.specs.declared.refusals.RequestRefusal.{RequestRefusal};
+ghost use Rattle.cip_module.specs.declared.refusals.UnconnectedRefusal.{UnconnectedRefusal};
+ghost use Rattle.cip_module.specs.declared.refusals.OpenRefusal.{OpenRefusal};
+ghost use Rattle.cip_module.specs.declared.refusals.CloseRefusal.{CloseRefusal};
 ghost use Rattle.cip_module.specs.declared.tables.Tables.{Tables as Shown};
 ghost use Rattle.cip_module.specs.Births.{Past, IsBirth, HasId};
+ghost use Rattle.cip_module.specs.Config.{port_of};
 ghost use Rattle.cip_module.specs.EffectLists.{gain, takes_up, births, IsLight, IsBounded, AllStand};
-ghost use Rattle.cip_module.specs.Effects.{Effect};
+ghost use Rattle.cip_module.specs.Effects.{Effect, datum_by, outputs_of};
 ghost use Rattle.cip_module.specs.Histories.{Turn, state_after, IsHistory};
 ghost use Rattle.cip_module.specs.Paired.{IsPaired};
 ghost use Rattle.cip_module.specs.RequestRows.{UnknownPortOrTooLong, UnconnectedSend, ForwardOpen, ForwardClose, request_row};
 ghost use Rattle.cip_module.specs.Rooms.{HasRooms};
 ghost use Rattle.cip_module.specs.State.{State, initial_state};
+ghost use Rattle.cip_module.specs.Statuses.{request_status, unconnected_status, open_status, close_status};
 ghost use Rattle.cip_module.specs.Table.{decide};
 ghost use Rattle.cip_module.specs.Tells.{asker, AllTell};
 ghost use Rattle.cip_module.specs.Views.{ShowsState};
@@ -150,4 +160,32 @@ pub fn what_goes_on_meets_its_group()
 pub fn paths_shorten()
     ensures { (path : List ℕ) (hop : HopAt) → hop_of path ≡ Some hop
         → length hop.rest < length path }
+{}
+
+/// A datum that comes by the id of a connection, from its neighbor and of its size, gives one
+/// output, that of the connection: it is passed on, consumed or given to the originator.
+pub fn data_go_on()
+    ensures down { (config : Settings) (s : State)
+        → ((q : Triad) (x : Held) → map.get s.hops.held q ≡ Some x → triad_of x ≡ q)
+        → (port id : ℕ) (from bytes : List ℕ) → is_some (port_of config port) ≡ true
+        → (hop : Hop) (es : List Effect) → hop_by_up s.hops id port from ≡ Some hop
+        → length bytes ≡ hop.opening.ot_size
+        → decide config s (Frame port from (Data id bytes)) ≡ Some es
+        → outputs_of config s es ≡ datum_by Down hop bytes ∷ [] }
+    ensures up { (config : Settings) (s : State)
+        → ((q : Triad) (x : Held) → map.get s.hops.held q ≡ Some x → triad_of x ≡ q)
+        → (port id : ℕ) (from bytes : List ℕ) → is_some (port_of config port) ≡ true
+        → (hop : Hop) (es : List Effect) → hop_by_up s.hops id port from ≡ None
+        → hop_by_down s.hops id port from ≡ Some hop → length bytes ≡ hop.opening.to_size
+        → decide config s (Frame port from (Data id bytes)) ≡ Some es
+        → outputs_of config s es ≡ datum_by Up hop bytes ∷ [] }
+{}
+
+/// No failure has general status 0, that of a success.
+pub fn failures_have_a_status()
+    ensures requests { (refusal : RequestRefusal) → (request_status refusal).general ≡ 0 → ⊥ }
+    ensures sends { (refusal : UnconnectedRefusal) → (unconnected_status refusal).general ≡ 0
+        → ⊥ }
+    ensures opens { (refusal : OpenRefusal) → (open_status refusal).general ≡ 0 → ⊥ }
+    ensures closes { (refusal : CloseRefusal) → (close_status refusal).general ≡ 0 → ⊥ }
 {}
