@@ -3,6 +3,8 @@ ghost use Rattle.std.specs.Prelude.{◌≡◌, ◌⊎◌, ℕ, ◌+◌, ◌≤�
 ghost use Rattle.std.specs.FinMap as map;
 ghost use Rattle.cip_base.specs.declared.triad.Triad.{Triad};
 ghost use Rattle.cip_segment.specs.Reading.{HopAt, hop_of};
+ghost use Rattle.cip_message.specs.Request.{Request};
+ghost use Rattle.cip_message.specs.RequestAt.{request_at};
 ghost use Rattle.cip_unconnected.specs.Unconnected.{Unconnected, unconnected_data, unconnected_bytes};
 ghost use Rattle.cip_unconnected.specs.UnconnectedAt.{unconnected_at};
 ghost use Rattle.cip_open.specs.Open.{Open, open_data, open_bytes};
@@ -16,6 +18,7 @@ ghost use Rattle.cip_close.specs.SuccessAt.{close_reply_at};
 ghost use Rattle.cip_pending.specs.declared.entry.Entry.{Entry};
 ghost use Rattle.cip_pending.specs.declared.entry.UpSide.{UpSide};
 ghost use Rattle.cip_pending.specs.declared.entry.UpSide.TheVariants.{Local};
+ghost use Rattle.cip_pending.specs.Pendings.{Pendings};
 ghost use Rattle.cip_hops.specs.declared.opening.Opening.{Opening};
 ghost use Rattle.cip_hops.specs.declared.opening.OwnIds.{OwnIds};
 ghost use Rattle.cip_hops.specs.declared.hop.Held.{Held};
@@ -41,8 +44,9 @@ ghost use Rattle.cip_module.specs.RequestRows.{UnknownPortOrTooLong, Unconnected
 ghost use Rattle.cip_module.specs.Rooms.{HasRooms};
 ghost use Rattle.cip_module.specs.State.{State, initial_state};
 ghost use Rattle.cip_module.specs.Statuses.{request_status, unconnected_status, open_status, close_status};
-ghost use Rattle.cip_module.specs.Table.{decide};
+ghost use Rattle.cip_module.specs.Table.{decide, message_on};
 ghost use Rattle.cip_module.specs.Tells.{asker, AllTell};
+ghost use Rattle.cip_module.specs.UnconnectedRows.{Forwarded, unconnected_row};
 ghost use Rattle.cip_module.specs.Views.{ShowsState};
 ghost use Rattle.cip_module.specs.Weights.{is_request, is_reply, is_asked_by, same_up, weight, came};
 ghost use Rattle.cip_module.specs.Words.{Some_turn, AskedIn};
@@ -154,6 +158,17 @@ pub fn what_goes_on_meets_its_group()
     ensures closes { (config : Settings) (port : ℕ) (c : Close)
         → (request_row config port (close_bytes c) ≡ UnknownPortOrTooLong)
         ⊎ (request_row config port (close_bytes c) ≡ ForwardClose (close_data c)) }
+{}
+
+/// What an Unconnected_Send or a Forward_Close sends on opens nothing: no module reads a
+/// Forward_Open in it.
+pub fn what_goes_on_is_no_open()
+    ensures sends { (config there : Settings) (p : Pendings) (u : Unconnected) (r : Request)
+        (port q : ℕ) (address rest data_ : List ℕ) → request_at u.request ≡ Ok r
+        → unconnected_row config p u ≡ Forwarded port address rest
+        → request_row there q (message_on u rest) ≡ ForwardOpen data_ → ⊥ }
+    ensures closes { (config : Settings) (port : ℕ) (c : Close) (data_ : List ℕ)
+        → request_row config port (close_bytes c) ≡ ForwardOpen data_ → ⊥ }
 {}
 
 /// What is left of a path behind its first hop is shorter than the path.

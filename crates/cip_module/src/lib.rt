@@ -49,7 +49,7 @@ pub use laws::{
     data_go_on, effects_tell, failures_have_a_status, fresh_tables_are_of_the_first_state,
     ids_are_born_once, numbers_are_born_once, ops_are_done_once, paths_shorten,
     requests_are_replied_once, requests_stem_from_turns, tables_stay_in_order,
-    what_goes_on_meets_its_group, what_is_written_is_read,
+    what_goes_on_is_no_open, what_goes_on_meets_its_group, what_is_written_is_read,
 };
 pub use lists::{Assemblies, Ports};
 pub use plain::PlainModule;
