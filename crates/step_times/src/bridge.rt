@@ -5,7 +5,7 @@ use crate::fault::Fault;
 use crate::frames::{ANSWER, DATUM, SEND, close, closed, open, opened};
 use bench::{AnyModule, device_of, make};
 use cip_base::{Address, Bytes, PortNumber};
-use cip_module::{Body, Event, Output};
+use cip_module::{Body, Event, Module, Output, PlainModule};
 use std::alloc::Global;
 
 /// The first id that the bridge draws.
@@ -48,15 +48,18 @@ fn from_below(body: Body) -> Event {
 #[derive(Drop)]
 pub struct Bridge {
     alloc: Global,
-    module_: AnyModule,
+    module_: PlainModule,
 }
 
 impl Bridge {
     /// With room for 256 requests that wait, and for 256 connections.
     pub fn new(alloc: Global) -> Result<Bridge, Fault> {
         let bridge = device_of("A").ok_or(Fault::Unexpected)?;
-        let module_ = make(alloc, &bridge).ok_or(Fault::NoMemory)?;
-        Ok(Bridge { alloc, module_ })
+        match make(alloc, &bridge) {
+            Some(AnyModule::Plain(module_)) => Ok(Bridge { alloc, module_ }),
+            Some(AnyModule::Adapter(_)) => Err(Fault::Unexpected),
+            None => Err(Fault::NoMemory),
+        }
     }
 
     fn bytes(&self, bytes: &[u8]) -> Result<Bytes, Fault> {
