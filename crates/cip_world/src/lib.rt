@@ -1,0 +1,7 @@
+//! Modules in boxes, joined by the links of a topology, and the journal of what they did.
+#![tactic(auto)]
+
+mod journal;
+mod names;
+
+pub use journal::{Entry, FrameName, Input, Outputs};
