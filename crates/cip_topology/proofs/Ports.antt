@@ -1,12 +1,11 @@
 -- A module's ports by their numbers, and what a search through a list finds.
-use Rattle.std.proofs.Common.{◌≡◌, ℕ, zero, suc, Bool, true, false, not, cond, ◌&&◌, ◌||◌, List, [], ◌∷◌, Option, Some, None, IsTrue, refl, sym, ap, ◌∙◌, eqb, nat_le, length}
+use Rattle.std.proofs.Common.{◌≡◌, ℕ, zero, suc, Bool, true, false, not, cond, ◌&&◌, ◌||◌, List, [], ◌∷◌, Some, refl, sym, ap, ◌∙◌, eqb, nat_le, length}
 use Rattle.std.specs.Prelude.{slice_get, find}
 use Rattle.std.specs.List.{list_all, list_any}
 use Rattle.std.proofs.lemmas.Bool.{and_parts, eqb-true, eq-eqb}
 use Rattle.cip_module.specs.declared.config.ModuleSettings.{ModuleSettings}
-use Rattle.cip_module.specs.declared.config.ModuleKind.{ModuleKind}
 use Rattle.cip_module.specs.declared.config.PortConfig.{PortConfig}
-use Rattle.cip_module.specs.Config.{has_number, numbers_differ, is_name, are_counts, are_ports, are_assemblies, most_ports, is_port, is_settings, port_of}
+use Rattle.cip_module.specs.Config.{has_number, numbers_differ, is_name, are_counts, are_ports, are_assemblies, most_ports, is_port, is_settings}
 
 pub some_same : {X : Type 0} (x y : X) → Some x ≡ Some y → x ≡ y
 some_same x y e = cc
@@ -65,8 +64,8 @@ numbered (q ∷ ps) d (suc i) p at =
     let (others, rest) = and_parts (not (list_any (has_number q.number) ps)) (numbers_differ ps) d in
     elim (eqb q.number p.number) as (λ b. eqb q.number p.number ≡ b → cond b (Some q) (find (has_number p.number) ps) ≡ Some p) [
       | true ↦ λ t.
-        let back : eqb p.number q.number ≡ true = eq-eqb p.number q.number (sym (eqb-true q.number p.number t)) in
-        let no : true ≡ false = sym (any_at (has_number q.number) ps i p at back) ∙ not_true (list_any (has_number q.number) ps) others in absurd (cc)
+          let back : eqb p.number q.number ≡ true = eq-eqb p.number q.number (sym (eqb-true q.number p.number t)) in
+          let no : true ≡ false = sym (any_at (has_number q.number) ps i p at back) ∙ not_true (list_any (has_number q.number) ps) others in absurd (cc)
       | false ↦ λ t. numbered ps rest i p at
     ] refl
 

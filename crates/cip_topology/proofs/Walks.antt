@@ -1,11 +1,11 @@
 -- A walk goes on by the path's first hop, and ends where the path has none.
-use Rattle.std.proofs.Common.{◌≡◌, ℕ, zero, suc, ◌<◌, List, length, Option, Some, None, refl, sym, ap, ◌∙◌, arith}
+use Rattle.std.proofs.Common.{◌≡◌, ℕ, zero, suc, ◌<◌, List, length, Option, Some, None, refl, ap, ◌∙◌, arith}
 use Rattle.std.specs.Prelude.{option_and_then}
 use Rattle.cip_segment.specs.Reading.{HopAt, hop_of}
 use Rattle.cip_module.proofs.PathsShorten.{hop_shortens}
 use Rattle.cip_topology.specs.Plan.{Plan}
 use Rattle.cip_topology.specs.Nodes.{node}
-use Rattle.cip_topology.specs.Walk.{Stop, walk_by, walk_within, walk}
+use Rattle.cip_topology.specs.Walk.{walk_by, walk_within, walk}
 
 -- any two numbers above the length of the path do alike
 enough : (t : Plan) (n k m : ℕ) (path : List ℕ) → length path < n → length path < k → walk_within n t m path ≡ walk_within k t m path

@@ -1,7 +1,5 @@
 -- How a topology is kept: its links, its modules, and an index of their ports.
-use Rattle.std.specs.Prelude.{ℕ, Option, option_map}
 use Rattle.cip_topology.specs.Plan.{Plan, IsTopology}
-use Rattle.cip_topology.specs.Nodes.{Way}
 use Rattle.cip_topology.specs.Seats.{IsIndexOf}
 use Rattle.cip_topology.specs.declared.topology.Topology.TheInside.{Inside}
 

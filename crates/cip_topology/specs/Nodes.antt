@@ -1,5 +1,5 @@
 -- Where the frames of a topology come, by its links and the addresses of its ports.
-use Rattle.std.specs.Prelude.{◌≡◌, ℕ, ◌+◌, ◌==◌, ◌&&◌, Bool, Option, Some, None, option_map, option_and_then, find, slice_get, List, [], ◌∷◌}
+use Rattle.std.specs.Prelude.{ℕ, ◌+◌, ◌==◌, ◌&&◌, Bool, Option, Some, None, option_map, option_and_then, find, slice_get, List, [], ◌∷◌}
 use Rattle.std.specs.Str.{bytes_eq}
 use Rattle.cip_base.specs.Words.{LinkAddress, PortIdentifier}
 use Rattle.cip_module.specs.declared.config.ModuleSettings.{ModuleSettings}

@@ -1,5 +1,5 @@
 -- Where a path leads, hop by hop. It knows nothing of frames, identifiers or tables.
-use Rattle.std.specs.Prelude.{◌≡◌, ℕ, zero, suc, length, Option, Some, None, option_and_then}
+use Rattle.std.specs.Prelude.{ℕ, zero, suc, length, Option, Some, None, option_and_then}
 use Rattle.cip_base.specs.Words.{Octets}
 use Rattle.cip_segment.specs.Reading.{HopAt, hop_of}
 use Rattle.cip_topology.specs.Plan.{Plan}

@@ -129,12 +129,7 @@ impl Topology {
 
     /// Where a frame comes in that a module sends by a port to an address; None where it comes
     /// nowhere.
-    pub fn across(
-        &self,
-        id: ModuleId,
-        port: PortNumber,
-        address: &Address,
-    ) -> Option<Arrival<'_>>
+    pub fn across(&self, id: ModuleId, port: PortNumber, address: &Address) -> Option<Arrival<'_>>
         ensures { option_map way_of result
             ≡ across self.now (record { at = id.0; port = port; address = address.now }) }
     {
