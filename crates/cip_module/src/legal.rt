@@ -40,7 +40,8 @@ fn are_text_bytes(bytes: &[u8]) -> bool
     true
 }
 
-fn is_name(bytes: &[u8]) -> bool
+/// Whether the bytes are a name: 1 to 16 ASCII letters, digits, `_` or `-`.
+pub fn is_name(bytes: &[u8]) -> bool
     ensures { result ≡ is_name bytes.now }
 {
     bytes.len() >= 1 && bytes.len() <= 16 && are_name_bytes(bytes)
@@ -56,7 +57,7 @@ fn is_range(legal: LegalAddresses) -> bool
 }
 
 /// Whether the address is legal on a link.
-pub(crate) fn is_legal(legal: LegalAddresses, address: &[u8]) -> bool
+pub fn is_legal(legal: LegalAddresses, address: &[u8]) -> bool
     ensures { result ≡ is_legal legal address.now }
 {
     match legal {

@@ -51,6 +51,7 @@ pub use laws::{
     requests_are_replied_once, requests_stem_from_turns, tables_stay_in_order,
     what_goes_on_is_no_open, what_goes_on_meets_its_group, what_is_written_is_read,
 };
+pub use legal::{is_legal, is_name};
 pub use lists::{Assemblies, Ports};
 pub use plain::PlainModule;
 pub use refusals::{

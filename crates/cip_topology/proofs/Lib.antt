@@ -1,0 +1,4 @@
+pub mod Ports
+pub mod WayBack
+pub mod Walks
+pub mod Seating

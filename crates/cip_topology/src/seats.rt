@@ -1,0 +1,93 @@
+//! Where the ports stand: an index by link and address.
+ghost use Rattle.std.specs.Prelude.{◌≡◌, [], None, MatchResult, OnOk};
+ghost use Rattle.cip_topology.specs.Seats.{spot_cmp, spot, AreRising, StandsAt, FitsAt, seat_at, seated};
+
+use cip_base::{Address, NoMemory, PortNumber};
+use std::alloc::Global;
+use std::cmp::Ordering;
+use std::marker::Model;
+
+/// A link, by its place, and an address on it.
+#[derive(Debug, Drop)]
+pub(crate) struct Spot {
+    pub(crate) link: usize,
+    pub(crate) address: Address,
+}
+
+/// A port: the place of its module, and its number.
+#[derive(Clone, Copy, Debug)]
+pub(crate) struct Seat {
+    pub(crate) at: usize,
+    pub(crate) port: PortNumber,
+}
+
+/// Which port stands at which spot.
+#[derive(Drop)]
+pub(crate) struct Seats {
+    // In rising spot.
+    seats: Vec<(Spot, Seat)>,
+}
+
+impl Model for Seats {
+    ghost use Rattle.std.specs.Prelude.{List};
+    ghost use Rattle.cip_topology.specs.declared.seats.Spot.{Spot};
+    ghost use Rattle.cip_topology.specs.declared.seats.Seat.{Seat};
+    ghost use Rattle.cip_topology.specs.Seats.{AreRising};
+
+    ghost Value = { List (Spot × Seat) };
+
+    ghost view = { λ s. s.seats.items };
+
+    ghost invariant = { λ s. AreRising s.seats.items };
+}
+
+impl Seats {
+    /// No seat.
+    pub(crate) fn new(alloc: Global) -> Seats
+        ensures { result ≡ [] }
+    {
+        Seats {
+            seats: Vec::new(alloc),
+        }
+    }
+
+    /// The port at an address of a link, by binary search.
+    pub(crate) fn find(&self, link: usize, address: &Address) -> Option<Seat>
+        ensures { result ≡ seat_at self.now link address.now }
+    {
+        match place_of(&self.seats, link, address) {
+            Ok(at) => Some(self.seats[at].1),
+            Err(_) => None,
+        }
+    }
+
+    /// Seats a port where none stands.
+    pub(crate) fn add(&mut self, spot: Spot, seat: Seat) -> Result<(), NoMemory>
+        requires { seat_at self.old spot.link spot.address ≡ None }
+        ensures { OnOk result (self.new ≡ seated spot seat self.old) }
+    {
+        let Err(at) = place_of(&self.seats, spot.link, &spot.address) else {
+            unreachable!()
+        };
+        self.seats.insert(at, (spot, seat))?;
+        Ok(())
+    }
+}
+
+fn compare(found: &Spot, link: usize, address: &Address) -> Ordering
+    ensures { result ≡ spot_cmp found.now (spot link address.now) }
+{
+    match found.link.cmp(&link) {
+        Ordering::Equal => found.address.as_slice().cmp(address.as_slice()),
+        unequal => unequal,
+    }
+}
+
+// Where the spot stands, or where it would.
+fn place_of(seats: &[(Spot, Seat)], link: usize, address: &Address) -> Result<usize, usize>
+    requires { AreRising seats.now }
+    ensures { MatchResult result (StandsAt seats.now (spot link address.now))
+        (FitsAt seats.now (spot link address.now)) }
+{
+    seats.binary_search_by(|(found, _)| compare(found, link, address))
+}
