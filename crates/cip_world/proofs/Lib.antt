@@ -4,3 +4,8 @@ pub mod Frames
 pub mod Arrivals
 pub mod Replies
 pub mod Answered
+pub mod Named
+pub mod StepAt
+pub mod Waits
+pub mod Reversed
+pub mod Newest

@@ -51,15 +51,22 @@ frame_at j f = sent_by (entry_at j f.entry) f.output
 abbrev pub same_name : FrameName → FrameName → Bool
 same_name f g = f.entry == g.entry && f.output == g.output
 
-abbrev pub brings : FrameName → Input → Bool
-brings f (Command command) = false
-brings f (Tick ms) = false
-brings f (Frame port from g) = same_name f g
+abbrev pub brought_by : Input → Option FrameName
+brought_by (Command command) = None
+brought_by (Tick ms) = None
+brought_by (Frame port from name) = Some name
 
--- the frame arrived at this entry, or was lost
+-- the frame that an entry names: it arrived then, or was lost
+abbrev pub named_by : Entry → Option FrameName
+named_by (Step m input outputs) = brought_by input
+named_by (Lost frame) = Some frame
+
+abbrev pub is_that : FrameName → Option FrameName → Bool
+is_that f None = false
+is_that f (Some g) = same_name f g
+
 abbrev pub names : FrameName → Entry → Bool
-names f (Step m input outputs) = brings f input
-names f (Lost g) = same_name f g
+names f e = is_that f (named_by e)
 
 abbrev pub is_named : Journal → FrameName → Bool
 is_named [] f = false

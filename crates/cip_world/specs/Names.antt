@@ -1,7 +1,7 @@
 -- The order of frames' names.
 use Rattle.std.specs.Prelude.{◌≡◌, List}
 use Rattle.std.specs.Ordering.{nat_cmp, ordering_then}
-use Rattle.std.specs.List.{All}
+use Rattle.std.specs.List.{AllByRecursion}
 use Rattle.std.specs.List.Sorted.{IsStrictlySortedBy}
 use Rattle.std.specs.declared.cmp.Ordering.{Ordering}
 use Rattle.std.specs.declared.cmp.Ordering.TheVariants.{Less}
@@ -16,4 +16,4 @@ AreRising = IsStrictlySortedBy name_cmp
 
 -- each of the names is below this one
 abbrev pub AllBefore : FrameName → List FrameName → Type 0
-AllBefore f = All (λ g. name_cmp g f ≡ Less)
+AllBefore f = AllByRecursion (λ g. name_cmp g f ≡ Less)

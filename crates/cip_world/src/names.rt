@@ -41,7 +41,7 @@ impl Names {
 
     /// Whether a name is there.
     pub(crate) fn has(&self, name: FrameName) -> bool
-        ensures { result ≡ list_any (same_name name) self.now }
+        ensures { result ≡ list_any (λ f. same_name f name) self.now }
     {
         self.names.contains(&name)
     }
@@ -54,20 +54,21 @@ impl Names {
     }
 
     /// Adds a name that is above all others.
+    #[tactic(auto, using(crate::proofs::Named::insert_last))]
     pub(crate) fn add(&mut self, name: FrameName) -> Result<(), NoMemory>
         requires { AllBefore name self.old }
         ensures ok { OnOk result (self.new ≡ self.old ++ name ∷ []) }
         ensures err { OnErr result (self.new ≡ self.old) }
     {
-        match self.names.insert(name) {
-            Ok(_) => Ok(()),
-            Err(_) => Err(NoMemory),
+        if self.names.insert(name).is_err() {
+            return Err(NoMemory);
         }
+        Ok(())
     }
 
     /// Takes a name out, if it is there.
     pub(crate) fn remove(&mut self, name: FrameName)
-        ensures { self.new ≡ filter (λ f. not (same_name name f)) self.old }
+        ensures { self.new ≡ filter (λ f. not (same_name f name)) self.old }
     {
         self.names.remove(&name);
     }
@@ -76,10 +77,6 @@ impl Names {
     pub(crate) fn list(&self, alloc: Global) -> Result<Vec<FrameName>, NoMemory>
         ensures { IfOk result (λ v. v.items ≡ self.now) }
     {
-        let mut all = Vec::new(alloc);
-        for name in self.names.iter() {
-            all.push(*name)?;
-        }
-        Ok(all)
+        Ok(self.names.iter().copied().collect(alloc)?)
     }
 }

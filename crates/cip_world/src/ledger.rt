@@ -1,0 +1,122 @@
+//! A topology, the journal of what happened in it, and the frames that wait.
+ghost use Rattle.std.specs.Prelude.{◌≡◌, ◌∷◌, ◌++◌, ◌≤◌, [], true, drop, length, reverse, is_some, option_map, slice_get, OnOk, IfOk, IfSome, IfNone, Some};
+ghost use Rattle.std.specs.List.{list_any};
+ghost use Rattle.cip_topology.specs.Nodes.{across};
+ghost use Rattle.cip_world.specs.Journals.{named_by, flight_of, same_name};
+ghost use Rattle.cip_world.specs.Names.{AreRising};
+ghost use Rattle.cip_world.specs.Runs.{IsRun, IsNext};
+ghost use Rattle.cip_world.specs.Waiting.{arrives, frames_of, waiting};
+ghost use Rattle.cip_world.specs.Ledgers.{IsNewest, newest_outputs};
+
+use crate::journal::{Entry, FrameName, Input};
+use crate::names::Names;
+use cip_base::{ModuleId, NoMemory};
+use cip_module::Output;
+use cip_topology::Topology;
+use std::alloc::Global;
+use std::marker::Model;
+
+/// A journal that is a run of its topology. Contracts see both, and whether the ledger is ready for
+/// one more entry.
+#[derive(Drop)]
+pub(crate) struct Ledger {
+    topology: Topology,
+    entries: Vec<Entry>,
+    // The frames that wait, but for those of the newest entry that were not looked at yet: what a
+    // step sends is listed later, since listing takes memory and a step can't be undone.
+    listed: Names,
+    // How many outputs of the newest entry were looked at.
+    looked: usize,
+}
+
+impl Model for Ledger {
+    ghost use Rattle.std.specs.Prelude.{◌==◌, ◌&&◌, nat_lt, length, reverse};
+    ghost use Rattle.std.specs.Vec.{vec_len, vec_capacity};
+    ghost use Rattle.cip_world.specs.Ledgers.{Told, IsLedger, newest_outputs};
+
+    ghost Value = { Told };
+
+    ghost view = { λ l. record {
+        plan = l.topology;
+        journal = reverse l.entries.items;
+        ready = nat_lt (vec_len l.entries) (vec_capacity l.entries)
+            && length (newest_outputs (reverse l.entries.items)) == l.looked
+    } };
+
+    ghost invariant = { λ l. IsLedger l.topology (reverse l.entries.items) l.listed l.looked };
+}
+
+/// The newest entry, where it is a step: its number, its module and its outputs.
+#[derive(Clone, Copy)]
+struct LastStep<'a> {
+    entry: usize,
+    at: ModuleId,
+    outputs: &'a [Output],
+}
+
+fn newest_step(entries: &[Entry]) -> Option<LastStep<'_>>
+    ensures some { IfSome result
+        (λ n. IsNewest (reverse entries.now) n.entry n.at.0 n.outputs.now) }
+    ensures none { IfNone result (newest_outputs (reverse entries.now) ≡ []) }
+{
+    match entries.last() {
+        Some(Entry::Step { at, outputs, .. }) => Some(LastStep {
+            entry: entries.len() - 1,
+            at: *at,
+            outputs: outputs.as_slice(),
+        }),
+        _ => None,
+    }
+}
+
+// Whether an output of a module is a frame to an address that some module has.
+fn arrives(topology: &Topology, at: ModuleId, output: &Output) -> bool
+    ensures { result ≡ arrives topology.now (flight_of at.0 (Some output.now)) }
+{
+    match output {
+        Output::Send { port, to, .. } => topology.across(at, *port, to).is_some(),
+        _ => false,
+    }
+}
+
+// The frame that an entry names as arrived or lost.
+fn named(entry: &Entry) -> Option<FrameName>
+    ensures { result ≡ named_by entry.now }
+{
+    match entry {
+        Entry::Step {
+            input: Input::Frame { name, .. },
+            ..
+        } => Some(*name),
+        Entry::Step { .. } => None,
+        Entry::Lost { frame } => Some(*frame),
+    }
+}
+
+// What a step of a module in an entry sent is listed, from the output on that was not looked at.
+fn list_newest(
+    topology: &Topology,
+    entry: usize,
+    at: ModuleId,
+    outputs: &[Output],
+    listed: &mut Names,
+    looked: &mut usize,
+) -> Result<(), NoMemory>
+    requires within { looked.old ≤ length outputs.now }
+    requires rising { AreRising (listed.old
+        ++ frames_of topology.now at.0 entry looked.old (drop looked.old outputs.now)) }
+    ensures kept { listed.new
+        ++ frames_of topology.now at.0 entry looked.new (drop looked.new outputs.now)
+        ≡ listed.old ++ frames_of topology.now at.0 entry looked.old (drop looked.old outputs.now) }
+    ensures ok { OnOk result (looked.new ≡ length outputs.now) }
+    ensures within { looked.new ≤ length outputs.now }
+{
+    while *looked < outputs.len() {
+        let output = *looked;
+        if arrives(topology, at, &outputs[output]) {
+            listed.add(FrameName { entry, output })?;
+        }
+        *looked += 1;
+    }
+    Ok(())
+}
