@@ -9,3 +9,4 @@ pub mod StepAt
 pub mod Waits
 pub mod Reversed
 pub mod Newest
+pub mod Listed

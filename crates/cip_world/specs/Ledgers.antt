@@ -1,5 +1,5 @@
 -- What a ledger keeps: a journal that is a run of its topology, and which frames wait.
-use Rattle.std.specs.Prelude.{◌≡◌, ℕ, Bool, true, false, ◌==◌, ◌&&◌, nat_lt, List, [], ◌∷◌, ◌++◌, length, drop, reverse}
+use Rattle.std.specs.Prelude.{◌≡◌, ℕ, Bool, true, false, ◌==◌, ◌&&◌, nat_lt, List, [], ◌∷◌, ◌++◌, ◌≤◌, length, drop, reverse}
 use Rattle.cip_module.specs.declared.event.Output.{Output}
 use Rattle.cip_topology.specs.Plan.{Plan}
 use Rattle.cip_world.specs.declared.journal.FrameName.{FrameName}
@@ -33,6 +33,7 @@ newest_from t (Lost frame ∷ j) i = []
 pub record IsLedger (t : Plan) (j : Journal) (listed : List FrameName) (looked : ℕ) : Type 0 where
   pub run : IsRun t j
   pub waits : waiting t j ≡ listed ++ newest_from t j looked
+  pub within : looked ≤ length (newest_outputs j)
 
 -- the newest entry is this step
 pub record IsNewest (j : Journal) (k m : ℕ) (outputs : List Output) : Type 0 where

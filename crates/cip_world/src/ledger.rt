@@ -1,17 +1,17 @@
 //! A topology, the journal of what happened in it, and the frames that wait.
-ghost use Rattle.std.specs.Prelude.{◌≡◌, ◌∷◌, ◌++◌, ◌≤◌, [], true, drop, length, reverse, is_some, option_map, slice_get, OnOk, IfOk, IfSome, IfNone, Some};
+ghost use Rattle.std.specs.Prelude.{◌≡◌, ◌∷◌, ◌++◌, ◌≤◌, [], true, drop, filter, length, not, reverse, is_some, option_map, slice_get, OnOk, IfOk, IfSome, IfNone, Some};
 ghost use Rattle.std.specs.List.{list_any};
 ghost use Rattle.cip_topology.specs.Nodes.{across};
-ghost use Rattle.cip_world.specs.Journals.{named_by, flight_of, same_name};
+ghost use Rattle.cip_world.specs.Journals.{named_by, flight_of, same_name, is_that};
 ghost use Rattle.cip_world.specs.Names.{AreRising};
 ghost use Rattle.cip_world.specs.Runs.{IsRun, IsNext};
 ghost use Rattle.cip_world.specs.Waiting.{arrives, frames_of, waiting};
-ghost use Rattle.cip_world.specs.Ledgers.{IsNewest, newest_outputs};
+ghost use Rattle.cip_world.specs.Ledgers.{IsLedger, IsNewest, newest_outputs};
 
 use crate::journal::{Entry, FrameName, Input};
 use crate::names::Names;
-use cip_base::{ModuleId, NoMemory};
-use cip_module::Output;
+use cip_base::{Address, ModuleId, NoMemory, PortNumber};
+use cip_module::{Body, Output};
 use cip_topology::Topology;
 use std::alloc::Global;
 use std::marker::Model;
@@ -119,4 +119,102 @@ fn list_newest(
         *looked += 1;
     }
     Ok(())
+}
+
+// What the newest entry sent is listed, and nothing of it is left.
+fn list_rest(
+    topology: &Topology,
+    entries: &[Entry],
+    listed: &mut Names,
+    looked: &mut usize,
+) -> Result<(), NoMemory>
+    requires kept { IsLedger topology.now (reverse entries.now) listed.old looked.old }
+    ensures kept { IsLedger topology.now (reverse entries.now) listed.new looked.new }
+    ensures ok { OnOk result (length (newest_outputs (reverse entries.now)) ≡ looked.new) }
+{
+    let Some(newest) = newest_step(entries) else {
+        return Ok(());
+    };
+    list_newest(
+        topology,
+        newest.entry,
+        newest.at,
+        newest.outputs,
+        listed,
+        looked,
+    )
+}
+
+// The frame that an entry names waits no longer.
+fn take_out(listed: &mut Names, named: Option<FrameName>)
+    ensures { listed.new ≡ filter (λ f. not (is_that f named)) listed.old }
+{
+    if let Some(name) = named {
+        listed.remove(name);
+    }
+}
+
+/// A frame that waits, with where it comes in.
+pub(crate) struct Coming<'a> {
+    pub at: ModuleId,
+    pub port: PortNumber,
+    pub from: &'a Address,
+    pub body: &'a Body,
+}
+
+impl Ledger {
+    /// Nothing happened yet.
+    pub(crate) fn new(alloc: Global, topology: Topology) -> Ledger
+        ensures plan { result.plan ≡ topology }
+        ensures journal { result.journal ≡ [] }
+    {
+        Ledger {
+            topology,
+            entries: Vec::new(alloc),
+            listed: Names::new(alloc),
+            looked: 0,
+        }
+    }
+
+    pub(crate) fn topology(&self) -> &Topology
+        ensures { result.now ≡ self.now.plan }
+    {
+        &self.topology
+    }
+
+    /// The entries, oldest first.
+    pub(crate) fn entries(&self) -> &[Entry]
+        ensures journal { reverse result.now ≡ self.now.journal }
+        ensures run { IsRun self.now.plan self.now.journal }
+    {
+        self.entries.as_slice()
+    }
+
+    /// Makes ready for one more entry.
+    pub(crate) fn prepare(&mut self) -> Result<(), NoMemory>
+        ensures plan { self.new.plan ≡ self.old.plan }
+        ensures journal { self.new.journal ≡ self.old.journal }
+        ensures ok { OnOk result (self.new.ready ≡ true) }
+    {
+        list_rest(
+            &self.topology,
+            self.entries.as_slice(),
+            &mut self.listed,
+            &mut self.looked,
+        )?;
+        self.entries.reserve(1)?;
+        Ok(())
+    }
+
+    /// Adds an entry.
+    pub(crate) fn add(&mut self, entry: Entry)
+        requires ready { self.old.ready ≡ true }
+        requires next { IsNext self.old.plan self.old.journal entry }
+        ensures plan { self.new.plan ≡ self.old.plan }
+        ensures journal { self.new.journal ≡ entry ∷ self.old.journal }
+    {
+        take_out(&mut self.listed, named(&entry));
+        self.looked = 0;
+        self.entries.push_reserved(entry);
+    }
 }
