@@ -10,3 +10,5 @@ pub mod Waits
 pub mod Reversed
 pub mod Newest
 pub mod Listed
+pub mod Placed
+pub mod Comings

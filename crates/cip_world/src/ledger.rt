@@ -4,14 +4,16 @@ ghost use Rattle.std.specs.List.{list_any};
 ghost use Rattle.cip_topology.specs.Nodes.{across};
 ghost use Rattle.cip_world.specs.Journals.{named_by, flight_of, same_name, is_that};
 ghost use Rattle.cip_world.specs.Names.{AreRising};
-ghost use Rattle.cip_world.specs.Runs.{IsRun, IsNext};
+ghost use Rattle.cip_world.specs.Coming.{IsComing, flight, way_in};
+ghost use Rattle.cip_world.specs.Runs.{IsWaiting, IsRun, IsNext};
 ghost use Rattle.cip_world.specs.Waiting.{arrives, frames_of, waiting};
 ghost use Rattle.cip_world.specs.Ledgers.{IsLedger, IsNewest, newest_outputs};
 
+use crate::flight::{Coming, Flying, frame_at};
 use crate::journal::{Entry, FrameName, Input};
 use crate::names::Names;
-use cip_base::{Address, ModuleId, NoMemory, PortNumber};
-use cip_module::{Body, Output};
+use cip_base::{ModuleId, NoMemory};
+use cip_module::Output;
 use cip_topology::Topology;
 use std::alloc::Global;
 use std::marker::Model;
@@ -121,6 +123,26 @@ fn list_newest(
     Ok(())
 }
 
+// What a step of a module in an entry sent from an output on, behind other names.
+fn push_newest(
+    topology: &Topology,
+    entry: usize,
+    at: ModuleId,
+    outputs: &[Output],
+    looked: usize,
+    names: &mut Vec<FrameName>,
+) -> Result<(), NoMemory>
+    ensures { OnOk result (names.new.items ≡ names.old.items
+        ++ frames_of topology.now at.0 entry looked (drop looked outputs.now)) }
+{
+    for output in looked..outputs.len() {
+        if arrives(topology, at, &outputs[output]) {
+            names.push(FrameName { entry, output })?;
+        }
+    }
+    Ok(())
+}
+
 // What the newest entry sent is listed, and nothing of it is left.
 fn list_rest(
     topology: &Topology,
@@ -145,6 +167,22 @@ fn list_rest(
     )
 }
 
+// Where a frame comes in.
+fn comes_in<'a>(topology: &'a Topology, flying: Flying<'a>) -> Option<Coming<'a>>
+    ensures way { option_map way_in result ≡ across topology.now (flight flying.entry).way }
+    ensures body { IfSome result (λ c. c.body.now ≡ flying.entry.body.now) }
+{
+    match topology.across(flying.at, flying.port, flying.to) {
+        Some(there) => Some(Coming {
+            at: there.at,
+            port: there.port,
+            from: there.from,
+            body: flying.body,
+        }),
+        None => None,
+    }
+}
+
 // The frame that an entry names waits no longer.
 fn take_out(listed: &mut Names, named: Option<FrameName>)
     ensures { listed.new ≡ filter (λ f. not (is_that f named)) listed.old }
@@ -152,14 +190,6 @@ fn take_out(listed: &mut Names, named: Option<FrameName>)
     if let Some(name) = named {
         listed.remove(name);
     }
-}
-
-/// A frame that waits, with where it comes in.
-pub(crate) struct Coming<'a> {
-    pub at: ModuleId,
-    pub port: PortNumber,
-    pub from: &'a Address,
-    pub body: &'a Body,
 }
 
 impl Ledger {
@@ -216,5 +246,46 @@ impl Ledger {
         take_out(&mut self.listed, named(&entry));
         self.looked = 0;
         self.entries.push_reserved(entry);
+    }
+
+    /// Where a frame comes in, if it waits.
+    pub(crate) fn coming(&self, name: FrameName) -> Option<Coming<'_>>
+        requires ready { self.now.ready ≡ true }
+        ensures some { IfSome result (λ c. IsComing self.now.plan self.now.journal name c) }
+        ensures none { IfNone result (IsWaiting self.now.plan self.now.journal name → ⊥) }
+    {
+        if !self.listed.has(name) {
+            return None;
+        }
+        match frame_at(self.entries.as_slice(), name) {
+            Some(flying) => comes_in(&self.topology, flying),
+            None => None,
+        }
+    }
+
+    /// The waiting frame of least name.
+    pub(crate) fn least(&self) -> Option<FrameName>
+        requires ready { self.now.ready ≡ true }
+        ensures { result ≡ slice_get (waiting self.now.plan self.now.journal) 0 }
+    {
+        self.listed.first()
+    }
+
+    /// The frames that wait, in rising name.
+    pub(crate) fn waiting(&self, alloc: Global) -> Result<Vec<FrameName>, NoMemory>
+        ensures { IfOk result (λ v. v.items ≡ waiting self.now.plan self.now.journal) }
+    {
+        let mut all = self.listed.list(alloc)?;
+        if let Some(newest) = newest_step(self.entries.as_slice()) {
+            push_newest(
+                &self.topology,
+                newest.entry,
+                newest.at,
+                newest.outputs,
+                self.looked,
+                &mut all,
+            )?;
+        }
+        Ok(all)
     }
 }

@@ -2,6 +2,7 @@
 #![tactic(auto)]
 
 
+mod flight;
 mod journal;
 mod ledger;
 mod names;
