@@ -12,3 +12,4 @@ pub mod Newest
 pub mod Listed
 pub mod Placed
 pub mod Comings
+pub mod Stepped

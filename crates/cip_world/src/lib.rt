@@ -2,6 +2,7 @@
 #![tactic(auto)]
 
 
+mod fault;
 mod flight;
 mod journal;
 mod ledger;
@@ -9,4 +10,6 @@ mod names;
 mod step;
 mod world;
 
+pub use fault::WorldFault;
 pub use journal::{Entry, FrameName, Input, Outputs};
+pub use world::World;

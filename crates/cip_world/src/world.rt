@@ -1,1 +1,140 @@
-//! Stand-in.
+//! The world: modules in boxes, and the journal of what they did.
+ghost use Rattle.std.specs.Prelude.{◌≡◌, ◌∷◌, ◌↔◌, ◌≤◌, ◌<◌, [], true, Err, length, map, reverse, vec_len, IfOk, IfErr, OnErr, IfSome};
+ghost use Rattle.cip_module.specs.declared.event.Event.TheVariants as events;
+ghost use Rattle.cip_module.specs.Views.{ShowsState};
+ghost use Rattle.cip_world.specs.declared.journal.Input.TheVariants as inputs;
+ghost use Rattle.cip_world.specs.Runs.{IsGiven, IsRun, state_in};
+ghost use Rattle.cip_world.specs.Waiting.{waiting};
+ghost use Rattle.cip_world.specs.Worlds.{Stand, AddsStep, AddsArrival, AddsLoss, HasNoStep, IsFeedFault, IsFrameFault};
+
+use crate::fault::WorldFault;
+use crate::journal::{Entry, FrameName, Input, Outputs};
+use crate::ledger::Ledger;
+use crate::step::step_at;
+use cip_base::{ModuleId, Ms, NoMemory};
+use cip_clock::ClockFull;
+use cip_module::{Command, Event, Module, StepFault, Tables};
+use std::alloc::Global;
+
+/// Modules in boxes, joined by the links of a topology, and the journal of what they did.
+#[derive(Drop)]
+pub struct World {
+    alloc: Global,
+    ledger: Ledger,
+    modules: Vec<Box<dyn Module + Send>>,
+}
+
+// A module that the topology has takes a step, and the journal has one more entry.
+fn step_module(
+    modules: &mut Vec<Box<dyn Module + Send>>,
+    ledger: &mut Ledger,
+    at: ModuleId,
+    input: Input,
+    event: Event,
+) -> Result<usize, WorldFault>
+    requires stand { Stand ledger.old (map (λ b. config_of b) modules.old.items)
+        (map (λ b. state_of b) modules.old.items) }
+    requires ready { ledger.old.ready ≡ true }
+    requires there { at.0 < vec_len modules.old }
+    requires given { IsGiven ledger.old.plan ledger.old.journal at.0 input event }
+    ensures stand { Stand ledger.new (map (λ b. config_of b) modules.new.items)
+        (map (λ b. state_of b) modules.new.items) }
+    ensures plan { ledger.new.plan ≡ ledger.old.plan }
+    ensures ok { IfOk result (AddsStep ledger.old.journal ledger.new.journal at input) }
+    ensures err { OnErr result (ledger.new.journal ≡ ledger.old.journal) }
+    ensures fault { IfErr result
+        (IsFeedFault ledger.old.plan ledger.old.journal at.0 event) }
+{
+    let number = ledger.entries().len();
+    match step_at(modules, at.0, event) {
+        Ok(outputs) => {
+            ledger.add(Entry::Step {
+                at,
+                input,
+                outputs: Outputs::of(outputs),
+            });
+            Ok(number)
+        }
+        Err(StepFault::NoMemory(_)) => Err(WorldFault::NoMemory),
+        Err(StepFault::ClockFull(_)) => Err(WorldFault::Step(ClockFull)),
+    }
+}
+
+impl World {
+    /// What happened, oldest entry first.
+    pub fn journal(&self) -> &[Entry]
+        ensures journal { reverse result.now ≡ self.now.ledger.journal }
+        ensures run { IsRun self.now.ledger.plan self.now.ledger.journal }
+    {
+        self.ledger.entries()
+    }
+
+    /// The frames that wait, in rising name: those to an address that some module has, and that
+    /// neither arrived nor were lost. NoMemory where an allocation is refused.
+    pub fn waiting(&self) -> Result<Vec<FrameName>, NoMemory>
+        ensures { IfOk result
+            (λ v. v.items ≡ waiting self.now.ledger.plan self.now.ledger.journal) }
+    {
+        self.ledger.waiting(self.alloc)
+    }
+
+    /// Gives a module a command, and answers the number of the new entry. NoModule where the
+    /// topology has no such module, and NoMemory; nothing is changed then.
+    pub fn feed(&mut self, at: ModuleId, command: Command) -> Result<usize, WorldFault>
+        requires stand { Stand self.old.ledger (map (λ b. config_of b) self.old.modules.items)
+            (map (λ b. state_of b) self.old.modules.items) }
+        ensures stand { Stand self.new.ledger (map (λ b. config_of b) self.new.modules.items)
+            (map (λ b. state_of b) self.new.modules.items) }
+        ensures plan { self.new.ledger.plan ≡ self.old.ledger.plan }
+        ensures ok { IfOk result (AddsStep self.old.ledger.journal self.new.ledger.journal at
+            (inputs.Command command)) }
+        ensures err { OnErr result (self.new.ledger.journal ≡ self.old.ledger.journal) }
+        ensures fault { IfErr result (IsFeedFault self.old.ledger.plan self.old.ledger.journal at.0
+            (events.Command command)) }
+        ensures no_module { (result ≡ Err WorldFault.NoModule)
+            ↔ (length self.old.ledger.plan.modules ≤ at.0) }
+    {
+        if at.0 >= self.modules.len() {
+            return Err(WorldFault::NoModule);
+        }
+        self.ledger.prepare()?;
+        let copy = command.copy(self.alloc)?;
+        step_module(
+            &mut self.modules,
+            &mut self.ledger,
+            at,
+            Input::Command(command),
+            Event::Command(copy),
+        )
+    }
+
+    /// Lets time pass at a module, and answers the number of the new entry. NoModule where the
+    /// topology has no such module, Step where the module's clock would pass its last time,
+    /// 9,223,372,036,854,775,807 microseconds, and NoMemory; nothing is changed then.
+    pub fn tick(&mut self, at: ModuleId, by: Ms) -> Result<usize, WorldFault>
+        requires stand { Stand self.old.ledger (map (λ b. config_of b) self.old.modules.items)
+            (map (λ b. state_of b) self.old.modules.items) }
+        ensures stand { Stand self.new.ledger (map (λ b. config_of b) self.new.modules.items)
+            (map (λ b. state_of b) self.new.modules.items) }
+        ensures plan { self.new.ledger.plan ≡ self.old.ledger.plan }
+        ensures ok { IfOk result (AddsStep self.old.ledger.journal self.new.ledger.journal at
+            (inputs.Tick by)) }
+        ensures err { OnErr result (self.new.ledger.journal ≡ self.old.ledger.journal) }
+        ensures fault { IfErr result (IsFeedFault self.old.ledger.plan self.old.ledger.journal at.0
+            (events.Tick by)) }
+        ensures no_module { (result ≡ Err WorldFault.NoModule)
+            ↔ (length self.old.ledger.plan.modules ≤ at.0) }
+    {
+        if at.0 >= self.modules.len() {
+            return Err(WorldFault::NoModule);
+        }
+        self.ledger.prepare()?;
+        step_module(
+            &mut self.modules,
+            &mut self.ledger,
+            at,
+            Input::Tick(by),
+            Event::Tick(by),
+        )
+    }
+}
