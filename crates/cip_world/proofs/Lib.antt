@@ -13,3 +13,4 @@ pub mod Listed
 pub mod Placed
 pub mod Comings
 pub mod Stepped
+pub mod Delivered

@@ -137,4 +137,62 @@ impl World {
             Event::Tick(by),
         )
     }
+
+    /// Brings a waiting frame to the module that it goes to, and answers the number of the new
+    /// entry. NoFrame where no such frame waits, and NoMemory; nothing is changed then.
+    pub fn deliver(&mut self, name: FrameName) -> Result<usize, WorldFault>
+        requires stand { Stand self.old.ledger (map (λ b. config_of b) self.old.modules.items)
+            (map (λ b. state_of b) self.old.modules.items) }
+        ensures stand { Stand self.new.ledger (map (λ b. config_of b) self.new.modules.items)
+            (map (λ b. state_of b) self.new.modules.items) }
+        ensures plan { self.new.ledger.plan ≡ self.old.ledger.plan }
+        ensures ok { IfOk result
+            (AddsArrival self.old.ledger.journal self.new.ledger.journal name) }
+        ensures err { OnErr result (self.new.ledger.journal ≡ self.old.ledger.journal) }
+        ensures fault { IfErr result
+            (IsFrameFault self.old.ledger.plan self.old.ledger.journal name) }
+    {
+        self.ledger.prepare()?;
+        let Some(coming) = self.ledger.coming(name) else {
+            return Err(WorldFault::NoFrame);
+        };
+        let body = coming.body.copy(self.alloc)?;
+        let at = coming.at;
+        let port = coming.port;
+        let from = coming.from.copy();
+        let input = Input::Frame {
+            port,
+            from: from.copy(),
+            name,
+        };
+        step_module(
+            &mut self.modules,
+            &mut self.ledger,
+            at,
+            input,
+            Event::Frame { port, from, body },
+        )
+    }
+
+    /// Loses a waiting frame on its link, and answers the number of the new entry. NoFrame where no
+    /// such frame waits, and NoMemory; nothing is changed then.
+    pub fn lose(&mut self, name: FrameName) -> Result<usize, WorldFault>
+        requires stand { Stand self.old.ledger (map (λ b. config_of b) self.old.modules.items)
+            (map (λ b. state_of b) self.old.modules.items) }
+        ensures stand { Stand self.new.ledger (map (λ b. config_of b) self.new.modules.items)
+            (map (λ b. state_of b) self.new.modules.items) }
+        ensures plan { self.new.ledger.plan ≡ self.old.ledger.plan }
+        ensures ok { IfOk result (AddsLoss self.old.ledger.journal self.new.ledger.journal name) }
+        ensures err { OnErr result (self.new.ledger.journal ≡ self.old.ledger.journal) }
+        ensures fault { IfErr result
+            (IsFrameFault self.old.ledger.plan self.old.ledger.journal name) }
+    {
+        self.ledger.prepare()?;
+        if self.ledger.coming(name).is_none() {
+            return Err(WorldFault::NoFrame);
+        }
+        let number = self.ledger.entries().len();
+        self.ledger.add(Entry::Lost { frame: name });
+        Ok(number)
+    }
 }
