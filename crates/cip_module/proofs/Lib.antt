@@ -56,6 +56,7 @@ pub mod RequestBy
 pub mod PassedBy
 pub mod Standing
 pub mod Shown
+pub mod AtFirst
 pub mod PathsShorten
 pub mod ReadBackOthers
 pub mod ReadBackSends

@@ -1,9 +1,10 @@
 -- How a state is shown.
-use Rattle.std.specs.Prelude.{◌≡◌, ℕ, ◌+◌, List, map, filter_map}
+use Rattle.std.specs.Prelude.{◌≡◌, ℕ, ◌+◌, List, [], map, filter_map}
 use Rattle.std.specs.FinMap as finite
 use Rattle.cip_pending.specs.declared.entry.Entry.{Entry}
 use Rattle.cip_hops.specs.declared.hop.Hop.{Hop}
 use Rattle.cip_hops.specs.Hops.{as_hop}
+use Rattle.cip_module.specs.declared.config.ModuleSettings.{ModuleSettings}
 use Rattle.cip_module.specs.declared.tables.PendingRow.{PendingRow}
 use Rattle.cip_module.specs.declared.tables.HopRow.{HopRow}
 use Rattle.cip_module.specs.declared.tables.AssemblyRow.{AssemblyRow}
@@ -31,6 +32,10 @@ hop_row_of hop = record {
 abbrev pub assembly_row_of : ℕ × List ℕ → AssemblyRow
 assembly_row_of held = record { instance = held.0; bytes = held.1 }
 
+-- the assemblies as they are shown, in rising instance
+abbrev pub assemblies_of : State → List AssemblyRow
+assemblies_of s = map assembly_row_of (finite.entries s.assemblies)
+
 pub record ShowsState (s : State) (tables : Tables) : Type 0 where
   pub now : tables.now ≡ s.now
   pub last_id : tables.last_id + 1 ≡ s.hops.next
@@ -38,6 +43,18 @@ pub record ShowsState (s : State) (tables : Tables) : Type 0 where
   pub pendings : tables.pendings ≡ map row_of (finite.entries s.pendings.entries)
   pub hops : tables.hops ≡ map hop_row_of
       (filter_map (λ e. as_hop e.1) (finite.entries s.hops.held))
-  pub assemblies : tables.assemblies ≡ map assembly_row_of (finite.entries s.assemblies)
+  pub assemblies : tables.assemblies ≡ assemblies_of s
   pub ops : tables.ops ≡ s.ops
   pub rising : IsRising tables.ops
+
+-- ---- tables as at the beginning
+
+pub record HasFirstCounts (config : ModuleSettings) (tables : Tables) : Type 0 where
+  pub now : tables.now ≡ config.clock
+  pub last_id : tables.last_id + 1 ≡ config.first_id
+  pub last_number : tables.last_number + 1 ≡ config.first_number
+
+pub record HoldsNothing (tables : Tables) : Type 0 where
+  pub pendings : tables.pendings ≡ []
+  pub hops : tables.hops ≡ []
+  pub ops : tables.ops ≡ []

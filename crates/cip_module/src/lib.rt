@@ -14,6 +14,7 @@ mod datum;
 mod datum_rows;
 mod effects;
 mod event;
+mod first;
 mod keys;
 mod laws;
 mod legal;

@@ -65,8 +65,8 @@ fn hop_rows(alloc: Global, hops: &HopTable) -> Result<Vec<HopRow>, NoMemory>
     Ok(rows)
 }
 
-// The assemblies, in rising instance.
-fn assembly_rows(alloc: Global, target: &Target) -> Result<Vec<AssemblyRow>, NoMemory>
+/// The assemblies, in rising instance.
+pub(crate) fn assembly_rows(alloc: Global, target: &Target) -> Result<Vec<AssemblyRow>, NoMemory>
     ensures { IfOk result (λ rows. rows.items ≡ map assembly_row_of
         (finite.entries target.now.objects.assemblies)) }
 {

@@ -127,7 +127,7 @@ impl HopRows {
 }
 
 /// An assembly, under its instance.
-#[derive(Drop)]
+#[derive(Drop, PartialEq, Eq)]
 pub struct AssemblyRow {
     pub instance: u16,
     pub bytes: Bytes,
