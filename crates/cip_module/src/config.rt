@@ -28,7 +28,7 @@ pub enum LegalAddresses {
 
 /// A port of a module: its number, the place of its link in the topology, the addresses that are
 /// legal there, and the module's own address there.
-#[derive(Drop)]
+#[derive(Drop, PartialEq, Eq)]
 pub struct PortConfig {
     pub number: PortNumber,
     pub link: usize,

@@ -32,6 +32,7 @@ mod replies;
 mod reply_rows;
 mod request_rows;
 mod requests;
+mod same;
 mod show;
 mod spent;
 mod step;
