@@ -18,12 +18,12 @@ use Rattle.cip_world.specs.Journals.{Journal}
 use Rattle.cip_world.specs.Runs.{IsArrival}
 use Rattle.cip_world.specs.Worlds.{HasNoStep, IsFeedFault, IsFrameFault}
 
-got_within : {A : Type 0} (xs : List A) (i : ℕ) (x : A) → slice_get xs i ≡ Some x → i < length xs
+pub got_within : {A : Type 0} (xs : List A) (i : ℕ) (x : A) → slice_get xs i ≡ Some x → i < length xs
 got_within [] i x e = absurd (cc)
 got_within (y ∷ ys) zero x e = omega arith
 got_within (y ∷ ys) (suc i) x e = let l = got_within ys i x e in omega (arith, l)
 
-some_same : {A : Type 0} (a b : A) → Some a ≡ Some b → a ≡ b
+pub some_same : {A : Type 0} (a b : A) → Some a ≡ Some b → a ≡ b
 some_same a b e = cc
 
 node_within : (t : Plan) (link : ℕ) (address from : List ℕ) (there : Way) (o : Option Node) → node_from 0 t.modules link address ≡ o → comes_in from o ≡ Some there → there.at < length t.modules

@@ -14,3 +14,4 @@ pub mod Placed
 pub mod Comings
 pub mod Stepped
 pub mod Delivered
+pub mod Freshness

@@ -4,5 +4,6 @@ pub mod Names
 pub mod Waiting
 pub mod Ledgers
 pub mod Coming
+pub mod Fresh
 pub mod Worlds
 pub mod Mirrors

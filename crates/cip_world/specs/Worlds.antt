@@ -1,17 +1,21 @@
 -- What a world keeps, and what its calls do.
-use Rattle.std.specs.Prelude.{◌≡◌, ◌≢◌, ℕ, zero, suc, ◌≤◌, ◌<◌, List, [], ◌∷◌, Result, Ok, Err, Some, None, length, map, take, slice_get, slice_set}
+use Rattle.std.specs.Prelude.{◌≡◌, ◌≢◌, ℕ, zero, suc, ◌≤◌, ◌<◌, Bool, true, false, List, [], ◌∷◌, Result, Ok, Err, Some, None, length, map, take, slice_get, slice_set}
 use Rattle.cip_base.specs.declared.numbers.ModuleId.{ModuleId}
 use Rattle.cip_module.specs.declared.config.ModuleSettings.{ModuleSettings}
 use Rattle.cip_module.specs.declared.contract.StepFault.{StepFault}
 use Rattle.cip_module.specs.declared.contract.StepFault.TheVariants as steps
 use Rattle.cip_module.specs.declared.event.Event.{Event}
 use Rattle.cip_module.specs.declared.event.Output.{Output}
-use Rattle.cip_module.specs.State.{State, initial_state}
+use Rattle.cip_module.specs.State.{State}
 use Rattle.cip_module.specs.Steps.{IsStep}
 use Rattle.cip_module.specs.Table.{table_step}
+use Rattle.cip_module.specs.Views.{ShowsState}
+use Rattle.cip_module.specs.declared.tables.Tables.{Tables}
 use Rattle.cip_topology.specs.Plan.{Plan}
 use Rattle.cip_world.specs.declared.fault.WorldFault.{WorldFault}
 use Rattle.cip_world.specs.declared.fault.WorldFault.TheVariants as faults
+use Rattle.cip_world.specs.declared.world.End.{End}
+use Rattle.cip_world.specs.declared.world.End.TheVariants.{Quiet, Limit}
 use Rattle.cip_world.specs.declared.journal.FrameName.{FrameName}
 use Rattle.cip_world.specs.declared.journal.Input.{Input}
 use Rattle.cip_world.specs.declared.journal.Input.TheVariants.{Frame}
@@ -107,3 +111,27 @@ pub record DeliversOne (t : Plan) (old new : Journal) : Type 0 where
 abbrev pub Delivers : Plan → ℕ → Journal → Journal → Type 0
 Delivers t zero old new = new ≡ old
 Delivers t (suc n) old new = (mid : Journal) × Delivers t n old mid × DeliversOne t mid new
+
+-- whether one frame more arrived; none waited where none did
+abbrev pub IsOneMore : Plan → Journal → Journal → Bool → Type 0
+IsOneMore t old new true = DeliversOne t old new
+IsOneMore t old new false = (new ≡ old) × (waiting t old ≡ [])
+
+-- some number of frames arrived, at most so many
+pub record DeliversUpTo (t : Plan) (limit : ℕ) (old new : Journal) : Type 0 where
+  pub count : ℕ
+  pub most : count ≤ limit
+  pub delivers : Delivers t count old new
+
+-- Quiet only where no frame waits afterwards, Limit only where so many arrived and some waits
+abbrev pub RunsTo : Plan → ℕ → Journal → Journal → Result End WorldFault → Type 0
+RunsTo t limit old new (Ok Quiet) = DeliversUpTo t limit old new × (waiting t new ≡ [])
+RunsTo t limit old new (Ok Limit) = Delivers t limit old new × (waiting t new ≢ [])
+RunsTo t limit old new (Err fault) = DeliversUpTo t limit old new × (fault ≡ faults.NoMemory)
+
+-- ---- what is shown
+
+pub record IsShownAt (t : Plan) (j : Journal) (m : ℕ) (tables : Tables) : Type 0 where
+  pub config : ModuleSettings
+  pub is_module : IsModule t m config
+  pub shows : ShowsState (state_in config m j) tables

@@ -4,6 +4,7 @@
 
 mod fault;
 mod flight;
+mod fresh;
 mod journal;
 mod ledger;
 mod names;
@@ -11,5 +12,6 @@ mod step;
 mod world;
 
 pub use fault::WorldFault;
+pub use fresh::NewFault;
 pub use journal::{Entry, FrameName, Input, Outputs};
-pub use world::World;
+pub use world::{End, World};

@@ -1,19 +1,22 @@
 //! The world: modules in boxes, and the journal of what they did.
-ghost use Rattle.std.specs.Prelude.{◌≡◌, ◌∷◌, ◌↔◌, ◌≤◌, ◌<◌, [], true, Err, length, map, reverse, vec_len, IfOk, IfErr, OnErr, IfSome};
+ghost use Rattle.std.specs.Prelude.{◌≡◌, ◌∷◌, ◌↔◌, ◌⊎◌, ◌≤◌, ◌<◌, [], true, Err, length, map, reverse, vec_len, IfOk, IfErr, OnOk, OnErr};
 ghost use Rattle.cip_module.specs.declared.event.Event.TheVariants as events;
 ghost use Rattle.cip_module.specs.Views.{ShowsState};
 ghost use Rattle.cip_world.specs.declared.journal.Input.TheVariants as inputs;
 ghost use Rattle.cip_world.specs.Runs.{IsGiven, IsRun, state_in};
 ghost use Rattle.cip_world.specs.Waiting.{waiting};
-ghost use Rattle.cip_world.specs.Worlds.{Stand, AddsStep, AddsArrival, AddsLoss, HasNoStep, IsFeedFault, IsFrameFault};
+ghost use Rattle.cip_world.specs.Worlds.{Stand, AddsStep, AddsArrival, AddsLoss, IsFeedFault, IsFrameFault, IsOneMore, RunsTo, IsShownAt};
+ghost use Rattle.cip_world.specs.Fresh.{AreFresh, IsNewFault};
 
 use crate::fault::WorldFault;
+use crate::fresh::{NewFault, check_fresh};
 use crate::journal::{Entry, FrameName, Input, Outputs};
 use crate::ledger::Ledger;
 use crate::step::step_at;
 use cip_base::{ModuleId, Ms, NoMemory};
 use cip_clock::ClockFull;
 use cip_module::{Command, Event, Module, StepFault, Tables};
+use cip_topology::Topology;
 use std::alloc::Global;
 
 /// Modules in boxes, joined by the links of a topology, and the journal of what they did.
@@ -60,7 +63,48 @@ fn step_module(
     }
 }
 
+/// How a run ended.
+#[derive(Clone, Copy, Debug, PartialEq, Eq)]
+pub enum End {
+    /// No frame waits.
+    Quiet,
+    /// As many frames arrived as were asked for, and some wait still.
+    Limit,
+}
+
 impl World {
+    /// A world of modules at their beginnings, in the order of the topology, in which nothing
+    /// happened yet. The modules are gone where they are not those: Count, then Config, then
+    /// NotFresh, each of the least module where it is the first that holds; NoMemory.
+    pub fn new(
+        alloc: Global,
+        topology: Topology,
+        modules: Vec<Box<dyn Module + Send>>,
+    ) -> Result<World, NewFault>
+        ensures stand { IfOk result (λ w. Stand w.ledger (map (λ b. config_of b) w.modules.items)
+            (map (λ b. state_of b) w.modules.items)) }
+        ensures plan { IfOk result (λ w. w.ledger.plan ≡ topology) }
+        ensures journal { IfOk result (λ w. w.ledger.journal ≡ []) }
+        ensures fresh { OnOk result (AreFresh topology (map (λ b. config_of b) modules.items)
+            (map (λ b. state_of b) modules.items)) }
+        ensures fault { IfErr result (IsNewFault topology (map (λ b. config_of b) modules.items)
+            (map (λ b. state_of b) modules.items)) }
+    {
+        check_fresh(alloc, &topology, modules.as_slice())?;
+        Ok(World {
+            alloc,
+            ledger: Ledger::new(alloc, topology),
+            modules,
+        })
+    }
+
+    /// The topology.
+    pub fn topology(&self) -> &Topology
+        ensures { result.now ≡ self.now.ledger.plan }
+    {
+        self.ledger.topology()
+    }
+
     /// What happened, oldest entry first.
     pub fn journal(&self) -> &[Entry]
         ensures journal { reverse result.now ≡ self.now.ledger.journal }
@@ -194,5 +238,68 @@ impl World {
         let number = self.ledger.entries().len();
         self.ledger.add(Entry::Lost { frame: name });
         Ok(number)
+    }
+
+    // Delivers the waiting frame of least name, if any waits.
+    fn deliver_least(&mut self) -> Result<bool, WorldFault>
+        requires stand { Stand self.old.ledger (map (λ b. config_of b) self.old.modules.items)
+            (map (λ b. state_of b) self.old.modules.items) }
+        ensures stand { Stand self.new.ledger (map (λ b. config_of b) self.new.modules.items)
+            (map (λ b. state_of b) self.new.modules.items) }
+        ensures plan { self.new.ledger.plan ≡ self.old.ledger.plan }
+        ensures ok { IfOk result (IsOneMore self.old.ledger.plan self.old.ledger.journal
+            self.new.ledger.journal) }
+        ensures err { OnErr result (self.new.ledger.journal ≡ self.old.ledger.journal) }
+        ensures fault { IfErr result (λ fault. fault ≡ WorldFault.NoMemory) }
+    {
+        self.ledger.prepare()?;
+        match self.ledger.least() {
+            None => Ok(false),
+            Some(name) => match self.deliver(name) {
+                Ok(_) => Ok(true),
+                Err(_) => Err(WorldFault::NoMemory),
+            },
+        }
+    }
+
+    /// Delivers the waiting frame of least name until none waits, or until so many arrived. Quiet
+    /// where none waits in the end, Limit where some does. NoMemory: the frames that arrived before
+    /// stay delivered.
+    pub fn run(&mut self, limit: usize) -> Result<End, WorldFault>
+        requires stand { Stand self.old.ledger (map (λ b. config_of b) self.old.modules.items)
+            (map (λ b. state_of b) self.old.modules.items) }
+        ensures stand { Stand self.new.ledger (map (λ b. config_of b) self.new.modules.items)
+            (map (λ b. state_of b) self.new.modules.items) }
+        ensures plan { self.new.ledger.plan ≡ self.old.ledger.plan }
+        ensures runs { RunsTo self.old.ledger.plan limit self.old.ledger.journal
+            self.new.ledger.journal result }
+    {
+        for _ in 0..limit {
+            if !self.deliver_least()? {
+                return Ok(End::Quiet);
+            }
+        }
+        self.ledger.prepare()?;
+        match self.ledger.least() {
+            None => Ok(End::Quiet),
+            Some(_) => Ok(End::Limit),
+        }
+    }
+
+    /// The state of a module. NoModule where the topology has no such module, and NoMemory.
+    pub fn tables(&self, at: ModuleId) -> Result<Tables, WorldFault>
+        requires stand { Stand self.now.ledger (map (λ b. config_of b) self.now.modules.items)
+            (map (λ b. state_of b) self.now.modules.items) }
+        ensures ok { IfOk result
+            (IsShownAt self.now.ledger.plan self.now.ledger.journal at.0) }
+        ensures no_module { (result ≡ Err WorldFault.NoModule)
+            ↔ (length self.now.ledger.plan.modules ≤ at.0) }
+        ensures fault { IfErr result
+            (λ fault. (fault ≡ WorldFault.NoModule) ⊎ (fault ≡ WorldFault.NoMemory)) }
+    {
+        let Some(boxed) = self.modules.get(at.0) else {
+            return Err(WorldFault::NoModule);
+        };
+        Ok(boxed.tables()?)
     }
 }

@@ -1,0 +1,5 @@
+use Rattle.std.proofs.Common.{◌≡◌, map, take}
+use Rattle.cip_world.proofs.fresh.first_other.Given as goal
+
+abbrev pub invariant-loop-m : goal.invariant-loop-m
+invariant-loop-m g l = map (λ b. (goal.Module-dyn g (b.vtable, b.value)).config_of b.value) (take l.m l.modules) ≡ take l.m l.configs

@@ -1,0 +1,10 @@
+use Rattle.std.proofs.Common.{◌≡◌, ◌≤◌, map, List}
+use Rattle.cip_world.specs.Worlds.{Stand, Delivers}
+use Rattle.cip_world.proofs.world.World.run.Given as goal
+
+abbrev pub invariant-loop : goal.invariant-loop
+invariant-loop g l =
+    Stand l.self.ledger (map (λ b. (goal.Module-dyn g (b.vtable, b.value)).config_of b.value) l.self.modules.items)
+    (map (λ b. (goal.Module-dyn g (b.vtable, b.value)).state_of b.value) l.self.modules.items)
+    × (l.self.ledger.plan ≡ l.initial.self.ledger.plan)
+    × Delivers l.self.ledger.plan 0 l.initial.self.ledger.journal l.self.ledger.journal
