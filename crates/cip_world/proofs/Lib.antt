@@ -15,3 +15,4 @@ pub mod Comings
 pub mod Stepped
 pub mod Delivered
 pub mod Freshness
+pub mod Ran

@@ -7,4 +7,5 @@ invariant-loop g l =
     Stand l.self.ledger (map (λ b. (goal.Module-dyn g (b.vtable, b.value)).config_of b.value) l.self.modules.items)
     (map (λ b. (goal.Module-dyn g (b.vtable, b.value)).state_of b.value) l.self.modules.items)
     × (l.self.ledger.plan ≡ l.initial.self.ledger.plan)
-    × Delivers l.self.ledger.plan 0 l.initial.self.ledger.journal l.self.ledger.journal
+    × (l.counter ≤ l.limit)
+    × Delivers l.initial.self.ledger.plan l.counter l.initial.self.ledger.journal l.self.ledger.journal

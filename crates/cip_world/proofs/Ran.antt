@@ -1,0 +1,42 @@
+-- Frames that arrive one by one, each of least name.
+use Rattle.std.proofs.Common.{◌≡◌, ◌≢◌, ℕ, suc, ◌+◌, ◌≤◌, Bool, true, List, [], ◌∷◌, map, Some, None, refl, sym, ap, subst, ◌∙◌, arith}
+use Rattle.std.specs.Prelude.{slice_get, Option}
+use Rattle.cip_module.specs.declared.config.ModuleSettings.{ModuleSettings}
+use Rattle.cip_module.specs.declared.tables.Tables.{Tables}
+use Rattle.cip_module.specs.State.{State}
+use Rattle.cip_module.specs.Views.{ShowsState}
+use Rattle.cip_topology.specs.Plan.{Plan}
+use Rattle.cip_world.specs.declared.journal.FrameName.{FrameName}
+use Rattle.cip_world.specs.Journals.{Journal}
+use Rattle.cip_world.specs.Ledgers.{Told}
+use Rattle.cip_world.specs.Runs.{IsModule, state_in}
+use Rattle.cip_world.specs.Waiting.{waiting}
+use Rattle.cip_world.specs.Worlds.{Stand, DeliversOne, Delivers, DeliversUpTo, IsOneMore, IsShownAt}
+use Rattle.cip_world.proofs.Delivered.{some_same}
+use Rattle.cip_world.proofs.StepAt.{slice_get-map}
+
+pub none_first : (t : Plan) (j : Journal) (r : Option FrameName) → r ≡ slice_get (waiting t j) 0 → r ≡ None → waiting t j ≡ []
+none_first t j r is none = by (waiting t j) (sym none ∙ is)
+  where
+    by : (xs : List FrameName) → None ≡ slice_get xs 0 → xs ≡ []
+    by [] e = refl
+    by (x ∷ xs) e = absurd (cc)
+
+pub some_first : (t : Plan) (j : Journal) (r : Option FrameName) (f : FrameName) → r ≡ slice_get (waiting t j) 0 → r ≡ Some f → waiting t j ≢ []
+some_first t j r f is some e = let none : Some f ≡ None = sym some ∙ is ∙ ap (λ (xs : List FrameName). slice_get xs 0) e in cc
+
+pub one_more : (t : Plan) (old new : Journal) (b : Bool) → b ≡ true → IsOneMore t old new b → DeliversOne t old new
+one_more t old new b is h = subst (IsOneMore t old new) is h
+
+pub one_further : (t : Plan) (n : ℕ) (old mid new : Journal) → Delivers t n old mid → DeliversOne t mid new → Delivers t (n + 1) old new
+one_further t n old mid new h one =
+    let same : suc n ≡ n + 1 = omega arith in
+    subst (λ (k : ℕ). Delivers t k old new) same (mid, h, one)
+
+pub shown_at : {A : Type 0} (told : Told) (config : A → ModuleSettings) (state : A → State) (boxes : List A) (m : ℕ) (b : A) (tables : Tables)
+    → Stand told (map config boxes) (map state boxes) → slice_get boxes m ≡ Some b → ShowsState (state b) tables → IsShownAt told.plan told.journal m tables
+shown_at told config state boxes m b tables stand at shows =
+    let there : IsModule told.plan m (config b) = subst (λ (cs : List ModuleSettings). slice_get cs m ≡ Some (config b)) stand.same (slice_get-map config boxes m b at) in
+    let same : state b ≡ state_in (config b) m told.journal =
+    some_same (state b) (state_in (config b) m told.journal) (sym (slice_get-map state boxes m b at) ∙ stand.stand.each m (config b) there) in
+    record { config = config b; is_module = there; shows = subst (λ (s : State). ShowsState s tables) same shows }
