@@ -3,3 +3,8 @@ pub mod WayBack
 pub mod Walks
 pub mod Seating
 pub mod Entries
+pub mod Lists
+pub mod Rules
+pub mod LinksKept
+pub mod PortsKept
+pub mod ModulesKept
