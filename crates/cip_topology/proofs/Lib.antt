@@ -8,3 +8,5 @@ pub mod Rules
 pub mod LinksKept
 pub mod PortsKept
 pub mod ModulesKept
+pub mod Indexed
+pub mod TopologyKept
