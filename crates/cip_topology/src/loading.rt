@@ -1,5 +1,5 @@
 //! Loading a topology.
-ghost use Rattle.std.specs.Prelude.{◌≡◌, None, IfSome, []};
+ghost use Rattle.std.specs.Prelude.{◌≡◌, ◌≤◌, length, None, IfOk, IfSome, []};
 ghost use Rattle.toml.specs.Parse.{parse_document};
 ghost use Rattle.toml.specs.View.{view, items_view, table_view};
 ghost use Rattle.cip_topology.specs.declared.place.Place.TheVariants.{File as TheFile};
@@ -19,7 +19,9 @@ use toml::{Table, Value};
 
 #[tactic(auto, using(crate::proofs::Entries::counts))]
 fn some_items<'a>(key: Key, entries: &'a [Value]) -> Result<&'a [Value], LoadFault>
-    ensures { Gives (λ s. items_view s.now) result (some_items key (items_view entries.now)) }
+    ensures is { Gives (λ s. items_view s.now) result
+        (some_items key (items_view entries.now)) }
+    ensures some { IfOk result (λ s. 1 ≤ length s.now) }
 {
     if entries.len() == 0 {
         return Err(LoadFault::Missing {
@@ -32,15 +34,24 @@ fn some_items<'a>(key: Key, entries: &'a [Value]) -> Result<&'a [Value], LoadFau
 
 // The tables of a kind, of which there is one at least.
 fn tables<'a>(document: &'a Table, key: Key) -> Result<&'a [Value], LoadFault>
-    ensures { Gives (λ s. items_view s.now) result
+    ensures is { Gives (λ s. items_view s.now) result
         (tables_at key (table_view document.now)) }
+    ensures some { IfOk result (λ s. 1 ≤ length s.now) }
 {
     let value = value(document, &Place::File, key)?;
     let entries = array_of(value, &Place::File, key)?;
     some_items(key, entries)
 }
 
-fn plan(alloc: Global, link_entries: &[Value], module_entries: &[Value]) -> Result<Topology, LoadFault>
+fn plan(
+    alloc: Global,
+    link_entries: &[Value],
+    module_entries: &[Value],
+) -> Result<Topology, LoadFault>
+    requires some_links { 1 ≤ length link_entries.now }
+    requires few_links { length link_entries.now ≤ 32 }
+    requires some_modules { 1 ≤ length module_entries.now }
+    requires few_modules { length module_entries.now ≤ 64 }
     ensures { Gives (λ t. t) result
         (plan_with (items_view link_entries.now) (items_view module_entries.now)) }
 {

@@ -1,5 +1,5 @@
 //! The `[[module.port]]` and the `[[module.assembly]]` tables.
-ghost use Rattle.std.specs.Prelude.{◌≡◌, ◌<◌, ◌≤◌, [], option_map};
+ghost use Rattle.std.specs.Prelude.{◌≡◌, ◌<◌, ◌≤◌, length, [], option_map, IfOk};
 ghost use Rattle.std.specs.List.{list_any};
 ghost use Rattle.toml.specs.View.{view, items_view, table_view};
 ghost use Rattle.cip_module.specs.Config.{has_number, has_instance};
@@ -299,8 +299,10 @@ pub(crate) fn at_most<'a>(
     most: usize,
     entries: &'a [Value],
 ) -> Result<&'a [Value], LoadFault>
-    ensures { Gives (λ s. items_view s.now) result
+    ensures is { Gives (λ s. items_view s.now) result
         (at_most place.now key most (items_view entries.now)) }
+    ensures same { IfOk result (λ s. s.now ≡ entries.now) }
+    ensures few { IfOk result (λ s. length s.now ≤ most) }
 {
     if entries.len() > most {
         return Err(LoadFault::Limit {
