@@ -1,5 +1,5 @@
 -- The index keeps finding the ports of the modules, with one more module.
-use Rattle.std.proofs.Common.{◌≡◌, ℕ, zero, suc, ◌+◌, Bool, true, false, cond, List, [], ◌∷◌, ◌++◌, length, Option, Some, None, is_some, Result, Ok, refl, sym, ap, ◌∙◌, subst, arith}
+use Rattle.std.proofs.Common.{◌≡◌, ℕ, suc, ◌+◌, Bool, true, false, cond, List, [], ◌∷◌, ◌++◌, length, Option, Some, None, is_some, Ok, refl, sym, ap, ◌∙◌, arith}
 use Rattle.std.specs.Prelude.{slice_get, find, option_map}
 use Rattle.std.specs.Ordering.{eq_by_cmp, is_eq}
 use Rattle.std.specs.Cmp.{tied_itself}
@@ -16,10 +16,9 @@ use Rattle.cip_topology.specs.Plan.{AreLinks, TellsApart}
 use Rattle.cip_topology.specs.Nodes.{is_at, Node, or_later, node_from}
 use Rattle.cip_topology.specs.Seats.{spot_cmp, spot, seat_at, seated, seat_of, IsIndexOf, spot_of, seat_in, all_seated, AreFree}
 use Rattle.cip_topology.specs.ModuleTables.{is_taken, settings_of}
-use Rattle.cip_topology.proofs.Ports.{some_same, Found, found}
+use Rattle.cip_topology.proofs.Ports.{found}
 use Rattle.cip_topology.proofs.WayBack.{is_there, there_is}
 use Rattle.cip_topology.proofs.Seating.{spots_total, exact_spots}
-use Rattle.cip_topology.proofs.PortsKept.{PortsKept}
 use Rattle.cip_topology.proofs.ModulesKept.{IsNew, module_new}
 
 -- ---- one seat

@@ -1,10 +1,10 @@
 -- The links that are read keep the rules of links.
-use Rattle.std.proofs.Common.{◌≡◌, ℕ, zero, suc, ◌+◌, ◌≤◌, Bool, true, false, cond, ◌&&◌, List, [], ◌∷◌, ◌++◌, length, Option, Some, None, Result, Ok, Err, refl, sym, ap, ◌∙◌, subst, arith, nat_le, inl, inr, ◌⊎◌, length-append}
-use Rattle.std.specs.Prelude.{slice_get, codes}
+use Rattle.std.proofs.Common.{◌≡◌, ℕ, suc, ◌+◌, Bool, true, false, cond, List, [], ◌∷◌, ◌++◌, length, Option, Some, None, Ok, sym, ap, ◌∙◌, subst, arith, nat_le, inl, inr, length-append}
+use Rattle.std.specs.Prelude.{codes}
 use Rattle.std.specs.Str.{bytes_eq}
-use Rattle.std.proofs.lemmas.Bool.{and_from, cases_Bool}
+use Rattle.std.proofs.lemmas.Bool.{and_from}
 use Rattle.std.proofs.lemmas.Slice.Eq.{bytes_eq-Decides}
-use Rattle.toml.specs.Data.{Data, Items, no_items, item, Members, as_str, as_table}
+use Rattle.toml.specs.Data.{Data, Items, no_items, item, Members, as_str}
 use Rattle.cip_module.specs.declared.config.LegalAddresses.{LegalAddresses}
 use Rattle.cip_module.specs.declared.config.LegalAddresses.TheVariants.{Byte, Text}
 use Rattle.cip_module.specs.Config.{is_name, is_range}
@@ -83,7 +83,7 @@ one_more links l k n = record {
     | inr new ↦ (ap (λ (x : Link). is_name x.name) (sym new.1) ∙ n.named, ap (λ (x : Link). is_range x.legal) (sym new.1) ∙ n.range)
   ];
   names = apart_push (λ (x : Link). x.name) links l k.names
-    (λ i a at e. none_at (λ (x : Link). bytes_eq x.name l.name) links n.new i a at ((bytes_eq-Decides a.name l.name).1 e));
+      (λ i a at e. none_at (λ (x : Link). bytes_eq x.name l.name) links n.new i a at ((bytes_eq-Decides a.name l.name).1 e));
 }
 
 counted : (a b n : ℕ) → n ≡ (a + 1) + b → n ≡ a + suc b

@@ -1,9 +1,9 @@
 -- The modules that are read keep the rules of modules.
-use Rattle.std.proofs.Common.{◌≡◌, ℕ, zero, suc, ◌+◌, ◌*◌, ◌≤◌, ◌<◌, Bool, true, false, cond, not, ◌&&◌, ◌||◌, ◌==◌, eqb, List, [], ◌∷◌, ◌++◌, length, Option, Some, None, is_some, Result, Ok, Err, refl, sym, ap, ◌∙◌, subst, arith, nat_le, nat_lt, inl, inr, ◌⊎◌, length-append}
+use Rattle.std.proofs.Common.{◌≡◌, ℕ, suc, ◌+◌, ◌≤◌, true, false, ◌&&◌, eqb, List, [], ◌∷◌, ◌++◌, length, Option, Some, None, is_some, Ok, sym, ap, ◌∙◌, subst, arith, nat_le, nat_lt, inl, inr, ◌⊎◌, length-append}
 use Rattle.std.specs.Prelude.{slice_get, ◌^◌}
-use Rattle.std.specs.List.{list_all, list_any}
+use Rattle.std.specs.List.{list_any}
 use Rattle.std.specs.Str.{bytes_eq}
-use Rattle.std.proofs.lemmas.Bool.{and_from, and_parts, eqb-true, eq-eqb}
+use Rattle.std.proofs.lemmas.Bool.{and_from, eq-eqb}
 use Rattle.std.proofs.lemmas.Bool.Decides.{nat_tests}
 use Rattle.std.proofs.lemmas.Slice.Eq.{bytes_eq-Decides}
 use Rattle.toml.specs.Data.{Data, Items, no_items, item, Members}
@@ -18,14 +18,14 @@ use Rattle.cip_topology.specs.declared.key.Key.TheVariants as key
 use Rattle.cip_topology.specs.declared.place.Place.{Place}
 use Rattle.cip_topology.specs.declared.place.Place.TheVariants as places
 use Rattle.cip_topology.specs.Plan.{AreLinks, HasPort, StandsOn, TellsApart, AddressesDiffer, originator}
-use Rattle.cip_topology.specs.Nodes.{is_at, Node, node_from}
-use Rattle.cip_topology.specs.Keys.{Read, ◌>>=◌, number_at, number_or_at, text_at, name_at, table_of, item_count}
+use Rattle.cip_topology.specs.Nodes.{Node}
+use Rattle.cip_topology.specs.Keys.{◌>>=◌, number_or_at, name_at, table_of, item_count}
 use Rattle.cip_topology.specs.PortTables.{ports_at, assemblies_at}
 use Rattle.cip_topology.specs.ModuleTables.{kind_at, identity_at, counts_at, new_name, has_originator, new_originator, is_taken, named_settings, settings_of_table, settings_of, modules_after}
 use Rattle.cip_topology.proofs.Ports.{some_same}
 use Rattle.cip_topology.proofs.WayBack.{there_is, node_found}
 use Rattle.cip_topology.proofs.Lists.{get_push, none_at, apart_push}
-use Rattle.cip_topology.proofs.Rules.{bind_ok, same_ok, passed, le_true, number_bounds, number_or_bounds, text_passes}
+use Rattle.cip_topology.proofs.Rules.{bind_ok, same_ok, passed, le_true, number_or_bounds, text_passes}
 use Rattle.cip_topology.proofs.PortsKept.{PortsKept, ports_kept, assemblies_kept}
 
 -- ---- one module
@@ -43,20 +43,20 @@ record CountsFit (c : Counts) : Type 0 where
 counts_fit : (place : Place) (m : Members) (c : Counts) → counts_at place m ≡ Ok c → CountsFit c
 counts_fit place m c h =
     let (clock, e1, h1) = bind_ok (number_or_at place key.Clock 0 0 9223372036854775807 m) (λ clock. number_or_at place key.FirstId 1 1 4294967295 m >>= λ first_id.
-      (number_or_at place key.FirstNumber 1 1 4294967295 m >>= λ first_number. (number_or_at place key.PendingRoom 256 1 256 m >>= λ pending_room.
-      (number_or_at place key.HopRoom 256 1 256 m >>= λ hop_room.
-      Ok (record { clock = clock; first_id = first_id; first_number = first_number; pending_room = pending_room; hop_room = hop_room }))))) c h in
+    (number_or_at place key.FirstNumber 1 1 4294967295 m >>= λ first_number. (number_or_at place key.PendingRoom 256 1 256 m >>= λ pending_room.
+    (number_or_at place key.HopRoom 256 1 256 m >>= λ hop_room.
+    Ok (record { clock = clock; first_id = first_id; first_number = first_number; pending_room = pending_room; hop_room = hop_room }))))) c h in
     let (first_id, e2, h2) = bind_ok (number_or_at place key.FirstId 1 1 4294967295 m) (λ first_id.
-      number_or_at place key.FirstNumber 1 1 4294967295 m >>= λ first_number. (number_or_at place key.PendingRoom 256 1 256 m >>= λ pending_room.
-      (number_or_at place key.HopRoom 256 1 256 m >>= λ hop_room.
-      Ok (record { clock = clock; first_id = first_id; first_number = first_number; pending_room = pending_room; hop_room = hop_room })))) c h1 in
+    number_or_at place key.FirstNumber 1 1 4294967295 m >>= λ first_number. (number_or_at place key.PendingRoom 256 1 256 m >>= λ pending_room.
+    (number_or_at place key.HopRoom 256 1 256 m >>= λ hop_room.
+    Ok (record { clock = clock; first_id = first_id; first_number = first_number; pending_room = pending_room; hop_room = hop_room })))) c h1 in
     let (first_number, e3, h3) = bind_ok (number_or_at place key.FirstNumber 1 1 4294967295 m) (λ first_number.
-      number_or_at place key.PendingRoom 256 1 256 m >>= λ pending_room. (number_or_at place key.HopRoom 256 1 256 m >>= λ hop_room.
-      Ok (record { clock = clock; first_id = first_id; first_number = first_number; pending_room = pending_room; hop_room = hop_room }))) c h2 in
+    number_or_at place key.PendingRoom 256 1 256 m >>= λ pending_room. (number_or_at place key.HopRoom 256 1 256 m >>= λ hop_room.
+    Ok (record { clock = clock; first_id = first_id; first_number = first_number; pending_room = pending_room; hop_room = hop_room }))) c h2 in
     let (pending_room, e4, h4) = bind_ok (number_or_at place key.PendingRoom 256 1 256 m) (λ pending_room. number_or_at place key.HopRoom 256 1 256 m >>= λ hop_room.
-      Ok (record { clock = clock; first_id = first_id; first_number = first_number; pending_room = pending_room; hop_room = hop_room })) c h3 in
+    Ok (record { clock = clock; first_id = first_id; first_number = first_number; pending_room = pending_room; hop_room = hop_room })) c h3 in
     let (hop_room, e5, h5) = bind_ok (number_or_at place key.HopRoom 256 1 256 m) (λ hop_room.
-      Ok (record { clock = clock; first_id = first_id; first_number = first_number; pending_room = pending_room; hop_room = hop_room })) c h4 in
+    Ok (record { clock = clock; first_id = first_id; first_number = first_number; pending_room = pending_room; hop_room = hop_room })) c h4 in
     let b1 = number_or_bounds place key.Clock 0 0 9223372036854775807 m clock (omega arith) (omega arith) e1 in
     let b2 = number_or_bounds place key.FirstId 1 1 4294967295 m first_id (omega arith) (omega arith) e2 in
     let b3 = number_or_bounds place key.FirstNumber 1 1 4294967295 m first_number (omega arith) (omega arith) e3 in
@@ -82,22 +82,31 @@ named_new : (place : Place) (name : List ℕ) (links : List Link) (modules : Lis
     → named_settings place name links modules m ≡ Ok s → IsNew links modules s
 named_new place name links modules m s are is h =
     let made : ModuleKind → IdentityFields → Counts → List PortConfig → List _ → ModuleSettings = λ kind identity counts ports assemblies. record {
-      name = name; kind = kind; identity = identity; clock = counts.clock; first_id = counts.first_id; first_number = counts.first_number;
-      pending_room = counts.pending_room; hop_room = counts.hop_room; ports = ports; assemblies = assemblies } in
+      name = name;
+      kind = kind;
+      identity = identity;
+      clock = counts.clock;
+      first_id = counts.first_id;
+      first_number = counts.first_number;
+      pending_room = counts.pending_room;
+      hop_room = counts.hop_room;
+      ports = ports;
+      assemblies = assemblies;
+    } in
     let (kind, e1, h1) = bind_ok (kind_at place m) (λ kind. identity_at place m >>= λ identity. (counts_at place m >>= λ counts. (new_name place modules name >>= λ new.
-      (ports_at place links (is_taken modules) kind m >>= λ ports. (assemblies_at place m >>= λ assemblies. (new_originator place modules identity >>= λ own.
-      Ok (made kind identity counts ports assemblies))))))) s h in
+    (ports_at place links (is_taken modules) kind m >>= λ ports. (assemblies_at place m >>= λ assemblies. (new_originator place modules identity >>= λ own.
+    Ok (made kind identity counts ports assemblies))))))) s h in
     let (identity, e2, h2) = bind_ok (identity_at place m) (λ identity. counts_at place m >>= λ counts. (new_name place modules name >>= λ new.
-      (ports_at place links (is_taken modules) kind m >>= λ ports. (assemblies_at place m >>= λ assemblies. (new_originator place modules identity >>= λ own.
-      Ok (made kind identity counts ports assemblies)))))) s h1 in
+    (ports_at place links (is_taken modules) kind m >>= λ ports. (assemblies_at place m >>= λ assemblies. (new_originator place modules identity >>= λ own.
+    Ok (made kind identity counts ports assemblies)))))) s h1 in
     let (counts, e3, h3) = bind_ok (counts_at place m) (λ counts. new_name place modules name >>= λ new.
-      (ports_at place links (is_taken modules) kind m >>= λ ports. (assemblies_at place m >>= λ assemblies. (new_originator place modules identity >>= λ own.
-      Ok (made kind identity counts ports assemblies))))) s h2 in
+    (ports_at place links (is_taken modules) kind m >>= λ ports. (assemblies_at place m >>= λ assemblies. (new_originator place modules identity >>= λ own.
+    Ok (made kind identity counts ports assemblies))))) s h2 in
     let (new, e4, h4) = bind_ok (new_name place modules name) (λ new.
-      ports_at place links (is_taken modules) kind m >>= λ ports. (assemblies_at place m >>= λ assemblies. (new_originator place modules identity >>= λ own.
-      Ok (made kind identity counts ports assemblies)))) s h3 in
+    ports_at place links (is_taken modules) kind m >>= λ ports. (assemblies_at place m >>= λ assemblies. (new_originator place modules identity >>= λ own.
+    Ok (made kind identity counts ports assemblies)))) s h3 in
     let (ports, e5, h5) = bind_ok (ports_at place links (is_taken modules) kind m) (λ ports. assemblies_at place m >>= λ assemblies. (new_originator place modules identity >>= λ own.
-      Ok (made kind identity counts ports assemblies))) s h4 in
+    Ok (made kind identity counts ports assemblies))) s h4 in
     let (assemblies, e6, h6) = bind_ok (assemblies_at place m) (λ assemblies. new_originator place modules identity >>= λ own. Ok (made kind identity counts ports assemblies)) s h5 in
     let (own, e7, h7) = bind_ok (new_originator place modules identity) (λ own. Ok (made kind identity counts ports assemblies)) s h6 in
     let fit = counts_fit place m counts e3 in
@@ -108,10 +117,10 @@ named_new place name links modules m s are is h =
     let same : made kind identity counts ports assemblies ≡ s = same_ok _ s h7 in
     subst (IsNew links modules) same (record {
       legal = and_from (is_name name) _ is
-        (and_from (are_counts (made kind identity counts ports assemblies)) _
+          (and_from (are_counts (made kind identity counts ports assemblies)) _
           (and_from (nat_lt counts.clock (2 ^ 63)) _ fit.clock (and_from (nat_le 1 counts.first_id) _ fit.id (and_from (nat_le 1 counts.first_number) _ fit.number
           (and_from (is_room 256 counts.pending_room) (is_room 256 counts.hop_room) fit.pending fit.hop))))
-        (and_from (are_ports kind ports) (are_assemblies assemblies) all.1 some));
+          (and_from (are_ports kind ports) (are_assemblies assemblies) all.1 some));
       name = no_name.0;
       own = no_own.0;
       ports = all.0;
@@ -176,7 +185,7 @@ pub one_more : (links : List Link) (modules : List ModuleSettings) (c : ModuleSe
 one_more links modules c k n = record {
   legal = λ m a at. elim (get_push modules c a m at) [ inl old ↦ k.legal m a old | inr new ↦ ap is_settings (sym new.1) ∙ n.legal ];
   names = apart_push (λ (x : ModuleSettings). x.name) modules c k.names
-    (λ i a at e. none_at (λ (x : ModuleSettings). bytes_eq x.name c.name) modules n.name i a at ((bytes_eq-Decides a.name c.name).1 e));
+      (λ i a at e. none_at (λ (x : ModuleSettings). bytes_eq x.name c.name) modules n.name i a at ((bytes_eq-Decides a.name c.name).1 e));
   originators = apart_push originator modules c k.originators (λ i a at e. none_at (has_originator c.identity) modules n.own i a at (both_true a.identity c.identity e));
   on_links = λ m p h. elim (port_push modules c m p h) [ inl old ↦ k.on_links m p old | inr new ↦ n.ports.on new.place p new.has ];
   addresses = λ m i p q h g e f. elim (port_push modules c m p h) [
@@ -187,8 +196,8 @@ one_more links modules c k n = record {
     | inr new ↦ elim (port_push modules c i q g) [
       | inl old ↦ let no : true ≡ false = sym (stands_taken modules i q p.link p.address old (sym e) (sym f)) ∙ n.ports.free new.place p new.has in absurd (cc)
       | inr other ↦
-        let place : new.place ≡ other.place = n.ports.alone new.place other.place p q new.has other.has (λ j. record { link = e j; address = f j }) in
-        (new.last ∙ sym other.last, some_same p q (sym new.has ∙ ap (slice_get c.ports) place ∙ other.has))
+          let place : new.place ≡ other.place = n.ports.alone new.place other.place p q new.has other.has (λ j. record { link = e j; address = f j }) in
+          (new.last ∙ sym other.last, some_same p q (sym new.has ∙ ap (slice_get c.ports) place ∙ other.has))
     ]
   ];
 }

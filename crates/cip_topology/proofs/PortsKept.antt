@@ -1,9 +1,9 @@
 -- The ports and the assemblies that are read keep the rules of a module's ports and assemblies.
-use Rattle.std.proofs.Common.{◌≡◌, ℕ, zero, suc, ◌+◌, ◌≤◌, Bool, true, false, cond, not, ◌&&◌, ◌||◌, ◌==◌, eqb, List, [], ◌∷◌, ◌++◌, length, Option, Some, None, Result, Ok, Err, refl, sym, ap, ◌∙◌, subst, arith, nat_le, nat_lt, inl, inr, ◌⊎◌, length-append}
+use Rattle.std.proofs.Common.{◌≡◌, ℕ, suc, ◌+◌, ◌≤◌, Bool, true, false, cond, not, ◌&&◌, ◌||◌, ◌==◌, eqb, List, [], ◌∷◌, ◌++◌, length, Option, Some, None, Ok, refl, sym, ap, ◌∙◌, subst, arith, nat_le, nat_lt, inl, inr, length-append}
 use Rattle.std.specs.Prelude.{slice_get}
 use Rattle.std.specs.List.{list_all, list_any}
 use Rattle.std.specs.Str.{bytes_eq}
-use Rattle.std.proofs.lemmas.Bool.{and_from, and_parts, eqb-true, eq-eqb}
+use Rattle.std.proofs.lemmas.Bool.{and_from}
 use Rattle.std.proofs.lemmas.Bool.Decides.{nat_tests}
 use Rattle.toml.specs.Data.{Data, Items, no_items, item, Members}
 use Rattle.cip_module.specs.declared.config.PortConfig.{PortConfig}
@@ -20,11 +20,11 @@ use Rattle.cip_topology.specs.Faults.{port_in, assembly_in}
 use Rattle.cip_topology.specs.Plan.{AreLinks, StandsOn, TellsApart}
 use Rattle.cip_topology.specs.Nodes.{is_at}
 use Rattle.cip_topology.specs.Seats.{spot_of}
-use Rattle.cip_topology.specs.Keys.{Read, ◌>>=◌, number_at, text_at, address_at, items_at, item_count, table_of}
+use Rattle.cip_topology.specs.Keys.{◌>>=◌, number_at, text_at, address_at, items_at, item_count, table_of}
 use Rattle.cip_topology.specs.PortTables.{new_number, link_from, link_or, link_named, port_on, port_of_table, port_of, ports_after, right_ports, ports_at, new_instance, assembly_of_table, assembly_of, assemblies_after, at_most, assemblies_at}
 use Rattle.cip_topology.proofs.Ports.{some_same}
 use Rattle.cip_topology.proofs.WayBack.{there_is}
-use Rattle.cip_topology.proofs.Lists.{get_push, none_at, apart_push, apart_none, all_push, differ, differ_push}
+use Rattle.cip_topology.proofs.Lists.{get_push, none_at, apart_push, all_push, differ, differ_push}
 use Rattle.cip_topology.proofs.Rules.{bind_ok, same_ok, passed, le_true, not_over, number_bounds}
 
 -- ---- numbers that differ
@@ -113,12 +113,12 @@ table_new : (place : Place) (links : List Link) (taken : ℕ → List ℕ → Bo
     → port_of_table place links taken ports m ≡ Ok p → IsNew links taken ports p
 table_new place links taken ports m p are h =
     let (n, numbers, h1) = bind_ok (number_at place key.Number 1 65535 m) (λ n.
-      new_number place ports n >>= λ number. (text_at (λ s. true) place key.Link m >>= λ name. (address_at place m >>= λ address.
-      (link_named place links name >>= port_on place taken ports number address)))) p h in
+    new_number place ports n >>= λ number. (text_at (λ s. true) place key.Link m >>= λ name. (address_at place m >>= λ address.
+    (link_named place links name >>= port_on place taken ports number address)))) p h in
     let (number, new, h2) = bind_ok (new_number place ports n) (λ number.
-      text_at (λ s. true) place key.Link m >>= λ name. (address_at place m >>= λ address. (link_named place links name >>= port_on place taken ports number address))) p h1 in
+    text_at (λ s. true) place key.Link m >>= λ name. (address_at place m >>= λ address. (link_named place links name >>= port_on place taken ports number address))) p h1 in
     let (name, names, h3) = bind_ok (text_at (λ s. true) place key.Link m) (λ name.
-      address_at place m >>= λ address. (link_named place links name >>= port_on place taken ports number address)) p h2 in
+    address_at place m >>= λ address. (link_named place links name >>= port_on place taken ports number address)) p h2 in
     let (address, addresses, h4) = bind_ok (address_at place m) (λ address. link_named place links name >>= port_on place taken ports number address) p h3 in
     let (found, on, h5) = bind_ok (link_named place links name) (port_on place taken ports number address) p h4 in
     let (none, same_number) = passed (list_any (has_number n) ports) _ (Ok n) number new in
@@ -156,7 +156,7 @@ one_more links taken ports p k n = record {
     | inr new ↦ ap (λ (x : PortConfig). taken x.link x.address) (sym new.1) ∙ n.free
   ];
   alone = apart_push spot_of ports p k.alone
-    (λ i a at e. none_at (is_at p.link p.address) ports n.alone i a at (there_is p.link p.address a (ap (λ (s : Spot). s.link) e) (ap (λ (s : Spot). s.address) e)));
+      (λ i a at e. none_at (is_at p.link p.address) ports n.alone i a at (there_is p.link p.address a (ap (λ (s : Spot). s.link) e) (ap (λ (s : Spot). s.address) e)));
 }
 
 counted : (a b n : ℕ) → n ≡ (a + 1) + b → n ≡ a + suc b
@@ -193,10 +193,12 @@ ports_kept place links taken kind m ps are h =
     let (es, right, h2) = bind_ok (right_ports place kind items) (ports_after place links taken []) ps h1 in
     let fit = right_fits place kind items es right in
     let all = after_kept place links taken [] es ps are (no_ports links taken) h2 in
-    let count : item_count items ≡ length ps = let e = all.1 in let f = ap item_count fit.0 in omega (arith, e, f) in
-    (all.0, and_from (nat_le 1 (length ps)) _ (ap (nat_le 1) (sym count) ∙ fit.1)
-      (and_from (nat_le (length ps) (most_ports kind)) _ (ap (λ n. nat_le n (most_ports kind)) (sym count) ∙ fit.2)
-      (and_from (list_all is_port ps) (numbers_differ ps) all.0.each all.0.numbers)))
+    let count : item_count items ≡ length ps = let e = all.1 in let f = ap item_count fit.0 in omega (arith, e, f) in (
+      all.0,
+      and_from (nat_le 1 (length ps)) _ (ap (nat_le 1) (sym count) ∙ fit.1)
+          (and_from (nat_le (length ps) (most_ports kind)) _ (ap (λ n. nat_le n (most_ports kind)) (sym count) ∙ fit.2)
+          (and_from (list_all is_port ps) (numbers_differ ps) all.0.each all.0.numbers)),
+    )
 
 -- ---- the assemblies of a module
 
@@ -207,7 +209,7 @@ record IsNewAssembly (assemblies : List AssemblyConfig) (a : AssemblyConfig) : T
 assembly_table_new : (place : Place) (assemblies : List AssemblyConfig) (m : Members) (a : AssemblyConfig) → assembly_of_table place assemblies m ≡ Ok a → IsNewAssembly assemblies a
 assembly_table_new place assemblies m a h =
     let (n, instances, h1) = bind_ok (number_at place key.Instance 1 65535 m) (λ n.
-      new_instance place assemblies n >>= λ instance. (number_at place key.Size 0 511 m >>= λ size. Ok (record { instance = instance; size = size }))) a h in
+    new_instance place assemblies n >>= λ instance. (number_at place key.Size 0 511 m >>= λ size. Ok (record { instance = instance; size = size }))) a h in
     let (i, new, h2) = bind_ok (new_instance place assemblies n) (λ instance. number_at place key.Size 0 511 m >>= λ size. Ok (record { instance = instance; size = size })) a h1 in
     let (size, sizes, h3) = bind_ok (number_at place key.Size 0 511 m) (λ size. Ok (record { instance = i; size = size })) a h2 in
     let (none, same_number) = passed (list_any (has_instance n) assemblies) _ (Ok n) i new in

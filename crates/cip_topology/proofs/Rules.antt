@@ -1,5 +1,5 @@
 -- What a rule that was kept tells of the value that was read by it.
-use Rattle.std.proofs.Common.{◌≡◌, ℕ, ◌≤◌, Bool, true, false, cond, ◌&&◌, List, length, Option, Some, None, Result, Ok, Err, refl, sym, ap, ◌∙◌, subst, arith, nat_le, nat_lt, cond}
+use Rattle.std.proofs.Common.{◌≡◌, ℕ, ◌≤◌, Bool, true, false, cond, ◌&&◌, List, Option, Some, None, Ok, Err, refl, sym, ap, ◌∙◌, subst, arith, nat_le, nat_lt, cond}
 use Rattle.std.proofs.lemmas.Bool.{and_parts}
 use Rattle.std.proofs.lemmas.Bool.Decides.{nat_tests}
 use Rattle.toml.specs.Data.{Data, Members, get_member, as_integer, as_str}
@@ -7,7 +7,7 @@ use Rattle.cip_topology.specs.declared.key.Key.{Key}
 use Rattle.cip_topology.specs.declared.place.Place.{Place}
 use Rattle.cip_topology.specs.declared.fault.LoadFault.{LoadFault}
 use Rattle.cip_topology.specs.Words.{word_of}
-use Rattle.cip_topology.specs.Keys.{Read, ◌>>=◌, value_at, out_of_range, natural, within, number_of, number_at, number_or, number_or_at, text_if, text_at}
+use Rattle.cip_topology.specs.Keys.{Read, ◌>>=◌, value_at, natural, within, number_of, number_at, number_or, number_or_at, text_if, text_at}
 
 -- the first of two rules is kept where both are
 pub bind_ok : {A B : Type 0} (r : Read A) (f : A → Read B) (y : B) → (r >>= f) ≡ Ok y → (x : A) × (r ≡ Ok x) × (f x ≡ Ok y)

@@ -1,15 +1,14 @@
 -- What is read is a topology.
-use Rattle.std.proofs.Common.{◌≡◌, ℕ, ◌≤◌, Bool, true, false, ◌==◌, List, [], length, Option, Some, None, Result, Ok, Err, refl, sym, ap, ◌∙◌, subst, arith, nat_lt, eqb, cond}
-use Rattle.std.proofs.lemmas.Bool.Decides.{nat_tests}
-use Rattle.toml.specs.Data.{Items, Members}
+use Rattle.std.proofs.Common.{◌≡◌, ◌≤◌, List, [], Ok, arith}
+use Rattle.toml.specs.Data.{Items}
 use Rattle.cip_module.specs.declared.config.ModuleSettings.{ModuleSettings}
 use Rattle.cip_topology.specs.declared.links.Link.{Link}
-use Rattle.cip_topology.specs.Plan.{Plan, AreLinks, IsTopology}
-use Rattle.cip_topology.specs.Keys.{Read, ◌>>=◌, item_count}
+use Rattle.cip_topology.specs.Plan.{AreLinks, IsTopology}
+use Rattle.cip_topology.specs.Keys.{item_count}
 use Rattle.cip_topology.specs.LinkTables.{links_after}
 use Rattle.cip_topology.specs.ModuleTables.{modules_after}
-use Rattle.cip_topology.proofs.LinksKept.{LinksKept, no_links, links_kept}
-use Rattle.cip_topology.proofs.ModulesKept.{ModulesKept, no_modules, modules_kept}
+use Rattle.cip_topology.proofs.LinksKept.{no_links, links_kept}
+use Rattle.cip_topology.proofs.ModulesKept.{no_modules, modules_kept}
 
 pub are_links : (ds : Items) (ls : List Link) → links_after [] ds ≡ Ok ls → AreLinks ls
 are_links ds ls h = (links_kept [] ds ls no_links h).0.are

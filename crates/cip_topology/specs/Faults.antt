@@ -1,5 +1,5 @@
 -- What a fault tells: the place, and the value that stands there.
-use Rattle.std.specs.Prelude.{ℕ, List, length, take, Option}
+use Rattle.std.specs.Prelude.{ℕ, length, take}
 use Rattle.toml.specs.Data.{Data, string, integer, float, boolean, datetime, array, table}
 use Rattle.cip_topology.specs.declared.place.Place.{Place}
 use Rattle.cip_topology.specs.declared.place.Place.TheVariants as places

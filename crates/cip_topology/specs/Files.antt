@@ -1,6 +1,6 @@
 -- The rules of a topology file, in the order in which they are looked at.
-use Rattle.std.specs.Prelude.{◌≡◌, ℕ, ◌==◌, if◌then◌else◌, List, [], Option, Some, None, Result, Ok, Err}
-use Rattle.toml.specs.Data.{Data, Items, Members}
+use Rattle.std.specs.Prelude.{◌≡◌, ◌==◌, if◌then◌else◌, [], Result, Ok, Err}
+use Rattle.toml.specs.Data.{Items, Members}
 use Rattle.cip_topology.specs.declared.key.Key.{Key}
 use Rattle.cip_topology.specs.declared.key.Key.TheVariants as key
 use Rattle.cip_topology.specs.declared.place.Place.TheVariants.{File}

@@ -1,5 +1,5 @@
 -- What stands at a key of a table, or why it does not: each value in its type and its range.
-use Rattle.std.specs.Prelude.{ℕ, suc, Bool, ◌&&◌, nat_le, nat_lt, if◌then◌else◌, List, length, Option, Some, None, Result, Ok, Err, ℤ, pos}
+use Rattle.std.specs.Prelude.{ℕ, suc, Bool, ◌&&◌, nat_le, nat_lt, if◌then◌else◌, length, Option, Some, None, Result, Ok, Err, ℤ, pos}
 use Rattle.toml.specs.Data.{Data, Items, no_items, item, Members, get_member, as_integer, as_str, as_array, as_table}
 use Rattle.hex.specs.Hex.{decode_of}
 use Rattle.std.specs.Result.{result_ok}

@@ -62,9 +62,12 @@ pub enum LoadFault {
     NotToml(Syntax),
     /// The key is not there.
     #[error("{place}: `{key}` is missing")]
-    Missing { key: Key, place: Place },
+    Missing {
+        key: Key,
+        place: Place,
+    },
     /// The key has a value of another type, or out of its range.
-    #[error("{place}: `{key}` is {found}; allowed: {}", Allowed(*.key))]
+    #[error("{place}: `{key}` is {found}; allowed: {}", Allowed(*.key, .place))]
     Range {
         key: Key,
         place: Place,
@@ -72,7 +75,9 @@ pub enum LoadFault {
     },
     /// A link, or a module, before this one has its name.
     #[error("{place}: `name` is that of a table before it")]
-    DoubleName { place: Place },
+    DoubleName {
+        place: Place,
+    },
     /// A port before this one has its address on its link.
     #[error("{place}: `address` {} on link {link} is that of a port before it", Pairs(.address))]
     DoubleAddress {
@@ -89,7 +94,10 @@ pub enum LoadFault {
     },
     /// No link has the name.
     #[error("{place}: `link` is \"{name}\", which names no link")]
-    UnknownLink { place: Place, name: Excerpt },
+    UnknownLink {
+        place: Place,
+        name: Excerpt,
+    },
     /// The address is none of those of the link.
     #[error("{place}: `address` {} is not legal on link {link}: {}", Pairs(.address), Legal(*.legal))]
     AddressNotLegal {
@@ -99,7 +107,7 @@ pub enum LoadFault {
         address: Address,
     },
     /// There are too many tables of a kind.
-    #[error("{place}: {count} [[{key}]] tables; allowed: at most {}", most(*.key))]
+    #[error("{place}: {count} [[{}]] tables; allowed: at most {}", .key.table(), most(*.key))]
     Limit {
         key: Key,
         place: Place,

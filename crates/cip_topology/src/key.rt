@@ -2,6 +2,7 @@
 ghost use Rattle.std.specs.Prelude.{◌≡◌};
 ghost use Rattle.cip_topology.specs.Words.{word_of};
 
+use crate::place::Place;
 use std::fmt;
 
 /// A key of a topology file.
@@ -70,13 +71,28 @@ impl Key {
         }
     }
 
-    // What the file may say at the key, as a fault tells it.
-    fn allowed(self) -> &'static str {
+    // The header of the tables that the key holds, or the key itself.
+    pub(crate) fn table(self) -> &'static str {
         match self {
-            Key::Link => "`[[link]]` tables, or in a port the name of a link",
-            Key::Module => "`[[module]]` tables",
+            Key::Port => "module.port",
+            Key::Assembly => "module.assembly",
+            other => other.word(),
+        }
+    }
+
+    // What the file may say at the key, as a fault tells it.
+    fn allowed(self, place: &Place) -> &'static str {
+        match self {
+            Key::Link => match place {
+                Place::Port { .. } => "the name of a link",
+                _ => "[[link]] tables",
+            },
+            Key::Module => "[[module]] tables",
             Key::Name => "1 to 16 ASCII letters, digits, `_` or `-`",
-            Key::Kind => "\"byte\" or \"text\" of a link, \"plain\" or \"adapter\" of a module",
+            Key::Kind => match place {
+                Place::Link { .. } => "\"byte\" or \"text\"",
+                _ => "\"plain\" or \"adapter\"",
+            },
             Key::First => "0 to 255",
             Key::Last => "`first` to 255",
             Key::Longest => "1 to 16",
@@ -88,10 +104,10 @@ impl Key {
             Key::Clock => "0 to 9223372036854775807",
             Key::FirstId | Key::FirstNumber => "1 to 4294967295",
             Key::PendingRoom | Key::HopRoom => "1 to 256",
-            Key::Port => "`[[module.port]]` tables: 1 to 8, of an adapter exactly 1",
+            Key::Port => "[[module.port]] tables, 1 to 8, of an adapter exactly 1",
             Key::Number => "1 to 65535, each once in a module",
             Key::Address => "1 to 16 pairs of hexadecimal digits",
-            Key::Assembly => "`[[module.assembly]]` tables",
+            Key::Assembly => "[[module.assembly]] tables",
             Key::Instance => "1 to 65535, each once in a module",
             Key::Size => "0 to 511",
         }
@@ -104,12 +120,12 @@ impl fmt::Display for Key {
     }
 }
 
-/// What the file may say at a key, to be shown.
+/// What the file may say at a key of a table, to be shown.
 #[derive(Clone, Copy)]
-pub(crate) struct Allowed(pub(crate) Key);
+pub(crate) struct Allowed<'a>(pub(crate) Key, pub(crate) &'a Place);
 
-impl fmt::Display for Allowed {
+impl fmt::Display for Allowed<'_> {
     fn fmt<W: fmt::Write>(&self, f: &mut fmt::Formatter<W>) -> fmt::Result {
-        f.write_str(self.0.allowed())
+        f.write_str(self.0.allowed(self.1))
     }
 }

@@ -1,6 +1,7 @@
 //! Topology files: a chassis read from its text, and where the frames of its modules come.
 #![tactic(auto)]
 
+mod chassis;
 mod fault;
 mod found;
 mod key;
@@ -17,6 +18,7 @@ mod seats;
 mod topology;
 mod values;
 
+pub use chassis::CHASSIS;
 pub use fault::{LoadFault, Syntax};
 pub use found::{Excerpt, Found};
 pub use key::Key;

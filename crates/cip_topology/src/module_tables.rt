@@ -17,9 +17,7 @@ use crate::name::Name;
 use crate::place::Place;
 use crate::port_tables::{assemblies, ports};
 use crate::seats::{Seat, Seats, Spot};
-use crate::values::{
-    clock, name, number, number_or, out_of_range, product_name, table_of, value,
-};
+use crate::values::{clock, name, number, number_or, out_of_range, product_name, table_of, value};
 use cip_base::Bytes;
 use cip_module::{Assemblies, ModuleConfig, ModuleKind, ModuleSettings, PortConfig, Ports};
 use cip_target::{Identity, IdentityFields};
@@ -94,9 +92,7 @@ fn counts_of(table: &Table, place: &Place) -> Result<Counts, LoadFault>
 fn has_name(modules: &[ModuleConfig], name: &Name) -> bool
     ensures { result ≡ list_any (λ c. bytes_eq c.name name.now) modules.now }
 {
-    modules
-        .iter()
-        .any(|config| config.settings().name.as_slice() == name.as_slice())
+    modules.iter().any(|config| config.settings().name.as_slice() == name.as_slice())
 }
 
 fn has_originator(modules: &[ModuleConfig], own: &IdentityFields) -> bool

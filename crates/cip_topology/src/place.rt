@@ -12,9 +12,15 @@ pub enum Place {
     /// The file itself.
     File,
     /// A `[[link]]`.
-    Link { number: usize, name: Option<Name> },
+    Link {
+        number: usize,
+        name: Option<Name>,
+    },
     /// A `[[module]]`.
-    Module { number: usize, name: Option<Name> },
+    Module {
+        number: usize,
+        name: Option<Name>,
+    },
     /// A `[[module.port]]` of that module.
     Port {
         number: usize,

@@ -28,11 +28,7 @@ fn has_number(ports: &[PortConfig], number: PortNumber) -> bool
 }
 
 // No port of the module has the number yet.
-fn new_number(
-    place: &Place,
-    ports: &[PortConfig],
-    number: u16,
-) -> Result<PortNumber, LoadFault>
+fn new_number(place: &Place, ports: &[PortConfig], number: u16) -> Result<PortNumber, LoadFault>
     requires { 0 < number }
     ensures { Gives (λ n. n) result (new_number place.now ports.now number) }
 {

@@ -28,11 +28,7 @@ fn value_at<'a>(table: &'a Table, key: Key) -> Option<&'a Value>
     table.get(key.word())
 }
 
-pub(crate) fn value<'a>(
-    table: &'a Table,
-    place: &Place,
-    key: Key,
-) -> Result<&'a Value, LoadFault>
+pub(crate) fn value<'a>(table: &'a Table, place: &Place, key: Key) -> Result<&'a Value, LoadFault>
     ensures { Gives (λ v. view v.now) result
         (value_at place.now key (table_view table.now)) }
 {
@@ -130,11 +126,7 @@ pub(crate) fn clock(table: &Table, place: &Place) -> Result<u64, LoadFault>
 }
 
 /// The text at a key.
-pub(crate) fn text<'a>(
-    table: &'a Table,
-    place: &Place,
-    key: Key,
-) -> Result<&'a str, LoadFault>
+pub(crate) fn text<'a>(table: &'a Table, place: &Place, key: Key) -> Result<&'a str, LoadFault>
     ensures { Gives (λ s. s.now) result
         (text_at (λ s. true) place.now key (table_view table.now)) }
 {
@@ -160,11 +152,7 @@ pub(crate) fn name(table: &Table, place: &Place) -> Result<Name, LoadFault>
 }
 
 /// The product name of a module.
-pub(crate) fn product_name(
-    alloc: Global,
-    table: &Table,
-    place: &Place,
-) -> Result<Bytes, LoadFault>
+pub(crate) fn product_name(alloc: Global, table: &Table, place: &Place) -> Result<Bytes, LoadFault>
     ensures { Gives (λ s. s) result
         (text_at is_product_name place.now AtProductName (table_view table.now)) }
 {
@@ -220,11 +208,7 @@ pub(crate) fn array_of<'a>(
 }
 
 /// The tables of a kind, none where the key is not there.
-pub(crate) fn items<'a>(
-    table: &'a Table,
-    place: &Place,
-    key: Key,
-) -> Result<&'a [Value], LoadFault>
+pub(crate) fn items<'a>(table: &'a Table, place: &Place, key: Key) -> Result<&'a [Value], LoadFault>
     ensures { Gives (λ s. items_view s.now) result
         (items_at place.now key (table_view table.now)) }
 {

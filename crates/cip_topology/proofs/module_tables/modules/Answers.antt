@@ -32,6 +32,8 @@ loop-entry-preserved c =
     (sym c.as_slice.ensures.value) c.loop-entry.invariant.0 in
     let number : c.len-number.result + 1 ≡ length c.as_slice.result.now + 1 = ap (λ n. n + 1) (c.len-number.ensures ∙ sym c.as_slice.ensures.len) in
     let next = next_module c.args.links.now c.as_slice.result.now c.args.entries.now c.loop-entry.entry-index (c.len-number.result + 1) c.entry-item.result c.in_ok-config.config target
-    c.loop-entry-test.true c.entry-item.is number c.in_ok-config.ensures rest in
-    (subst (λ (ms : List ModuleSettings). modules_after c.args.links.now ms (items_view (drop (c.loop-entry.entry-index + 1) c.args.entries.now)) ≡ target) modules next, subst (λ (ms : List ModuleSettings). IsIndexOf ms c.seat.new.seats) modules
-    (subst (IsIndexOf (c.as_slice.result.now ++ c.in_ok-config.config ∷ [])) seats more))
+    c.loop-entry-test.true c.entry-item.is number c.in_ok-config.ensures rest in (
+      subst (λ (ms : List ModuleSettings). modules_after c.args.links.now ms (items_view (drop (c.loop-entry.entry-index + 1) c.args.entries.now)) ≡ target) modules next,
+      subst (λ (ms : List ModuleSettings). IsIndexOf ms c.seat.new.seats) modules
+          (subst (IsIndexOf (c.as_slice.result.now ++ c.in_ok-config.config ∷ [])) seats more),
+    )
