@@ -1,11 +1,10 @@
 //! Texts that are no topology, or are made to do harm.
-use crate::edits::told;
-use cip_topology::load;
+use crate::edits::answer;
 use std::alloc::{AllocError, Global};
 use std::test::Fail;
 
 fn gives(alloc: Global, text: &str, want: &str) -> Result<(), Fail> {
-    let given = told(alloc, &load(alloc, text))?;
+    let given = answer(alloc, text)?;
     if given.as_str() == want {
         Ok(())
     } else {
@@ -14,7 +13,7 @@ fn gives(alloc: Global, text: &str, want: &str) -> Result<(), Fail> {
 }
 
 fn is_not_toml(alloc: Global, text: &str) -> Result<(), Fail> {
-    let given = told(alloc, &load(alloc, text))?;
+    let given = answer(alloc, text)?;
     if given.starts_with("not TOML, line ") {
         Ok(())
     } else {
@@ -52,7 +51,11 @@ fn texts_without_tables(rt: HostRuntime) -> Result<(), Fail> {
 fn texts_without_modules(rt: HostRuntime) -> Result<(), Fail> {
     let alloc = rt.alloc();
     gives(alloc, "[[link]]\n", "the file: `module` is missing")?;
-    gives(alloc, "link = [1]\nmodule = []", "the file: `module` is missing")?;
+    gives(
+        alloc,
+        "link = [1]\nmodule = []",
+        "the file: `module` is missing",
+    )?;
     gives(
         alloc,
         "link = [1]\nmodule = true",

@@ -1,7 +1,7 @@
 //! Damaged copies of the chassis file: each line dropped, doubled, and its value replaced by others.
-use crate::edits::told;
+use crate::edits::answer;
 use crate::spots::{NONE, Tables, key_of};
-use cip_topology::{CHASSIS, load};
+use cip_topology::CHASSIS;
 use std::alloc::{AllocError, Global};
 use std::test::Fail;
 
@@ -166,9 +166,13 @@ const OTHERS: [(&str, &str); 6] = [
     ("{ x = 1 }", "a table"),
 ];
 
+fn is_same(left: &str, right: &str) -> bool {
+    left == right
+}
+
 fn rule_of(table: &str, key: &str) -> Option<Rule> {
     for rule in &RULES {
-        if rule.table == table && rule.key == key {
+        if is_same(rule.table, table) && is_same(rule.key, key) {
             return Some(*rule);
         }
     }
@@ -199,7 +203,9 @@ fn place_of(alloc: Global, tables: Tables, name: &str) -> Result<String, AllocEr
     } = tables;
     match tables.kind() {
         "port" => format!(in alloc; "[[module]] {owner} ({name}), [[module.port]] {port}"),
-        "assembly" => format!(in alloc; "[[module]] {owner} ({name}), [[module.assembly]] {assembly}"),
+        "assembly" => format!(in alloc;
+            "[[module]] {owner} ({name}), [[module.assembly]] {assembly}"
+        ),
         "module" => format!(in alloc; "[[module]] {owner} ({name})"),
         _ => format!(in alloc; "[[link]] {link} ({name})"),
     }
@@ -221,7 +227,7 @@ fn table_of(alloc: Global, tables: Tables, key: &str, name: &str) -> Result<Stri
 
 fn gives(alloc: Global, place: usize, lines: &str, want: &str) -> Result<(), Fail> {
     let text = with_lines(alloc, place, lines)?;
-    let given = told(alloc, &load(alloc, text.as_str()))?;
+    let given = answer(alloc, text.as_str())?;
     if given.as_str() == want {
         Ok(())
     } else {
@@ -244,10 +250,12 @@ fn play_value(
 }
 
 fn play_dropped(alloc: Global, place: usize, at: &str, rule: Rule) -> Result<(), Fail> {
+    if !rule.is_needed {
+        return gives(alloc, place, "", "loaded");
+    }
     let key = rule.key;
-    let missing = format!(in alloc; "{at}: `{key}` is missing")?;
-    let want = if rule.is_needed { missing.as_str() } else { "loaded" };
-    gives(alloc, place, "", want)
+    let want = format!(in alloc; "{at}: `{key}` is missing")?;
+    gives(alloc, place, "", want.as_str())
 }
 
 // A key that stands twice is no TOML; the fault is at the second line.
@@ -308,9 +316,17 @@ const HEADERS: [(usize, &str, &str); 6] = [
         "[[link]] 1: `name` is missing",
     ),
     // The second link: its keys stand twice in the first.
-    (11, "not TOML, line 11: duplicate key", "[[link]] 2: `name` is missing"),
+    (
+        11,
+        "not TOML, line 11: duplicate key",
+        "[[link]] 2: `name` is missing",
+    ),
     // The first module: its keys stand twice in the third link.
-    (25, "not TOML, line 25: duplicate key", "[[module]] 1: `name` is missing"),
+    (
+        25,
+        "not TOML, line 25: duplicate key",
+        "[[module]] 1: `name` is missing",
+    ),
     // The port of the first module: its keys stand in the module, which has no port.
     (
         37,
@@ -324,7 +340,11 @@ const HEADERS: [(usize, &str, &str); 6] = [
         "[[module]] 4 (E): `port` is 2 tables; allowed: [[module.port]] tables, 1 to 8, of an adapter exactly 1",
     ),
     // Its first assembly: the keys stand in the port, where they mean nothing.
-    (107, "loaded", "[[module]] 4 (E), [[module.assembly]] 1: `instance` is missing"),
+    (
+        107,
+        "loaded",
+        "[[module]] 4 (E), [[module.assembly]] 1: `instance` is missing",
+    ),
 ];
 
 #[test]

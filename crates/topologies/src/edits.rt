@@ -8,12 +8,18 @@ use cip_topology::{CHASSIS, LoadFault, Topology, load};
 use std::alloc::{AllocError, Global};
 use std::test::Fail;
 
-/// What loading gave, as text.
-pub fn told(alloc: Global, loaded: &Result<Topology, LoadFault>) -> Result<String, AllocError> {
+// What loading gave, as text.
+fn told(alloc: Global, loaded: &Result<Topology, LoadFault>) -> Result<String, AllocError> {
     match loaded {
         Ok(_) => String::from_str(alloc, "loaded"),
         Err(fault) => format!(in alloc; "{fault}"),
     }
+}
+
+/// What loading a text gives: `loaded`, or the text of the fault.
+pub fn answer(alloc: Global, text: &str) -> Result<String, AllocError> {
+    let loaded = load(alloc, text);
+    told(alloc, &loaded)
 }
 
 // The lines that stand for a spot, if an edit names it.
@@ -68,7 +74,7 @@ fn play_row(alloc: Global, row: &str) -> Result<(), Fail> {
     if text.as_str() == CHASSIS {
         return Err(Fail::new(format_args!("{edits} changes nothing")));
     }
-    let given = told(alloc, &load(alloc, text.as_str()))?;
+    let given = answer(alloc, text.as_str())?;
     if given.as_str() == want {
         Ok(())
     } else {

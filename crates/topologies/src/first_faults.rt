@@ -1,13 +1,12 @@
 //! The order of the rules: of two rules that a file breaks, the one that is looked at first answers. Each row breaks a rule and the one
 //! that is next to it in that order.
-use crate::edits::play;
+use crate::edits::{answer, play};
 use crate::generated::{Size, generated};
-use cip_topology::load;
 use std::alloc::Global;
 use std::test::Fail;
 
 fn gives(alloc: Global, text: &str, want: &str) -> Result<(), Fail> {
-    let given = crate::edits::told(alloc, &load(alloc, text))?;
+    let given = answer(alloc, text)?;
     if given.as_str() == want {
         Ok(())
     } else {
@@ -19,9 +18,17 @@ fn gives(alloc: Global, text: &str, want: &str) -> Result<(), Fail> {
 fn the_file_before_its_tables(rt: HostRuntime) -> Result<(), Fail> {
     let alloc = rt.alloc();
     // No TOML and no link; no link and no module; another type and no module; no module and too many links.
-    gives(alloc, "\nlink", "not TOML, line 2: key with no value, expected `=`")?;
+    gives(
+        alloc,
+        "\nlink",
+        "not TOML, line 2: key with no value, expected `=`",
+    )?;
     gives(alloc, "", "the file: `link` is missing")?;
-    gives(alloc, "link = 1.5", "the file: `link` is a float; allowed: [[link]] tables")?;
+    gives(
+        alloc,
+        "link = 1.5",
+        "the file: `link` is a float; allowed: [[link]] tables",
+    )?;
     let size = Size {
         links: 33,
         modules: 0,
@@ -31,12 +38,33 @@ fn the_file_before_its_tables(rt: HostRuntime) -> Result<(), Fail> {
     let text = generated(alloc, size)?;
     gives(alloc, text.as_str(), "the file: `module` is missing")?;
     // Too many links and modules.
-    let text = generated(alloc, Size { modules: 65, ..size })?;
-    gives(alloc, text.as_str(), "the file: 33 [[link]] tables; allowed: at most 32")?;
+    let text = generated(
+        alloc,
+        Size {
+            modules: 65,
+            ..size
+        },
+    )?;
+    gives(
+        alloc,
+        text.as_str(),
+        "the file: 33 [[link]] tables; allowed: at most 32",
+    )?;
     // Too many modules, and a link without a name.
-    let mut text = generated(alloc, Size { links: 1, modules: 65, ..size })?;
+    let mut text = generated(
+        alloc,
+        Size {
+            links: 1,
+            modules: 65,
+            ..size
+        },
+    )?;
     text.push_str("[[link]]\n")?;
-    gives(alloc, text.as_str(), "the file: 65 [[module]] tables; allowed: at most 64")
+    gives(
+        alloc,
+        text.as_str(),
+        "the file: 65 [[module]] tables; allowed: at most 64",
+    )
 }
 
 #[test]

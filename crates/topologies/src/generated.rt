@@ -11,12 +11,21 @@ pub struct Size {
 }
 
 fn put_link(text: &mut String, alloc: Global, number: usize) -> Result<(), AllocError> {
-    let link = format!(in alloc; "[[link]]\nname = \"L{number}\"\nkind = \"byte\"\nfirst = 0\nlast = 255\n")?;
+    let link = format!(in alloc;
+        "[[link]]\nname = \"L{number}\"\nkind = \"byte\"\nfirst = 0\nlast = 255\n"
+    )?;
     text.push_str(link.as_str())
 }
 
-fn put_port(text: &mut String, alloc: Global, owner: usize, number: usize) -> Result<(), AllocError> {
-    let table = format!(in alloc; "[[module.port]]\nnumber = {number}\nlink = \"L{number}\"\naddress = \"{owner:02X}\"\n")?;
+fn put_port(
+    text: &mut String,
+    alloc: Global,
+    owner: usize,
+    number: usize,
+) -> Result<(), AllocError> {
+    let table = format!(in alloc;
+        "[[module.port]]\nnumber = {number}\nlink = \"L{number}\"\naddress = \"{owner:02X}\"\n"
+    )?;
     text.push_str(table.as_str())
 }
 
@@ -25,8 +34,15 @@ fn put_assembly(text: &mut String, alloc: Global, number: usize) -> Result<(), A
     text.push_str(table.as_str())
 }
 
-fn put_module(text: &mut String, alloc: Global, number: usize, size: Size) -> Result<(), AllocError> {
-    let keys = format!(in alloc; "[[module]]\nname = \"M{number}\"\nkind = \"plain\"\nvendor = 1\ndevice_type = 12\nproduct = 1\nmajor = 1\nminor = 1\nserial = {number}\nproduct_name = \"a module\"\n")?;
+fn put_module(
+    text: &mut String,
+    alloc: Global,
+    number: usize,
+    size: Size,
+) -> Result<(), AllocError> {
+    let keys = format!(in alloc;
+        "[[module]]\nname = \"M{number}\"\nkind = \"plain\"\nvendor = 1\ndevice_type = 12\nproduct = 1\nmajor = 1\nminor = 1\nserial = {number}\nproduct_name = \"a module\"\n"
+    )?;
     text.push_str(keys.as_str())?;
     for port in 1..=size.ports {
         put_port(text, alloc, number, port)?;

@@ -1,7 +1,6 @@
 //! Each limit at its edge, and one past it.
-use crate::edits::{play, told};
+use crate::edits::{answer, play};
 use crate::generated::{Size, generated};
-use cip_topology::load;
 use std::alloc::Global;
 use std::test::Fail;
 
@@ -14,7 +13,7 @@ const SMALL: Size = Size {
 
 fn gives(alloc: Global, size: Size, want: &str) -> Result<(), Fail> {
     let text = generated(alloc, size)?;
-    let given = told(alloc, &load(alloc, text.as_str()))?;
+    let given = answer(alloc, text.as_str())?;
     if given.as_str() == want {
         Ok(())
     } else {
@@ -26,16 +25,30 @@ fn gives(alloc: Global, size: Size, want: &str) -> Result<(), Fail> {
 fn at_most_32_links(rt: HostRuntime) -> Result<(), Fail> {
     let alloc = rt.alloc();
     gives(alloc, Size { links: 32, ..SMALL }, "loaded")?;
-    gives(alloc, Size { links: 33, ..SMALL }, "the file: 33 [[link]] tables; allowed: at most 32")
+    gives(
+        alloc,
+        Size { links: 33, ..SMALL },
+        "the file: 33 [[link]] tables; allowed: at most 32",
+    )
 }
 
 #[test]
 fn at_most_64_modules(rt: HostRuntime) -> Result<(), Fail> {
     let alloc = rt.alloc();
-    gives(alloc, Size { modules: 64, ..SMALL }, "loaded")?;
     gives(
         alloc,
-        Size { modules: 65, ..SMALL },
+        Size {
+            modules: 64,
+            ..SMALL
+        },
+        "loaded",
+    )?;
+    gives(
+        alloc,
+        Size {
+            modules: 65,
+            ..SMALL
+        },
         "the file: 65 [[module]] tables; allowed: at most 64",
     )
 }
@@ -54,10 +67,20 @@ fn at_most_8_ports(rt: HostRuntime) -> Result<(), Fail> {
 #[test]
 fn at_most_64_assemblies(rt: HostRuntime) -> Result<(), Fail> {
     let alloc = rt.alloc();
-    gives(alloc, Size { assemblies: 64, ..SMALL }, "loaded")?;
     gives(
         alloc,
-        Size { assemblies: 65, ..SMALL },
+        Size {
+            assemblies: 64,
+            ..SMALL
+        },
+        "loaded",
+    )?;
+    gives(
+        alloc,
+        Size {
+            assemblies: 65,
+            ..SMALL
+        },
         "[[module]] 1 (M1): 65 [[module.assembly]] tables; allowed: at most 64",
     )
 }
