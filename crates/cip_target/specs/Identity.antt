@@ -9,9 +9,13 @@ use Rattle.cip_target.specs.declared.identity.IdentityFields.{IdentityFields}
 abbrev pub is_printable : ℕ → Bool
 is_printable c = nat_le 0x20 c && nat_le c 0x7E
 
+-- a name of at most 32 of them
+abbrev pub is_product_name : Octets → Bool
+is_product_name s = nat_le (length s) 32 && list_all is_printable s
+
 -- fields in their ranges
 abbrev pub is_identity : IdentityFields → Bool
-is_identity f = nat_le f.major 127 && (nat_le (length f.name) 32 && list_all is_printable f.name)
+is_identity f = nat_le f.major 127 && is_product_name f.name
 
 -- the attributes that are numbers
 abbrev pub number_bytes : IdentityFields → Octets

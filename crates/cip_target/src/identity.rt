@@ -1,7 +1,7 @@
 //! What a module says of itself.
 ghost use Rattle.std.specs.Prelude.{◌≡◌, ◌≤◌, ◌++◌, ◌↔◌, length, IfOk, IfSome, IsSome, IsTrue, OnOk};
 ghost use Rattle.std.specs.List.{list_all};
-ghost use Rattle.cip_target.specs.Identity.{is_printable, is_identity, number_bytes, identity_bytes};
+ghost use Rattle.cip_target.specs.Identity.{is_printable, is_product_name, is_identity, number_bytes, identity_bytes};
 
 use cip_base::{Bytes, NoMemory, put_double, put_word};
 use std::alloc::{AllocError, Global};
@@ -47,6 +47,13 @@ fn are_printable(bytes: &[u8]) -> bool
     bytes.iter().all(|byte| 0x20 <= *byte && *byte <= 0x7E)
 }
 
+/// Whether the bytes are a product name: at most 32 characters from 20 to 7E.
+pub fn is_product_name(bytes: &[u8]) -> bool
+    ensures { result ≡ is_product_name bytes.now }
+{
+    bytes.len() <= 32 && are_printable(bytes)
+}
+
 impl Identity {
     /// The identity of these fields; None where the major revision passes 127, or the name is
     /// longer than 32 characters or has one that is not from 20 to 7E.
@@ -54,8 +61,7 @@ impl Identity {
         ensures legal { IsSome result ↔ IsTrue (is_identity fields) }
         ensures value { IfSome result (λ identity. identity ≡ fields) }
     {
-        let name = fields.name.as_slice();
-        if fields.major <= 127 && name.len() <= 32 && are_printable(name) {
+        if fields.major <= 127 && is_product_name(fields.name.as_slice()) {
             Some(Identity { fields })
         } else {
             None

@@ -16,7 +16,7 @@ mod target;
 
 pub use config::AssemblyConfig;
 pub use ends::EndRefusal;
-pub use identity::{Identity, IdentityFields};
+pub use identity::{Identity, IdentityFields, is_product_name};
 pub use link::EndLink;
 pub use object::{ObjectPath, object_path};
 pub use rows::TargetRefusal;

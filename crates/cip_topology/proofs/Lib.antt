@@ -2,3 +2,11 @@ pub mod Ports
 pub mod WayBack
 pub mod Walks
 pub mod Seating
+pub mod Entries
+pub mod Lists
+pub mod Rules
+pub mod LinksKept
+pub mod PortsKept
+pub mod ModulesKept
+pub mod Indexed
+pub mod TopologyKept

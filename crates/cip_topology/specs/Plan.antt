@@ -38,12 +38,16 @@ AddressesDiffer modules =
     (m n : ℕ) (p q : PortConfig) → HasPort modules m p → HasPort modules n q
     → p.link ≡ q.link → p.address ≡ q.address → (m ≡ n) × (p ≡ q)
 
+-- each link has a name, and addresses in their range
+abbrev pub AreLinks : List Link → Type 0
+AreLinks links = (i : ℕ) (l : Link) → slice_get links i ≡ Some l
+    → IsTrue (is_name l.name) × IsTrue (is_range l.legal)
+
 -- what every topology keeps
 pub record IsTopology (t : Plan) : Type 0 where
   pub some_links : 1 ≤ length t.links
   pub few_links : length t.links ≤ 32
-  pub links : (i : ℕ) (l : Link) → slice_get t.links i ≡ Some l
-      → IsTrue (is_name l.name) × IsTrue (is_range l.legal)
+  pub links : AreLinks t.links
   pub link_names : TellsApart (λ (l : Link). l.name) t.links
   pub some_modules : 1 ≤ length t.modules
   pub few_modules : length t.modules ≤ 64

@@ -1,5 +1,5 @@
 -- How ports are found by link and address: an index of seats, in rising order of their spots.
-use Rattle.std.specs.Prelude.{◌≡◌, ℕ, ◌<◌, ◌≤◌, T, List, length, slice_index_or, Option, option_map}
+use Rattle.std.specs.Prelude.{◌≡◌, ℕ, ◌<◌, ◌≤◌, T, Bool, is_some, List, [], ◌∷◌, length, slice_index_or, Option, None, option_map}
 use Rattle.std.specs.Ordering.{nat_cmp, ordering_then}
 use Rattle.std.specs.Cmp.Lexicographic.{slice_cmp}
 use Rattle.std.specs.FinMap.Entries as entries
@@ -7,6 +7,7 @@ use Rattle.std.specs.declared.cmp.Ordering.{Ordering}
 use Rattle.std.specs.declared.cmp.Ordering.TheVariants.{Less, Greater}
 use Rattle.cip_base.specs.Words.{LinkAddress}
 use Rattle.cip_module.specs.declared.config.ModuleSettings.{ModuleSettings}
+use Rattle.cip_module.specs.declared.config.PortConfig.{PortConfig}
 use Rattle.cip_topology.specs.declared.seats.Spot.{Spot}
 use Rattle.cip_topology.specs.declared.seats.Seat.{Seat}
 use Rattle.cip_topology.specs.Nodes.{Node, node_from}
@@ -49,3 +50,25 @@ seat_of n = record { at = n.at; port = n.port.number }
 abbrev pub IsIndexOf : List ModuleSettings → List (Spot × Seat) → Type 0
 IsIndexOf modules seats = (link : ℕ) (address : LinkAddress)
     → seat_at seats link address ≡ option_map seat_of (node_from 0 modules link address)
+
+-- the index has the address on the link
+abbrev pub is_seated : List (Spot × Seat) → ℕ → LinkAddress → Bool
+is_seated seats link address = is_some (seat_at seats link address)
+
+abbrev pub spot_of : PortConfig → Spot
+spot_of p = spot p.link p.address
+
+abbrev pub seat_in : ℕ → PortConfig → Seat
+seat_in at p = record { at = at; port = p.number }
+
+-- with the ports of one more module, of this place
+abbrev pub all_seated : ℕ → List PortConfig → List (Spot × Seat) → List (Spot × Seat)
+all_seated at [] seats = seats
+all_seated at (p ∷ ps) seats = all_seated at ps (seated (spot_of p) (seat_in at p) seats)
+
+-- no port stands yet where these are to stand, and no two of these stand at one spot
+abbrev pub AreFree : ℕ → List PortConfig → List (Spot × Seat) → Type 0
+AreFree at [] seats = Unit {0}
+AreFree at (p ∷ ps) seats =
+    (seat_at seats p.link p.address ≡ None)
+    × AreFree at ps (seated (spot_of p) (seat_in at p) seats)
