@@ -32,7 +32,7 @@ use Rattle.cip_module.specs.Effects.{Sending, Effect, Forwards, Begins, Accepts,
 use Rattle.cip_module.specs.State.{State}
 use Rattle.cip_module.specs.Tells.{Tells, ForwardsAs, BeginsAs, AcceptsAs, FinishesAs}
 use Rattle.cip_module.proofs.Fits.{numbers_apart}
-use Rattle.cip_module.proofs.Points.{put_here, put_apart, gone_apart}
+use Rattle.cip_base.proofs.Points.{put_here, put_apart, gone_apart}
 use Rattle.cip_module.proofs.Removed.{open_at}
 use Rattle.cip_module.proofs.TellsAskers.{begins_asker, open_asker}
 use Rattle.cip_module.proofs.Waiting.{waits_at}
@@ -40,7 +40,7 @@ use Rattle.cip_module.specs.Births.{Past}
 use Rattle.cip_module.specs.Histories.{Turn, state_after, IsHistory}
 use Rattle.cip_module.specs.Words.{Has}
 use Rattle.cip_module.proofs.Asking.{has_left, has_right}
-use Rattle.cip_module.proofs.MapCases.{remove_cases}
+use Rattle.cip_base.proofs.MapCases.{remove_cases}
 use Rattle.cip_module.proofs.Puts.{puts, pending_cases}
 use Rattle.cip_module.proofs.Quiet.{alone, reply_alone}
 use Rattle.cip_module.proofs.Turns.{Turned, newest, by_places, outputs-append}

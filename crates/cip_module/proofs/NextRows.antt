@@ -1,13 +1,20 @@
 -- What is sent on meets the group that it is meant for, at any module that has the port, or is dropped there as too long.
-use Rattle.std.proofs.Common.{◌≡◌, ℕ, true, false, cond, List, ap, ◌∙◌, ◌⊎◌, inl, inr, refl, arith}
-use Rattle.cip_message.specs.Manager.{manager_request}
+use Rattle.std.proofs.Common.{◌≡◌, ℕ, true, false, cond, List, [], ◌∷◌, ap, ◌∙◌, ◌⊎◌, inl, inr, refl, arith}
+use Rattle.cip_segment.specs.declared.segment.Segment.TheVariants.{Class, Instance}
+use Rattle.cip_segment.specs.Reading.{segments_of}
+use Rattle.cip_segment.proofs.PathsRead.{segments_of-Spells}
+use Rattle.cip_message.specs.Manager.{manager_path, manager_request}
 use Rattle.cip_message.specs.RequestAt.{request_at}
-use Rattle.cip_message.proofs.Managers.{manager_is_read}
+use Rattle.cip_message.proofs.Managers.{manager_spells, manager_readable, manager_is_read}
+use Rattle.cip_open.specs.Open.{Open, open_data, open_bytes}
+use Rattle.cip_target.specs.Object.{object_of}
 use Rattle.cip_unconnected.specs.Unconnected.{Unconnected, unconnected_bytes, unconnected_data}
 use Rattle.cip_close.specs.Close.{Close, close_data, close_bytes}
 use Rattle.cip_module.specs.declared.config.ModuleSettings.{ModuleSettings}
-use Rattle.cip_module.specs.RequestRows.{RequestRow, UnknownPortOrTooLong, UnconnectedSend, ForwardClose, is_malformed, read_row, object_row, request_row}
-use Rattle.cip_module.proofs.ReadBack.{manager_object}
+use Rattle.cip_module.specs.RequestRows.{RequestRow, UnknownPortOrTooLong, UnconnectedSend, ForwardOpen, ForwardClose, is_malformed, read_row, object_row, request_row}
+
+pub manager_object : object_of (segments_of manager_path) ≡ object_of (Class 6 ∷ Instance 1 ∷ [])
+manager_object = ap object_of (segments_of-Spells manager_path (Class 6 ∷ Instance 1 ∷ []) manager_readable manager_spells)
 
 -- dropped, or this row
 abbrev MeetsOrDrops : ModuleSettings → ℕ → List ℕ → RequestRow → Type 0
@@ -18,6 +25,12 @@ unfolding request_row
 meets config port bytes row e =
     elim (is_malformed config port bytes) as (λ b. (cond b UnknownPortOrTooLong (read_row bytes (request_at bytes)) ≡ UnknownPortOrTooLong)
     ⊎ (cond b UnknownPortOrTooLong (read_row bytes (request_at bytes)) ≡ row)) [ true ↦ inl refl | false ↦ inr e ]
+
+pub open_row_is : (config : ModuleSettings) (port : ℕ) (o : Open)
+    → (request_row config port (open_bytes o) ≡ UnknownPortOrTooLong) ⊎ (request_row config port (open_bytes o) ≡ ForwardOpen (open_data o))
+open_row_is config port o =
+    meets config port (open_bytes o) (ForwardOpen (open_data o))
+    (ap (read_row (open_bytes o)) (manager_is_read 0x54 (open_data o) (omega arith)) ∙ ap (object_row (manager_request 0x54 (open_data o))) manager_object)
 
 pub send_row_is : (config : ModuleSettings) (port : ℕ) (u : Unconnected)
     → (request_row config port (unconnected_bytes u) ≡ UnknownPortOrTooLong)

@@ -28,13 +28,11 @@ use Rattle.cip_hops.specs.Hops.{Hops, as_hop, is_hop, is_id, first_hop, hop_at, 
 use Rattle.cip_target.specs.Objects.{target_answer}
 use Rattle.cip_module.specs.EffectLists.{gain}
 use Rattle.cip_module.specs.declared.config.ModuleSettings.{ModuleSettings}
-use Rattle.cip_module.specs.declared.event.Body.{Body}
 use Rattle.cip_module.specs.declared.event.Body.TheVariants as bodies
 use Rattle.cip_module.specs.declared.event.Command.TheVariants as commands
 use Rattle.cip_module.specs.declared.event.Event.{Event}
 use Rattle.cip_module.specs.declared.event.Event.TheVariants as events
 use Rattle.cip_module.specs.declared.event.Output.{Output}
-use Rattle.cip_module.specs.declared.event.Output.TheVariants as outputs
 use Rattle.cip_module.specs.declared.command_rows.CommandRow.{CommandRow}
 use Rattle.cip_module.specs.declared.command_rows.CommandRow.TheVariants as command
 use Rattle.cip_module.specs.CommandRows.{enter_row}
@@ -49,6 +47,7 @@ use Rattle.cip_module.specs.Words.{Has}
 use Rattle.cip_module.proofs.Births.{gain-append}
 use Rattle.cip_module.proofs.Triads.{HasOwnTriads, own_triads}
 use Rattle.cip_module.proofs.Turns.{Turned, newest}
+pub use Rattle.cip_module.specs.Outputs.{is_data, is_datum, PassedBy}
 
 -- ---- a connection that is found
 
@@ -80,30 +79,6 @@ up_way port address (UpLink p a c) t =
 up_way port address (UpLocal op) t = absurd (cc)
 
 -- ---- data among the outputs
-
-abbrev pub is_data : Body → Bool
-is_data (bodies.Request number bytes) = false
-is_data (bodies.Reply number bytes) = false
-is_data (bodies.Data id bytes) = true
-
-abbrev pub is_datum : Output → Bool
-is_datum (outputs.Send port to body) = is_data body
-is_datum (outputs.Done op reply) = false
-is_datum (outputs.Refused fault) = false
-is_datum (outputs.Consumed triad instance bytes) = true
-is_datum (outputs.Arrived op bytes) = true
-is_datum (outputs.Expired triad) = false
-is_datum (outputs.Dropped reason) = false
-
--- the connection and the side by which an effect passed a datum
-pub record PassedBy (mid : State) (e : Effect) (x : Output) : Type 0 where
-  pub triad : Triad
-  pub side : Side
-  pub bytes : List ℕ
-  pub hop : Hop
-  pub effect_is : e ≡ Passes triad side bytes
-  pub stands : hop_at mid.hops triad ≡ Some hop
-  pub is : datum_by side hop bytes ≡ x
 
 module _ (x : Output) (data_ : is_datum x ≡ true) where
   no_other : (y : Output) → is_datum y ≡ false → Has (y ∷ []) x → ⊥

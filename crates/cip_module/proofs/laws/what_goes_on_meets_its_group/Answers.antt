@@ -1,5 +1,4 @@
-use Rattle.cip_module.proofs.NextRows.{send_row_is, close_row_is}
-use Rattle.cip_module.proofs.ReadBack.{open_row_is}
+use Rattle.cip_module.proofs.NextRows.{open_row_is, send_row_is, close_row_is}
 use Rattle.cip_module.proofs.laws.what_goes_on_meets_its_group.Goals as goal
 
 pub returns-clause-opens : goal.returns-clause-opens
