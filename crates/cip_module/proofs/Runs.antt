@@ -24,7 +24,7 @@ pub use Rattle.cip_module.proofs.GivenBy.{answered_by, ended_by}
 pub use Rattle.cip_module.proofs.RequestBy.{BornBy, born_tells, RequestBy, request_by}
 pub use Rattle.cip_module.proofs.PassedBy.{PassedBy, passed_by, found_own}
 -- Births: a number, a request that waits, an id, a reply, a Done.
-pub use Rattle.cip_module.proofs.Numbers.{numbers_conserved, sent_once}
+pub use Rattle.cip_module.proofs.Numbers.{request_number, numbers_conserved, sent_once}
 pub use Rattle.cip_module.proofs.Asking.{stems}
 pub use Rattle.cip_module.proofs.Births.{birth, held_born, birth_range, born_once}
 pub use Rattle.cip_module.proofs.OneReply.{claims, waits_counted}

@@ -237,7 +237,7 @@ first_paired config = record {
       let both : true ≡ false = sym some ∙ none in cc;
 }
 
-pub fresh : (config : ModuleSettings) (s : State) (tables : Tables) → IsPaired s.pendings s.hops → ShowsState s tables → ShowsState (initial_state config) tables
-    → HasRooms config s → s ≡ initial_state config
+pub fresh : (config : ModuleSettings) (s : State) (tables : Tables) → IsPaired s.pendings s.hops → ShowsState s tables
+    → ShowsState (initial_state config) tables → HasRooms config s → s ≡ initial_state config
 fresh config s tables paired shows first rooms =
     sym (equal_bare config (initial_state config) s tables (first_rooms config) rooms (first_paired config) paired first shows (none_first config tables first))

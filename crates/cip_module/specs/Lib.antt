@@ -30,3 +30,4 @@ pub mod EffectLists
 pub mod Changes
 pub mod Outputs
 pub mod OwnTriads
+pub mod Openings

@@ -20,9 +20,11 @@ ghost use Rattle.cip_pending.specs.Pendings.{Pendings};
 ghost use Rattle.cip_hops.specs.declared.opening.Opening.{Opening};
 ghost use Rattle.cip_hops.specs.declared.opening.OwnIds.{OwnIds};
 ghost use Rattle.cip_hops.specs.declared.hop.Held.{Held};
+ghost use Rattle.cip_hops.specs.declared.hop.Held.TheVariants.{Open as IsOpen};
 ghost use Rattle.cip_hops.specs.declared.hop.Hop.{Hop};
 ghost use Rattle.cip_hops.specs.declared.hop.Side.{Side};
 ghost use Rattle.cip_hops.specs.declared.hop.Side.TheVariants.{Up, Down};
+ghost use Rattle.cip_hops.specs.Sides.{down_is_link};
 ghost use Rattle.cip_hops.specs.Hops.{opening_of, ids_of, hop_by_up, hop_by_down};
 ghost use Rattle.cip_module.specs.declared.command_rows.CommandRow.TheVariants.{Taken};
 ghost use Rattle.cip_module.specs.declared.config.ModuleSettings.{ModuleSettings as Settings};
@@ -46,7 +48,8 @@ ghost use Rattle.cip_module.specs.EffectLists.{gain, takes_up, births, IsLight, 
 ghost use Rattle.cip_module.specs.Effects.{Effect, Passes, apply, reply_up, datum_by, output_of, outputs_of};
 ghost use Rattle.cip_module.specs.Histories.{Turn, state_after, IsHistory};
 ghost use Rattle.cip_module.specs.Object.{begins_with_manager};
-ghost use Rattle.cip_module.specs.Outputs.{GaveBy, RequestBy, RepliesBy, is_datum, PassedBy, tells_end, EndedBy};
+ghost use Rattle.cip_module.specs.Openings.{SentIn, Joined, HopOpened};
+ghost use Rattle.cip_module.specs.Outputs.{GaveBy, BornBy, RequestBy, RepliesBy, is_datum, PassedBy, tells_end, EndedBy};
 ghost use Rattle.cip_module.specs.OwnTriads.{HasOwnTriads};
 ghost use Rattle.cip_module.specs.Paired.{IsPaired};
 ghost use Rattle.cip_module.specs.RequestRows.{UnknownPortOrTooLong, UnconnectedSend, ForwardOpen, ForwardClose, request_row};
@@ -114,6 +117,9 @@ pub fn outputs_come_from_effects()
         (event : Input) (mid : State) (e : Effect) → Tells config s event e
         → Has (output_of config mid e) (Send port to (Request n bytes))
         → RequestBy config s event e port to bytes }
+    ensures numbers { (config : Settings) (mid : State) (e : Effect) (port n : ℕ)
+        (to bytes : List ℕ) → Has (output_of config mid e) (Send port to (Request n bytes))
+        → n ≡ mid.pendings.next }
     ensures replies { (up : UpSide) (bytes : List ℕ) (config : Settings) (s : State)
         (event : Input) (mid : State) (e : Effect) → Tells config s event e
         → Has (output_of config mid e) (reply_up up bytes)
@@ -160,7 +166,8 @@ pub fn ops_are_done_once()
 {}
 
 /// A connection that is opening or open was born in one turn of the module, with its ids, and no
-/// two that were ever born have an id of their own in common.
+/// two that were ever born have an id of their own in common. It is what the Forward_Open that came
+/// in that turn asks for.
 pub fn ids_are_born_once()
     ensures born { (config : Settings) (turns : List Turn) → IsHistory config turns
         → (q : Triad) (x : Held) → map.get (state_after config turns).hops.held q ≡ Some x
@@ -169,6 +176,21 @@ pub fn ids_are_born_once()
         → (o p : Opening) (ids own : OwnIds) (id : ℕ) → Past (IsBirth config o ids) turns
         → Past (IsBirth config p own) turns → HasId ids id → HasId own id
         → (o ≡ p) × (ids ≡ own) }
+    ensures asked { (config : Settings) (o : Opening) (ids : OwnIds) (before : List Turn)
+        (turn : Turn) → IsHistory config (turn ∷ before) → IsBirth config o ids before turn
+        → BornBy config (state_after config before) turn.event o }
+{}
+
+/// A request that opens a connection waits beside that connection, which began in the turn that sent
+/// the request, and no two that wait open one triad. A connection that is open and goes on by a
+/// link was opened by the success that came to the request that was sent for it.
+pub fn connections_are_opened_by_successes()
+    ensures waiting { (config : Settings) (turns : List Turn) → IsHistory config turns
+        → Joined (SentIn config turns) (state_after config turns) }
+    ensures opened { (config : Settings) (turns : List Turn) → IsHistory config turns
+        → (q : Triad) (hop : Hop) → map.get (state_after config turns).hops.held q ≡ Some (IsOpen hop)
+        → down_is_link hop.opening.down ≡ true
+        → Past (HopOpened config hop.opening hop.ids hop.their_id) turns }
 {}
 
 /// Each connection stands under its own triad, and numbers and ids never fall.

@@ -1,5 +1,6 @@
 use Rattle.cip_module.proofs.GaveBy.{gave_then}
 use Rattle.cip_module.proofs.GivenBy.{answered_by, ended_by}
+use Rattle.cip_module.proofs.Numbers.{request_number}
 use Rattle.cip_module.proofs.PassedBy.{passed_by}
 use Rattle.cip_module.proofs.RequestBy.{request_by}
 use Rattle.cip_module.proofs.laws.outputs_come_from_effects.Goals as goal
@@ -18,3 +19,6 @@ returns-clause-data_ c = passed_by
 
 pub returns-clause-ends : goal.returns-clause-ends
 returns-clause-ends c = ended_by
+
+pub returns-clause-numbers : goal.returns-clause-numbers
+returns-clause-numbers c = request_number
