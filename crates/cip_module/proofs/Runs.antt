@@ -44,7 +44,8 @@ pub use Rattle.cip_module.proofs.GoesOn.{allowed, answered_allowed, send_service
 pub use Rattle.cip_target.specs.Ends.{HasPoints}
 pub use Rattle.cip_target.proofs.EndPoints.{end_points}
 pub use Rattle.cip_module.proofs.Failures.{request_fails, unconnected_fails, open_fails, close_fails, link_fails, end_fails}
--- Chains: a datum that is found goes on.
+-- Chains: what a datum or a tick tells is of the connection that stands there, and a datum that is found goes on.
+pub use Rattle.cip_module.proofs.TellsStand.{own_stands, came_stands, produced_stands, renews_stands, hop_times_out_stands, passing, passes_stands, counting, counts_stands}
 pub use Rattle.cip_module.proofs.DataMet.{goes_down, goes_up}
 -- What the tables tell of a state, and the first state.
 pub use Rattle.cip_module.proofs.Shown.{Alike, alike, looks_alike, equal_bare, fresh}

@@ -181,14 +181,15 @@ pub fn ids_are_born_once()
         → BornBy config (state_after config before) turn.event o }
 {}
 
-/// A request that opens a connection waits beside that connection, which began in the turn that sent
-/// the request, and no two that wait open one triad. A connection that is open and goes on by a
-/// link was opened by the success that came to the request that was sent for it.
+/// A request that opens a connection waits beside that connection, which began in the turn that
+/// sent the request, and no two that wait open one triad. A connection that is open and goes on by
+/// a link was opened by the success that came to the request that was sent for it.
 pub fn connections_are_opened_by_successes()
     ensures waiting { (config : Settings) (turns : List Turn) → IsHistory config turns
         → Joined (SentIn config turns) (state_after config turns) }
     ensures opened { (config : Settings) (turns : List Turn) → IsHistory config turns
-        → (q : Triad) (hop : Hop) → map.get (state_after config turns).hops.held q ≡ Some (IsOpen hop)
+        → (q : Triad) (hop : Hop)
+        → map.get (state_after config turns).hops.held q ≡ Some (IsOpen hop)
         → down_is_link hop.opening.down ≡ true
         → Past (HopOpened config hop.opening hop.ids hop.their_id) turns }
 {}
