@@ -59,3 +59,4 @@ pub mod GivenBy
 pub mod Runs
 pub mod ProducedStand
 pub mod FailuresRead
+pub mod DataOnce

@@ -96,7 +96,7 @@ module _ (x : Output) (data_ : is_datum x ≡ true) where
 
 -- ---- a datum of a frame, or one that is entered, is passed first
 
-abbrev passes : Effect → ℕ
+abbrev pub passes : Effect → ℕ
 passes (Passes triad side bytes) = 1
 passes e = 0
 
@@ -111,7 +111,7 @@ first_only (y ∷ before) after triad side b x tail e none =
     let sum = gain-append passes before (Passes triad side b ∷ after) in
     absurd (omega (arith, none, same, sum))
 
-counts_none : (triad : Triad) (count : Option ℕ) → gain passes (counts triad count) ≡ 0
+pub counts_none : (triad : Triad) (count : Option ℕ) → gain passes (counts triad count) ≡ 0
 counts_none triad None = refl
 counts_none triad (Some count) = omega arith
 

@@ -39,13 +39,14 @@ pub use Rattle.cip_open.proofs.ReadAgain.{open_data_read, open_success_read, ope
 pub use Rattle.cip_close.proofs.ReadAgain.{close_data_read, close_success_read, close_success_back}
 pub use Rattle.cip_unconnected.proofs.ReadAgain.{unconnected_data_read}
 pub use Rattle.cip_module.proofs.FailuresRead.{request_read, send_read, open_read, close_read}
-pub use Rattle.cip_module.proofs.NextRows.{open_row_is, send_row_is, close_row_is}
+pub use Rattle.cip_module.proofs.NextRows.{open_meets, send_meets, close_meets, open_row_is, send_row_is, close_row_is}
 pub use Rattle.cip_module.proofs.GoesOn.{allowed, answered_allowed, send_service, message_no_open, close_no_open}
 pub use Rattle.cip_target.specs.Ends.{HasPoints}
 pub use Rattle.cip_target.proofs.EndPoints.{end_points}
 pub use Rattle.cip_module.proofs.Failures.{request_fails, unconnected_fails, open_fails, close_fails, link_fails, end_fails}
 -- Chains: what a datum or a tick tells is of the connection that stands there, and a datum that is found goes on.
 pub use Rattle.cip_module.proofs.TellsStand.{own_stands, came_stands, produced_stands, renews_stands, hop_times_out_stands, passing, passes_stands, counting, counts_stands}
-pub use Rattle.cip_module.proofs.DataMet.{goes_down, goes_up}
+pub use Rattle.cip_module.proofs.DataMet.{goes_down, goes_up, goes_entered}
+pub use Rattle.cip_module.proofs.DataOnce.{datum_of, frame_once, enter_once}
 -- What the tables tell of a state, and the first state.
 pub use Rattle.cip_module.proofs.Shown.{Alike, alike, looks_alike, equal_bare, fresh}

@@ -53,7 +53,8 @@ passing s event triad side bytes (Made held hop is up bytes_are made) = hop
 pub passes_stands : (s : State) (event : Event) (triad : Triad) (side : Side) (bytes : List ℕ) → HasOwnTriads s → (h : PassesAs s event triad side bytes)
     → hop_at s.hops triad ≡ Some (passing s event triad side bytes h)
 passes_stands s event triad side bytes own (PassedOn hop is came) = under s triad hop is (came_stands s event (other side) hop bytes own came)
-passes_stands s event triad side bytes own (Entered of hop is down event_is found sized) = under s triad hop is (found_own (is_hop_by_op of) s.hops hop found own).0
+passes_stands s event triad side bytes own (Entered of hop is down event_is found sized) =
+    under s triad hop is (found_own (is_hop_by_op of) s.hops hop found own).0
 passes_stands s event triad side bytes own (Made held hop is up bytes_are made) = under s triad hop is (produced_stands s event hop held own made)
 
 abbrev pub counting : (s : State) (event : Event) (triad : Triad) (side : Side) (count : ℕ) → CountsAs s event triad side count → Hop

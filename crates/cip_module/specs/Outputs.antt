@@ -1,7 +1,8 @@
 -- Which effect an output comes from, and what that tells.
 use Rattle.std.specs.Prelude.{◌≡◌, ℕ, List, ◌∷◌, ◌++◌, Bool, true, false, Some}
 use Rattle.std.specs.FinMap as map
-use Rattle.cip_base.specs.Words.{Octets, PortIdentifier, RequestNumber}
+use Rattle.std.specs.Option.{option_map_or}
+use Rattle.cip_base.specs.Words.{ConnectionId, InstanceNumber, LinkAddress, Octets, OpNumber, PortIdentifier, RequestNumber}
 use Rattle.cip_base.specs.declared.triad.Triad.{Triad}
 use Rattle.cip_message.specs.Request.{Request}
 use Rattle.cip_message.specs.Reply.{reply_bytes}
@@ -11,9 +12,12 @@ use Rattle.cip_pending.specs.declared.entry.Entry.{Entry}
 use Rattle.cip_pending.specs.declared.entry.Kind.{Kind}
 use Rattle.cip_pending.specs.declared.entry.UpSide.{UpSide}
 use Rattle.cip_hops.specs.declared.opening.HopDown.{HopDown}
+use Rattle.cip_hops.specs.declared.opening.HopDown.TheVariants.{Link as DownLink, End}
+use Rattle.cip_hops.specs.declared.opening.HopUp.TheVariants.{Link as UpLink, Local as UpLocal}
 use Rattle.cip_hops.specs.declared.opening.Opening.{Opening}
 use Rattle.cip_hops.specs.declared.hop.Hop.{Hop}
 use Rattle.cip_hops.specs.declared.hop.Side.{Side}
+use Rattle.cip_hops.specs.declared.hop.Side.TheVariants.{Up, Down}
 use Rattle.cip_hops.specs.Hops.{hop_at}
 use Rattle.cip_target.specs.Objects.{target_answer}
 use Rattle.cip_module.specs.declared.config.ModuleSettings.{ModuleSettings}
@@ -29,6 +33,7 @@ use Rattle.cip_module.specs.OpenRows.{opening_with}
 use Rattle.cip_module.specs.State.{State}
 use Rattle.cip_module.specs.Table.{opener}
 use Rattle.cip_module.specs.Tells.{Tells, AsksOpen, RepliesAs, AnswersAs, ForwardsAs, BeginsAs, HopTimesOutAs, RefusesAs, DropsAs}
+use Rattle.cip_module.specs.Weights.{mark}
 use Rattle.cip_module.specs.Words.{Has}
 
 -- the effect that gave an output, and those before it and after it
@@ -109,6 +114,26 @@ pub record PassedBy (mid : State) (e : Effect) (x : Output) : Type 0 where
   pub effect_is : e ≡ Passes triad side bytes
   pub stands : hop_at mid.hops triad ≡ Some hop
   pub is : datum_by side hop bytes ≡ x
+
+-- where a datum goes: to the node above or to the command that opened, to the node below or to an
+-- assembly here
+pub data DatumOf (hop : Hop) (side : Side) (bytes : Octets) (x : Output) : Type 0 where
+  GoesUp : (port : PortIdentifier) (to : LinkAddress) (their_id : ConnectionId) → side ≡ Up
+      → hop.opening.up ≡ UpLink port to their_id
+      → x ≡ outputs.Send port to (bodies.Data their_id bytes) → DatumOf hop side bytes x
+  Arrives : (op : OpNumber) → side ≡ Up → hop.opening.up ≡ UpLocal op
+      → x ≡ outputs.Arrived op bytes → DatumOf hop side bytes x
+  GoesDown : (port : PortIdentifier) (to : LinkAddress) → side ≡ Down
+      → hop.opening.down ≡ DownLink port to
+      → x ≡ outputs.Send port to (bodies.Data (option_map_or (λ id. id) hop.their_id 0) bytes)
+      → DatumOf hop side bytes x
+  IsConsumed : (config consume produce : InstanceNumber) → side ≡ Down
+      → hop.opening.down ≡ End config consume produce
+      → x ≡ outputs.Consumed hop.opening.triad consume bytes → DatumOf hop side bytes x
+
+-- 1 of a datum
+abbrev pub one_datum : Output → ℕ
+one_datum x = mark (is_datum x)
 
 -- ---- the end of a connection, a refusal, a drop
 

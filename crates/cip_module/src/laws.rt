@@ -25,7 +25,7 @@ ghost use Rattle.cip_hops.specs.declared.hop.Hop.{Hop};
 ghost use Rattle.cip_hops.specs.declared.hop.Side.{Side};
 ghost use Rattle.cip_hops.specs.declared.hop.Side.TheVariants.{Up, Down};
 ghost use Rattle.cip_hops.specs.Sides.{down_is_link};
-ghost use Rattle.cip_hops.specs.Hops.{opening_of, ids_of, hop_by_up, hop_by_down};
+ghost use Rattle.cip_hops.specs.Hops.{opening_of, ids_of, hop_by_up, hop_by_down, hop_by_op};
 ghost use Rattle.cip_module.specs.declared.command_rows.CommandRow.TheVariants.{Taken};
 ghost use Rattle.cip_module.specs.declared.config.ModuleSettings.{ModuleSettings as Settings};
 ghost use Rattle.cip_module.specs.declared.event.Body.TheVariants.{Request, Data};
@@ -49,10 +49,10 @@ ghost use Rattle.cip_module.specs.Effects.{Effect, Passes, apply, reply_up, datu
 ghost use Rattle.cip_module.specs.Histories.{Turn, state_after, IsHistory};
 ghost use Rattle.cip_module.specs.Object.{begins_with_manager};
 ghost use Rattle.cip_module.specs.Openings.{SentIn, Joined, HopOpened};
-ghost use Rattle.cip_module.specs.Outputs.{GaveBy, BornBy, RequestBy, RepliesBy, is_datum, PassedBy, tells_end, EndedBy};
+ghost use Rattle.cip_module.specs.Outputs.{GaveBy, BornBy, RequestBy, RepliesBy, is_datum, PassedBy, DatumOf, one_datum, tells_end, EndedBy};
 ghost use Rattle.cip_module.specs.OwnTriads.{HasOwnTriads};
 ghost use Rattle.cip_module.specs.Paired.{IsPaired};
-ghost use Rattle.cip_module.specs.RequestRows.{UnknownPortOrTooLong, UnconnectedSend, ForwardOpen, ForwardClose, request_row};
+ghost use Rattle.cip_module.specs.RequestRows.{UnconnectedSend, ForwardOpen, ForwardClose, unless_malformed, request_row};
 ghost use Rattle.cip_module.specs.Rooms.{HasRooms};
 ghost use Rattle.cip_module.specs.State.{State, initial_state};
 ghost use Rattle.cip_module.specs.Statuses.{request_status, unconnected_status, open_status, close_status};
@@ -60,7 +60,7 @@ ghost use Rattle.cip_module.specs.Table.{decide, message_on};
 ghost use Rattle.cip_module.specs.Tells.{asker, Tells, AllTell};
 ghost use Rattle.cip_module.specs.UnconnectedRows.{AnsweredHere, Forwarded, unconnected_row};
 ghost use Rattle.cip_module.specs.Views.{ShowsState, LooksAlike, ShowsNone};
-ghost use Rattle.cip_module.specs.Weights.{is_request, is_reply, is_asked_by, same_up, weight, came};
+ghost use Rattle.cip_module.specs.Weights.{is_request, is_reply, is_asked_by, same_up, weight_in, weight, came};
 ghost use Rattle.cip_module.specs.Words.{Has, Some_turn, AskedIn};
 
 /// What the effects of an event tell: each of them of the event and of the state before it, and all
@@ -126,6 +126,8 @@ pub fn outputs_come_from_effects()
         → RepliesBy config s event mid e up bytes }
     ensures data_ { (x : Given) → is_datum x ≡ true → (config : Settings) (mid : State)
         (e : Effect) → Has (output_of config mid e) x → PassedBy mid e x }
+    ensures by_side { (hop : Hop) (side : Side) (bytes : List ℕ) (x : Given)
+        → datum_by side hop bytes ≡ x → DatumOf hop side bytes x }
     ensures ends { (x : Given) → tells_end x ≡ 1 → (config : Settings) (s : State)
         (event : Input) (mid : State) (e : Effect) → Tells config s event e
         → Has (output_of config mid e) x → EndedBy config s event e x }
@@ -166,8 +168,8 @@ pub fn ops_are_done_once()
 {}
 
 /// A connection that is opening or open was born in one turn of the module, with its ids, and no
-/// two that were ever born have an id of their own in common. It is what the Forward_Open that came
-/// in that turn asks for.
+/// two that were ever born have an id of their own in common. It is what the open of that turn asks
+/// for, in a frame or a command.
 pub fn ids_are_born_once()
     ensures born { (config : Settings) (turns : List Turn) → IsHistory config turns
         → (q : Triad) (x : Held) → map.get (state_after config turns).hops.held q ≡ Some x
@@ -249,14 +251,15 @@ pub fn failures_are_read_back()
 /// dropped there as too long.
 pub fn what_goes_on_meets_its_group()
     ensures opens { (config : Settings) (port : ℕ) (o : Open)
-        → (request_row config port (open_bytes o) ≡ UnknownPortOrTooLong)
-        ⊎ (request_row config port (open_bytes o) ≡ ForwardOpen (open_data o)) }
+        → request_row config port (open_bytes o)
+        ≡ unless_malformed config port (open_bytes o) (ForwardOpen (open_data o)) }
     ensures sends { (config : Settings) (port : ℕ) (u : Unconnected)
-        → (request_row config port (unconnected_bytes u) ≡ UnknownPortOrTooLong)
-        ⊎ (request_row config port (unconnected_bytes u) ≡ UnconnectedSend (unconnected_data u)) }
+        → request_row config port (unconnected_bytes u)
+        ≡ unless_malformed config port (unconnected_bytes u)
+        (UnconnectedSend (unconnected_data u)) }
     ensures closes { (config : Settings) (port : ℕ) (c : Close)
-        → (request_row config port (close_bytes c) ≡ UnknownPortOrTooLong)
-        ⊎ (request_row config port (close_bytes c) ≡ ForwardClose (close_data c)) }
+        → request_row config port (close_bytes c)
+        ≡ unless_malformed config port (close_bytes c) (ForwardClose (close_data c)) }
 {}
 
 /// What an Unconnected_Send or a Forward_Close sends on opens nothing: no module reads a
@@ -286,22 +289,32 @@ pub fn no_manager_request_travels_embedded()
 {}
 
 /// A datum that comes by the id of a connection, from its neighbor and of its size, gives one
-/// output, that of the connection: it is passed on, consumed or given to the originator.
+/// output, that of the connection: it is passed on, consumed or given to the originator. So does
+/// one that the op enters that opened. No datum that came or was entered gives more than one.
 pub fn data_go_on()
-    ensures down { (config : Settings) (s : State)
-        → HasOwnTriads s
+    ensures down { (config : Settings) (s : State) → HasOwnTriads s
         → (port id : ℕ) (from bytes : List ℕ) → is_some (port_of config port) ≡ true
         → (hop : Hop) (es : List Effect) → hop_by_up s.hops id port from ≡ Some hop
         → length bytes ≡ hop.opening.ot_size
         → decide config s (Frame port from (Data id bytes)) ≡ Some es
         → outputs_of config s es ≡ datum_by Down hop bytes ∷ [] }
-    ensures up { (config : Settings) (s : State)
-        → HasOwnTriads s
+    ensures up { (config : Settings) (s : State) → HasOwnTriads s
         → (port id : ℕ) (from bytes : List ℕ) → is_some (port_of config port) ≡ true
         → (hop : Hop) (es : List Effect) → hop_by_up s.hops id port from ≡ None
         → hop_by_down s.hops id port from ≡ Some hop → length bytes ≡ hop.opening.to_size
         → decide config s (Frame port from (Data id bytes)) ≡ Some es
         → outputs_of config s es ≡ datum_by Up hop bytes ∷ [] }
+    ensures entered { (config : Settings) (s : State) → HasOwnTriads s
+        → (of : ℕ) (bytes : List ℕ) (hop : Hop) (es : List Effect)
+        → hop_by_op s.hops of ≡ Some hop → length bytes ≡ hop.opening.ot_size
+        → decide config s (Command (Enter of bytes)) ≡ Some es
+        → outputs_of config s es ≡ datum_by Down hop bytes ∷ [] }
+    ensures came_once { (config : Settings) (s : State) (port id : ℕ) (from bytes : List ℕ)
+        (es : List Effect) → decide config s (Frame port from (Data id bytes)) ≡ Some es
+        → weight_in one_datum (outputs_of config s es) ≤ 1 }
+    ensures entered_once { (config : Settings) (s : State) (of : ℕ) (bytes : List ℕ)
+        (es : List Effect) → decide config s (Command (Enter of bytes)) ≡ Some es
+        → weight_in one_datum (outputs_of config s es) ≤ 1 }
 {}
 
 /// No failure has general status 0, that of a success.

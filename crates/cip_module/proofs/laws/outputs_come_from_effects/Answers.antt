@@ -1,3 +1,4 @@
+use Rattle.cip_module.proofs.DataOnce.{datum_of}
 use Rattle.cip_module.proofs.GaveBy.{gave_then}
 use Rattle.cip_module.proofs.GivenBy.{answered_by, ended_by}
 use Rattle.cip_module.proofs.Numbers.{request_number}
@@ -22,3 +23,6 @@ returns-clause-ends c = ended_by
 
 pub returns-clause-numbers : goal.returns-clause-numbers
 returns-clause-numbers c = request_number
+
+pub returns-clause-by_side : goal.returns-clause-by_side
+returns-clause-by_side c = datum_of
