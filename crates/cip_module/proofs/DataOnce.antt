@@ -1,5 +1,5 @@
 -- Where a datum goes, and that a datum that came or was entered gives one at most.
-use Rattle.std.proofs.Common.{◌≡◌, ℕ, ◌+◌, ◌≤◌, Bool, true, false, List, [], ◌∷◌, Option, Some, None, refl, sym, ap, ◌∙◌, arith}
+use Rattle.std.proofs.Common.{◌≡◌, ℕ, ◌≤◌, Bool, true, false, List, [], ◌∷◌, Option, Some, None, refl, sym, ap, arith}
 use Rattle.std.specs.FinMap as map
 use Rattle.cip_message.specs.Reply.{reply_bytes}
 use Rattle.cip_pending.specs.declared.entry.Entry.{Entry}
