@@ -1,2 +1,3 @@
 pub mod Closes
 pub mod Successes
+pub mod ReadAgain

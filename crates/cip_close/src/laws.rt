@@ -32,18 +32,20 @@ pub fn close_reply_is_exact()
 {}
 
 /// The message that is written is read as a request to the Connection Manager, and its data as the
-/// same record.
+/// same record; as no other, whatever the path is.
 pub fn written_close_is_read()
     ensures request { (o : Close) → IsSent 0x4E (close_data o) (close_bytes o) }
     ensures data_ { (o : Close) → IsReadable o.path → close_at (close_data o) ≡ Ok o }
+    ensures alone { (c d : Close) → close_at (close_data c) ≡ Ok d → d ≡ c }
 {}
 
 /// The reply of a success that is written is read as a reply of status 00, and its data as the same
-/// record.
+/// record; as no other, whatever the application reply is.
 pub fn written_close_reply_is_read()
     ensures reply { (s : CloseSuccess) → IsDone 0xCE (close_reply_data s) (close_reply_bytes s) }
     ensures data_ { (s : CloseSuccess) → length s.reply % 2 ≡ 0
         → close_reply_at (close_reply_data s) ≡ Ok s }
+    ensures alone { (s t : CloseSuccess) → close_reply_at (close_reply_data s) ≡ Ok t → t ≡ s }
 {}
 
 /// The reply of a failure that is written is read as a reply of that status; its data is read back

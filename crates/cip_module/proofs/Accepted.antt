@@ -27,7 +27,7 @@ use Rattle.cip_module.specs.declared.config.ModuleSettings.{ModuleSettings}
 use Rattle.cip_module.specs.OpenRows.{writes_to, end_down}
 use Rattle.cip_module.specs.Code.Fit.{Fit, AreOwned, writes_of}
 use Rattle.cip_module.specs.State.{is_spent}
-use Rattle.cip_module.proofs.Points.{one_or_apart, put_here, put_apart}
+use Rattle.cip_base.proofs.Points.{one_or_apart, put_here, put_apart}
 use Rattle.cip_module.proofs.Fits.{Becomes, becomes_put, spent_becomes, links_becomes, paired_becomes, numbers_apart, triad_or_not}
 use Rattle.cip_module.proofs.Sizes.{written_sizes}
 

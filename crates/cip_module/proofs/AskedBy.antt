@@ -1,12 +1,7 @@
 -- A reply that is taken was waited for, there where it came from.
-use Rattle.std.proofs.Common.{◌≡◌, ℕ, Bool, true, false, cond, List, Option, Some, None, refl, sym, ap, subst, ◌∙◌, inl, eqb}
-use Rattle.std.specs.FinMap as map
-use Rattle.std.specs.Str.{bytes_eq}
-use Rattle.std.specs.Option.{option_and_then}
-use Rattle.std.proofs.lemmas.Bool.{and_parts, eqb-true}
-use Rattle.std.proofs.lemmas.Slice.Eq.{bytes_eq-Decides}
+use Rattle.std.proofs.Common.{◌≡◌, ℕ, List, Some, refl, sym, ap, subst, ◌∙◌, inl}
 use Rattle.cip_pending.specs.declared.entry.Entry as entries
-use Rattle.cip_pending.specs.Pendings.{Pendings, is_asked, waiting_at}
+use Rattle.cip_pending.specs.Pendings.{waiting_at}
 use Rattle.cip_module.specs.declared.config.ModuleSettings.{ModuleSettings}
 use Rattle.cip_module.specs.declared.event.Body.TheVariants as bodies
 use Rattle.cip_module.specs.declared.event.Dropped.{Dropped}
@@ -22,6 +17,7 @@ use Rattle.cip_module.specs.Tells.{AllTell, ReplyCame}
 use Rattle.cip_module.specs.Weights.{came}
 use Rattle.cip_module.specs.Words.{Has}
 use Rattle.cip_module.proofs.Turns.{Turned}
+pub use Rattle.cip_pending.proofs.Asked.{asked_there}
 
 -- ---- what a module takes waited
 
@@ -65,22 +61,3 @@ taken_waits config s new port n from bytes outs turn kept =
     let gave : outputs_of config s (reply_effects n bytes row) ≡ outs = ap (outputs_of config s) (sym same) ∙ turn.out in
     row_waits config s port n from bytes row (subst (AllTell config s (events.Frame port from (bodies.Reply n bytes))) same turn.tells)
     (λ reason h. kept reason (subst (λ (os : List Output). Has os (outputs.Dropped reason)) gave h))
-
-pub asked_there : (p : Pendings) (n port : ℕ) (from : List ℕ) (entry : entries.Entry) → waiting_at p n port from ≡ Some entry
-    → (entry.port ≡ port) × (entry.address ≡ from)
-asked_there p n port from entry e =
-    elim (map.get p.entries n) as (λ (g : Option entries.Entry). option_and_then (λ x. cond (is_asked port from x) (Some x) None) g ≡ Some entry
-    → (entry.port ≡ port) × (entry.address ≡ from)) [
-      | None ↦ λ s. absurd (cc)
-      | Some x ↦ λ s. asked_so x (is_asked port from x) refl s
-    ] e
-  where
-    asked_so : (x : entries.Entry) (b : Bool) → is_asked port from x ≡ b → cond b (Some x) None ≡ Some entry → (entry.port ≡ port) × (entry.address ≡ from)
-    asked_so x true t s =
-        let both = and_parts (eqb x.port port) (bytes_eq x.address from) t in
-        let same : x ≡ entry = cc in (
-          ap (λ (y : entries.Entry). y.port) (sym same) ∙ eqb-true x.port port both.0,
-          ap (λ (y : entries.Entry). y.address) (sym same)
-              ∙ (bytes_eq-Decides x.address from).0 both.1,
-        )
-    asked_so x false t s = absurd (cc)

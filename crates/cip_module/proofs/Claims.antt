@@ -26,7 +26,7 @@ use Rattle.cip_module.specs.declared.event.Output.{Output}
 use Rattle.cip_module.specs.Effects.{Effect, Replies, Answers, Forwards, Begins, Finishes, Takes, PendingTimesOut, Passes, objects_of, entry_for, apply, output_of, reply_up, replied, timed_out_reply, late_bytes, datum_up, datum_down, datum_by, passed, succeeded}
 use Rattle.cip_module.specs.State.{State}
 use Rattle.cip_module.proofs.Fits.{numbers_apart}
-use Rattle.cip_module.proofs.Points.{one_or_apart, gone_here, gone_apart}
+use Rattle.cip_base.proofs.Points.{one_or_apart, gone_here, gone_apart}
 use Rattle.cip_module.specs.Weights.{mark, same_up, replies_to, is_to, is_reply, weight_in}
 use Rattle.cip_module.proofs.Puts.{AreBelow, no_number}
 

@@ -8,16 +8,18 @@ use Rattle.cip_hops.specs.declared.opening.HopUp.{HopUp}
 use Rattle.cip_hops.specs.declared.opening.HopUp.TheVariants.{Link as UpLink, Local as UpLocal}
 use Rattle.cip_hops.specs.declared.hop.Hop.{Hop}
 use Rattle.cip_hops.specs.declared.hop.Side.TheVariants.{Up, Down}
-use Rattle.cip_hops.specs.Hops.{hop_at, hop_by_up, hop_by_down, is_hop_by_up, is_hop_by_down}
+use Rattle.cip_hops.specs.Hops.{hop_at, hop_by_up, hop_by_down, hop_by_op, is_hop_by_up, is_hop_by_down, is_hop_by_op}
 use Rattle.cip_module.specs.declared.config.ModuleSettings.{ModuleSettings}
+use Rattle.cip_module.specs.declared.command_rows.CommandRow.TheVariants as command
 use Rattle.cip_module.specs.declared.event.Body.TheVariants as bodies
+use Rattle.cip_module.specs.declared.event.Command.TheVariants as commands
 use Rattle.cip_module.specs.declared.event.Event.TheVariants as events
 use Rattle.cip_module.specs.declared.event.Output.{Output}
 use Rattle.cip_module.specs.Config.{port_of}
 use Rattle.cip_module.specs.DataRows.{DataRow, UnknownId, WrongSize, Consumed, Repeated, is_last, below_row, above_row, id_row, data_row}
 use Rattle.cip_module.specs.Effects.{Effect, datum_by, passed, outputs_of}
 use Rattle.cip_module.specs.State.{State}
-use Rattle.cip_module.specs.Table.{datum_effects, decide}
+use Rattle.cip_module.specs.Table.{datum_effects, entered_effects, enter_effects, refused_effects, decide}
 use Rattle.cip_module.proofs.PassedBy.{found_own}
 use Rattle.cip_module.proofs.Triads.{HasOwnTriads}
 
@@ -85,3 +87,17 @@ module _ (config : ModuleSettings) (s : State) (own : HasOwnTriads s) (port id :
   goes_up es none found sized decided =
       given (above_row hop hop.opening.up) (datum_by Up hop bytes ∷ []) es (down_row none found sized)
       (passes_up hop.opening.up (found_own (is_hop_by_down id port from) s.hops hop found own).0) decided
+
+-- ---- a datum that is entered by the op that opened
+
+pub goes_entered : (config : ModuleSettings) (s : State) → HasOwnTriads s → (of : ℕ) (bytes : List ℕ) (hop : Hop) (es : List Effect)
+    → hop_by_op s.hops of ≡ Some hop → length bytes ≡ hop.opening.ot_size
+    → decide config s (events.Command (commands.Enter of bytes)) ≡ Some es → outputs_of config s es ≡ datum_by Down hop bytes ∷ []
+goes_entered config s own of bytes hop es found sized decided =
+    let whole : Some (enter_effects bytes (hop_by_op s.hops of)) ≡ Some es = decided in
+    let same : enter_effects bytes (hop_by_op s.hops of) ≡ es = cc in
+    let stands = (found_own (is_hop_by_op of) s.hops hop found own).0 in
+    ap (outputs_of config s) (sym same) ∙ ap (λ x. outputs_of config s (enter_effects bytes x)) found
+    ∙ ap (λ b. outputs_of config s (refused_effects (cond b command.Taken command.WrongSize) (entered_effects bytes (Some hop))))
+    (eq-eqb (length bytes) hop.opening.ot_size sized)
+    ∙ ap (λ x. passed Down x bytes ++ []) stands

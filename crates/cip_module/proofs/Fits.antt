@@ -20,7 +20,7 @@ use Rattle.cip_target.specs.Assemblies.{AssemblyMap, Owners}
 use Rattle.cip_module.specs.Paired.{IsAwaited, IsPaired, IsOther}
 use Rattle.cip_module.specs.Code.Fit.{writes_of, AreSpent, AreLinks, AreOwned}
 use Rattle.cip_module.specs.State.{is_spent}
-use Rattle.cip_module.proofs.Points.{one_or_apart, put_here, put_apart, gone_here, gone_apart}
+use Rattle.cip_base.proofs.Points.{one_or_apart, put_here, put_apart, gone_here, gone_apart}
 
 pub numbers_apart : IsAntisymmetric nat_cmp
 numbers_apart a b h = exact_unsigned a b h

@@ -1,5 +1,5 @@
--- A connection that is found by a name stands under its triad.
-use Rattle.std.proofs.Common.{◌≡◌, Bool, refl, sym, ap, ◌∙◌, Option, Some, None}
+-- A connection that is found by a name stands under its triad, where each stands under its own.
+use Rattle.std.proofs.Common.{◌≡◌, Bool, true, refl, sym, ap, ◌∙◌, Option, Some, None}
 use Rattle.std.specs.Prelude.{option_and_then}
 use Rattle.std.specs.List.{find}
 use Rattle.std.specs.FinMap as map
@@ -13,15 +13,22 @@ use Rattle.cip_hops.specs.Hops.{Hops, as_hop, is_hop, first_hop, hop_at, triad_o
 use Rattle.cip_hops.proofs.Steps.{triads_apart}
 use Rattle.cip_base.proofs.Views.{found-gives}
 use Rattle.cip_hops.proofs.Named.{is_open}
+use Rattle.cip_module.specs.OwnTriads.{AreOwnTriads}
 
 found_in : (test : Hop → Bool) (h : Hops) (hop : Hop) (e : Option (Triad × Held)) → find (λ e. is_hop test e.1) (map.entries h.held) ≡ e
-    → option_and_then (λ e. as_hop e.1) e ≡ Some hop → IsWithin h → hop_at h hop.opening.triad ≡ Some hop
-found_in test h hop None f g w = absurd (cc)
-found_in test h hop (Some e) f g w =
+    → option_and_then (λ e. as_hop e.1) e ≡ Some hop → AreOwnTriads h → (hop_at h hop.opening.triad ≡ Some hop) × (test hop ≡ true)
+found_in test h hop None f g own = absurd (cc)
+found_in test h hop (Some e) f g own =
     let at = found-gives triad_cmp triads_total triads_apart h.held (λ e. is_hop test e.1) e f in
     let open_ : e.1 ≡ Open hop = is_open e.1 hop g in
-    let triad : hop.opening.triad ≡ e.0 = ap triad_of (sym open_) ∙ w.triads e.0 e.1 at.0 in
-    ap (hop_at h) triad ∙ ap (option_and_then as_hop) at.0 ∙ g
+    let triad : hop.opening.triad ≡ e.0 = ap triad_of (sym open_) ∙ own e.0 e.1 at.0 in
+    (ap (hop_at h) triad ∙ ap (option_and_then as_hop) at.0 ∙ g, ap (is_hop test) (sym open_) ∙ at.1)
 
+-- and it passes the test
+pub found_own : (test : Hop → Bool) (h : Hops) (hop : Hop) → first_hop test h ≡ Some hop → AreOwnTriads h
+    → (hop_at h hop.opening.triad ≡ Some hop) × (test hop ≡ true)
+found_own test h hop g own = found_in test h hop (find (λ e. is_hop test e.1) (map.entries h.held)) refl g own
+
+-- in a table within its ranges
 pub found_held : (test : Hop → Bool) (h : Hops) (hop : Hop) → first_hop test h ≡ Some hop → IsWithin h → hop_at h hop.opening.triad ≡ Some hop
-found_held test h hop g w = found_in test h hop (find (λ e. is_hop test e.1) (map.entries h.held)) refl g w
+found_held test h hop g w = (found_own test h hop g w.triads).0

@@ -5,7 +5,6 @@ use Rattle.std.proofs.lemmas.Bool.{eq-eqb, and_from}
 use Rattle.std.proofs.lemmas.Slice.Eq.{bytes_eq-Decides}
 use Rattle.std.specs.Str.{bytes_eq}
 use Rattle.std.proofs.Common.{eqb, ◌&&◌}
-use Rattle.cip_base.specs.declared.triad.Triad.{Triad}
 use Rattle.cip_message.specs.Reply.{reply_bytes}
 use Rattle.cip_pending.specs.declared.entry.Entry.{Entry}
 use Rattle.cip_pending.specs.declared.entry.UpSide.{UpSide}
@@ -20,18 +19,15 @@ use Rattle.cip_hops.specs.declared.opening.HopDown.TheVariants.{Link as DownLink
 use Rattle.cip_hops.specs.Hops.{hop_at}
 use Rattle.cip_target.specs.Objects.{target_answer}
 use Rattle.cip_module.specs.declared.config.ModuleSettings.{ModuleSettings}
-use Rattle.cip_module.specs.declared.event.Dropped.{Dropped}
 use Rattle.cip_module.specs.declared.event.Event.{Event}
 use Rattle.cip_module.specs.declared.event.Output.{Output}
-use Rattle.cip_module.specs.declared.event.Output.TheVariants as outputs
-use Rattle.cip_module.specs.declared.event.Refused.{Refused}
 use Rattle.cip_module.specs.Effects.{Effect, Replies, Answers, Forwards, Begins, Finishes, Takes, PendingTimesOut, HopTimesOut, Passes, RefusesCommand, Drops, objects_of, reply_up, replied, timed_out_reply, late_bytes, datum_up, datum_down, datum_by, passed, succeeded, output_of}
+use Rattle.cip_module.specs.Outputs.{RepliesBy, AtOnce, Here, Opened, Taken, Late, tells_end, EndedBy, ByTimeOut, ByRefusal, ByDrop}
 use Rattle.cip_module.specs.State.{State}
 use Rattle.cip_module.specs.Tells.{Tells}
 use Rattle.cip_module.specs.Weights.{mark, same_up, is_reply, weight_in}
 use Rattle.cip_module.specs.Words.{Has}
 use Rattle.cip_module.proofs.Claims.{no_reply_passed}
-use Rattle.cip_module.proofs.GaveBy.{RepliesBy, AtOnce, Here, Opened, Taken, Late}
 use Rattle.cip_module.proofs.Weighing.{weight_has}
 use Rattle.cip_module.specs.Tells.{RepliesAs, AnswersAs}
 
@@ -63,9 +59,10 @@ module _ (up : UpSide) (bytes : List ℕ) where
   replied_of None b h = absurd h
   replied_of (Some p) b h = let is = one_of p.up b h in (p, refl, is.0, is.1)
 
-  late_of : (x : Option Entry) → Has (timed_out_reply x) (reply_up up bytes) → (p : Entry) × (late_bytes p.kind p.words ≡ bytes)
+  late_of : (x : Option Entry) → Has (timed_out_reply x) (reply_up up bytes)
+      → (p : Entry) × (x ≡ Some p) × (p.up ≡ up) × (late_bytes p.kind p.words ≡ bytes)
   late_of None h = absurd h
-  late_of (Some p) h = (p, (one_of p.up (late_bytes p.kind p.words) h).1)
+  late_of (Some p) h = let is = one_of p.up (late_bytes p.kind p.words) h in (p, refl, is.0, is.1)
 
   -- outputs that reply to nobody hold none
   none_of : (os : List Output) → weight_in (is_reply up) os ≡ 0 → Has os (reply_up up bytes) → ⊥
@@ -78,14 +75,14 @@ module _ (up : UpSide) (bytes : List ℕ) where
       AtOnce (subst (λ (u : UpSide). RepliesAs config s0 event u bytes) is.0 (subst (λ (c : List ℕ). RepliesAs config s0 event v c) is.1 tells))
   answered_by config s0 event mid (Answers v asked) tells h =
       let is = one_of v (reply_bytes (target_answer (objects_of config mid) asked)) h in
-      Here asked (subst (λ (u : UpSide). AnswersAs config s0 event u asked) is.0 tells)
+      Here asked (ap (λ (u : UpSide). Answers u asked) is.0) (subst (λ (u : UpSide). AnswersAs config s0 event u asked) is.0 tells) (sym is.1)
   answered_by config s0 event mid (Finishes number triad came success) tells h =
       let is = replied_of (map.get mid.pendings.entries number) (succeeded (map.get mid.hops.held triad) came success) h in
       Opened number triad came success is.0 refl is.1 is.2 (sym is.3)
   answered_by config s0 event mid (Takes number b) tells h =
       let is = replied_of (map.get mid.pendings.entries number) b h in Taken number is.0 (ap (Takes number) is.3) is.1 is.2
   answered_by config s0 event mid (PendingTimesOut number) tells h =
-      let is = late_of (map.get mid.pendings.entries number) h in Late is.0.kind is.0.words (sym is.1)
+      let is = late_of (map.get mid.pendings.entries number) h in Late number is.0 refl is.1 is.2 (sym is.3)
   answered_by config s0 event mid (Passes triad side b) tells h =
       absurd (none_of (passed side (hop_at mid.hops triad) b) (no_reply_passed up side (hop_at mid.hops triad) b) h)
   answered_by config s0 event mid (Forwards sending kind) tells h = absurd (none_of (output_of config mid (Forwards sending kind)) refl h)
@@ -96,21 +93,6 @@ module _ (up : UpSide) (bytes : List ℕ) where
   answered_by config s0 event mid e tells h = absurd h
 
 -- ---- the end of a connection, a refusal, a drop
-
--- 1 of an output that tells of one of these
-abbrev tells_end : Output → ℕ
-tells_end (outputs.Send port to body) = 0
-tells_end (outputs.Done op reply) = 0
-tells_end (outputs.Refused fault) = 1
-tells_end (outputs.Consumed triad instance bytes) = 0
-tells_end (outputs.Arrived op bytes) = 0
-tells_end (outputs.Expired triad) = 1
-tells_end (outputs.Dropped reason) = 1
-
-pub data EndedBy (e : Effect) (x : Output) : Type 0 where
-  ByTimeOut : (triad : Triad) → e ≡ HopTimesOut triad → x ≡ outputs.Expired triad → EndedBy e x
-  ByRefusal : (fault : Refused) → e ≡ RefusesCommand fault → x ≡ outputs.Refused fault → EndedBy e x
-  ByDrop : (reason : Dropped) → e ≡ Drops reason → x ≡ outputs.Dropped reason → EndedBy e x
 
 reply_ends_none : (v : UpSide) (b : List ℕ) → tells_end (reply_up v b) ≡ 0
 reply_ends_none (Link port address number) b = refl
@@ -145,20 +127,21 @@ module _ (x : Output) (ends : tells_end x ≡ 1) where
   passed_none side None b h = h
   passed_none side (Some hop) b h = single (datum_by side hop b) (by_ends_none side hop b) h
 
-  pub ended_by : (config : ModuleSettings) (mid : State) (e : Effect) → Has (output_of config mid e) x → EndedBy e x
-  ended_by config mid (HopTimesOut triad) (inl e) = ByTimeOut triad refl (sym e)
-  ended_by config mid (HopTimesOut triad) (inr h) = absurd h
-  ended_by config mid (RefusesCommand fault) (inl e) = ByRefusal fault refl (sym e)
-  ended_by config mid (RefusesCommand fault) (inr h) = absurd h
-  ended_by config mid (Drops reason) (inl e) = ByDrop reason refl (sym e)
-  ended_by config mid (Drops reason) (inr h) = absurd h
-  ended_by config mid (Replies v b) h = absurd (single (reply_up v b) (reply_ends_none v b) h)
-  ended_by config mid (Answers v asked) h = absurd (single (reply_up v _) (reply_ends_none v _) h)
-  ended_by config mid (Forwards sending kind) h = absurd (single _ refl h)
-  ended_by config mid (Begins sending opening) h = absurd (single _ refl h)
-  ended_by config mid (Finishes number triad came success) h =
+  pub ended_by : (config : ModuleSettings) (s : State) (event : Event) (mid : State) (e : Effect) → Tells config s event e → Has (output_of config mid e) x
+      → EndedBy config s event e x
+  ended_by config s event mid (HopTimesOut triad) tells (inl e) = ByTimeOut triad refl (sym e) tells
+  ended_by config s event mid (HopTimesOut triad) tells (inr h) = absurd h
+  ended_by config s event mid (RefusesCommand fault) tells (inl e) = ByRefusal fault refl (sym e) tells
+  ended_by config s event mid (RefusesCommand fault) tells (inr h) = absurd h
+  ended_by config s event mid (Drops reason) tells (inl e) = ByDrop reason refl (sym e) tells
+  ended_by config s event mid (Drops reason) tells (inr h) = absurd h
+  ended_by config s event mid (Replies v b) tells h = absurd (single (reply_up v b) (reply_ends_none v b) h)
+  ended_by config s event mid (Answers v asked) tells h = absurd (single (reply_up v _) (reply_ends_none v _) h)
+  ended_by config s event mid (Forwards sending kind) tells h = absurd (single _ refl h)
+  ended_by config s event mid (Begins sending opening) tells h = absurd (single _ refl h)
+  ended_by config s event mid (Finishes number triad came success) tells h =
       absurd (replied_none (map.get mid.pendings.entries number) (succeeded (map.get mid.hops.held triad) came success) h)
-  ended_by config mid (Takes number b) h = absurd (replied_none (map.get mid.pendings.entries number) b h)
-  ended_by config mid (PendingTimesOut number) h = absurd (late_none (map.get mid.pendings.entries number) h)
-  ended_by config mid (Passes triad side b) h = absurd (passed_none side (hop_at mid.hops triad) b h)
-  ended_by config mid e h = absurd h
+  ended_by config s event mid (Takes number b) tells h = absurd (replied_none (map.get mid.pendings.entries number) b h)
+  ended_by config s event mid (PendingTimesOut number) tells h = absurd (late_none (map.get mid.pendings.entries number) h)
+  ended_by config s event mid (Passes triad side b) tells h = absurd (passed_none side (hop_at mid.hops triad) b h)
+  ended_by config s event mid e tells h = absurd h

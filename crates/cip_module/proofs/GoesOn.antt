@@ -1,5 +1,6 @@
 -- What goes on for an Unconnected_Send or a Forward_Close is no Forward_Open.
-use Rattle.std.proofs.Common.{◌≡◌, ◌<◌, ℕ, true, false, cond, List, [], ◌∷◌, length, Ok, Option, Some, None, refl, sym, ap, ◌∙◌, arith, eqb}
+use Rattle.std.proofs.Common.{◌≡◌, ◌<◌, ℕ, Bool, true, false, cond, get_or, List, [], ◌∷◌, length, Ok, Option, Some, None, refl, sym, ap, ◌∙◌, arith, eqb}
+use Rattle.std.specs.Prelude.{nat_lt}
 use Rattle.cip_segment.specs.declared.segment.Segment.{Segment}
 use Rattle.cip_segment.specs.declared.segment.Segment.TheVariants.{Class, Instance}
 use Rattle.cip_segment.specs.Reading.{segments_of}
@@ -13,12 +14,15 @@ use Rattle.cip_pending.specs.Pendings.{Pendings}
 use Rattle.cip_target.specs.Object.{attribute_in, with_attribute, instance_in, object_of}
 use Rattle.cip_module.specs.declared.config.ModuleSettings.{ModuleSettings}
 use Rattle.cip_module.specs.declared.refusals.UnconnectedRefusal.TheVariants.{EmbeddedRequestNotAllowed}
+use Rattle.cip_module.specs.declared.command_rows.CommandRow.TheVariants as command
+use Rattle.cip_module.specs.CommandRows.{send_row}
 use Rattle.cip_module.specs.Object.{begins_with_manager}
 use Rattle.cip_module.specs.RequestRows.{UnknownPortOrTooLong, ForwardOpen, Target, is_malformed, read_row, manager_row, object_row, request_row}
+use Rattle.cip_module.specs.State.{State, is_spent}
 use Rattle.cip_module.specs.Table.{one_less, message_on}
 use Rattle.cip_module.specs.UnconnectedRows.{UnconnectedRow, embedded_row, route_row, unconnected_row}
 use Rattle.cip_module.specs.UnconnectedRows as unconnected
-use Rattle.cip_module.proofs.ReadBack.{manager_object}
+use Rattle.cip_module.proofs.NextRows.{manager_object}
 
 -- the row of bytes, unless they come by no port or are too long
 row_or : (config : ModuleSettings) (port : ℕ) (bytes d : List ℕ) → request_row config port bytes ≡ ForwardOpen d
@@ -70,6 +74,33 @@ allowed config p u r port address rest read meets =
       | true ↦ λ s. absurd (cc)
       | false ↦ λ s. refl
     ] row
+
+-- nor is what is answered here for it
+pub answered_allowed : (config : ModuleSettings) (p : Pendings) (u : Unconnected) (r embedded : Request) → request_at u.request ≡ Ok r
+    → unconnected_row config p u ≡ unconnected.AnsweredHere embedded
+    → begins_with_manager (segments_of r.path) ≡ false
+unfolding unconnected_row
+answered_allowed config p u r embedded read meets =
+    let row : embedded_row config p u (Ok r) ≡ unconnected.AnsweredHere embedded = sym (ap (embedded_row config p u) read) ∙ meets in
+    elim (begins_with_manager (segments_of r.path)) as (λ b. cond b (unconnected.Refuses EmbeddedRequestNotAllowed) (route_row config p u r)
+    ≡ unconnected.AnsweredHere embedded → b ≡ false) [
+      | true ↦ λ s. absurd (cc)
+      | false ↦ λ s. refl
+    ] row
+
+-- ---- a Send
+
+taken_row : (a b c : Bool) → cond a command.OpUsed (cond b command.ReservedService (cond c command.WrongSize command.Taken)) ≡ command.Taken → b ≡ false
+taken_row true b c e = absurd (cc)
+taken_row false true c e = absurd (cc)
+taken_row false false c e = refl
+
+-- the request of a Send that is taken is not of the service that is Unconnected_Send's
+pub send_service : (s : State) (op : ℕ) (u : Unconnected) → send_row s op u ≡ command.Taken → eqb (get_or u.request 0 0) 0x52 ≡ false
+unfolding send_row
+send_service s op u e = taken_row (is_spent op s.ops) (eqb (get_or u.request 0 0) 0x52) (nat_lt 1400 (length (unconnected_bytes u))) e
+
+-- ---- the message that goes on
 
 pub message_no_open : (config there : ModuleSettings) (p : Pendings) (u : Unconnected) (r : Request) (port q : ℕ) (address rest d : List ℕ)
     → request_at u.request ≡ Ok r

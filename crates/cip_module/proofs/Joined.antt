@@ -32,7 +32,7 @@ use Rattle.cip_module.specs.Effects.{Sending, Effect, Forwards, Begins, Accepts,
 use Rattle.cip_module.specs.State.{State}
 use Rattle.cip_module.specs.Tells.{Tells, ForwardsAs, BeginsAs, AcceptsAs, FinishesAs}
 use Rattle.cip_module.proofs.Fits.{numbers_apart}
-use Rattle.cip_module.proofs.Points.{put_here, put_apart, gone_apart}
+use Rattle.cip_base.proofs.Points.{put_here, put_apart, gone_apart}
 use Rattle.cip_module.proofs.Removed.{open_at}
 use Rattle.cip_module.proofs.TellsAskers.{begins_asker, open_asker}
 use Rattle.cip_module.proofs.Waiting.{waits_at}
@@ -40,10 +40,11 @@ use Rattle.cip_module.specs.Births.{Past}
 use Rattle.cip_module.specs.Histories.{Turn, state_after, IsHistory}
 use Rattle.cip_module.specs.Words.{Has}
 use Rattle.cip_module.proofs.Asking.{has_left, has_right}
-use Rattle.cip_module.proofs.MapCases.{remove_cases}
+use Rattle.cip_base.proofs.MapCases.{remove_cases}
 use Rattle.cip_module.proofs.Puts.{puts, pending_cases}
 use Rattle.cip_module.proofs.Quiet.{alone, reply_alone}
 use Rattle.cip_module.proofs.Turns.{Turned, newest, by_places, outputs-append}
+pub use Rattle.cip_module.specs.Openings.{OpenSent, SentIn, Opens, Joined}
 
 -- ---- what is opening stays so
 
@@ -87,36 +88,14 @@ abandoned_apart h k q apart = cond_both (is_some (opening_at h k)) (without h k)
 
 -- ---- a request and what it opens
 
-pub record OpenSent (config : ModuleSettings) (n : ℕ) (p : Entry) (o : Opening) (ids : OwnIds) (before : List Turn) (turn : Turn) : Type 0 where
-  pub sending : Sending
-  pub tells : BeginsAs config (state_after config before) turn.event sending o
-  pub number : n ≡ (state_after config before).pendings.next
-  pub ids_are : ids ≡ own_ids (state_after config before).hops.next o
-  pub sent : Has turn.outputs (outputs.Send sending.port sending.address (bodies.Request n sending.bytes))
-  pub up_is : p.up ≡ sending.up
-  pub port_is : p.port ≡ sending.port
-  pub address_is : p.address ≡ sending.address
-  pub words_is : p.words ≡ sending.words
-
 module _ (P : ℕ → Entry → Opening → OwnIds → Type 0) where
-  pub record Opens (s : State) (n : ℕ) (p : Entry) (triad : Triad) : Type 0 where
-    pub opening : Opening
-    pub ids : OwnIds
-    pub at : map.get s.hops.held triad ≡ Some (IsOpening opening ids)
-    pub of : P n p opening ids
-
-  pub record Joined (s : State) : Type 0 where
-    pub each : (n : ℕ) (p : Entry) (triad : Triad) → map.get s.pendings.entries n ≡ Some p → p.kind ≡ OpeningKind triad → Opens s n p triad
-    pub one : (m n : ℕ) (p q : Entry) (triad : Triad) → map.get s.pendings.entries m ≡ Some p → map.get s.pendings.entries n ≡ Some q
-        → p.kind ≡ OpeningKind triad → q.kind ≡ OpeningKind triad → m ≡ n
-
   -- no request that opens is new, and what is opening for one that is left stands
-  joined_kept : (s new : State) → Joined s
+  joined_kept : (s new : State) → Joined P s
       → ((n : ℕ) (p : Entry) (triad : Triad) → map.get new.pendings.entries n ≡ Some p → p.kind ≡ OpeningKind triad → map.get s.pendings.entries n ≡ Some p)
       → ((n : ℕ) (p : Entry) (triad : Triad) (o : Opening) (ids : OwnIds) → map.get new.pendings.entries n ≡ Some p → p.kind ≡ OpeningKind triad
       → map.get s.hops.held triad ≡ Some (IsOpening o ids)
       → map.get new.hops.held triad ≡ Some (IsOpening o ids))
-      → Joined new
+      → Joined P new
   joined_kept s new h old stays = record {
     each = λ n p triad at kind.
         let was = h.each n p triad (old n p triad at kind) kind in
@@ -125,8 +104,8 @@ module _ (P : ℕ → Entry → Opening → OwnIds → Type 0) where
   }
 
   -- one waits no more; what it was opening is gone
-  joined_taken : (s new : State) (number : ℕ) → Joined s → new.pendings.entries ≡ map.remove s.pendings.entries number
-      → new.hops ≡ given_up (map.get s.pendings.entries number) s.hops → Joined new
+  joined_taken : (s new : State) (number : ℕ) → Joined P s → new.pendings.entries ≡ map.remove s.pendings.entries number
+      → new.hops ≡ given_up (map.get s.pendings.entries number) s.hops → Joined P new
   joined_taken s new number h gone left =
       let was : (n : ℕ) (p : Entry) → map.get new.pendings.entries n ≡ Some p → (n ≡ number → ⊥) × (map.get s.pendings.entries n ≡ Some p) =
       λ n p at. remove_cases nat_cmp_total numbers_apart s.pendings.entries number n p (ap (λ m. map.get m n) (sym gone) ∙ at) in
@@ -138,7 +117,7 @@ module _ (P : ℕ → Entry → Opening → OwnIds → Type 0) where
       ] in
       ap (λ (x : Hops). map.get x.held triad) left ∙ stands (map.get s.pendings.entries number) refl)
     where
-      by_kind : (s : State) (number n : ℕ) (p q : Entry) (triad : Triad) (o : Opening) (ids : OwnIds) → Joined s → (n ≡ number → ⊥)
+      by_kind : (s : State) (number n : ℕ) (p q : Entry) (triad : Triad) (o : Opening) (ids : OwnIds) → Joined P s → (n ≡ number → ⊥)
           → map.get s.pendings.entries n ≡ Some p → p.kind ≡ OpeningKind triad
           → map.get s.pendings.entries number ≡ Some q → map.get s.hops.held triad ≡ Some (IsOpening o ids) → (k : Kind) → q.kind ≡ k
           → map.get (given_up_of k s.hops).held triad ≡ Some (IsOpening o ids)
@@ -324,9 +303,6 @@ module _ (config : ModuleSettings) (turns : List Turn) (turn : Turn)
     joined_each e is tells h = same_waits e h refl (λ q o ids at. at)
 
 -- over a history
-abbrev pub SentIn : ModuleSettings → List Turn → ℕ → Entry → Opening → OwnIds → Type 0
-SentIn config turns n p o ids = Past (OpenSent config n p o ids) turns
-
 older_joined : (config : ModuleSettings) (turn : Turn) (turns : List Turn) (s : State) → Joined (SentIn config turns) s
     → Joined (λ n p o ids. OpenSent config n p o ids turns turn ⊎ Past (OpenSent config n p o ids) turns) s
 older_joined config turn turns s h = record {

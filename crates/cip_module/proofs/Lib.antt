@@ -4,7 +4,6 @@ pub mod TimeOuts
 pub mod SettingsLemmas
 pub mod Found
 pub mod Outputs
-pub mod Points
 pub mod Fits
 pub mod Kept
 pub mod Removed
@@ -29,7 +28,6 @@ pub mod TellsTicks
 pub mod Tells
 pub mod TellsAskers
 pub mod TellsStand
-pub mod MapCases
 pub mod Turns
 pub mod Weighing
 pub mod Puts
@@ -46,7 +44,6 @@ pub mod Asking
 pub mod OneReply
 pub mod Dones
 pub mod Failures
-pub mod ReadBack
 pub mod GoesOn
 pub mod Joined
 pub mod AskedBy
@@ -57,12 +54,10 @@ pub mod PassedBy
 pub mod Standing
 pub mod Shown
 pub mod AtFirst
-pub mod PathsShorten
-pub mod ReadBackOthers
-pub mod ReadBackSends
 pub mod NextRows
 pub mod DataMet
-pub mod AtHand
 pub mod GivenBy
 pub mod Runs
 pub mod ProducedStand
+pub mod FailuresRead
+pub mod DataOnce

@@ -33,7 +33,7 @@ use Rattle.cip_module.specs.Code.Made.{made_of, takes_from, made_all, count_for,
 use Rattle.cip_module.specs.State.{State}
 use Rattle.cip_module.specs.Table.{produce_effects}
 use Rattle.cip_module.proofs.Fits.{triad_or_not}
-use Rattle.cip_module.proofs.Points.{put_here, put_apart}
+use Rattle.cip_base.proofs.Points.{put_here, put_apart}
 use Rattle.cip_module.proofs.Walks.{triad_at, open_in, opens_above, AreNamed, within_named, hop_walks, hop_walked, hop_fewer, opens_all}
 
 -- ---- what is made, in turn

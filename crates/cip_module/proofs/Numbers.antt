@@ -1,6 +1,6 @@
 -- A module sends one request at most under each of its numbers.
 use Rattle.std.proofs.Common.{◌≡◌, ℕ, ◌+◌, ◌≤◌, Bool, true, false, List, [], ◌∷◌, Option, Some, None, refl, ap, inl, inr, arith, eqb, leb}
-use Rattle.std.proofs.lemmas.Bool.{cases_order, eq-eqb, ne_eqb, le-leb, lt-leb}
+use Rattle.std.proofs.lemmas.Bool.{cases_order, eq-eqb, ne_eqb, le-leb, lt-leb, leb-true, leb-false}
 use Rattle.cip_message.specs.Reply.{reply_bytes}
 use Rattle.cip_target.specs.Objects.{target_answer}
 use Rattle.cip_module.specs.EffectLists.{gain}
@@ -18,10 +18,15 @@ use Rattle.cip_hops.specs.declared.hop.Side.{Side}
 use Rattle.cip_hops.specs.declared.hop.Side.TheVariants.{Up, Down}
 use Rattle.cip_hops.specs.Hops.{hop_at}
 use Rattle.std.specs.FinMap as map
+use Rattle.cip_module.specs.declared.event.Body.TheVariants as bodies
+use Rattle.cip_module.specs.declared.event.Output.TheVariants as outputs
+use Rattle.cip_module.specs.Changes.{numbers_drawn}
 use Rattle.cip_module.specs.State.{State, initial_state}
 use Rattle.cip_module.specs.Histories.{Turn, state_after, IsHistory}
 use Rattle.cip_module.specs.Weights.{mark, is_request, weight_in, weight, came}
-use Rattle.cip_module.proofs.Weighing.{history_conserved}
+use Rattle.cip_module.specs.Words.{Has}
+use Rattle.cip_module.proofs.Puts.{next_number}
+use Rattle.cip_module.proofs.Weighing.{weight_has, history_conserved}
 
 -- whether a number is still to be drawn
 abbrev pub undrawn : ℕ → State → ℕ
@@ -91,6 +96,41 @@ numbers_each config n s (PendingTimesOut number) = let none = no_request_late n 
 numbers_each config n s (Passes triad side bytes) = let none = no_request_passed n side (hop_at s.hops triad) bytes in omega (arith, none)
 numbers_each config n s e = omega arith
 
+-- ---- the number of a request
+
+mark_small : (b : Bool) → mark b ≤ 1
+mark_small true = omega arith
+mark_small false = omega arith
+
+mark_one : (b : Bool) → 1 ≤ mark b → b ≡ true
+mark_one true h = refl
+mark_one false h = absurd (omega (arith, h))
+
+mark_none : (b : Bool) → mark b ≡ 0 → b ≡ false
+mark_none true h = absurd (omega (arith, h))
+mark_none false h = refl
+
+drawn_once : (e : Effect) → numbers_drawn e ≤ 1
+drawn_once (Forwards sending kind) = omega arith
+drawn_once (Begins sending opened) = omega arith
+drawn_once e = omega arith
+
+-- it is the one that was next
+pub request_number : (config : ModuleSettings) (mid : State) (e : Effect) (port n : ℕ) (to bytes : List ℕ)
+    → Has (output_of config mid e) (outputs.Send port to (bodies.Request n bytes)) → n ≡ mid.pendings.next
+request_number config mid e port n to bytes h =
+    let some = weight_has (is_request n) (output_of config mid e) (outputs.Send port to (bodies.Request n bytes)) h in
+    let one = ap mark (eq-eqb n n refl) in
+    let sum = numbers_each config n mid e in
+    let small = mark_small (leb mid.pendings.next n) in
+    let from = leb-true mid.pendings.next n (mark_one (leb mid.pendings.next n) (omega (arith, some, one, sum))) in
+    let to_ = leb-false (apply config mid e).pendings.next n (mark_none (leb (apply config mid e).pendings.next n) (omega (arith, some, one, sum, small))) in
+    let drawn = next_number config mid e in
+    let most = drawn_once e in
+    omega (arith, from, to_, drawn, most)
+
+-- ---- a history
+
 none_gained : (es : List Effect) → gain (λ e. 0) es ≡ 0
 none_gained [] = refl
 none_gained (e ∷ es) = let h = none_gained es in omega (arith, h)
@@ -98,10 +138,6 @@ none_gained (e ∷ es) = let h = none_gained es in omega (arith, h)
 none_came : (turns : List Turn) → came (λ event. 0) turns ≡ 0
 none_came [] = refl
 none_came (turn ∷ turns) = let h = none_came turns in omega (arith, h)
-
-mark_small : (b : Bool) → mark b ≤ 1
-mark_small true = omega arith
-mark_small false = omega arith
 
 -- what was sent under a number, and what is still to be sent under it, is one
 pub numbers_conserved : (config : ModuleSettings) (n : ℕ) (turns : List Turn) → IsHistory config turns

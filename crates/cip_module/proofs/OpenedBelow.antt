@@ -1,12 +1,9 @@
 -- Each open connection that goes on by a link was opened by the reply to the request that was sent for it.
-use Rattle.std.proofs.Common.{◌≡◌, ℕ, true, false, List, [], ◌∷◌, ◌++◌, Ok, Option, Some, None, refl, sym, ap, subst, ◌∙◌, ◌⊎◌, inl, inr}
+use Rattle.std.proofs.Common.{◌≡◌, ℕ, true, false, List, [], ◌∷◌, ◌++◌, Option, Some, None, refl, sym, ap, subst, ◌∙◌, ◌⊎◌, inl, inr}
 use Rattle.std.specs.FinMap as map
 use Rattle.std.specs.Prelude.{if◌then◌else◌}
 use Rattle.cip_base.specs.declared.triad.Triad.{Triad}
 use Rattle.cip_base.specs.Triads.{triad_cmp}
-use Rattle.cip_message.specs.Reply.{Reply}
-use Rattle.cip_message.specs.ReplyAt.{reply_at}
-use Rattle.cip_pending.specs.declared.entry.Entry.{Entry}
 use Rattle.cip_hops.specs.declared.opening.Opening.{Opening}
 use Rattle.cip_hops.specs.declared.opening.OwnIds.{OwnIds}
 use Rattle.cip_hops.specs.declared.hop.Hop.{Hop}
@@ -15,8 +12,6 @@ use Rattle.cip_hops.specs.declared.hop.Held.TheVariants.{Opening as IsOpening, O
 use Rattle.cip_hops.specs.Sides.{down_is_link, own_ids}
 use Rattle.cip_hops.specs.Hops.{opened}
 use Rattle.cip_open.specs.Open.{Open as OpenRequest}
-use Rattle.cip_open.specs.Success.{OpenSuccess}
-use Rattle.cip_open.specs.SuccessAt.{open_reply_at}
 use Rattle.cip_target.specs.declared.link.EndLink.{EndLink}
 use Rattle.cip_module.specs.declared.config.ModuleSettings.{ModuleSettings}
 use Rattle.cip_module.specs.declared.event.Body.TheVariants as bodies
@@ -33,20 +28,7 @@ use Rattle.cip_module.proofs.Joined.{Opens, SentIn, joined}
 use Rattle.cip_module.proofs.Quiet.{reply_alone}
 use Rattle.cip_module.proofs.Stands.{SameCore, OpenedBy, HeldCase, Stands, Begun, Ended, Finished, held_cases}
 use Rattle.cip_module.proofs.Turns.{Turned, newest, by_places}
-
--- the turn in which the success came to the request that was sent for a connection
-pub record HopOpened (config : ModuleSettings) (o : Opening) (ids : OwnIds) (their_id : Option ℕ) (before : List Turn) (turn : Turn) : Type 0 where
-  pub number : ℕ
-  pub entry : Entry
-  pub bytes : List ℕ
-  pub reply : Reply
-  pub success : OpenSuccess
-  pub sent : SentIn config before number entry o ids
-  pub event_is : turn.event ≡ events.Frame entry.port entry.address (bodies.Reply number bytes)
-  pub read : reply_at bytes ≡ Ok reply
-  pub general : reply.general ≡ 0
-  pub success_is : open_reply_at reply.data_ ≡ Ok success
-  pub their_is : their_id ≡ (if down_is_link o.down then Some success.ot_id else None)
+pub use Rattle.cip_module.specs.Openings.{HopOpened}
 
 same_open : (g h : Hop) → Open g ≡ Open h → g ≡ h
 same_open g h e = cc

@@ -1,17 +1,10 @@
 -- Which connection a datum went by, and one step back along it.
-use Rattle.std.proofs.Common.{◌≡◌, ℕ, Bool, true, false, List, [], ◌∷◌, ◌++◌, Option, Some, None, refl, sym, ap, ◌∙◌, inl, inr, arith, eqb}
+use Rattle.std.proofs.Common.{◌≡◌, ℕ, true, false, List, [], ◌∷◌, ◌++◌, Option, Some, None, refl, sym, ap, ◌∙◌, inl, inr, arith, eqb}
 use Rattle.std.specs.FinMap as map
-use Rattle.std.specs.List.{find}
-use Rattle.std.specs.Prelude.{option_and_then}
 use Rattle.std.specs.Str.{bytes_eq}
 use Rattle.std.proofs.lemmas.Bool.{and_parts, eqb-true}
 use Rattle.std.proofs.lemmas.Slice.Eq.{bytes_eq-Decides}
 use Rattle.cip_base.specs.declared.triad.Triad.{Triad}
-use Rattle.cip_base.specs.Triads.{triad_cmp}
-use Rattle.cip_base.proofs.Triads.{triads_total}
-use Rattle.cip_hops.proofs.Steps.{triads_apart}
-use Rattle.cip_base.proofs.Views.{found-gives}
-use Rattle.cip_hops.proofs.Named.{is_open}
 use Rattle.cip_message.specs.Reply.{reply_bytes}
 use Rattle.cip_pending.specs.declared.entry.Entry as entries
 use Rattle.cip_pending.specs.declared.entry.UpSide.{UpSide}
@@ -19,22 +12,18 @@ use Rattle.cip_pending.specs.declared.entry.UpSide.TheVariants.{Link, Local}
 use Rattle.cip_hops.specs.declared.opening.HopUp.{HopUp}
 use Rattle.cip_hops.specs.declared.opening.HopUp.TheVariants.{Link as UpLink, Local as UpLocal}
 use Rattle.cip_hops.specs.declared.hop.Hop.{Hop}
-use Rattle.cip_hops.specs.declared.hop.Held.{Held}
-use Rattle.cip_hops.specs.declared.hop.Held.TheVariants.{Open}
 use Rattle.cip_hops.specs.declared.hop.Side.{Side}
 use Rattle.cip_hops.specs.declared.hop.Side.TheVariants.{Down}
 use Rattle.cip_hops.specs.Sides.{op_of, up_is}
-use Rattle.cip_hops.specs.Hops.{Hops, as_hop, is_hop, is_id, first_hop, hop_at, triad_of, is_hop_by_up, hop_by_op}
+use Rattle.cip_hops.specs.Hops.{is_id, hop_at, is_hop_by_up, hop_by_op}
 use Rattle.cip_target.specs.Objects.{target_answer}
 use Rattle.cip_module.specs.EffectLists.{gain}
 use Rattle.cip_module.specs.declared.config.ModuleSettings.{ModuleSettings}
-use Rattle.cip_module.specs.declared.event.Body.{Body}
 use Rattle.cip_module.specs.declared.event.Body.TheVariants as bodies
 use Rattle.cip_module.specs.declared.event.Command.TheVariants as commands
 use Rattle.cip_module.specs.declared.event.Event.{Event}
 use Rattle.cip_module.specs.declared.event.Event.TheVariants as events
 use Rattle.cip_module.specs.declared.event.Output.{Output}
-use Rattle.cip_module.specs.declared.event.Output.TheVariants as outputs
 use Rattle.cip_module.specs.declared.command_rows.CommandRow.{CommandRow}
 use Rattle.cip_module.specs.declared.command_rows.CommandRow.TheVariants as command
 use Rattle.cip_module.specs.CommandRows.{enter_row}
@@ -49,23 +38,8 @@ use Rattle.cip_module.specs.Words.{Has}
 use Rattle.cip_module.proofs.Births.{gain-append}
 use Rattle.cip_module.proofs.Triads.{HasOwnTriads, own_triads}
 use Rattle.cip_module.proofs.Turns.{Turned, newest}
-
--- ---- a connection that is found
-
--- it stands under its own triad, and passes the test
-pub found_own : (test : Hop → Bool) (h : Hops) (hop : Hop) → first_hop test h ≡ Some hop
-    → ((q : Triad) (x : Held) → map.get h.held q ≡ Some x → triad_of x ≡ q)
-    → (hop_at h hop.opening.triad ≡ Some hop) × (test hop ≡ true)
-found_own test h hop g own = found_in (find (λ e. is_hop test e.1) (map.entries h.held)) refl g
-  where
-    found_in : (e : Option (Triad × Held)) → find (λ e. is_hop test e.1) (map.entries h.held) ≡ e → option_and_then (λ e. as_hop e.1) e ≡ Some hop
-        → (hop_at h hop.opening.triad ≡ Some hop) × (test hop ≡ true)
-    found_in None f k = absurd (cc)
-    found_in (Some e) f k =
-        let at = found-gives triad_cmp triads_total triads_apart h.held (λ e. is_hop test e.1) e f in
-        let open_ : e.1 ≡ Open hop = is_open e.1 hop k in
-        let triad : hop.opening.triad ≡ e.0 = ap triad_of (sym open_) ∙ own e.0 e.1 at.0 in
-        (ap (hop_at h) triad ∙ ap (option_and_then as_hop) at.0 ∙ k, ap (is_hop test) (sym open_) ∙ at.1)
+pub use Rattle.cip_module.specs.Outputs.{is_data, is_datum, PassedBy}
+pub use Rattle.cip_module.proofs.Found.{found_own}
 
 has_id : (id : ℕ) (own : Option ℕ) → is_id id own ≡ true → own ≡ Some id
 has_id id None t = absurd (cc)
@@ -80,30 +54,6 @@ up_way port address (UpLink p a c) t =
 up_way port address (UpLocal op) t = absurd (cc)
 
 -- ---- data among the outputs
-
-abbrev pub is_data : Body → Bool
-is_data (bodies.Request number bytes) = false
-is_data (bodies.Reply number bytes) = false
-is_data (bodies.Data id bytes) = true
-
-abbrev pub is_datum : Output → Bool
-is_datum (outputs.Send port to body) = is_data body
-is_datum (outputs.Done op reply) = false
-is_datum (outputs.Refused fault) = false
-is_datum (outputs.Consumed triad instance bytes) = true
-is_datum (outputs.Arrived op bytes) = true
-is_datum (outputs.Expired triad) = false
-is_datum (outputs.Dropped reason) = false
-
--- the connection and the side by which an effect passed a datum
-pub record PassedBy (mid : State) (e : Effect) (x : Output) : Type 0 where
-  pub triad : Triad
-  pub side : Side
-  pub bytes : List ℕ
-  pub hop : Hop
-  pub effect_is : e ≡ Passes triad side bytes
-  pub stands : hop_at mid.hops triad ≡ Some hop
-  pub is : datum_by side hop bytes ≡ x
 
 module _ (x : Output) (data_ : is_datum x ≡ true) where
   no_other : (y : Output) → is_datum y ≡ false → Has (y ∷ []) x → ⊥
@@ -146,7 +96,7 @@ module _ (x : Output) (data_ : is_datum x ≡ true) where
 
 -- ---- a datum of a frame, or one that is entered, is passed first
 
-abbrev passes : Effect → ℕ
+abbrev pub passes : Effect → ℕ
 passes (Passes triad side bytes) = 1
 passes e = 0
 
@@ -161,7 +111,7 @@ first_only (y ∷ before) after triad side b x tail e none =
     let sum = gain-append passes before (Passes triad side b ∷ after) in
     absurd (omega (arith, none, same, sum))
 
-counts_none : (triad : Triad) (count : Option ℕ) → gain passes (counts triad count) ≡ 0
+pub counts_none : (triad : Triad) (count : Option ℕ) → gain passes (counts triad count) ≡ 0
 counts_none triad None = refl
 counts_none triad (Some count) = omega arith
 

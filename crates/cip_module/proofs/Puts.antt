@@ -11,19 +11,13 @@ use Rattle.cip_pending.specs.declared.entry.Kind.TheVariants.{Unconnected, Openi
 use Rattle.cip_hops.specs.declared.hop.Hop.{Hop}
 use Rattle.cip_hops.specs.declared.hop.Held.{Held}
 use Rattle.cip_hops.specs.declared.hop.Held.TheVariants.{Opening as IsOpening, Open}
-use Rattle.cip_hops.specs.Sides.{ids_drawn}
 use Rattle.cip_hops.specs.Hops.{Hops, as_hop, open_in, finished, begun, change_in, changed, touched, counted}
 use Rattle.cip_module.specs.declared.config.ModuleSettings.{ModuleSettings}
 use Rattle.cip_module.specs.Effects.{Effect, Forwards, Begins, Accepts, Finishes, Takes, PendingTimesOut, Removes, HopTimesOut, Renews, Counts, entry_for, abandoned, removed, given_up, given_up_of, renewed, recounted, apply}
 use Rattle.cip_module.specs.State.{State}
 use Rattle.cip_module.proofs.Fits.{numbers_apart}
-use Rattle.cip_module.proofs.MapCases.{insert_cases, remove_cases}
-
--- the request that an effect puts among those that wait
-abbrev pub puts : State → Effect → Option Entry
-puts s (Forwards sending kind) = Some (entry_for s sending kind)
-puts s (Begins sending opening) = Some (entry_for s sending (OpeningOf opening.triad))
-puts s e = None
+use Rattle.cip_base.proofs.MapCases.{insert_cases, remove_cases}
+pub use Rattle.cip_module.specs.Changes.{puts, numbers_drawn, drawn_ids}
 
 -- what waits after an effect waited before, or is what it puts there, under the next number
 pub pending_cases : (config : ModuleSettings) (s : State) (e : Effect) (n : ℕ) (p : Entry) → map.get (apply config s e).pendings.entries n ≡ Some p
@@ -44,11 +38,6 @@ pending_cases config s (PendingTimesOut number) n p h = inl (remove_cases nat_cm
 pending_cases config s e n p h = inl h
 
 -- ---- numbers
-
-abbrev pub numbers_drawn : Effect → ℕ
-numbers_drawn (Forwards sending kind) = 1
-numbers_drawn (Begins sending opening) = 1
-numbers_drawn e = 0
 
 pub next_number : (config : ModuleSettings) (s : State) (e : Effect) → (apply config s e).pendings.next ≡ s.pendings.next + numbers_drawn e
 next_number config s (Forwards sending kind) = refl
@@ -80,11 +69,6 @@ no_number s h =
     ] refl
 
 -- ---- ids
-
-abbrev pub drawn_ids : Effect → ℕ
-drawn_ids (Begins sending opening) = ids_drawn opening
-drawn_ids (Accepts opening open_ link) = ids_drawn opening
-drawn_ids e = 0
 
 finished_next : (h : Hops) (triad : Triad) (id now : ℕ) → (finished h triad id now).next ≡ h.next
 finished_next h triad id now =

@@ -18,7 +18,7 @@ use Rattle.cip_target.specs.Ends.{Ends, released}
 use Rattle.cip_module.specs.declared.config.ModuleSettings.{ModuleSettings}
 use Rattle.cip_module.specs.OpenRows.{writes_to}
 use Rattle.cip_module.specs.Code.Fit.{Fit, AreOwned, writes_of, given_back}
-use Rattle.cip_module.proofs.Points.{one_or_apart, gone_here, gone_apart}
+use Rattle.cip_base.proofs.Points.{one_or_apart, gone_here, gone_apart}
 use Rattle.cip_module.proofs.Fits.{Becomes, becomes_gone, spent_becomes, links_becomes, owned_becomes, paired_becomes, numbers_apart, triad_or_not}
 
 -- ---- a connection is gone

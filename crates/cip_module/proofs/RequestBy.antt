@@ -4,10 +4,7 @@ use Rattle.std.specs.FinMap as map
 use Rattle.std.specs.Prelude.{option_and_then}
 use Rattle.std.proofs.lemmas.Bool.{eq-eqb}
 use Rattle.cip_message.specs.Reply.{reply_bytes}
-use Rattle.cip_open.specs.Open.{Open as OpenRequest}
 use Rattle.cip_pending.specs.declared.entry.UpSide.{UpSide}
-use Rattle.cip_pending.specs.declared.entry.Kind.{Kind}
-use Rattle.cip_hops.specs.declared.opening.HopDown.{HopDown}
 use Rattle.cip_hops.specs.declared.opening.HopDown.TheVariants.{Link as DownLink}
 use Rattle.cip_hops.specs.declared.opening.Opening.{Opening}
 use Rattle.cip_hops.specs.declared.opening.OwnIds.{OwnIds}
@@ -18,11 +15,10 @@ use Rattle.cip_module.specs.declared.event.Body.TheVariants as bodies
 use Rattle.cip_module.specs.declared.event.Event.{Event}
 use Rattle.cip_module.specs.declared.event.Output.{Output}
 use Rattle.cip_module.specs.declared.event.Output.TheVariants as outputs
-use Rattle.cip_module.specs.Effects.{Sending, Effect, Replies, Answers, Forwards, Begins, Accepts, Finishes, Takes, PendingTimesOut, HopTimesOut, Passes, RefusesCommand, Drops, objects_of, reply_up, succeeded, output_of}
-use Rattle.cip_module.specs.OpenRows.{opening_with, end_down}
+use Rattle.cip_module.specs.Effects.{Effect, Replies, Answers, Forwards, Begins, Accepts, Finishes, Takes, PendingTimesOut, HopTimesOut, Passes, RefusesCommand, Drops, objects_of, reply_up, succeeded, output_of}
+use Rattle.cip_module.specs.OpenRows.{end_down}
 use Rattle.cip_module.specs.State.{State}
-use Rattle.cip_module.specs.Table.{opener}
-use Rattle.cip_module.specs.Tells.{Tells, AllTell, AsksOpen, ForwardsAs, BeginsAs}
+use Rattle.cip_module.specs.Tells.{Tells, AllTell}
 use Rattle.cip_module.specs.Births.{opened_by, or_else, first_opened, IsBirth}
 use Rattle.cip_module.specs.Histories.{Turn, state_after, IsHistory}
 use Rattle.cip_module.specs.Weights.{mark, is_request, weight_in}
@@ -30,15 +26,9 @@ use Rattle.cip_module.specs.Words.{Has}
 use Rattle.cip_module.proofs.Numbers.{no_request_up, no_request_passed, no_request_taken, no_request_late}
 use Rattle.cip_module.proofs.Turns.{newest}
 use Rattle.cip_module.proofs.Weighing.{weight_has}
+pub use Rattle.cip_module.specs.Outputs.{BornBy, RequestBy, ByForward, ByBegin}
 
 -- ---- what a birth tells
-
-pub record BornBy (config : ModuleSettings) (s : State) (event : Event) (o : Opening) : Type 0 where
-  pub up : UpSide
-  pub request : OpenRequest
-  pub down : HopDown
-  pub asks : AsksOpen config s event up request
-  pub opening_is : o ≡ opening_with (opener up request.fields.to_id) down request
 
 opened_tells : (config : ModuleSettings) (s : State) (event : Event) (e : Effect) (o : Opening) → opened_by e ≡ Some o → Tells config s event e
     → BornBy config s event o
@@ -67,12 +57,6 @@ born_tells config o ids before turn h b =
 
 -- ---- what sent a request
 
-pub data RequestBy (config : ModuleSettings) (s : State) (event : Event) (e : Effect) (port : ℕ) (to bytes : List ℕ) : Type 0 where
-  ByForward : (sending : Sending) (kind : Kind) → ForwardsAs config s event sending kind → sending.bytes ≡ bytes → RequestBy config s event e port to bytes
-  ByBegin : (sending : Sending) (o : Opening) → e ≡ Begins sending o → BeginsAs config s event sending o → sending.port ≡ port → sending.address ≡ to
-      → sending.bytes ≡ bytes
-      → RequestBy config s event e port to bytes
-
 module _ (port n : ℕ) (to bytes : List ℕ) where
   abbrev it : Output
   it = outputs.Send port to (bodies.Request n bytes)
@@ -88,7 +72,7 @@ module _ (port n : ℕ) (to bytes : List ℕ) where
 
   pub request_by : (config : ModuleSettings) (s : State) (event : Event) (mid : State) (e : Effect) → Tells config s event e → Has (output_of config mid e) it
       → RequestBy config s event e port to bytes
-  request_by config s event mid (Forwards sending kind) tells (inl e) = ByForward sending kind tells (cc)
+  request_by config s event mid (Forwards sending kind) tells (inl e) = ByForward sending kind refl tells (cc) (cc) (cc)
   request_by config s event mid (Forwards sending kind) tells (inr h) = absurd h
   request_by config s event mid (Begins sending o) tells (inl e) = ByBegin sending o refl tells (cc) (cc) (cc)
   request_by config s event mid (Begins sending o) tells (inr h) = absurd h

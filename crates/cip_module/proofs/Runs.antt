@@ -4,7 +4,7 @@ pub use Rattle.cip_module.proofs.Tells.{decide_tells}
 pub use Rattle.cip_module.proofs.Standing.{all_stand}
 pub use Rattle.cip_module.proofs.Quiet.{alone, reply_alone}
 pub use Rattle.cip_module.proofs.PassedBy.{frame_alone, enter_alone}
-pub use Rattle.cip_module.proofs.ProducedStand.{produced_stood}
+pub use Rattle.cip_module.proofs.ProducedStand.{produced_made, produced_stood}
 -- One thing for whom an event asks.
 pub use Rattle.cip_module.proofs.Light.{light_once}
 pub use Rattle.cip_module.proofs.TakenUp.{takes_once}
@@ -18,12 +18,13 @@ pub use Rattle.cip_module.proofs.Puts.{pending_cases, next_number, next_id, AreB
 pub use Rattle.cip_module.proofs.Stands.{SameCore, Stood, HeldCase, held_cases}
 pub use Rattle.cip_module.proofs.Triads.{HasOwnTriads, own_triads}
 -- Which effect an output comes from.
-pub use Rattle.cip_module.proofs.GaveBy.{GaveBy, gave_by, RepliesBy, reply_by}
-pub use Rattle.cip_module.proofs.GivenBy.{answered_by, EndedBy, ended_by}
+pub use Rattle.cip_module.proofs.GaveBy.{GaveBy, gave_by, gave_then, RepliesBy, reply_by}
+pub use Rattle.cip_module.specs.Outputs.{EndedBy}
+pub use Rattle.cip_module.proofs.GivenBy.{answered_by, ended_by}
 pub use Rattle.cip_module.proofs.RequestBy.{BornBy, born_tells, RequestBy, request_by}
 pub use Rattle.cip_module.proofs.PassedBy.{PassedBy, passed_by, found_own}
 -- Births: a number, a request that waits, an id, a reply, a Done.
-pub use Rattle.cip_module.proofs.Numbers.{numbers_conserved, sent_once}
+pub use Rattle.cip_module.proofs.Numbers.{request_number, numbers_conserved, sent_once}
 pub use Rattle.cip_module.proofs.Asking.{stems}
 pub use Rattle.cip_module.proofs.Births.{birth, held_born, birth_range, born_once}
 pub use Rattle.cip_module.proofs.OneReply.{claims, waits_counted}
@@ -32,15 +33,20 @@ pub use Rattle.cip_module.proofs.AskedBy.{taken_waits, asked_there}
 -- Trails: an open waits beside its opening, and its path shortens; what is written is read back.
 pub use Rattle.cip_module.proofs.Joined.{OpenSent, Opens, Joined, joined}
 pub use Rattle.cip_module.proofs.OpenedBelow.{HopOpened, hop_opened}
-pub use Rattle.cip_module.proofs.PathsShorten.{hop_shortens}
-pub use Rattle.cip_module.proofs.ReadBack.{open_row_is, open_data_read, success_back, failure_back, reply_is}
-pub use Rattle.cip_module.proofs.ReadBackSends.{unconnected_data_read}
-pub use Rattle.cip_module.proofs.ReadBackOthers.{close_data_read, open_success_read, close_success_read, open_success_back, close_success_back}
-pub use Rattle.cip_module.proofs.NextRows.{send_row_is, close_row_is}
-pub use Rattle.cip_module.proofs.GoesOn.{allowed, message_no_open, close_no_open}
-pub use Rattle.cip_module.proofs.AtHand.{HasPoints, end_points, send_service}
+pub use Rattle.cip_segment.proofs.PathsShorten.{hop_shortens}
+pub use Rattle.cip_message.proofs.ReadAgain.{reply_is}
+pub use Rattle.cip_open.proofs.ReadAgain.{open_data_read, open_success_read, open_success_back, success_back, failure_back}
+pub use Rattle.cip_close.proofs.ReadAgain.{close_data_read, close_success_read, close_success_back}
+pub use Rattle.cip_unconnected.proofs.ReadAgain.{unconnected_data_read}
+pub use Rattle.cip_module.proofs.FailuresRead.{request_read, send_read, open_read, close_read}
+pub use Rattle.cip_module.proofs.NextRows.{open_meets, send_meets, close_meets, open_row_is, send_row_is, close_row_is}
+pub use Rattle.cip_module.proofs.GoesOn.{allowed, answered_allowed, send_service, message_no_open, close_no_open}
+pub use Rattle.cip_target.specs.Ends.{HasPoints}
+pub use Rattle.cip_target.proofs.EndPoints.{end_points}
 pub use Rattle.cip_module.proofs.Failures.{request_fails, unconnected_fails, open_fails, close_fails, link_fails, end_fails}
--- Chains: a datum that is found goes on.
-pub use Rattle.cip_module.proofs.DataMet.{goes_down, goes_up}
--- The first state, by its tables.
-pub use Rattle.cip_module.proofs.Shown.{Alike, alike, fresh}
+-- Chains: what a datum or a tick tells is of the connection that stands there, and a datum that is found goes on.
+pub use Rattle.cip_module.proofs.TellsStand.{own_stands, came_stands, produced_stands, renews_stands, hop_times_out_stands, passing, passes_stands, counting, counts_stands}
+pub use Rattle.cip_module.proofs.DataMet.{goes_down, goes_up, goes_entered}
+pub use Rattle.cip_module.proofs.DataOnce.{datum_of, frame_once, enter_once}
+-- What the tables tell of a state, and the first state.
+pub use Rattle.cip_module.proofs.Shown.{Alike, alike, looks_alike, equal_bare, fresh}

@@ -15,7 +15,7 @@ use Rattle.cip_target.specs.Rows.{TargetRow, target_row, assemblies_after, Refus
 use Rattle.cip_target.proofs.Writes.{IsThere, target_there}
 use Rattle.cip_module.specs.declared.config.ModuleSettings.{ModuleSettings}
 use Rattle.cip_module.specs.Code.Fit.{Fit}
-use Rattle.cip_module.proofs.Points.{one_or_apart, put_here, put_apart}
+use Rattle.cip_base.proofs.Points.{one_or_apart, put_here, put_apart}
 use Rattle.cip_module.proofs.Fits.{numbers_apart}
 
 pub insert_sizes : (m : AssemblyMap) (i : ℕ) (held d : List ℕ) → map.get m i ≡ Some held → length d ≡ length held → (j : ℕ)

@@ -5,7 +5,7 @@ use Rattle.cip_pending.specs.declared.entry.UpSide.{UpSide}
 use Rattle.cip_hops.specs.declared.hop.Side.TheVariants.{Up, Down}
 use Rattle.cip_module.specs.declared.config.ModuleSettings.{ModuleSettings}
 use Rattle.cip_module.specs.declared.event.Event.{Event}
-use Rattle.cip_module.specs.EffectLists.{gain, IsLight, IsBounded, Stands, AllStand}
+use Rattle.cip_module.specs.EffectLists.{gain, IsLight, IsBounded, HasStood, Stands, AllStand}
 use Rattle.cip_module.specs.Effects.{Effect, Spends, Replies, Answers, Forwards, Begins, Accepts, Finishes, Takes, PendingTimesOut, Removes, HopTimesOut, Renews, Passes, Counts, Writes, RefusesCommand, Drops, Advances, apply, applied}
 use Rattle.cip_module.specs.State.{State}
 use Rattle.cip_module.specs.Table.{decide}
@@ -13,9 +13,11 @@ use Rattle.cip_module.specs.Tells.{asker, Tells, AllTell, PassesAs, PassedOn, En
 use Rattle.cip_module.proofs.Births.{gain-append}
 use Rattle.cip_module.proofs.Light.{light_once}
 use Rattle.cip_module.proofs.PassedBy.{frame_alone, enter_alone}
+use Rattle.cip_module.proofs.ProducedStand.{produced_stood}
 use Rattle.cip_module.proofs.Quiet.{alone, reply_alone}
+use Rattle.cip_module.proofs.Stands.{same_self}
 use Rattle.cip_module.proofs.Tells.{decide_tells}
-use Rattle.cip_module.proofs.TellsAskers.{forwards_asker, begins_asker, open_asker}
+use Rattle.cip_module.proofs.TellsAskers.{answers_asker, forwards_asker, begins_asker, open_asker}
 
 -- 0 of an effect that leaves the requests that wait as they are
 abbrev waits_anew : Effect → ℕ
@@ -53,6 +55,37 @@ same_list config s [] h = refl
 same_list config s (e ∷ es) h =
     same_list config (apply config s e) es (omega (arith, h)) ∙ same_waits config s e (omega (arith, h))
 
+-- 0 of an effect that leaves the assemblies as they are
+abbrev writes_anew : Effect → ℕ
+writes_anew (Answers up asked) = 1
+writes_anew (Accepts opening o link) = 1
+writes_anew (Writes instance bytes) = 1
+writes_anew e = 0
+
+writes_light : IsLight writes_anew (λ v. 1)
+writes_light = record {
+  replies = λ v bytes. omega arith;
+  answers = λ v asked. omega arith;
+  forwards = λ sending kind. omega arith;
+  begins = λ sending opening. omega arith;
+  accepts = λ opening o link v bytes. omega arith;
+  spends = λ op. refl;
+  closes_on = λ triad sending kind. omega arith;
+  closes = λ triad v bytes. omega arith;
+  refuses = λ fault. refl;
+  drops = λ reason. refl;
+}
+
+same_written : (config : ModuleSettings) (s : State) (e : Effect) → writes_anew e ≡ 0 → (apply config s e).assemblies ≡ s.assemblies
+same_written config s (Answers up asked) h = absurd (omega (arith, h))
+same_written config s (Accepts opening o link) h = absurd (omega (arith, h))
+same_written config s (Writes instance bytes) h = absurd (omega (arith, h))
+same_written config s e h = refl
+
+same_bytes : (config : ModuleSettings) (s : State) (es : List Effect) → gain writes_anew es ≡ 0 → (applied config s es).assemblies ≡ s.assemblies
+same_bytes config s [] h = refl
+same_bytes config s (e ∷ es) h = same_bytes config (apply config s e) es (omega (arith, h)) ∙ same_written config s e (omega (arith, h))
+
 bounded : (v : Option UpSide) (up : UpSide) (n : ℕ) → v ≡ Some up → IsBounded (λ v. 1) v n → n ≤ 1
 bounded None up n e h = absurd (cc)
 bounded (Some v) up n e h = h
@@ -74,6 +107,18 @@ module _ (config : ModuleSettings) (s : State) (event : Event) (es : List Effect
       enter_alone config s event es before after triad Down bytes bytes of event_is d is
   passed_first triad bytes is (Made held hop triad_is side_is bytes_are made) = absurd (cc)
 
+  stood : before ≡ [] → HasStood s (applied config s before)
+  stood e = subst (λ (es : List Effect). HasStood s (applied config s es)) (sym e)
+      (record { pendings = refl; held = λ q x at. record { old = x; at = at; core = same_self x } })
+
+  passed_up : (triad : Triad) (bytes : List ℕ) → before ++ (Passes triad Up bytes ∷ after) ≡ es → PassesAs s event triad Up bytes
+      → HasStood s (applied config s before)
+  passed_up triad bytes is (PassedOn hop triad_is came) =
+      stood (frame_alone config s event es before after triad Up bytes bytes came.from came.port came.id came.event_is d is)
+  passed_up triad bytes is (Entered of hop triad_is side_is event_is found sized) = absurd (cc)
+  passed_up triad bytes is (Made held hop triad_is side_is bytes_are made) =
+      produced_stood config s made.instance es before after (Passes triad Up bytes) (sym (ap (decide config s) made.event_is) ∙ d) is
+
   stands_at : (e : Effect) → before ++ (e ∷ after) ≡ es → Tells config s event e → Stands s (applied config s before) e
   stands_at (Begins sending opening) is tells =
       alone config s event es before after (Begins sending opening) sending.up (begins_asker config s event sending opening tells) d is refl
@@ -91,10 +136,15 @@ module _ (config : ModuleSettings) (s : State) (event : Event) (es : List Effect
       let sum = gain-append waits_anew before (Forwards sending kind ∷ after) in
       same_list config s before (omega (arith, most, whole, sum))
   stands_at (Passes triad Down bytes) is tells = first (passed_first triad bytes is tells)
-  stands_at (Passes triad Up bytes) is tells = tt
+  stands_at (Passes triad Up bytes) is tells = passed_up triad bytes is tells
   stands_at (Spends op) is tells = tt
   stands_at (Replies up bytes) is tells = tt
-  stands_at (Answers up asked) is tells = tt
+  stands_at (Answers up asked) is tells =
+      let asks = answers_asker config s event up asked tells in
+      let most = bounded (asker event) up (gain writes_anew es) asks (light_once writes_anew (λ v. 1) writes_light config s event es d) in
+      let whole = ap (gain writes_anew) is in
+      let sum = gain-append writes_anew before (Answers up asked ∷ after) in
+      same_bytes config s before (omega (arith, most, whole, sum))
   stands_at (PendingTimesOut number) is tells = tt
   stands_at (Removes triad) is tells = tt
   stands_at (HopTimesOut triad) is tells = tt

@@ -12,7 +12,6 @@ use Rattle.cip_pending.specs.declared.entry.Entry.{Entry}
 use Rattle.cip_pending.specs.declared.entry.Kind.{Kind}
 use Rattle.cip_pending.specs.declared.entry.Kind.TheVariants.{Unconnected, Opening as OpeningOf, Closing as ClosingOf}
 use Rattle.cip_hops.specs.declared.opening.Opening.{Opening}
-use Rattle.cip_hops.specs.declared.opening.OwnIds.{OwnIds}
 use Rattle.cip_hops.specs.declared.hop.Hop.{Hop}
 use Rattle.cip_hops.specs.declared.hop.Held.{Held}
 use Rattle.cip_hops.specs.declared.hop.Held.TheVariants.{Opening as IsOpening, Open}
@@ -24,18 +23,12 @@ use Rattle.cip_open.specs.Open.{Open as OpenRequest}
 use Rattle.cip_open.specs.Success.{OpenSuccess}
 use Rattle.cip_target.specs.declared.link.EndLink.{EndLink}
 use Rattle.cip_module.specs.declared.config.ModuleSettings.{ModuleSettings}
-use Rattle.cip_module.specs.Effects.{Sending, Effect, Begins, Accepts, Finishes, Takes, PendingTimesOut, Removes, HopTimesOut, Renews, Counts, abandoned, removed, given_up, given_up_of, renewed, recounted, ends_here, apply}
+use Rattle.cip_module.specs.Effects.{Effect, Begins, Accepts, Finishes, Takes, PendingTimesOut, Removes, HopTimesOut, Renews, Counts, abandoned, removed, given_up, given_up_of, renewed, recounted, ends_here, apply}
 use Rattle.cip_module.specs.State.{State}
-use Rattle.cip_module.proofs.Points.{put_here}
+use Rattle.cip_base.proofs.Points.{put_here}
 use Rattle.cip_module.proofs.Removed.{open_at}
-use Rattle.cip_module.proofs.MapCases.{insert_cases, remove_cases}
-
--- what never changes: what was opened, the own ids, and of a connection that is open the other's id
-abbrev pub SameCore : Held → Held → Type 0
-SameCore (IsOpening o ids) (IsOpening p own) = (o ≡ p) × (ids ≡ own)
-SameCore (IsOpening o ids) (Open hop) = ⊥
-SameCore (Open hop) (IsOpening o ids) = ⊥
-SameCore (Open g) (Open h) = (g.opening ≡ h.opening) × (g.ids ≡ h.ids) × (g.their_id ≡ h.their_id)
+use Rattle.cip_base.proofs.MapCases.{insert_cases, remove_cases}
+pub use Rattle.cip_module.specs.Changes.{SameCore, Stood, OpenedBy, HeldCase, Stands, Begun, Ended, Finished}
 
 pub same_self : (x : Held) → SameCore x x
 same_self (IsOpening o ids) = (refl, refl)
@@ -52,12 +45,6 @@ same_ids (IsOpening o ids) (IsOpening p own) h = h.1
 same_ids (IsOpening o ids) (Open hop) h = absurd h
 same_ids (Open hop) (IsOpening o ids) h = absurd h
 same_ids (Open g) (Open k) h = h.1
-
--- it stood before under that triad
-pub record Stood (h : Hops) (q : Triad) (x : Held) : Type 0 where
-  pub old : Held
-  pub at : map.get h.held q ≡ Some old
-  pub core : SameCore old x
 
 stood_still : (h : Hops) (q : Triad) (x : Held) → map.get h.held q ≡ Some x → Stood h q x
 stood_still h q x e = record { old = x; at = e; core = same_self x }
@@ -119,25 +106,6 @@ recounted_stood h k q side count x =
     (λ t e. changed_stood h k q (counted side count) x (counted_core side count) (hop_at h k) refl e) (λ t e. stood_still h q x e)
 
 -- ---- the cases
-
--- what was opening under the triad of a reply, and is open
-pub record OpenedBy (s : State) (e : Effect) (q : Triad) (x : Held) : Type 0 where
-  pub number : ℕ
-  pub bytes : List ℕ
-  pub success : OpenSuccess
-  pub effect_is : e ≡ Finishes number q bytes success
-  pub opening : Opening
-  pub ids : OwnIds
-  pub was : map.get s.hops.held q ≡ Some (IsOpening opening ids)
-  pub is : x ≡ Open (opened opening ids success.ot_id s.now)
-
-pub data HeldCase (s : State) (e : Effect) (q : Triad) (x : Held) : Type 0 where
-  Stands : Stood s.hops q x → HeldCase s e q x
-  Begun : (sending : Sending) (opening : Opening) → e ≡ Begins sending opening
-      → q ≡ opening.triad → x ≡ IsOpening opening (own_ids s.hops.next opening) → HeldCase s e q x
-  Ended : (opening : Opening) (o : OpenRequest) (link : EndLink) → e ≡ Accepts opening o link
-      → q ≡ opening.triad → x ≡ Open (opened opening (own_ids s.hops.next opening) 0 s.now) → HeldCase s e q x
-  Finished : OpenedBy s e q x → HeldCase s e q x
 
 finishes_case : (s : State) (number : ℕ) (k : Triad) (bytes : List ℕ) (success : OpenSuccess) (q : Triad) (x : Held) (o : Option Held)
     → map.get s.hops.held k ≡ o

@@ -26,28 +26,35 @@ use Rattle.cip_module.specs.declared.event.Event.{Event}
 use Rattle.cip_module.specs.declared.event.Event.TheVariants as events
 use Rattle.cip_module.specs.declared.event.Command.{Command}
 use Rattle.cip_module.specs.declared.event.Command.TheVariants as commands
+use Rattle.cip_module.specs.declared.event.Refused.{Refused}
+use Rattle.cip_module.specs.declared.event.Refused.TheVariants as refused
 use Rattle.cip_module.specs.declared.command_rows.CommandRow.{CommandRow}
 use Rattle.cip_module.specs.declared.command_rows.CommandRow.TheVariants as rows
-use Rattle.cip_module.specs.CommandRows.{op_row, close_command_row, send_row, set_row}
+use Rattle.cip_module.specs.CommandRows.{op_row, close_command_row, send_row, enter_row, set_row, produce_row}
 use Rattle.cip_module.specs.Effects.{Effect, Counts, Passes, Writes}
 use Rattle.cip_module.specs.Produced.{reads_from, made_effects, held_effects, each_effects, next_count}
 use Rattle.cip_module.specs.State.{State, is_spent}
 use Rattle.cip_module.specs.Table.{refused_effects, sent, open_of, close_of, send_effects, open_command_effects, closed_effects, close_command_effects, entered_effects, enter_effects, produce_effects, command_effects}
-use Rattle.cip_module.specs.Tells.{Entered, Made, CountedDown, Set, Produced, AllTell}
+use Rattle.cip_module.specs.Tells.{Entered, Made, CountedDown, Set, Produced, command_row, refused_by, RefusesAs, AllTell}
 use Rattle.cip_module.proofs.TellsEach.{past, all_append}
 use Rattle.cip_module.proofs.TellsSends.{sends_tell}
 use Rattle.cip_module.proofs.TellsOpens.{opens_tell}
 use Rattle.cip_module.proofs.TellsCloses.{closes_tell}
 
-refused_told : (config : ModuleSettings) (s : State) (command : Command) (row : CommandRow) (es : List Effect)
+-- a command meets the row that refuses it
+refuses : (s : State) (command : Command) (row : CommandRow) (fault : Refused) → command_row s command ≡ row → refused_by row ≡ Some fault
+    → RefusesAs s (events.Command command) fault
+refuses s command row fault meets is = record { command = command; event_is = refl; meets = ap refused_by meets ∙ is }
+
+refused_told : (config : ModuleSettings) (s : State) (command : Command) (row : CommandRow) (es : List Effect) → command_row s command ≡ row
     → (row ≡ rows.Taken → AllTell config s (events.Command command) es)
     → AllTell config s (events.Command command) (refused_effects row es)
-refused_told config s command rows.OpUsed es told = (record { command = command; event_is = refl }, tt)
-refused_told config s command rows.NotOpen es told = (record { command = command; event_is = refl }, tt)
-refused_told config s command rows.ReservedService es told = (record { command = command; event_is = refl }, tt)
-refused_told config s command rows.WrongSize es told = (record { command = command; event_is = refl }, tt)
-refused_told config s command rows.NoInstance es told = (record { command = command; event_is = refl }, tt)
-refused_told config s command rows.Taken es told = told refl
+refused_told config s command rows.OpUsed es meets told = (refuses s command rows.OpUsed refused.OpUsed meets refl, tt)
+refused_told config s command rows.NotOpen es meets told = (refuses s command rows.NotOpen refused.NotOpen meets refl, tt)
+refused_told config s command rows.ReservedService es meets told = (refuses s command rows.ReservedService refused.ReservedService meets refl, tt)
+refused_told config s command rows.WrongSize es meets told = (refuses s command rows.WrongSize refused.WrongSize meets refl, tt)
+refused_told config s command rows.NoInstance es meets told = (refuses s command rows.NoInstance refused.NoInstance meets refl, tt)
+refused_told config s command rows.Taken es meets told = told refl
 
 -- ---- commands that spell a request
 
@@ -61,7 +68,7 @@ send_command_tells : (config : ModuleSettings) (s : State) (op : ℕ) (timing : 
     → AllTell config s (events.Command (commands.Send op timing path asked))
     (send_effects config s op (sent timing path asked) (send_row s op (sent timing path asked)))
 send_command_tells config s op timing path asked =
-    refused_told config s (commands.Send op timing path asked) (send_row s op (sent timing path asked)) _
+    refused_told config s (commands.Send op timing path asked) (send_row s op (sent timing path asked)) _ refl
     (λ taken. let unused = send_unused s op (sent timing path asked) taken in (
       record { asks = refl; unused = unused },
       sends_tell config s (events.Command (commands.Send op timing path asked)) (Local op) (sent timing path asked)
@@ -71,7 +78,7 @@ send_command_tells config s op timing path asked =
 open_command_tells : (config : ModuleSettings) (s : State) (op : ℕ) (timing : Timing) (path : List ℕ) (params : OpenParams)
     → AllTell config s (events.Command (commands.Open op timing path params)) (open_command_effects config s op (open_of config.identity timing path params))
 open_command_tells config s op timing path params =
-    refused_told config s (commands.Open op timing path params) (op_row s op) _
+    refused_told config s (commands.Open op timing path params) (op_row s op) _ refl
     (λ taken. let unused = (past (is_spent op s.ops) rows.OpUsed rows.Taken rows.Taken taken (λ other. cc)).0 in (
       record { asks = refl; unused = unused },
       opens_tell config s (events.Command (commands.Open op timing path params)) (Local op) (open_of config.identity timing path params)
@@ -106,7 +113,7 @@ closed_tells config s op of timing (Some hop) found unused = (
 close_command_tells : (config : ModuleSettings) (s : State) (op of : ℕ) (timing : Timing)
     → AllTell config s (events.Command (commands.Close op of timing)) (close_command_effects s op of timing)
 close_command_tells config s op of timing =
-    refused_told config s (commands.Close op of timing) (close_command_row s op of) _
+    refused_told config s (commands.Close op of timing) (close_command_row s op of) _ refl
     (λ taken. closed_tells config s op of timing (hop_by_op s.hops of) refl (close_unused s op of taken))
 
 -- ---- data that the application gives
@@ -115,21 +122,29 @@ entered_tells : (config : ModuleSettings) (s : State) (of : ℕ) (bytes : List �
     → eqb (length bytes) hop.opening.ot_size ≡ b
     → AllTell config s (events.Command (commands.Enter of bytes)) (refused_effects (cond b rows.Taken rows.WrongSize) (entered_effects bytes (Some hop)))
 entered_tells config s of bytes hop true found sized = (Entered of hop refl refl refl found (eqb-true (length bytes) hop.opening.ot_size sized), tt)
-entered_tells config s of bytes hop false found sized = (record { command = commands.Enter of bytes; event_is = refl }, tt)
+entered_tells config s of bytes hop false found sized = (
+  refuses s (commands.Enter of bytes) rows.WrongSize refused.WrongSize (ap (enter_row bytes) found ∙ ap (λ t. cond t rows.Taken rows.WrongSize) sized) refl,
+  tt,
+)
 
 enter_tells : (config : ModuleSettings) (s : State) (of : ℕ) (bytes : List ℕ) (x : Option Hop) → hop_by_op s.hops of ≡ x
     → AllTell config s (events.Command (commands.Enter of bytes)) (enter_effects bytes x)
-enter_tells config s of bytes None found = (record { command = commands.Enter of bytes; event_is = refl }, tt)
+enter_tells config s of bytes None found =
+    (refuses s (commands.Enter of bytes) rows.NotOpen refused.NotOpen (ap (enter_row bytes) found) refl, tt)
 enter_tells config s of bytes (Some hop) found = entered_tells config s of bytes hop (eqb (length bytes) hop.opening.ot_size) found refl
 
 set_tells : (config : ModuleSettings) (s : State) (instance : ℕ) (bytes : List ℕ) (x : Option ℕ) → size_in s.assemblies instance ≡ x
     → AllTell config s (events.Command (commands.Set instance bytes)) (refused_effects (set_row bytes x) (Writes instance bytes ∷ []))
-set_tells config s instance bytes None sized = (record { command = commands.Set instance bytes; event_is = refl }, tt)
+set_tells config s instance bytes None sized =
+    (refuses s (commands.Set instance bytes) rows.NoInstance refused.NoInstance (ap (set_row bytes) sized) refl, tt)
 set_tells config s instance bytes (Some size) sized =
     elim (eqb (length bytes) size) as (λ b. eqb (length bytes) size ≡ b
     → AllTell config s (events.Command (commands.Set instance bytes)) (refused_effects (cond b rows.Taken rows.WrongSize) (Writes instance bytes ∷ []))) [
       | true ↦ λ t. (Set refl (sized ∙ ap (λ (n : ℕ). Some n) (sym (eqb-true (length bytes) size t))), tt)
-      | false ↦ λ t. (record { command = commands.Set instance bytes; event_is = refl }, tt)
+      | false ↦ λ t. (
+        refuses s (commands.Set instance bytes) rows.WrongSize refused.WrongSize (ap (set_row bytes) sized ∙ ap (λ u. cond u rows.Taken rows.WrongSize) t) refl,
+        tt,
+      )
     ] refl
 
 -- ---- an assembly that is sent
@@ -175,7 +190,8 @@ each_stands h = λ k d lt. get-at triad_cmp triads_total triads_apart h.held k d
 
 produce_tells : (config : ModuleSettings) (s : State) (instance : ℕ) (x : Option (List ℕ)) → map.get s.assemblies instance ≡ x
     → AllTell config s (events.Command (commands.Produce instance)) (produce_effects s instance x)
-produce_tells config s instance None holds = (record { command = commands.Produce instance; event_is = refl }, tt)
+produce_tells config s instance None holds =
+    (refuses s (commands.Produce instance) rows.NoInstance refused.NoInstance (ap produce_row holds) refl, tt)
 produce_tells config s instance (Some held) holds = each_tells config s instance held holds (map.entries s.hops.held) (each_stands s.hops)
 
 -- ---- the group

@@ -1,5 +1,5 @@
 -- What a reply tells, read backwards.
-use Rattle.std.proofs.Common.{◌≡◌, ℕ, Bool, true, false, cond, eqb, ◌&&◌, is_some, List, refl, sym, ap, ◌∙◌, Option, Some, None, Result, Ok, Err}
+use Rattle.std.proofs.Common.{◌≡◌, ℕ, Bool, true, false, cond, eqb, ◌&&◌, is_some, List, refl, sym, ap, subst, ◌∙◌, Option, Some, None, Result, Ok, Err}
 use Rattle.std.specs.Prelude.{slice_get}
 use Rattle.std.proofs.lemmas.Bool.{eqb-true}
 use Rattle.cip_base.specs.declared.triad.Triad.{Triad}
@@ -18,11 +18,13 @@ use Rattle.cip_pending.specs.Pendings.{waiting_at}
 use Rattle.cip_module.specs.declared.config.ModuleSettings.{ModuleSettings}
 use Rattle.cip_module.specs.declared.event.Event.TheVariants.{Frame}
 use Rattle.cip_module.specs.declared.event.Body.TheVariants as bodies
+use Rattle.cip_module.specs.declared.event.Dropped.{Dropped}
+use Rattle.cip_module.specs.declared.event.Dropped.TheVariants as dropped
 use Rattle.cip_module.specs.RequestRows.{is_malformed}
 use Rattle.cip_module.specs.ReplyRows.{ReplyRow, UnknownPortOrTooLong, Late, MalformedForItsKind, OpenSucceeded, PassedUp, triad_eq, is_own, opened_row, opening_row, failure_row, kind_row, read_row, waiting_row, reply_row}
 use Rattle.cip_module.specs.State.{State}
 use Rattle.cip_module.specs.Table.{reply_effects}
-use Rattle.cip_module.specs.Tells.{AllTell}
+use Rattle.cip_module.specs.Tells.{DropsAs, reply_dropped, AllTell}
 use Rattle.cip_module.proofs.TellsEach.{past, first_of}
 use Rattle.cip_module.proofs.Receiving.{opens_only}
 
@@ -94,16 +96,27 @@ read_passes kind (Ok reply) e = (reply, refl, e)
 
 -- ---- the group
 
+drops : (config : ModuleSettings) (s : State) (port : ℕ) (from : List ℕ) (number : ℕ) (bytes : List ℕ) (row : ReplyRow) (reason : Dropped)
+    → reply_row config s port from number bytes ≡ row → reply_dropped row ≡ Some reason → DropsAs config s (Frame port from (bodies.Reply number bytes)) reason
+drops config s port from number bytes row reason meets is = record {
+  port = port;
+  from = from;
+  body = bodies.Reply number bytes;
+  event_is = refl;
+  meets = ap reply_dropped meets ∙ is;
+}
+
+-- the row of what waits, or of nothing that waits
 waiting_told : (config : ModuleSettings) (s : State) (port : ℕ) (from : List ℕ) (number : ℕ) (bytes : List ℕ) (x : Option Entry) (row : ReplyRow)
-    → waiting_at s.pendings number port from ≡ x → waiting_row bytes x ≡ row
+    → waiting_at s.pendings number port from ≡ x → reply_row config s port from number bytes ≡ row → waiting_row bytes x ≡ row
     → AllTell config s (Frame port from (bodies.Reply number bytes)) (reply_effects number bytes row)
-waiting_told config s port from number bytes x UnknownPortOrTooLong waits e =
-    (record { port = port; from = from; body = bodies.Reply number bytes; event_is = refl }, tt)
-waiting_told config s port from number bytes x Late waits e = (record { port = port; from = from; body = bodies.Reply number bytes; event_is = refl }, tt)
-waiting_told config s port from number bytes x MalformedForItsKind waits e =
-    (record { port = port; from = from; body = bodies.Reply number bytes; event_is = refl }, tt)
-waiting_told config s port from number bytes None (OpenSucceeded triad success) waits e = absurd (cc)
-waiting_told config s port from number bytes (Some entry) (OpenSucceeded triad success) waits e =
+waiting_told config s port from number bytes x UnknownPortOrTooLong waits meets e =
+    (drops config s port from number bytes UnknownPortOrTooLong dropped.Malformed meets refl, tt)
+waiting_told config s port from number bytes x Late waits meets e = (drops config s port from number bytes Late dropped.Late meets refl, tt)
+waiting_told config s port from number bytes x MalformedForItsKind waits meets e =
+    (drops config s port from number bytes MalformedForItsKind dropped.Malformed meets refl, tt)
+waiting_told config s port from number bytes None (OpenSucceeded triad success) waits meets e = absurd (cc)
+waiting_told config s port from number bytes (Some entry) (OpenSucceeded triad success) waits meets e =
     let h = read_succeeds entry.kind (reply_at bytes) triad success e in (
       record {
         entry = entry;
@@ -117,20 +130,29 @@ waiting_told config s port from number bytes (Some entry) (OpenSucceeded triad s
       },
       tt,
     )
-waiting_told config s port from number bytes None PassedUp waits e = absurd (cc)
-waiting_told config s port from number bytes (Some entry) PassedUp waits e =
+waiting_told config s port from number bytes None PassedUp waits meets e = absurd (cc)
+waiting_told config s port from number bytes (Some entry) PassedUp waits meets e =
     let h = read_passes entry.kind (reply_at bytes) e in
     (record { entry = entry; reply = h.0; came = record { port = port; from = from; event_is = refl; waits = waits; read = h.1 }; meets = h.2 }, tt)
 
 reply_told : (config : ModuleSettings) (s : State) (port : ℕ) (from : List ℕ) (number : ℕ) (bytes : List ℕ) (b : Bool)
+    → reply_row config s port from number bytes ≡ cond b UnknownPortOrTooLong (waiting_row bytes (waiting_at s.pendings number port from))
     → AllTell config s (Frame port from (bodies.Reply number bytes))
     (reply_effects number bytes (cond b UnknownPortOrTooLong (waiting_row bytes (waiting_at s.pendings number port from))))
-reply_told config s port from number bytes true = (record { port = port; from = from; body = bodies.Reply number bytes; event_is = refl }, tt)
-reply_told config s port from number bytes false =
+reply_told config s port from number bytes true meets = (drops config s port from number bytes UnknownPortOrTooLong dropped.Malformed meets refl, tt)
+reply_told config s port from number bytes false meets =
     let x = waiting_at s.pendings number port from in
-    waiting_told config s port from number bytes x (waiting_row bytes x) refl refl
+    waiting_told config s port from number bytes x (waiting_row bytes x) refl meets refl
+
+reply_row_is : (config : ModuleSettings) (s : State) (port : ℕ) (from : List ℕ) (number : ℕ) (bytes : List ℕ)
+    → reply_row config s port from number bytes
+    ≡ cond (is_malformed config port bytes) UnknownPortOrTooLong (waiting_row bytes (waiting_at s.pendings number port from))
+unfolding reply_row
+reply_row_is config s port from number bytes = refl
 
 pub replies_tell : (config : ModuleSettings) (s : State) (port : ℕ) (from : List ℕ) (number : ℕ) (bytes : List ℕ)
     → AllTell config s (Frame port from (bodies.Reply number bytes)) (reply_effects number bytes (reply_row config s port from number bytes))
-unfolding reply_row
-replies_tell config s port from number bytes = reply_told config s port from number bytes (is_malformed config port bytes)
+replies_tell config s port from number bytes =
+    let row = reply_row_is config s port from number bytes in
+    subst (λ (r : ReplyRow). AllTell config s (Frame port from (bodies.Reply number bytes)) (reply_effects number bytes r)) (sym row)
+    (reply_told config s port from number bytes (is_malformed config port bytes) row)

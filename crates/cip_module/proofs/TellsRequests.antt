@@ -1,26 +1,35 @@
 -- What a request in a frame tells, read backwards.
-use Rattle.std.proofs.Common.{ℕ, List, refl}
+use Rattle.std.proofs.Common.{◌≡◌, ◌∙◌, ℕ, List, Some, refl, ap}
 use Rattle.cip_pending.specs.declared.entry.UpSide.{UpSide}
 use Rattle.cip_pending.specs.declared.entry.UpSide.TheVariants.{Link}
 use Rattle.cip_module.specs.declared.config.ModuleSettings.{ModuleSettings}
 use Rattle.cip_module.specs.declared.event.Event.{Event}
 use Rattle.cip_module.specs.declared.event.Event.TheVariants.{Frame}
 use Rattle.cip_module.specs.declared.event.Body.TheVariants.{Request}
+use Rattle.cip_module.specs.declared.event.Dropped.{Dropped}
+use Rattle.cip_module.specs.declared.event.Dropped.TheVariants.{Malformed}
 use Rattle.cip_module.specs.RequestRows.{RequestRow, UnknownPortOrTooLong, NotARequest, Refuses, UnconnectedSend, ForwardOpen, ForwardClose, Target, request_row}
 use Rattle.cip_module.specs.State.{State}
 use Rattle.cip_module.specs.Table.{request_effects}
-use Rattle.cip_module.specs.Tells.{Came, IsFrame, RequestFails, Itself, AllTell}
+use Rattle.cip_module.specs.Tells.{Came, DropsAs, request_dropped, RequestFails, Itself, AllTell}
 use Rattle.cip_module.proofs.TellsSends.{send_tells}
 use Rattle.cip_module.proofs.TellsOpens.{open_tells}
 use Rattle.cip_module.proofs.TellsCloses.{close_tells}
 
-came_in : (config : ModuleSettings) (event : Event) (up : UpSide) (row : RequestRow) → Came config event up row → IsFrame event
-came_in config event up row came = record { port = came.port; from = came.from; body = Request came.number came.bytes; event_is = came.event_is }
+drops : (config : ModuleSettings) (s : State) (event : Event) (up : UpSide) (row : RequestRow) (reason : Dropped) → Came config event up row
+    → request_dropped row ≡ Some reason → DropsAs config s event reason
+drops config s event up row reason came is = record {
+  port = came.port;
+  from = came.from;
+  body = Request came.number came.bytes;
+  event_is = came.event_is;
+  meets = ap request_dropped came.meets ∙ is;
+}
 
 request_told : (config : ModuleSettings) (s : State) (event : Event) (up : UpSide) (row : RequestRow) → Came config event up row
     → AllTell config s event (request_effects config s up row)
-request_told config s event up UnknownPortOrTooLong came = (came_in config event up UnknownPortOrTooLong came, tt)
-request_told config s event up NotARequest came = (came_in config event up NotARequest came, tt)
+request_told config s event up UnknownPortOrTooLong came = (drops config s event up UnknownPortOrTooLong Malformed came refl, tt)
+request_told config s event up NotARequest came = (drops config s event up NotARequest Malformed came refl, tt)
 request_told config s event up (Refuses service refusal) came = (RequestFails service refusal came refl, tt)
 request_told config s event up (UnconnectedSend asked) came = send_tells config s event up asked came
 request_told config s event up (ForwardOpen asked) came = open_tells config s event up asked came

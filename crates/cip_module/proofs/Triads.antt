@@ -13,9 +13,7 @@ use Rattle.cip_module.specs.State.{State}
 use Rattle.cip_module.specs.Histories.{Turn, state_after, IsHistory}
 use Rattle.cip_module.proofs.Stands.{same_opening, HeldCase, Stands, Begun, Ended, Finished, held_cases}
 use Rattle.cip_module.proofs.Turns.{by_turn, newest}
-
-abbrev pub HasOwnTriads : State → Type 0
-HasOwnTriads s = (q : Triad) (x : Held) → map.get s.hops.held q ≡ Some x → triad_of x ≡ q
+pub use Rattle.cip_module.specs.OwnTriads.{HasOwnTriads}
 
 by_case : (s : State) (e : Effect) (q : Triad) (x : Held) → HasOwnTriads s → HeldCase s e q x → triad_of x ≡ q
 by_case s e q x h (Stands stood) = ap (λ (o : Opening). o.triad) (sym (same_opening stood.old x stood.core)) ∙ h q stood.old stood.at

@@ -1,5 +1,6 @@
 -- What the list of effects of one event may hold, and what still stands where an effect is applied.
 use Rattle.std.specs.Prelude.{◌≡◌, ℕ, ◌+◌, ◌≤◌, List, [], ◌∷◌, ◌++◌, Option, Some, None}
+use Rattle.std.specs.FinMap as map
 use Rattle.cip_base.specs.Words.{Octets, OpNumber}
 use Rattle.cip_base.specs.declared.triad.Triad.{Triad}
 use Rattle.cip_message.specs.Request.{Request}
@@ -7,12 +8,14 @@ use Rattle.cip_open.specs.Open.{Open}
 use Rattle.cip_pending.specs.declared.entry.Kind.{Kind}
 use Rattle.cip_pending.specs.declared.entry.UpSide.{UpSide}
 use Rattle.cip_hops.specs.declared.opening.Opening.{Opening}
-use Rattle.cip_hops.specs.declared.hop.Side.TheVariants.{Down}
+use Rattle.cip_hops.specs.declared.hop.Held.{Held}
+use Rattle.cip_hops.specs.declared.hop.Side.TheVariants.{Up, Down}
 use Rattle.cip_target.specs.declared.link.EndLink.{EndLink}
 use Rattle.cip_module.specs.declared.config.ModuleSettings.{ModuleSettings}
 use Rattle.cip_module.specs.declared.event.Dropped.{Dropped}
 use Rattle.cip_module.specs.declared.event.Refused.{Refused}
-use Rattle.cip_module.specs.Effects.{Sending, Effect, Spends, Replies, Answers, Forwards, Begins, Accepts, Finishes, Takes, Removes, Passes, Writes, RefusesCommand, Drops, applied}
+use Rattle.cip_module.specs.Changes.{Stood}
+use Rattle.cip_module.specs.Effects.{Sending, Effect, Spends, Replies, Answers, Forwards, Begins, Accepts, Finishes, Takes, Removes, Passes, Counts, Writes, RefusesCommand, Drops, applied}
 use Rattle.cip_module.specs.State.{State}
 use Rattle.cip_module.specs.Weights.{mark, same_up}
 
@@ -77,16 +80,36 @@ IsBounded b (Some v) n = n ≤ b v
 abbrev pub IsStill : State → State → Type 0
 IsStill s new = (new.hops ≡ s.hops) × (new.pendings ≡ s.pendings)
 
+-- the requests that wait are as they were, and each connection stood before with the same core
+pub record HasStood (s mid : State) : Type 0 where
+  pub pendings : mid.pendings ≡ s.pendings
+  pub held : (q : Triad) (x : Held) → map.get mid.hops.held q ≡ Some x → Stood s.hops q x
+
 -- of the state before the event, where an effect is applied
 abbrev pub Stands : State → State → Effect → Type 0
+Stands s mid (Answers up asked) = mid.assemblies ≡ s.assemblies
 Stands s mid (Begins sending opening) = IsStill s mid
 Stands s mid (Accepts opening o link) = IsStill s mid
 Stands s mid (Finishes number triad bytes success) = mid ≡ s
 Stands s mid (Takes number bytes) = mid ≡ s
 Stands s mid (Forwards sending kind) = mid.pendings ≡ s.pendings
 Stands s mid (Passes triad Down bytes) = mid ≡ s
+Stands s mid (Passes triad Up bytes) = HasStood s mid
 Stands s mid e = Unit {0}
 
 abbrev pub AllStand : ModuleSettings → State → List Effect → Type 0
 AllStand config s es = (before after : List Effect) (e : Effect) → before ++ (e ∷ after) ≡ es
     → Stands s (applied config s before) e
+
+-- ---- an assembly that is sent
+
+-- a datum that goes up, or its count before it; or the refusal alone
+abbrev pub IsMade : Effect → Type 0
+IsMade (Counts triad Down count) = Unit {0}
+IsMade (Passes triad Up bytes) = Unit {0}
+IsMade (RefusesCommand fault) = Unit {0}
+IsMade e = ⊥
+
+abbrev pub AreMade : List Effect → Type 0
+AreMade [] = Unit {0}
+AreMade (e ∷ es) = IsMade e × AreMade es

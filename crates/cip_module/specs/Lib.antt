@@ -27,3 +27,7 @@ pub mod Births
 pub mod Weights
 pub mod Words
 pub mod EffectLists
+pub mod Changes
+pub mod Outputs
+pub mod OwnTriads
+pub mod Openings

@@ -69,7 +69,12 @@ abbrev pub is_malformed : ModuleSettings → PortIdentifier → Octets → Bool
 is_malformed config port bytes = not (is_some (port_of config port))
     || nat_lt MAX_MESSAGE (length bytes)
 
+-- this row, unless it is dropped by the first
+abbrev pub unless_malformed : ModuleSettings → PortIdentifier → Octets → RequestRow → RequestRow
+unless_malformed config port bytes row =
+    if is_malformed config port bytes then UnknownPortOrTooLong else row
+
 -- the row of a request that came in by a port
 unfoldable pub request_row : ModuleSettings → PortIdentifier → Octets → RequestRow
-request_row config port bytes = if is_malformed config port bytes then UnknownPortOrTooLong
-    else read_row bytes (request_at bytes)
+request_row config port bytes =
+    unless_malformed config port bytes (read_row bytes (request_at bytes))

@@ -47,6 +47,12 @@ use Rattle.cip_module.specs.declared.event.Command.{Command}
 use Rattle.cip_module.specs.declared.event.Command.TheVariants as commands
 use Rattle.cip_module.specs.declared.event.Body.{Body}
 use Rattle.cip_module.specs.declared.event.Body.TheVariants as bodies
+use Rattle.cip_module.specs.declared.event.Dropped.{Dropped}
+use Rattle.cip_module.specs.declared.event.Dropped.TheVariants as dropped
+use Rattle.cip_module.specs.declared.event.Refused.{Refused}
+use Rattle.cip_module.specs.declared.event.Refused.TheVariants as refused
+use Rattle.cip_module.specs.declared.command_rows.CommandRow.{CommandRow}
+use Rattle.cip_module.specs.declared.command_rows.CommandRow.TheVariants as command_rows
 use Rattle.cip_module.specs.declared.refusals.RequestRefusal.{RequestRefusal}
 use Rattle.cip_module.specs.declared.refusals.UnconnectedRefusal.{UnconnectedRefusal}
 use Rattle.cip_module.specs.declared.refusals.OpenRefusal.{OpenRefusal}
@@ -62,8 +68,11 @@ use Rattle.cip_module.specs.OpenRows.{open_row, opening_with, end_down, ids_on, 
 use Rattle.cip_module.specs.OpenRows as opens
 use Rattle.cip_module.specs.CloseRows.{close_row, is_sender}
 use Rattle.cip_module.specs.CloseRows as closes
-use Rattle.cip_module.specs.ReplyRows.{PassedUp, kind_row}
-use Rattle.cip_module.specs.DataRows.{is_last}
+use Rattle.cip_module.specs.ReplyRows.{ReplyRow, PassedUp, kind_row, reply_row}
+use Rattle.cip_module.specs.ReplyRows as reply
+use Rattle.cip_module.specs.DataRows.{DataRow, is_last, data_row}
+use Rattle.cip_module.specs.DataRows as datum
+use Rattle.cip_module.specs.CommandRows.{op_row, close_command_row, send_row, enter_row, set_row, produce_row}
 use Rattle.cip_module.specs.Produced.{reads_from, next_count, datum_bytes}
 use Rattle.cip_module.specs.Effects.{Sending, Effect, Spends, Replies, Answers, Forwards, Begins, Accepts, Finishes, Takes, PendingTimesOut, Removes, HopTimesOut, Renews, Passes, Counts, Writes, RefusesCommand, Drops, Advances}
 use Rattle.cip_module.specs.Table.{wait_of, words_of, message_on, opener, open_on, accepted_bytes, close_on, unread_open_bytes, unread_close_bytes, sent, open_of, close_of, other}
@@ -454,17 +463,67 @@ pub data WritesAs (s : State) (event : Event) (instance : InstanceNumber) (bytes
     Set : event ≡ events.Command (commands.Set instance bytes)
         → size_in s.assemblies instance ≡ Some (length bytes) → WritesAs s event instance bytes
 
--- ---- any effect
+-- ---- what is refused, and what is dropped
 
-pub record IsCommand (event : Event) : Type 0 where
+-- the row that a command meets
+abbrev pub command_row : State → Command → CommandRow
+command_row s (commands.Open op timing path params) = op_row s op
+command_row s (commands.Close op of timing) = close_command_row s op of
+command_row s (commands.Send op timing path asked) = send_row s op (sent timing path asked)
+command_row s (commands.Enter of bytes) = enter_row bytes (hop_by_op s.hops of)
+command_row s (commands.Set instance bytes) = set_row bytes (size_in s.assemblies instance)
+command_row s (commands.Produce instance) = produce_row (map.get s.assemblies instance)
+
+-- why a row refuses a command
+abbrev pub refused_by : CommandRow → Option Refused
+refused_by command_rows.OpUsed = Some refused.OpUsed
+refused_by command_rows.NotOpen = Some refused.NotOpen
+refused_by command_rows.ReservedService = Some refused.ReservedService
+refused_by command_rows.WrongSize = Some refused.WrongSize
+refused_by command_rows.NoInstance = Some refused.NoInstance
+refused_by command_rows.Taken = None
+
+pub record RefusesAs (s : State) (event : Event) (fault : Refused) : Type 0 where
   pub command : Command
   pub event_is : event ≡ events.Command command
+  pub meets : refused_by (command_row s command) ≡ Some fault
 
-pub record IsFrame (event : Event) : Type 0 where
-  pub port : PortIdentifier
-  pub from : LinkAddress
-  pub body : Body
-  pub event_is : event ≡ events.Frame port from body
+-- why a row drops a request, a reply or a datum
+abbrev pub request_dropped : RequestRow → Option Dropped
+request_dropped request.UnknownPortOrTooLong = Some dropped.Malformed
+request_dropped request.NotARequest = Some dropped.Malformed
+request_dropped row = None
+
+abbrev pub reply_dropped : ReplyRow → Option Dropped
+reply_dropped reply.UnknownPortOrTooLong = Some dropped.Malformed
+reply_dropped reply.Late = Some dropped.Late
+reply_dropped reply.MalformedForItsKind = Some dropped.Malformed
+reply_dropped row = None
+
+abbrev pub datum_dropped : DataRow → Option Dropped
+datum_dropped datum.UnknownId = Some dropped.UnknownId
+datum_dropped datum.WrongSize = Some dropped.WrongSize
+datum_dropped row = None
+
+-- why the row that a frame meets drops it
+abbrev pub dropped_by : ModuleSettings → State → PortIdentifier → LinkAddress → Body
+    → Option Dropped
+dropped_by config s port from (bodies.Request number bytes) =
+    request_dropped (request_row config port bytes)
+dropped_by config s port from (bodies.Reply number bytes) =
+    reply_dropped (reply_row config s port from number bytes)
+dropped_by config s port from (bodies.Data id bytes) =
+    datum_dropped (data_row config s port from id bytes)
+
+pub record DropsAs (config : ModuleSettings) (s : State) (event : Event) (reason : Dropped) : Type 0
+  where
+    pub port : PortIdentifier
+    pub from : LinkAddress
+    pub body : Body
+    pub event_is : event ≡ events.Frame port from body
+    pub meets : dropped_by config s port from body ≡ Some reason
+
+-- ---- any effect
 
 abbrev pub Tells : ModuleSettings → State → Event → Effect → Type 0
 Tells config s event (Spends op) = SpendsAs s event op
@@ -483,8 +542,8 @@ Tells config s event (Renews triad side) = RenewsAs s event triad side
 Tells config s event (Passes triad side bytes) = PassesAs s event triad side bytes
 Tells config s event (Counts triad side count) = CountsAs s event triad side count
 Tells config s event (Writes instance bytes) = WritesAs s event instance bytes
-Tells config s event (RefusesCommand fault) = IsCommand event
-Tells config s event (Drops reason) = IsFrame event
+Tells config s event (RefusesCommand fault) = RefusesAs s event fault
+Tells config s event (Drops reason) = DropsAs config s event reason
 Tells config s event (Advances by) = AdvancesAs s event by
 
 abbrev pub AllTell : ModuleSettings → State → Event → List Effect → Type 0

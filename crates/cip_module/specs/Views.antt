@@ -1,14 +1,18 @@
 -- How a state is shown.
-use Rattle.std.specs.Prelude.{◌≡◌, ℕ, ◌+◌, List, [], map, filter_map}
+use Rattle.std.specs.Prelude.{◌≡◌, ℕ, ◌+◌, List, [], Option, Some, None, map, filter_map}
 use Rattle.std.specs.FinMap as finite
+use Rattle.cip_base.specs.declared.triad.Triad.{Triad}
 use Rattle.cip_pending.specs.declared.entry.Entry.{Entry}
 use Rattle.cip_hops.specs.declared.hop.Hop.{Hop}
+use Rattle.cip_hops.specs.declared.hop.Held.{Held}
+use Rattle.cip_hops.specs.declared.hop.Held.TheVariants.{Opening as IsOpening, Open}
 use Rattle.cip_hops.specs.Hops.{as_hop}
 use Rattle.cip_module.specs.declared.config.ModuleSettings.{ModuleSettings}
 use Rattle.cip_module.specs.declared.tables.PendingRow.{PendingRow}
 use Rattle.cip_module.specs.declared.tables.HopRow.{HopRow}
 use Rattle.cip_module.specs.declared.tables.AssemblyRow.{AssemblyRow}
 use Rattle.cip_module.specs.declared.tables.Tables.{Tables}
+use Rattle.cip_module.specs.Paired.{IsOther}
 use Rattle.cip_module.specs.Rising.{IsRising}
 use Rattle.cip_module.specs.State.{State}
 
@@ -58,3 +62,35 @@ pub record HoldsNothing (tables : Tables) : Type 0 where
   pub pendings : tables.pendings ≡ []
   pub hops : tables.hops ≡ []
   pub ops : tables.ops ≡ []
+
+-- ---- two states with one view
+
+-- opening in both, or open in both with the same row
+abbrev pub HeldAlike : Held → Held → Type 0
+HeldAlike (IsOpening o ids) (IsOpening p own) = Unit {0}
+HeldAlike (IsOpening o ids) (Open hop) = ⊥
+HeldAlike (Open hop) (IsOpening o ids) = ⊥
+HeldAlike (Open g) (Open h) = hop_row_of g ≡ hop_row_of h
+
+-- nothing in both, or two that are alike
+abbrev pub SlotsAlike : Option Held → Option Held → Type 0
+SlotsAlike None None = Unit {0}
+SlotsAlike None (Some y) = ⊥
+SlotsAlike (Some x) None = ⊥
+SlotsAlike (Some x) (Some y) = HeldAlike x y
+
+-- What a view tells: all of a state but its connections; which triads are opening and which are
+-- open; and of what is open its row.
+pub record LooksAlike (s t : State) : Type 0 where
+  pub now : s.now ≡ t.now
+  pub pendings : s.pendings ≡ t.pendings
+  pub room : s.hops.room ≡ t.hops.room
+  pub id : s.hops.next ≡ t.hops.next
+  pub held : (q : Triad) → SlotsAlike (finite.get s.hops.held q) (finite.get t.hops.held q)
+  pub assemblies : s.assemblies ≡ t.assemblies
+  pub ops : s.ops ≡ t.ops
+
+-- no connection is shown, and no request that waits opens one
+pub record ShowsNone (s : State) (tables : Tables) : Type 0 where
+  pub hops : tables.hops ≡ []
+  pub pendings : (n : ℕ) (p : Entry) → finite.get s.pendings.entries n ≡ Some p → IsOther p.kind

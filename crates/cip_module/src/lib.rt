@@ -48,10 +48,12 @@ pub use config::{LegalAddresses, ModuleConfig, ModuleKind, ModuleSettings, PortC
 pub use contract::{Module, StepFault};
 pub use event::{Body, Command, Dropped, Event, OpenParams, Output, Refused};
 pub use laws::{
-    data_go_on, effects_tell, failures_have_a_status, fresh_tables_are_of_the_first_state,
-    ids_are_born_once, numbers_are_born_once, ops_are_done_once, paths_shorten,
-    requests_are_replied_once, requests_stem_from_turns, tables_stay_in_order,
-    what_goes_on_is_no_open, what_goes_on_meets_its_group, what_is_written_is_read,
+    connections_are_opened_by_successes, data_go_on, effects_change_the_tables, effects_tell,
+    failures_are_read_back, failures_have_a_status, fresh_tables_are_of_the_first_state,
+    ids_are_born_once, no_manager_request_travels_embedded, numbers_are_born_once,
+    ops_are_done_once, outputs_come_from_effects, requests_are_replied_once,
+    requests_stem_from_turns, tables_stay_in_order, views_tell_states, what_goes_on_is_no_open,
+    what_goes_on_meets_its_group,
 };
 pub use legal::{is_legal, is_name};
 pub use lists::{Assemblies, Ports};

@@ -1,7 +1,7 @@
 //! Which pendings and connections a tick finds due, and what it tells of them.
 ghost use Rattle.std.specs.Prelude.{◌≡◌, ◌++◌, IfOk, OnOk};
 ghost use Rattle.cip_module.specs.Effects.{late_bytes};
-ghost use Rattle.cip_module.specs.Code.Ticks.{shown, pendings_timed_out, hops_timed_out};
+ghost use Rattle.cip_module.specs.Code.Ticks.{late_reply, pendings_timed_out, hops_timed_out};
 
 use crate::answers::unconnected_failed;
 use crate::closes::close_failed;
@@ -27,8 +27,8 @@ fn late(alloc: Global, kind: Kind, words: u8) -> Result<Bytes, NoMemory>
 }
 
 // What goes up when the time of a pending ran out.
-fn timed_out(alloc: Global, number: u32, entry: &Entry) -> Result<Output, NoMemory>
-    ensures { IfOk result (λ o. o ≡ shown (number, entry.now)) }
+fn timed_out(alloc: Global, entry: &Entry) -> Result<Output, NoMemory>
+    ensures { IfOk result (λ o. o ≡ late_reply entry.now) }
 {
     let bytes = late(alloc, entry.kind, entry.words)?;
     Ok(reply_to(entry.up.copy(), bytes))
@@ -47,7 +47,7 @@ fn pendings_out(
     let mut after = None;
     while let Some((number, entry)) = pendings.next_after(after) {
         if entry.deadline <= now {
-            outputs.push(timed_out(alloc, number, entry)?)?;
+            outputs.push(timed_out(alloc, entry)?)?;
         }
         after = Some(number);
     }

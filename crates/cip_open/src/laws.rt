@@ -32,18 +32,20 @@ pub fn open_reply_is_exact()
 {}
 
 /// The message that is written is read as a request to the Connection Manager, and its data as the
-/// same record.
+/// same record; as no other, whatever the path is.
 pub fn written_open_is_read()
     ensures request { (o : Open) → IsSent 0x54 (open_data o) (open_bytes o) }
     ensures data_ { (o : Open) → IsReadable o.path → open_at (open_data o) ≡ Ok o }
+    ensures alone { (o p : Open) → open_at (open_data o) ≡ Ok p → p ≡ o }
 {}
 
 /// The reply of a success that is written is read as a reply of status 00, and its data as the same
-/// record.
+/// record; as no other, whatever the application reply is.
 pub fn written_open_reply_is_read()
     ensures reply { (s : OpenSuccess) → IsDone 0xD4 (open_reply_data s) (open_reply_bytes s) }
     ensures data_ { (s : OpenSuccess) → length s.reply % 2 ≡ 0
         → open_reply_at (open_reply_data s) ≡ Ok s }
+    ensures alone { (s t : OpenSuccess) → open_reply_at (open_reply_data s) ≡ Ok t → t ≡ s }
 {}
 
 /// The reply of a failure that is written is read as a reply of that status; its data is read back

@@ -2,3 +2,4 @@ pub mod Search
 pub mod Ticks
 pub mod Steps
 pub mod Fresh
+pub mod Asked

@@ -1,13 +1,12 @@
 -- What an open that fits says of its assemblies.
-use Rattle.std.proofs.Common.{◌≡◌, ◌≤◌, ◌<◌, ℕ, Bool, true, false, cond, not, ◌&&◌, nat_lt, List, [], length, refl, sym, ap, subst, ◌∙◌, arith, Option, Some, None, Result, Ok, Err}
-use Rattle.std.specs.Prelude.{IsSomeAnd, IfOk}
+use Rattle.std.proofs.Common.{◌≡◌, ◌≤◌, ◌<◌, ℕ, Bool, true, false, cond, not, ◌&&◌, nat_lt, List, [], length, refl, sym, ap, subst, ◌∙◌, arith, Option, Some, None, Ok, Err}
+use Rattle.std.specs.Prelude.{IsSomeAnd}
 use Rattle.std.specs.Option.{option_map, option_map_or, is_some}
 use Rattle.std.specs.FinMap as map
 use Rattle.std.proofs.lemmas.Bool.Decides.{nat_tests}
 use Rattle.cip_segment.specs.Reading.{segments_of}
 use Rattle.cip_open.specs.declared.request.OpenFields.{OpenFields}
 use Rattle.cip_open.specs.Open.{Open}
-use Rattle.cip_base.specs.declared.timing.Status.{Status}
 use Rattle.cip_base.specs.declared.triad.Triad.{Triad}
 use Rattle.cip_target.specs.declared.identity.IdentityFields.{IdentityFields}
 use Rattle.cip_target.specs.declared.config.AssemblyConfig.{AssemblyConfig}

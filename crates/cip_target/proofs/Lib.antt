@@ -3,3 +3,4 @@ pub mod Holding
 pub mod Changes
 pub mod Fitting
 pub mod Writes
+pub mod EndPoints

@@ -1,7 +1,7 @@
 -- What an end says to an open: the rows from an application path on, in their order; the first that
 -- fits answers (Volume 1, chapter 3, Forward_Open). And what the target is while connections end
 -- here.
-use Rattle.std.specs.Prelude.{ℕ, Bool, not, ◌+◌, ◌%◌, ◌==◌, ◌&&◌, ◌||◌, nat_lt, if◌then◌else◌, List, [], length, slice_index, is_some, Option, Some, None, Result, Ok, Err}
+use Rattle.std.specs.Prelude.{◌≡◌, ℕ, Bool, not, ◌+◌, ◌%◌, ◌==◌, ◌&&◌, ◌||◌, nat_lt, if◌then◌else◌, List, [], length, slice_index, is_some, Option, Some, None, Result, Ok, Err}
 use Rattle.std.specs.Option.{option_map_or}
 use Rattle.std.specs.FinMap as map
 use Rattle.cip_base.specs.Words.{Octets, InstanceNumber}
@@ -72,6 +72,12 @@ application_row m owned f (Some a) =
 -- the row of an open, where these instances are owned as outputs
 unfoldable pub end_row : AssemblyMap → (InstanceNumber → Bool) → Open → EndRow
 end_row m owned o = application_row m owned o.fields (application_of (segments_of o.path))
+
+-- an open that fits has an application path, whose points are the instances of the link
+pub record HasPoints (o : Open) (link : EndLink) : Type 0 where
+  pub application : Application
+  pub path_is : application_of (segments_of o.path) ≡ Some application
+  pub link_is : link ≡ link_of o.fields application
 
 -- general status 01, connection failure, with a word of additional status
 abbrev pub refused_with : ℕ → Status

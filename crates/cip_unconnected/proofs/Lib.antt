@@ -1,1 +1,2 @@
 pub mod Unconnecteds
+pub mod ReadAgain

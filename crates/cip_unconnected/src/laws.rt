@@ -16,8 +16,9 @@ pub fn unconnected_is_exact()
 {}
 
 /// The message that is written is read as a request to the Connection Manager, and its data as the
-/// same record.
+/// same record; as no other, whatever the route is.
 pub fn written_unconnected_is_read()
     ensures request { (u : Send) → IsSent 0x52 (unconnected_data u) (unconnected_bytes u) }
     ensures data_ { (u : Send) → IsReadable u.route → unconnected_at (unconnected_data u) ≡ Ok u }
+    ensures alone { (u v : Send) → unconnected_at (unconnected_data u) ≡ Ok v → v ≡ u }
 {}

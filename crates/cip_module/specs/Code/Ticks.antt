@@ -22,8 +22,11 @@ use Rattle.cip_module.specs.State.{State}
 use Rattle.cip_module.specs.Table.{pending_times_out, hop_times_out, tick_effects}
 
 -- that no answer came in time
+abbrev pub late_reply : Entry → Output
+late_reply entry = reply_up entry.up (late_bytes entry.kind entry.words)
+
 abbrev pub shown : ℕ × Entry → Output
-shown waiting = reply_up waiting.1.up (late_bytes waiting.1.kind waiting.1.words)
+shown waiting = late_reply waiting.1
 
 -- of the due pendings, in rising number
 abbrev pub pendings_timed_out : Microseconds → Pendings → List Output

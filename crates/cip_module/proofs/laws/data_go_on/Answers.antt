@@ -1,4 +1,5 @@
-use Rattle.cip_module.proofs.DataMet.{goes_down, goes_up}
+use Rattle.cip_module.proofs.DataMet.{goes_down, goes_up, goes_entered}
+use Rattle.cip_module.proofs.DataOnce.{frame_once, enter_once}
 use Rattle.cip_module.proofs.laws.data_go_on.Goals as goal
 
 pub returns-clause-down : goal.returns-clause-down
@@ -6,3 +7,12 @@ returns-clause-down c config s own port id from bytes has hop = goes_down config
 
 pub returns-clause-up : goal.returns-clause-up
 returns-clause-up c config s own port id from bytes has hop = goes_up config s own port id from bytes has hop
+
+pub returns-clause-entered : goal.returns-clause-entered
+returns-clause-entered c = goes_entered
+
+pub returns-clause-came_once : goal.returns-clause-came_once
+returns-clause-came_once c = frame_once
+
+pub returns-clause-entered_once : goal.returns-clause-entered_once
+returns-clause-entered_once c = enter_once

@@ -1,4 +1,5 @@
 use Rattle.cip_module.proofs.Births.{held_born, born_once}
+use Rattle.cip_module.proofs.RequestBy.{born_tells}
 use Rattle.cip_module.proofs.laws.ids_are_born_once.Goals as goal
 
 pub returns-clause-born : goal.returns-clause-born
@@ -6,3 +7,6 @@ returns-clause-born c = held_born
 
 pub returns-clause-once : goal.returns-clause-once
 returns-clause-once c = λ config turns h o p ids own id a b has too. born_once config o p ids own turns id h a b has too
+
+pub returns-clause-asked : goal.returns-clause-asked
+returns-clause-asked c = born_tells

@@ -1,12 +1,11 @@
-use Rattle.cip_module.proofs.NextRows.{send_row_is, close_row_is}
-use Rattle.cip_module.proofs.ReadBack.{open_row_is}
+use Rattle.cip_module.proofs.NextRows.{open_meets, send_meets, close_meets}
 use Rattle.cip_module.proofs.laws.what_goes_on_meets_its_group.Goals as goal
 
 pub returns-clause-opens : goal.returns-clause-opens
-returns-clause-opens c = open_row_is
+returns-clause-opens c = open_meets
 
 pub returns-clause-sends : goal.returns-clause-sends
-returns-clause-sends c = send_row_is
+returns-clause-sends c = send_meets
 
 pub returns-clause-closes : goal.returns-clause-closes
-returns-clause-closes c = close_row_is
+returns-clause-closes c = close_meets

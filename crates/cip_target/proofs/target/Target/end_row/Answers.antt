@@ -3,7 +3,7 @@ use Rattle.std.specs.Option.{is_some}
 use Rattle.std.specs.FinMap as map
 use Rattle.cip_target.specs.ApplicationPath.{Application}
 use Rattle.cip_target.specs.Viewed.{application_seen}
-use Rattle.cip_target.specs.Ends.{Ends, application_row, end_row, row_at}
+use Rattle.cip_target.specs.Ends.{Ends, application_row, end_row}
 use Rattle.cip_target.proofs.Fitting.{joined_is}
 use Rattle.cip_target.proofs.target.Target.end_row.Goals as goal
 

@@ -10,7 +10,7 @@ use Rattle.cip_message.specs.declared.fault.DataFault.TheVariants as faults
 use Rattle.cip_message.proofs.Words.{word_again}
 use Rattle.cip_unconnected.specs.Unconnected.{Unconnected, unconnected_data}
 use Rattle.cip_unconnected.specs.UnconnectedAt.{route_place, with_route, unconnected_at}
-use Rattle.cip_module.proofs.ReadBackOthers.{path_part_read}
+use Rattle.cip_message.proofs.ReadAgain.{path_part_read}
 
 pad_len : (n : ℕ) → length (pad n) ≡ n % 2
 pad_len n = cond_both (eqb (n % 2) 1) (0 ∷ []) [] (λ (p : List ℕ). length p ≡ n % 2) (λ t. let one = eqb-true (n % 2) 1 t in omega (arith, one))

@@ -1,20 +1,14 @@
--- What the rows know and the effects do not carry: the application path of an open that ends here, and what an embedded request cannot be.
-use Rattle.std.proofs.Common.{◌≡◌, ℕ, Bool, true, false, cond, not, ◌&&◌, Ok, Err, Option, Some, None, refl, eqb, get_or}
+-- The application path of an open that ends here.
+use Rattle.std.proofs.Common.{◌≡◌, ℕ, Bool, true, false, cond, not, ◌&&◌, Ok, Err, Option, Some, None, refl}
+use Rattle.std.specs.Prelude.{nat_lt}
 use Rattle.cip_segment.specs.Reading.{segments_of}
 use Rattle.cip_open.specs.declared.request.OpenFields.{OpenFields}
 use Rattle.cip_open.specs.Open.{Open}
-use Rattle.cip_unconnected.specs.Unconnected.{Unconnected, unconnected_bytes}
 use Rattle.cip_target.specs.declared.link.EndLink.{EndLink}
 use Rattle.cip_target.specs.declared.ends.EndRefusal.TheVariants as ends
 use Rattle.cip_target.specs.ApplicationPath.{Application, application_of}
 use Rattle.cip_target.specs.Assemblies.{AssemblyMap, size_in}
-use Rattle.cip_target.specs.Ends.{EndRow, class_of, is_configuration, are_sizes, link_of, sized_row, application_row, end_row}
-use Rattle.cip_module.specs.declared.command_rows.CommandRow.TheVariants as command
-use Rattle.cip_module.specs.CommandRows.{send_row}
-use Rattle.cip_module.specs.State.{State, is_spent}
-use Rattle.std.specs.Prelude.{nat_lt, length}
-
--- ---- the three points
+use Rattle.cip_target.specs.Ends.{EndRow, HasPoints, class_of, is_configuration, are_sizes, link_of, sized_row, application_row, end_row}
 
 abbrev row : EndRow → EndRow
 row r = r
@@ -37,12 +31,6 @@ sized_is owned f a None y z link e = absurd (cc)
 sized_is owned f a (Some config) None z link e = absurd (cc)
 sized_is owned f a (Some config) (Some consume) None link e = absurd (cc)
 
--- an open that fits has an application path, whose points are the instances of the link
-pub record HasPoints (o : Open) (link : EndLink) : Type 0 where
-  pub application : Application
-  pub path_is : application_of (segments_of o.path) ≡ Some application
-  pub link_is : link ≡ link_of o.fields application
-
 application_is : (m : AssemblyMap) (owned : ℕ → Bool) (f : OpenFields) (x : Option Application) (link : EndLink) → application_row m owned f x ≡ Ok link
     → (a : Application) × (x ≡ Some a) × (link ≡ link_of f a)
 application_is m owned f None link e = absurd (cc)
@@ -53,15 +41,3 @@ unfolding end_row
 end_points m owned o link e =
     let found = application_is m owned o.fields (application_of (segments_of o.path)) link e in
     record { application = found.0; path_is = found.1; link_is = found.2 }
-
--- ---- a Send
-
-taken_row : (a b c : Bool) → cond a command.OpUsed (cond b command.ReservedService (cond c command.WrongSize command.Taken)) ≡ command.Taken → b ≡ false
-taken_row true b c e = absurd (cc)
-taken_row false true c e = absurd (cc)
-taken_row false false c e = refl
-
--- the request of a Send that is taken is not of the service that is Unconnected_Send's
-pub send_service : (s : State) (op : ℕ) (u : Unconnected) → send_row s op u ≡ command.Taken → eqb (get_or u.request 0 0) 0x52 ≡ false
-unfolding send_row
-send_service s op u e = taken_row (is_spent op s.ops) (eqb (get_or u.request 0 0) 0x52) (nat_lt 1400 (length (unconnected_bytes u))) e

@@ -4,7 +4,7 @@ use Rattle.std.specs.declared.cmp.Ordering.{Ordering}
 use Rattle.std.specs.Cmp.{IsTotalOrder}
 use Rattle.std.specs.FinMap as map
 use Rattle.std.specs.FinMap.{FinMap, IsAntisymmetric}
-use Rattle.cip_module.proofs.Points.{one_or_apart, put_here, put_apart, gone_here, gone_apart}
+use Rattle.cip_base.proofs.Points.{one_or_apart, put_here, put_apart, gone_here, gone_apart}
 
 pub some_same : {X : Type 0} (x y : X) → Some x ≡ Some y → x ≡ y
 some_same x y e = cc
