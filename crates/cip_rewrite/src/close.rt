@@ -1,24 +1,25 @@
 //! A Forward_Close that goes on.
-ghost use Rattle.std.specs.Prelude.{◌≡◌, ◌≤◌, ℕ, length, slice_index};
+ghost use Rattle.std.specs.Prelude.{◌≡◌, ◌+◌, ◌≤◌, ℕ, length, slice_index};
 ghost use Rattle.std.specs.Vec.{vec_capacity};
 ghost use Rattle.cip_segment.specs.Reading.{HopAt};
+ghost use Rattle.cip_message.specs.Manager.{manager_bytes};
 ghost use Rattle.cip_close.specs.Close.{Close, close_layout};
 ghost use Rattle.cip_close.specs.GoesOn.{lowered, close_on, IsCloseGoingOn};
 
-use crate::going::{left_behind, shorten};
+use crate::going::shorten;
 use cip_close::{CLOSE_FIXED_PART, CLOSE_RESERVED, CLOSE_TICKS, CLOSE_WORDS};
 use cip_message::{MANAGER_HEADER, data_place};
 
 // The fixed part as it goes on, before a path of so many words.
-fn lower(data_: &mut [u8], words: u8)
-    requires fixed { CLOSE_FIXED_PART ≤ length data_.old }
-    requires ticks { 1 ≤ slice_index data_.old CLOSE_TICKS }
-    ensures { (w x : ℕ) (c : Close) → data_.old ≡ close_layout w x c
-        → data_.new ≡ close_layout words 0 (lowered c c.path) }
+fn lower(message: &mut [u8], words: u8)
+    requires fixed { MANAGER_HEADER + CLOSE_FIXED_PART ≤ length message.old }
+    requires ticks { 1 ≤ slice_index message.old (MANAGER_HEADER + CLOSE_TICKS) }
+    ensures { (s w x : ℕ) (c : Close) → message.old ≡ manager_bytes s (close_layout w x c)
+        → message.new ≡ manager_bytes s (close_layout words 0 (lowered c c.path)) }
 {
-    data_[CLOSE_TICKS] -= 1;
-    data_[CLOSE_WORDS] = words;
-    data_[CLOSE_RESERVED] = 0;
+    message[MANAGER_HEADER + CLOSE_TICKS] -= 1;
+    message[MANAGER_HEADER + CLOSE_WORDS] = words;
+    message[MANAGER_HEADER + CLOSE_RESERVED] = 0;
 }
 
 /// A Forward_Close as it goes on, in the buffer in which it came: the header of a request to the
@@ -36,7 +37,6 @@ pub fn forward_close_bytes(bytes: &mut Vec<u8>)
     ensures room { vec_capacity bytes.new ≡ vec_capacity bytes.old }
 {
     let start = data_place(bytes);
-    let left = left_behind(&bytes[start + CLOSE_FIXED_PART..]);
-    shorten(bytes, start, CLOSE_FIXED_PART, left);
-    lower(&mut bytes[MANAGER_HEADER..], (left / 2) as u8);
+    let words = shorten(bytes, start, CLOSE_FIXED_PART);
+    lower(bytes, words);
 }

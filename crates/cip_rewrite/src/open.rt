@@ -1,28 +1,29 @@
 //! A Forward_Open that goes on.
-ghost use Rattle.std.specs.Prelude.{◌≡◌, ◌≤◌, ℕ, length, slice_index};
+ghost use Rattle.std.specs.Prelude.{◌≡◌, ◌+◌, ◌≤◌, ℕ, length, slice_index};
 ghost use Rattle.std.specs.Vec.{vec_capacity};
 ghost use Rattle.cip_segment.specs.Reading.{HopAt};
+ghost use Rattle.cip_message.specs.Manager.{manager_bytes};
 ghost use Rattle.cip_open.specs.Open.{Open, open_layout};
 ghost use Rattle.cip_open.specs.GoesOn.{lowered, open_on, IsOpenGoingOn};
 
-use crate::going::{left_behind, shorten};
+use crate::going::shorten;
 use byteorder::{ByteOrder, LittleEndian};
 use cip_message::{MANAGER_HEADER, data_place};
 use cip_open::{OPEN_FIXED_PART, OPEN_RESERVED, OPEN_TICKS, OPEN_TO_ID, OPEN_WORDS};
 
 // The fixed part as it goes on, before a path of so many words.
-fn lower(data_: &mut [u8], down_id: u32, words: u8)
-    requires fixed { OPEN_FIXED_PART ≤ length data_.old }
-    requires ticks { 1 ≤ slice_index data_.old OPEN_TICKS }
-    ensures { (x y z w : ℕ) (o : Open) → data_.old ≡ open_layout x y z w o
-        → data_.new ≡ open_layout 0 0 0 words (lowered o down_id o.path) }
+fn lower(message: &mut [u8], down_id: u32, words: u8)
+    requires fixed { MANAGER_HEADER + OPEN_FIXED_PART ≤ length message.old }
+    requires ticks { 1 ≤ slice_index message.old (MANAGER_HEADER + OPEN_TICKS) }
+    ensures { (s x y z w : ℕ) (o : Open) → message.old ≡ manager_bytes s (open_layout x y z w o)
+        → message.new ≡ manager_bytes s (open_layout 0 0 0 words (lowered o down_id o.path)) }
 {
-    data_[OPEN_TICKS] -= 1;
-    LittleEndian::write_u32(&mut data_[OPEN_TO_ID..], down_id);
-    data_[OPEN_RESERVED] = 0;
-    data_[OPEN_RESERVED + 1] = 0;
-    data_[OPEN_RESERVED + 2] = 0;
-    data_[OPEN_WORDS] = words;
+    message[MANAGER_HEADER + OPEN_TICKS] -= 1;
+    LittleEndian::write_u32(&mut message[MANAGER_HEADER + OPEN_TO_ID..], down_id);
+    message[MANAGER_HEADER + OPEN_RESERVED] = 0;
+    message[MANAGER_HEADER + OPEN_RESERVED + 1] = 0;
+    message[MANAGER_HEADER + OPEN_RESERVED + 2] = 0;
+    message[MANAGER_HEADER + OPEN_WORDS] = words;
 }
 
 /// A Forward_Open as it goes on, in the buffer in which it came: the header of a request to the
@@ -40,7 +41,6 @@ pub fn forward_open_bytes(bytes: &mut Vec<u8>, down_id: u32)
     ensures room { vec_capacity bytes.new ≡ vec_capacity bytes.old }
 {
     let start = data_place(bytes);
-    let left = left_behind(&bytes[start + OPEN_FIXED_PART..]);
-    shorten(bytes, start, OPEN_FIXED_PART, left);
-    lower(&mut bytes[MANAGER_HEADER..], down_id, (left / 2) as u8);
+    let words = shorten(bytes, start, OPEN_FIXED_PART);
+    lower(bytes, down_id, words);
 }

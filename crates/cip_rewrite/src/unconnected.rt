@@ -4,10 +4,11 @@ ghost use Rattle.std.specs.Vec.{vec_capacity};
 ghost use Rattle.cip_base.specs.Fields.{pad};
 ghost use Rattle.cip_base.specs.Words.{Octets};
 ghost use Rattle.cip_segment.specs.Reading.{HopAt};
+ghost use Rattle.cip_message.specs.Manager.{manager_bytes};
 ghost use Rattle.cip_unconnected.specs.Unconnected.{Unconnected, unconnected_layout, unconnected_bytes};
 ghost use Rattle.cip_unconnected.specs.GoesOn.{lowered, IsSendGoingOn};
 
-use crate::going::{left_behind, shorten};
+use crate::going::shorten;
 use cip_message::{MANAGER_HEADER, data_place};
 use cip_unconnected::{UNCONNECTED_REQUEST, UNCONNECTED_TICKS, request_size};
 
@@ -27,16 +28,20 @@ fn lower_end(end: &mut [u8], size: usize, words: u8)
     }
 }
 
-// All before the route as it goes on, before a route of so many words.
-fn lower(data_: &mut [u8], size: usize, words: u8)
-    requires whole { UNCONNECTED_REQUEST + size + size % 2 + 2 ≤ length data_.old }
-    requires ticks { 1 ≤ slice_index data_.old UNCONNECTED_TICKS }
-    ensures { (padding : Octets) (w x : ℕ) (u : Unconnected) → length u.request ≡ size
-        → length padding ≡ size % 2 → data_.old ≡ unconnected_layout padding w x u
-        → data_.new ≡ unconnected_layout (pad size) words 0 (lowered u u.route) }
+// All before the route as it goes on, around a request of so many bytes and before a route of so
+// many words.
+fn lower(message: &mut [u8], size: usize, words: u8)
+    requires whole { MANAGER_HEADER + UNCONNECTED_REQUEST + size + size % 2 + 2
+        ≤ length message.old }
+    requires ticks { 1 ≤ slice_index message.old (MANAGER_HEADER + UNCONNECTED_TICKS) }
+    ensures { (s w x : ℕ) (padding : Octets) (u : Unconnected) → length u.request ≡ size
+        → length padding ≡ size % 2
+        → message.old ≡ manager_bytes s (unconnected_layout padding w x u)
+        → message.new ≡ manager_bytes s (unconnected_layout (pad size) words 0
+        (lowered u u.route)) }
 {
-    data_[UNCONNECTED_TICKS] -= 1;
-    lower_end(&mut data_[UNCONNECTED_REQUEST + size..], size, words);
+    message[MANAGER_HEADER + UNCONNECTED_TICKS] -= 1;
+    lower_end(&mut message[MANAGER_HEADER + UNCONNECTED_REQUEST + size..], size, words);
 }
 
 /// An Unconnected_Send as it goes on, in the buffer in which it came: the header of a request to
@@ -55,10 +60,8 @@ pub fn forward_unconnected_bytes(bytes: &mut Vec<u8>)
 {
     let start = data_place(bytes);
     let size = request_size(&bytes[start..]);
-    let fixed = UNCONNECTED_REQUEST + size + size % 2 + 2;
-    let left = left_behind(&bytes[start + fixed..]);
-    shorten(bytes, start, fixed, left);
-    lower(&mut bytes[MANAGER_HEADER..], size, (left / 2) as u8);
+    let words = shorten(bytes, start, UNCONNECTED_REQUEST + size + size % 2 + 2);
+    lower(bytes, size, words);
 }
 
 /// The request that an Unconnected_Send carries, its bytes as they stand, in the buffer in which
