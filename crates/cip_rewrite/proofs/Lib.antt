@@ -1,1 +1,4 @@
+pub mod CameOpens
+pub mod Edited
+pub mod Paths
 pub mod Shortened
