@@ -12,10 +12,7 @@ use Rattle.cip_open.specs.OpenAt.{open_at}
 use Rattle.cip_open.specs.GoesOn.{IsOpenGoingOn}
 use Rattle.cip_open.proofs.Opens.{open_verdict}
 use Rattle.cip_rewrite.specs.LeadsOn.{LeadsOn}
-use Rattle.cip_rewrite.proofs.Paths.{leads_on}
-
-abbrev pub start_of : List ℕ → ℕ
-start_of b = 2 + 2 * get_or b 1 0
+use Rattle.cip_rewrite.proofs.Paths.{start_of, leads_on}
 
 pub record CameOpen (b : List ℕ) (o : Open) (hop : HopAt) : Type 0 where
   pub two : 2 ≤ length b

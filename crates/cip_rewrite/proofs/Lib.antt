@@ -1,3 +1,4 @@
+pub mod CameCloses
 pub mod CameOpens
 pub mod Edited
 pub mod Paths

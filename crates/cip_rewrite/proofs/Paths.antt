@@ -1,5 +1,5 @@
 -- A path at the end of a message.
-use Rattle.std.proofs.Common.{◌≡◌, ℕ, ◌+◌, ◌<◌, ◌≤◌, List, length, drop, get_or, inl, inr, Some, sym, ap, subst, ◌∙◌, arith}
+use Rattle.std.proofs.Common.{◌≡◌, ℕ, ◌+◌, ◌*◌, ◌<◌, ◌≤◌, List, length, drop, get_or, inl, inr, Some, sym, ap, subst, ◌∙◌, arith}
 use Rattle.std.proofs.lemmas.Bool.{cases_lt}
 use Rattle.std.proofs.lemmas.List.{drop-drop, get_or_past}
 use Rattle.cip_base.specs.Fields.{IsBytes}
@@ -17,6 +17,10 @@ octets b h i =
       | inl lt ↦ h i lt
       | inr le ↦ rw (get_or_past b i 0 le) (omega arith)
     ]
+
+-- where the data of a request begins
+abbrev pub start_of : List ℕ → ℕ
+start_of b = 2 + 2 * get_or b 1 0
 
 pub leads_on : (b d : List ℕ) (start fixed : ℕ) (path : List ℕ) (hop : HopAt) → 6 ≤ start → start + fixed ≤ length b → drop start b ≡ d
     → drop fixed d ≡ path → IsBytes d → IsReadable path → hop_of path ≡ Some hop → LeadsOn b start fixed hop

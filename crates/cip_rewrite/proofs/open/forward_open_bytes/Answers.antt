@@ -2,7 +2,7 @@ use Rattle.std.proofs.Common.{◌≡◌, ℕ, ◌+◌, ◌*◌, ◌≤◌, List,
 use Rattle.std.proofs.lemmas.List.{take_at}
 use Rattle.cip_message.specs.Manager.{manager_bytes}
 use Rattle.cip_open.specs.declared.request.TheConstants.{FORWARD_OPEN}
-use Rattle.cip_open.specs.Open.{Open, open_with, open_layout}
+use Rattle.cip_open.specs.Open.{open_with, open_layout}
 use Rattle.cip_open.specs.GoesOn.{lowered}
 use Rattle.cip_rewrite.specs.LeadsOn.{LeadsOn}
 use Rattle.cip_rewrite.proofs.Paths.{octets}
