@@ -1,5 +1,6 @@
 pub mod CameCloses
 pub mod CameOpens
+pub mod CameSends
 pub mod Edited
 pub mod Paths
 pub mod Shortened

@@ -1,7 +1,7 @@
 -- What a message is that was closed up.
 use Rattle.std.proofs.Common.{◌≡◌, ℕ, suc, ◌+◌, ◌-◌, ◌≤◌, List, ◌++◌, length, take, drop, get_or, Some, refl, sym, ap, subst, ◌∙◌, append_assoc, arith}
 use Rattle.std.specs.List.{copy_within}
-use Rattle.std.proofs.lemmas.List.{drop_at, take_all, drop-drop, get_or-take, length-append, length-drop, length-take-le}
+use Rattle.std.proofs.lemmas.List.{drop_at, take_all, take-append-drop, drop-drop, get_or-take, length-append, length-drop, length-take-le}
 use Rattle.std.proofs.lemmas.List.Edits.{length-paste, take-paste, drop-paste}
 use Rattle.std.proofs.lemmas.Slice.{between_is}
 use Rattle.cip_segment.specs.Spelling.{IsReadable}
@@ -49,6 +49,25 @@ left b start fixed hop on =
     }
 
 -- ---- closing up
+
+-- what stands in its place already
+pub stays : (b : List ℕ) (from count to : ℕ) → from ≡ to → from + count ≤ length b → b ≡ copy_within b from (from + count) to
+stays b from count to e le =
+    let m : ℕ = (from + count) - from in
+    let others : drop from b ≡ take m (drop from b) ++ drop (from + m) b =
+    sym (take-append-drop m (drop from b)) ∙ ap (λ (z : List ℕ). take m (drop from b) ++ z) (drop-drop m from b) in
+    sym (take-append-drop from b) ∙ ap (λ (z : List ℕ). take from b ++ z) others
+    ∙ sym (append_assoc (take from b) (take m (drop from b)) (drop (from + m) b))
+    ∙ ap (λ (i : ℕ). take i b ++ take m (drop from b) ++ drop (i + m) b) e
+
+-- what is brought to the front
+pub brought : (b : List ℕ) (from count : ℕ) → from + count ≤ length b → take count (copy_within b from (from + count) 0) ≡ take count (drop from b)
+brought b from count le =
+    let m : ℕ = (from + count) - from in
+    let same : count ≡ 0 + m = omega arith in
+    ap (λ (i : ℕ). take i (copy_within b from (from + count) 0)) same
+    ∙ take-paste b 0 (drop from b) m (omega arith) (omega (arith, length-drop from b))
+    ∙ ap (λ (i : ℕ). take i (drop from b)) (let h : m ≡ count = omega arith in h)
 
 -- the header over the first bytes
 headed : (b c : List ℕ) (n : ℕ) (ys : List ℕ) → 6 ≤ length b → take (6 + n) c ≡ take 6 b ++ ys

@@ -21,14 +21,14 @@ fn left_behind(bytes: &[u8], start: usize, fixed: usize) -> usize
     rest(path).bytes.len()
 }
 
-// Brings that many bytes from there to behind the header of a request to the Connection Manager.
-fn bring(bytes: &mut [u8], start: usize, fixed: usize)
-    requires header { MANAGER_HEADER ≤ start }
-    requires within { start + fixed ≤ length bytes.old }
-    ensures { bytes.new ≡ copy_within bytes.old start (start + fixed) MANAGER_HEADER }
+/// Brings so many bytes from one place to another before it.
+pub(crate) fn bring(bytes: &mut [u8], from: usize, count: usize, to: usize)
+    requires before { to ≤ from }
+    requires within { from + count ≤ length bytes.old }
+    ensures { bytes.new ≡ copy_within bytes.old from (from + count) to }
 {
-    if start > MANAGER_HEADER {
-        bytes.copy_within(start..start + fixed, MANAGER_HEADER);
+    if from > to {
+        bytes.copy_within(from..from + count, to);
     }
 }
 
@@ -42,7 +42,7 @@ fn close_up(bytes: &mut [u8], start: usize, fixed: usize, left: usize)
         ≡ manager_bytes (slice_index bytes.old 0) (take fixed (drop start bytes.old)
         ++ drop (length bytes.old - left) bytes.old) }
 {
-    bring(bytes, start, fixed);
+    bring(bytes, start, fixed, MANAGER_HEADER);
     let rest = bytes.len() - left;
     bytes.copy_within(rest.., MANAGER_HEADER + fixed);
     set_manager_header(bytes);

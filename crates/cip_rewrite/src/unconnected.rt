@@ -1,16 +1,25 @@
 //! An Unconnected_Send that goes on, and the request that it carries.
-ghost use Rattle.std.specs.Prelude.{◌≡◌, ◌+◌, ◌≤◌, ◌<◌, ◌%◌, ℕ, ◌∷◌, ◌++◌, length, slice_index};
+ghost use Rattle.std.specs.Prelude.{◌≡◌, ◌+◌, ◌≤◌, ◌<◌, ◌%◌, ℕ, ◌∷◌, ◌++◌, length, drop, slice_index};
 ghost use Rattle.std.specs.Vec.{vec_capacity};
 ghost use Rattle.cip_base.specs.Fields.{pad};
 ghost use Rattle.cip_base.specs.Words.{Octets};
 ghost use Rattle.cip_segment.specs.Reading.{HopAt};
 ghost use Rattle.cip_message.specs.Manager.{manager_bytes};
+ghost use Rattle.cip_message.specs.Numbers.{word_in};
 ghost use Rattle.cip_unconnected.specs.Unconnected.{Unconnected, unconnected_layout, unconnected_bytes};
 ghost use Rattle.cip_unconnected.specs.GoesOn.{lowered, IsSendGoingOn};
 
-use crate::going::shorten;
+use crate::going::{bring, shorten};
 use cip_message::{MANAGER_HEADER, data_place};
 use cip_unconnected::{UNCONNECTED_REQUEST, UNCONNECTED_TICKS, request_size};
+
+// The size of the embedded request, where the data begins at `start`.
+fn embedded_size(bytes: &[u8], start: usize) -> usize
+    requires { start + UNCONNECTED_REQUEST ≤ length bytes.now }
+    ensures { result ≡ word_in (drop start bytes.now) 2 }
+{
+    request_size(&bytes[start..])
+}
 
 // What stands between an embedded request of so many bytes and a route of so many words.
 fn lower_end(end: &mut [u8], size: usize, words: u8)
@@ -59,7 +68,7 @@ pub fn forward_unconnected_bytes(bytes: &mut Vec<u8>)
     ensures room { vec_capacity bytes.new ≡ vec_capacity bytes.old }
 {
     let start = data_place(bytes);
-    let size = request_size(&bytes[start..]);
+    let size = embedded_size(bytes, start);
     let words = shorten(bytes, start, UNCONNECTED_REQUEST + size + size % 2 + 2);
     lower(bytes, size, words);
 }
@@ -78,8 +87,7 @@ pub fn unwrap_bytes(bytes: &mut Vec<u8>)
     ensures room { vec_capacity bytes.new ≡ vec_capacity bytes.old }
 {
     let start = data_place(bytes);
-    let size = request_size(&bytes[start..]);
-    let request = start + UNCONNECTED_REQUEST;
-    bytes.copy_within(request..request + size, 0);
+    let size = embedded_size(bytes, start);
+    bring(bytes, start + UNCONNECTED_REQUEST, size, 0);
     bytes.truncate(size);
 }
