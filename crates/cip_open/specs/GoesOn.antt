@@ -28,9 +28,13 @@ pub record IsOpenGoingOn (b : Octets) (o : Open) (hop : HopAt) : Type 0 where
   pub is : open_at data_ ≡ Ok o
   pub leads : hop_of o.path ≡ Some hop
 
--- the message of a success with these ids in place of its own
+-- a success with these ids in place of its own
+abbrev pub with_ids : OpenSuccess → ConnectionId → ConnectionId → OpenSuccess
+with_ids s ot_id to_id = record s { ot_id = ot_id; to_id = to_id }
+
+-- its message
 abbrev pub success_with : OpenSuccess → ConnectionId → ConnectionId → Octets
-success_with s ot_id to_id = open_reply_bytes (record s { ot_id = ot_id; to_id = to_id })
+success_with s ot_id to_id = open_reply_bytes (with_ids s ot_id to_id)
 
 -- b is the reply of this success as it came
 pub record IsOpenSuccess (b : Octets) (s : OpenSuccess) : Type 0 where

@@ -5,7 +5,10 @@ use borrow.Rule.Slice.PartMut.{put_mid}
 use Rattle.cip_base.specs.Fields.{word, double, pad}
 use Rattle.cip_message.specs.Manager.{manager_bytes}
 use Rattle.cip_open.specs.Open.{Open, open_layout}
-use Rattle.cip_open.specs.GoesOn.{lowered}
+use Rattle.cip_message.specs.Reply.{reply_layout, done_with}
+use Rattle.cip_open.specs.declared.request.TheConstants.{FORWARD_OPEN_REPLY}
+use Rattle.cip_open.specs.Success.{OpenSuccess, open_reply_layout}
+use Rattle.cip_open.specs.GoesOn.{lowered, with_ids}
 use Rattle.cip_close.specs.Close.{Close, close_layout}
 use Rattle.cip_close.specs.GoesOn.{lowered as close_down}
 use Rattle.cip_unconnected.specs.Unconnected.{Unconnected, unconnected_layout}
@@ -78,3 +81,25 @@ send_lowered s w x size padding u words m ys len e f =
     let behind : drop i n ≡ tail = ap (λ (t : List ℕ). drop i t) n_is ∙ drop_at (front s u) tail i long in
     let before : take i n ≡ front s u = ap (λ (t : List ℕ). take i t) n_is ∙ take_at (front s u) tail i long in
     tail_written i n ys ∙ ap (λ (t : List ℕ). t ++ ys) before ∙ ap (λ (t : List ℕ). front s u ++ t) (f (to_end i n ∙ behind))
+
+-- ---- a success
+
+abbrev done_at : List ℕ → List ℕ
+done_at m = set m 1 0
+
+abbrev with_up : ℕ → List ℕ → List ℕ
+with_up up n = take 4 n ++ (double up ++ drop 4 (drop 4 n))
+
+abbrev with_their : ℕ → List ℕ → List ℕ
+with_their their n = take 8 n ++ (double their ++ drop 4 (drop 8 n))
+
+pub success_raised : (x y w : ℕ) (s : OpenSuccess) (up their : ℕ) (m p ys zs : List ℕ) → up < 4294967296 → their < 4294967296
+    → m ≡ reply_layout x (done_with FORWARD_OPEN_REPLY (open_reply_layout w y s))
+    → ys ≡ quad up ++ drop 4 (take (length (done_at m) - 4) (drop 4 (done_at m)))
+    → p ≡ put_mid 4 (length (done_at m) - 4) (done_at m) ys
+    → zs ≡ quad their ++ drop 4 (take (length p - 8) (drop 8 p))
+    → set (put_mid 8 (length p - 8) p zs) 29 0 ≡ reply_layout 0 (done_with FORWARD_OPEN_REPLY (open_reply_layout w 0 (with_ids s up their)))
+success_raised x y w s up their m p ys zs lu lt e f p_is g =
+    ap (λ (t : List ℕ). set t 29 0) (double_written 8 their p zs lt g)
+    ∙ ap (λ (t : List ℕ). set (with_their their t) 29 0) (p_is ∙ double_written 4 up (done_at m) ys lu f)
+    ∙ ap (λ (t : List ℕ). set (with_their their (with_up up (done_at t))) 29 0) e
