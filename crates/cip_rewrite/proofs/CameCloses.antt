@@ -1,5 +1,5 @@
 -- A Forward_Close as it came: where its path stands, and what closing it up leaves.
-use Rattle.std.proofs.Common.{◌≡◌, ℕ, ◌+◌, ◌*◌, ◌≤◌, List, ◌++◌, length, take, drop, get_or, Some, sym, ap, subst, ◌∙◌, arith}
+use Rattle.std.proofs.Common.{◌≡◌, ℕ, ◌+◌, ◌≤◌, List, ◌++◌, length, take, drop, get_or, Some, sym, ap, subst, ◌∙◌, arith}
 use Rattle.std.specs.Prelude.{MatchResult, Result}
 use Rattle.cip_base.specs.Fields.{IsBytes}
 use Rattle.cip_segment.specs.Reading.{HopAt, hop_of}
@@ -8,7 +8,6 @@ use Rattle.cip_message.specs.Manager.{manager_bytes}
 use Rattle.cip_message.proofs.Receiveds.{Placed, placed}
 use Rattle.cip_close.specs.declared.request.TheConstants.{FORWARD_CLOSE}
 use Rattle.cip_close.specs.Close.{Close, close_with, close_layout, ReadsClose, IsCloseFault}
-use Rattle.cip_close.specs.CloseAt.{close_at}
 use Rattle.cip_close.specs.GoesOn.{IsCloseGoingOn}
 use Rattle.cip_close.proofs.Closes.{close_verdict}
 use Rattle.cip_rewrite.specs.LeadsOn.{LeadsOn}

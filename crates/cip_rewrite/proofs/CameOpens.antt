@@ -1,5 +1,5 @@
 -- A Forward_Open as it came: where its path stands, and what closing it up leaves.
-use Rattle.std.proofs.Common.{◌≡◌, ℕ, ◌+◌, ◌*◌, ◌≤◌, List, ◌++◌, length, take, drop, get_or, Some, sym, ap, subst, ◌∙◌, arith}
+use Rattle.std.proofs.Common.{◌≡◌, ℕ, ◌+◌, ◌≤◌, List, ◌++◌, length, take, drop, get_or, Some, sym, ap, subst, ◌∙◌, arith}
 use Rattle.std.specs.Prelude.{MatchResult, Result}
 use Rattle.cip_base.specs.Fields.{IsBytes}
 use Rattle.cip_segment.specs.Reading.{HopAt, hop_of}
@@ -7,8 +7,7 @@ use Rattle.cip_message.specs.declared.fault.DataFault.{DataFault}
 use Rattle.cip_message.specs.Manager.{manager_bytes}
 use Rattle.cip_message.proofs.Receiveds.{Placed, placed}
 use Rattle.cip_open.specs.declared.request.TheConstants.{FORWARD_OPEN}
-use Rattle.cip_open.specs.Open.{Open, open_with, open_layout, LaysOpen, ReadsOpen, IsOpenFault}
-use Rattle.cip_open.specs.OpenAt.{open_at}
+use Rattle.cip_open.specs.Open.{Open, open_with, open_layout, ReadsOpen, IsOpenFault}
 use Rattle.cip_open.specs.GoesOn.{IsOpenGoingOn}
 use Rattle.cip_open.proofs.Opens.{open_verdict}
 use Rattle.cip_rewrite.specs.LeadsOn.{LeadsOn}

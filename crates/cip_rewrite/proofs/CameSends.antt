@@ -1,5 +1,5 @@
 -- An Unconnected_Send as it came: where its route stands, and what closing it up leaves.
-use Rattle.std.proofs.Common.{◌≡◌, ℕ, ◌+◌, ◌*◌, ◌%◌, ◌≤◌, List, [], ◌∷◌, ◌++◌, length, take, drop, get_or, Some, refl, sym, ap, subst, ◌∙◌, append_assoc, arith}
+use Rattle.std.proofs.Common.{◌≡◌, ℕ, ◌+◌, ◌%◌, ◌≤◌, List, [], ◌∷◌, ◌++◌, length, take, drop, get_or, Some, refl, sym, ap, subst, ◌∙◌, append_assoc, arith}
 use Rattle.std.specs.Prelude.{MatchResult, Result}
 use Rattle.std.proofs.lemmas.List.{take_at, drop_at, drop-drop, length-append}
 use Rattle.cip_base.specs.Fields.{IsBytes, word}
@@ -11,7 +11,6 @@ use Rattle.cip_message.proofs.Receiveds.{Placed, placed}
 use Rattle.cip_unconnected.specs.declared.unconnected.TheConstants.{UNCONNECTED_SEND}
 use Rattle.cip_unconnected.specs.declared.fault.UnconnectedFault.{UnconnectedFault}
 use Rattle.cip_unconnected.specs.Unconnected.{Unconnected, unconnected_with, unconnected_layout, ReadsUnconnected, IsUnconnectedFault}
-use Rattle.cip_unconnected.specs.UnconnectedAt.{unconnected_at}
 use Rattle.cip_unconnected.specs.GoesOn.{IsSendGoingOn}
 use Rattle.cip_unconnected.proofs.Unconnecteds.{unconnected_verdict}
 use Rattle.cip_rewrite.specs.LeadsOn.{LeadsOn}

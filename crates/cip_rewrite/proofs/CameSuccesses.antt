@@ -1,5 +1,5 @@
 -- The success of a Forward_Open as it came.
-use Rattle.std.proofs.Common.{◌≡◌, ℕ, ◌+◌, ◌*◌, ◌/◌, ◌≤◌, List, length, drop, subst, ap, ◌∙◌, arith}
+use Rattle.std.proofs.Common.{◌≡◌, ℕ, ◌+◌, ◌/◌, ◌≤◌, List, length, drop, subst, ap, ◌∙◌, arith}
 use Rattle.std.specs.Prelude.{MatchResult, Result}
 use Rattle.cip_base.specs.Fields.{IsBytes}
 use Rattle.cip_message.specs.declared.fault.ReplyFault.{ReplyFault}

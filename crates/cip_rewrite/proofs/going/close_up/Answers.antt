@@ -1,4 +1,4 @@
-use Rattle.std.proofs.Common.{◌≡◌, ℕ, ◌+◌, ◌-◌, List, length, take, ap, ◌∙◌, arith}
+use Rattle.std.proofs.Common.{ℕ, ◌+◌, ◌-◌, List, length, take, ap, ◌∙◌}
 use Rattle.std.specs.List.{copy_within}
 use Rattle.cip_rewrite.proofs.Shortened.{closed_up}
 use Rattle.cip_rewrite.proofs.going.close_up.Goals as goal
