@@ -1,6 +1,6 @@
 //! Messages that are edited in the buffer in which they came, by bytes from outside: an open over two modules to a third
 //! one, its success, its close, and requests that are sent unconnected.
-ghost use Rattle.std.specs.Prelude.{◌≡◌, ◌<◌, ◌≤◌, IfSome, OnTrue, Some, length};
+ghost use Rattle.std.specs.Prelude.{◌≡◌, ◌<◌, ◌≤◌, IfSome, IsTrue, Some, length};
 ghost use Rattle.cip_segment.specs.Reading.{HopAt, hop_of};
 ghost use Rattle.cip_message.specs.Received.{IsReceived};
 ghost use Rattle.cip_unconnected.specs.Unconnected.{Unconnected as Sent};
@@ -62,12 +62,15 @@ fn left(path: PathView<'_>) -> Option<PathView<'_>>
 
 // A Forward_Open that can go on.
 fn is_open(bytes: &[u8]) -> bool
-    ensures { OnTrue result ((o : Open) × (hop : HopAt) × IsOpenGoingOn bytes.now o hop
+    ensures { IsTrue result → ((o : Open) × (hop : HopAt) × IsOpenGoingOn bytes.now o hop
         × (1 ≤ o.fields.timing.ticks)) }
 {
     match received(bytes, FORWARD_OPEN) {
         Some(found) => match read_open(found) {
-            Ok(view) => view.fields.timing.ticks >= 1 && left(view.path).is_some(),
+            Ok(view) => match left(view.path) {
+                Some(_) => view.fields.timing.ticks >= 1,
+                None => false,
+            },
             Err(_) => false,
         },
         None => false,
@@ -76,12 +79,15 @@ fn is_open(bytes: &[u8]) -> bool
 
 // A Forward_Close that can go on.
 fn is_close(bytes: &[u8]) -> bool
-    ensures { OnTrue result ((c : Close) × (hop : HopAt) × IsCloseGoingOn bytes.now c hop
+    ensures { IsTrue result → ((c : Close) × (hop : HopAt) × IsCloseGoingOn bytes.now c hop
         × (1 ≤ c.fields.timing.ticks)) }
 {
     match received(bytes, FORWARD_CLOSE) {
         Some(found) => match read_close(found) {
-            Ok(view) => view.fields.timing.ticks >= 1 && left(view.path).is_some(),
+            Ok(view) => match left(view.path) {
+                Some(_) => view.fields.timing.ticks >= 1,
+                None => false,
+            },
             Err(_) => false,
         },
         None => false,
@@ -96,8 +102,14 @@ fn send_left(bytes: &[u8]) -> Option<usize>
     match received(bytes, UNCONNECTED_SEND) {
         Some(found) => match read_unconnected(found) {
             Ok(view) => match left(view.route) {
-                Some(left) if view.timing.ticks >= 1 => Some(left.bytes.len()),
-                _ => None,
+                Some(left) => {
+                    if view.timing.ticks >= 1 {
+                        Some(left.bytes.len())
+                    } else {
+                        None
+                    }
+                }
+                None => None,
             },
             Err(_) => None,
         },
@@ -107,15 +119,18 @@ fn send_left(bytes: &[u8]) -> Option<usize>
 
 // The reply of a successful Forward_Open.
 fn is_success(bytes: &[u8]) -> bool
-    ensures { OnTrue result ((s : OpenSuccess) × IsOpenSuccess bytes.now s) }
+    ensures { IsTrue result → ((s : OpenSuccess) × IsOpenSuccess bytes.now s) }
 {
     match read_reply(bytes) {
-        Ok(reply) => {
-            reply.service == FORWARD_OPEN_REPLY
-                && reply.general == 0
-                && reply.extra.is_empty()
-                && read_open_reply(reply.data_).is_ok()
-        }
+        Ok(reply) => match read_open_reply(reply.data_) {
+            Ok(_) => {
+                if reply.service != FORWARD_OPEN_REPLY || reply.general != 0 {
+                    return false;
+                }
+                reply.extra.is_empty()
+            }
+            Err(_) => false,
+        },
         Err(_) => false,
     }
 }
