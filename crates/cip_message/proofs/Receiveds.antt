@@ -1,5 +1,5 @@
 -- Where the data of a request stands that came to a Connection Manager.
-use Rattle.std.proofs.Common.{◌≡◌, ◌⊎◌, ℕ, ◌+◌, ◌*◌, ◌≤◌, List, [], ◌∷◌, ◌++◌, length, take, drop, get_or, inl, inr, sym, ap, subst, ◌∙◌, arith}
+use Rattle.std.proofs.Common.{◌≡◌, ℕ, ◌+◌, ◌*◌, ◌≤◌, List, [], ◌∷◌, ◌++◌, length, take, drop, get_or, inl, inr, sym, ap, subst, ◌∙◌, arith}
 use Rattle.std.specs.Prelude.{MatchResult, Result}
 use Rattle.std.proofs.lemmas.List.{drop_at, take_at, drop-drop, length-append}
 use Rattle.cip_base.specs.Fields.{IsBytes}
@@ -10,8 +10,7 @@ use Rattle.cip_segment.specs.Reading.{segments_of}
 use Rattle.cip_segment.proofs.PathsRead.{segments_of-spelled}
 use Rattle.cip_message.specs.declared.fault.RequestFault.{RequestFault}
 use Rattle.cip_message.specs.declared.request.TheConstants.{CONNECTION_MANAGER}
-use Rattle.cip_message.specs.Request.{Request, request_with, ReadsRequest, IsRequestFault}
-use Rattle.cip_message.specs.RequestAt.{request_at}
+use Rattle.cip_message.specs.Request.{Request, ReadsRequest, IsRequestFault}
 use Rattle.cip_message.specs.Received.{IsManager, IsReceived}
 use Rattle.cip_message.proofs.Readers.{IsBytes-take, IsBytes-drop}
 use Rattle.cip_message.proofs.Requests.{request_verdict}
@@ -34,8 +33,10 @@ two_len c i others p (x, y, e, class, (v, w, f, inst, rest)) =
     omega (arith, whole, class_len c x class, instance_len i v inst)
 
 manager_len : (p : List ℕ) → IsBytes p → IsReadable p → IsManager (segments_of p) → 4 ≤ length p
-manager_len p fits readable (inl e) = two_len CONNECTION_MANAGER 1 [] p (subst (λ (s : List Segment). Spells p s) e (segments_of-spelled p fits readable))
-manager_len p fits readable (inr (a, e)) = two_len CONNECTION_MANAGER 1 (Attribute a ∷ []) p (subst (λ (s : List Segment). Spells p s) e (segments_of-spelled p fits readable))
+manager_len p fits readable (inl e) =
+    two_len CONNECTION_MANAGER 1 [] p (subst (λ (s : List Segment). Spells p s) e (segments_of-spelled p fits readable))
+manager_len p fits readable (inr (a, e)) =
+    two_len CONNECTION_MANAGER 1 (Attribute a ∷ []) p (subst (λ (s : List Segment). Spells p s) e (segments_of-spelled p fits readable))
 
 -- ---- where its data stands
 
@@ -53,7 +54,8 @@ placed_by service n p d b fits readable manager len e =
     let size : get_or b 1 0 ≡ n = ap (λ (z : List ℕ). get_or z 1 0) e in
     let behind : drop 2 b ≡ p ++ d = ap (λ (z : List ℕ). drop 2 z) e in
     let data_is : drop (2 + 2 * n) b ≡ d = sym (drop-drop (2 * n) 2 b) ∙ ap (λ (z : List ℕ). drop (2 * n) z) behind ∙ drop_at p d (2 * n) len in
-    let p_fits : IsBytes p = subst IsBytes (ap (λ (z : List ℕ). take (2 * n) z) behind ∙ take_at p d (2 * n) len) (IsBytes-take (2 * n) (drop 2 b) (IsBytes-drop 2 b fits)) in
+    let p_fits : IsBytes p =
+    subst IsBytes (ap (λ (z : List ℕ). take (2 * n) z) behind ∙ take_at p d (2 * n) len) (IsBytes-take (2 * n) (drop 2 b) (IsBytes-drop 2 b fits)) in
     let least : 4 ≤ length p = manager_len p p_fits readable manager in
     let long : length b ≡ 2 + length p + length d = ap (λ (z : List ℕ). length z) e ∙ omega (arith, length-append p d) in
     let place : drop (2 + 2 * get_or b 1 0) b ≡ d = ap (λ (i : ℕ). drop (2 + 2 * i) b) size ∙ data_is in record {
@@ -67,5 +69,6 @@ placed_by service n p d b fits readable manager len e =
 
 pub placed : (service : ℕ) (d b : List ℕ) → IsBytes b → IsReceived service d b → Placed service d b
 placed service d b fits r =
-    let (low, readable, (n, len, e)) = subst (λ (q : Result Request RequestFault). MatchResult q (ReadsRequest b) (IsRequestFault b)) r.reads (request_verdict b fits) in
+    let (low, readable, (n, len, e)) =
+    subst (λ (q : Result Request RequestFault). MatchResult q (ReadsRequest b) (IsRequestFault b)) r.reads (request_verdict b fits) in
     placed_by service n r.path d b fits readable r.manager len e

@@ -1,5 +1,5 @@
--- A request as it came to a Connection Manager: class 6, instance 1 (Volume 1, chapter 3, Connection
--- Manager).
+-- A request as it came to a Connection Manager: class 6, instance 1 (Volume 1, chapter 3,
+-- Connection Manager).
 use Rattle.std.specs.Prelude.{◌≡◌, ◌⊎◌, ℕ, List, [], ◌∷◌, Ok}
 use Rattle.cip_base.specs.Words.{Octets}
 use Rattle.cip_segment.specs.declared.segment.Segment.{Segment}

@@ -53,7 +53,8 @@ laid b d u hop p leads (readable, (padding, w, x, plen, rlen, e)) =
     let f : List ℕ = before padding w x u in
     let f_len : length f ≡ fixed_of n = before_len padding w x u plen in
     let d_is : d ≡ f ++ u.route = e ∙ sym (before_route padding w x u u.route) in
-    let long : length d ≡ fixed_of n + length u.route = ap (λ (t : List ℕ). length t) d_is ∙ length-append f u.route ∙ ap (λ (k : ℕ). k + length u.route) f_len in
+    let long : length d ≡ fixed_of n + length u.route =
+    ap (λ (t : List ℕ). length t) d_is ∙ length-append f u.route ∙ ap (λ (k : ℕ). k + length u.route) f_len in
     let path_is : drop (fixed_of n) d ≡ u.route = ap (λ (t : List ℕ). drop (fixed_of n) t) d_is ∙ drop_at f u.route (fixed_of n) f_len in
     let front_is : take (fixed_of n) d ≡ f = ap (λ (t : List ℕ). take (fixed_of n) t) d_is ∙ take_at f u.route (fixed_of n) f_len in
     let four : drop (start_of b + 4) b ≡ drop 4 d = sym (drop-drop 4 (start_of b) b) ∙ ap (λ (t : List ℕ). drop 4 t) p.data_is in record {

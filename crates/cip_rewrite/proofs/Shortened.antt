@@ -74,7 +74,9 @@ headed : (b c : List ℕ) (n : ℕ) (ys : List ℕ) → 6 ≤ length b → take 
     → take (6 + n) (manager_bytes (get_or c 0 0) (drop 6 c)) ≡ manager_bytes (get_or b 0 0) ys
 headed b c n ys le e =
     let six : length (take 6 b) ≡ 6 = length-take-le 6 b le in
-    let behind : take n (drop 6 c) ≡ ys = ap (λ (i : ℕ). take i (drop 6 c)) (let h : n ≡ 6 + n - 6 = omega arith in h) ∙ between_is c 6 (6 + n) ∙ ap (λ (z : List ℕ). drop 6 z) e ∙ drop_at (take 6 b) ys 6 six in
+    let behind : take n (drop 6 c) ≡ ys =
+    ap (λ (i : ℕ). take i (drop 6 c)) (let h : n ≡ 6 + n - 6 = omega arith in h)
+    ∙ between_is c 6 (6 + n) ∙ ap (λ (z : List ℕ). drop 6 z) e ∙ drop_at (take 6 b) ys 6 six in
     let first : get_or c 0 0 ≡ get_or b 0 0 =
     sym (get_or-take (6 + n) c 0 0 (omega arith)) ∙ ap (λ (z : List ℕ). get_or z 0 0) e
     ∙ index_front (take 6 b) ys 0 (omega arith) ∙ get_or-take 6 b 0 0 (omega arith) in

@@ -50,7 +50,11 @@ fn lower(message: &mut [u8], size: usize, words: u8)
         (lowered u u.route)) }
 {
     message[MANAGER_HEADER + UNCONNECTED_TICKS] -= 1;
-    lower_end(&mut message[MANAGER_HEADER + UNCONNECTED_REQUEST + size..], size, words);
+    lower_end(
+        &mut message[MANAGER_HEADER + UNCONNECTED_REQUEST + size..],
+        size,
+        words,
+    );
 }
 
 /// An Unconnected_Send as it goes on, in the buffer in which it came: the header of a request to
