@@ -18,6 +18,11 @@ returns-else-reply-ne0 c =
     λ none.
     let n : length c.in-Ok.reply.extra.now ≡ 0 = eqb-true _ _ (sym c.is_empty.ensures ∙ none) in
     let d : List ℕ = c.in-Ok.reply.data_.now in
-    let done = done_is c.in-Ok.reply.service c.in-Ok.reply.general c.in-Ok.reply.extra.now d c.if-reply.false c.if-reply-ne0.false (empty _ n) in
-    (success_of c.in-Ok-read_open_reply.field-0, record { data_ = d; reply = c.in-Ok.ensures.gives ∙ ap (λ (r : Reply). Ok r) done;
-    is = c.in-Ok-read_open_reply.ensures.gives })
+    let done = done_is c.in-Ok.reply.service c.in-Ok.reply.general c.in-Ok.reply.extra.now d c.if-reply.false c.if-reply-ne0.false (empty _ n) in (
+      success_of c.in-Ok-read_open_reply.field-0,
+      record {
+        data_ = d;
+        reply = c.in-Ok.ensures.gives ∙ ap (λ (r : Reply). Ok r) done;
+        is = c.in-Ok-read_open_reply.ensures.gives;
+      },
+    )
