@@ -4,3 +4,4 @@ pub mod Success
 pub mod SuccessAt
 pub mod Failed
 pub mod Reading
+pub mod GoesOn

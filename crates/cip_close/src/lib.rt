@@ -13,7 +13,7 @@ pub use laws::{
     written_close_reply_is_read,
 };
 pub use request::{
-    CLOSE_FIXED_PART, CloseFields, CloseView, FORWARD_CLOSE, FORWARD_CLOSE_REPLY, close_triad_at,
-    close_words_at, read_close, write_close,
+    CLOSE_FIXED_PART, CLOSE_RESERVED, CLOSE_TICKS, CLOSE_WORDS, CloseFields, CloseView,
+    FORWARD_CLOSE, FORWARD_CLOSE_REPLY, close_triad_at, close_words_at, read_close, write_close,
 };
 pub use success::{CloseReply, read_close_reply, write_close_reply};

@@ -17,6 +17,12 @@ pub const FORWARD_CLOSE: u8 = 0x4E;
 pub const FORWARD_CLOSE_REPLY: u8 = 0xCE;
 /// The bytes of its data before the path.
 pub const CLOSE_FIXED_PART: usize = 12;
+/// Where the time-out ticks stand in its data.
+pub const CLOSE_TICKS: usize = 1;
+/// Where the path size in words stands in its data.
+pub const CLOSE_WORDS: usize = 10;
+/// Where its reserved byte stands in its data.
+pub const CLOSE_RESERVED: usize = 11;
 
 /// The fixed fields of Forward_Close (Volume 1, chapter 3, Forward_Close).
 #[derive(Clone, Copy, Debug, PartialEq, Eq)]
@@ -37,12 +43,12 @@ pub struct CloseView<'a> {
 fn view(data_: &[u8]) -> Result<CloseView<'_>, DataFault>
     ensures { Gives close_of result (close_at data_.now) }
 {
-    match counted_path(data_, 10, CLOSE_FIXED_PART) {
+    match counted_path(data_, CLOSE_WORDS, CLOSE_FIXED_PART) {
         Ok(path) => Ok(CloseView {
             fields: CloseFields {
                 timing: Timing {
                     tick: data_[0],
-                    ticks: data_[1],
+                    ticks: data_[CLOSE_TICKS],
                 },
                 triad: triad_at(data_, 2),
             },
@@ -76,7 +82,7 @@ pub fn close_triad_at(data_: &[u8]) -> Option<Triad>
 pub fn close_words_at(data_: &[u8]) -> Option<u8>
     ensures { result ≡ close_words_of data_.now }
 {
-    data_.get(10).copied()
+    data_.get(CLOSE_WORDS).copied()
 }
 
 fn joined(alloc: Global, fields: &CloseFields, path: PathView<'_>) -> Result<Vec<u8>, AllocError>

@@ -11,6 +11,11 @@ use byteorder::{ByteOrder, LittleEndian};
 use cip_base::{Bytes, MAX_MESSAGE, Status, put_word};
 use std::alloc::{AllocError, Global};
 
+/// Where the reserved byte of a reply stands.
+pub const REPLY_RESERVED: usize = 1;
+/// The bytes of a reply before its additional status.
+pub const REPLY_HEADER: usize = 4;
+
 /// A reply whose additional status and data are borrowed (Volume 1, chapter 2, Message Router reply
 /// format).
 #[derive(Clone, Copy)]

@@ -27,7 +27,8 @@ use Rattle.cip_hops.specs.Hops as hops
 use Rattle.cip_message.specs.Request.{Request}
 use Rattle.cip_message.specs.Reply.{reply_bytes}
 use Rattle.cip_open.specs.Open.{Open}
-use Rattle.cip_open.specs.Success.{OpenSuccess, open_reply_bytes}
+use Rattle.cip_open.specs.Success.{OpenSuccess}
+use Rattle.cip_open.specs.GoesOn.{success_with}
 use Rattle.cip_target.specs.declared.link.EndLink.{EndLink}
 use Rattle.cip_target.specs.Assemblies.{AssemblyMap, size_in}
 use Rattle.cip_target.specs.Objects.{Objects, target_answer, target_after}
@@ -208,8 +209,7 @@ reply_up (Local op) bytes = outputs.Done op bytes
 -- bytes as received
 abbrev pub success_up : HopUp → OwnIds → Octets → OpenSuccess → Octets
 success_up (UpLink port address their_id) ids bytes success =
-    open_reply_bytes
-    (record success { ot_id = option_map_or (λ id. id) ids.up 0; to_id = their_id })
+    success_with success (option_map_or (λ id. id) ids.up 0) their_id
 success_up (UpLocal op) ids bytes success = bytes
 
 abbrev pub succeeded : Option Held → Octets → OpenSuccess → Octets

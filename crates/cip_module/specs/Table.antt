@@ -1,21 +1,25 @@
 -- The routing table: what a module does at each event.
-use Rattle.std.specs.Prelude.{ℕ, ◌+◌, ◌-◌, ◌*◌, ◌/◌, ◌%◌, ◌^◌, ◌==◌, nat_lt, if◌then◌else◌, Option, Some, None, Result, Ok, Err, List, [], ◌∷◌, ◌++◌, map, length}
+use Rattle.std.specs.Prelude.{ℕ, ◌+◌, ◌*◌, ◌/◌, ◌%◌, ◌^◌, ◌==◌, nat_lt, if◌then◌else◌, Option, Some, None, Result, Ok, Err, List, [], ◌∷◌, ◌++◌, map, length}
 use Rattle.std.specs.FinMap as finite
 use Rattle.cip_base.specs.Words.{ConnectionId, InstanceNumber, LinkAddress, Microseconds, Octets, OpNumber, PortIdentifier, RequestNumber}
 use Rattle.cip_base.specs.declared.timing.Timing.{Timing}
+pub use Rattle.cip_base.specs.Timings.{one_less}
 use Rattle.cip_base.specs.declared.triad.Triad.{Triad}
 use Rattle.cip_close.specs.declared.request.TheConstants.{CLOSE_FIXED_PART}
 use Rattle.cip_open.specs.declared.request.TheConstants.{OPEN_FIXED_PART}
 use Rattle.cip_clock.specs.Times.{ticks_us}
 use Rattle.cip_message.specs.declared.fault.DataFault.{DataFault}
-use Rattle.cip_unconnected.specs.Unconnected.{Unconnected, unconnected_bytes}
+use Rattle.cip_unconnected.specs.Unconnected.{Unconnected}
+pub use Rattle.cip_unconnected.specs.GoesOn.{message_on}
 use Rattle.cip_unconnected.specs.UnconnectedAt.{unconnected_at, route_words_of}
 use Rattle.cip_unconnected.specs.declared.fault.UnconnectedFault.{UnconnectedFault}
-use Rattle.cip_open.specs.Open.{Open, open_bytes}
+use Rattle.cip_open.specs.Open.{Open}
+pub use Rattle.cip_open.specs.GoesOn.{open_on}
 use Rattle.cip_open.specs.OpenAt.{open_at, open_triad_of, open_words_of}
 use Rattle.cip_open.specs.Success.{open_reply_bytes}
 use Rattle.cip_open.specs.Failed.{open_failure_bytes}
-use Rattle.cip_close.specs.Close.{Close, close_bytes}
+use Rattle.cip_close.specs.Close.{Close}
+pub use Rattle.cip_close.specs.GoesOn.{close_on}
 use Rattle.cip_close.specs.CloseAt.{close_at, close_triad_of, close_words_of}
 use Rattle.cip_close.specs.Success.{close_reply_bytes}
 use Rattle.cip_close.specs.Failed.{close_failure_bytes}
@@ -73,24 +77,12 @@ wait_of timing = ticks_us (timing.tick % 16) timing.ticks
 abbrev pub words_of : Octets → ℕ
 words_of path = length path / 2
 
--- what goes on has one tick less
-abbrev pub one_less : Timing → Timing
-one_less timing = record { tick = timing.tick; ticks = timing.ticks - 1 }
-
 -- what a command does uses its op up first
 abbrev pub with_spending : UpSide → List Effect → List Effect
 with_spending (Link port address number) es = es
 with_spending (Local op) es = Spends op ∷ es
 
 -- ---- unconnected send
-
--- What goes on: the embedded request itself where no route is left behind the hop, else an
--- Unconnected_Send with what is left.
-abbrev pub message_on : Unconnected → Octets → Octets
-message_on u rest =
-    if length rest == 0 then u.request
-    else unconnected_bytes
-    (record { timing = one_less u.timing; request = u.request; route = rest })
 
 abbrev pub send_below : UpSide → Unconnected → PortIdentifier → LinkAddress → Octets → Sending
 send_below up u port address rest = record {
@@ -125,14 +117,6 @@ unconnected_data_effects config s up sent (Ok u) =
 abbrev pub opener : UpSide → ConnectionId → HopUp
 opener (Link port address number) to_id = UpLink port address to_id
 opener (Local op) to_id = UpLocal op
-
--- what goes on: one tick less, the own down id as T→O id, and what is left of the path
-abbrev pub open_on : Open → ℕ → Octets → Octets
-open_on o down_id rest = open_bytes
-    (record {
-      fields = record o.fields { timing = one_less o.fields.timing; to_id = down_id };
-      path = rest;
-    })
 
 -- the success of an end: its own up id as O→T id, the intervals as they were asked, no application
 -- reply
@@ -182,11 +166,6 @@ open_data_effects config s up d (Ok o) =
     open_effects s up o (open_row config s (opener up o.fields.to_id) o)
 
 -- ---- close
-
--- what goes on: one tick less, and what is left of the path
-abbrev pub close_on : Close → Octets → Octets
-close_on c rest = close_bytes (record
-    { fields = record c.fields { timing = one_less c.fields.timing }; path = rest })
 
 abbrev pub close_below : UpSide → Close → PortIdentifier → LinkAddress → Octets → Sending
 close_below up c port address rest = record {

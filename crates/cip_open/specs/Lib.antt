@@ -5,3 +5,4 @@ pub mod Success
 pub mod SuccessAt
 pub mod Failed
 pub mod Reading
+pub mod GoesOn

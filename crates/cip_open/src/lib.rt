@@ -15,8 +15,11 @@ pub use laws::{
 };
 pub use parameters::{ConnectionKind, Params, Priority};
 pub use request::{
-    FORWARD_OPEN, FORWARD_OPEN_REPLY, OPEN_FIXED_PART, OpenFields, OpenView, read_open, triad_at,
-    words_at, write_open,
+    FORWARD_OPEN, FORWARD_OPEN_REPLY, OPEN_FIXED_PART, OPEN_RESERVED, OPEN_TICKS, OPEN_TO_ID,
+    OPEN_WORDS, OpenFields, OpenView, read_open, triad_at, words_at, write_open,
 };
 pub use splitting::params;
-pub use success::{OpenReply, read_open_reply, write_open_reply};
+pub use success::{
+    OpenReply, SUCCESS_FIXED_PART, SUCCESS_OT_ID, SUCCESS_RESERVED, SUCCESS_TO_ID, SUCCESS_WORDS,
+    read_open_reply, write_open_reply,
+};

@@ -19,6 +19,14 @@ pub const FORWARD_OPEN: u8 = 0x54;
 pub const FORWARD_OPEN_REPLY: u8 = 0xD4;
 /// The bytes of its data before the path.
 pub const OPEN_FIXED_PART: usize = 36;
+/// Where the time-out ticks stand in its data.
+pub const OPEN_TICKS: usize = 1;
+/// Where the T→O network connection id stands in its data.
+pub const OPEN_TO_ID: usize = 6;
+/// Where its three reserved bytes begin in its data.
+pub const OPEN_RESERVED: usize = 19;
+/// Where the path size in words stands in its data.
+pub const OPEN_WORDS: usize = 35;
 
 /// The fixed fields of Forward_Open (Volume 1, chapter 3, Forward_Open). Reserved bits stay as they
 /// are.
@@ -60,10 +68,10 @@ fn fields(data_: &[u8]) -> OpenFields
     OpenFields {
         timing: Timing {
             tick: data_[0],
-            ticks: data_[1],
+            ticks: data_[OPEN_TICKS],
         },
         ot_id: double_at(data_, 2),
-        to_id: double_at(data_, 6),
+        to_id: double_at(data_, OPEN_TO_ID),
         triad: cip_message::triad_at(data_, 10),
         multiplier: data_[18],
         ot_rpi: double_at(data_, 22),
@@ -78,7 +86,7 @@ fn fields(data_: &[u8]) -> OpenFields
 fn view(data_: &[u8]) -> Result<OpenView<'_>, DataFault>
     ensures { Gives open_of result (open_at data_.now) }
 {
-    match counted_path(data_, 35, OPEN_FIXED_PART) {
+    match counted_path(data_, OPEN_WORDS, OPEN_FIXED_PART) {
         Ok(path) => Ok(OpenView {
             fields: fields(data_),
             path,
@@ -111,7 +119,7 @@ pub fn triad_at(data_: &[u8]) -> Option<Triad>
 pub fn words_at(data_: &[u8]) -> Option<u8>
     ensures { result ≡ open_words_of data_.now }
 {
-    data_.get(35).copied()
+    data_.get(OPEN_WORDS).copied()
 }
 
 fn joined(alloc: Global, fields: &OpenFields, path: PathView<'_>) -> Result<Vec<u8>, AllocError>

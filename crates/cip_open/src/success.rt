@@ -11,6 +11,17 @@ use cip_base::{Bytes, NoMemory, Status, Triad, put_double};
 use cip_message::{DataFault, counted_part, double_at, put_reply_header, put_triad, triad_at};
 use std::alloc::{AllocError, Global};
 
+/// Where the O→T network connection id stands in the data of a success.
+pub const SUCCESS_OT_ID: usize = 0;
+/// Where the T→O network connection id stands in the data of a success.
+pub const SUCCESS_TO_ID: usize = 4;
+/// Where the size of the application reply in words stands in the data of a success.
+pub const SUCCESS_WORDS: usize = 24;
+/// Where the reserved byte stands in the data of a success.
+pub const SUCCESS_RESERVED: usize = 25;
+/// The bytes of the data of a success before the application reply.
+pub const SUCCESS_FIXED_PART: usize = 26;
+
 /// What the data of a successful Forward_Open's reply says (Volume 1, chapter 3, Forward_Open,
 /// successful response).
 #[derive(Clone, Copy)]
@@ -32,10 +43,10 @@ pub struct OpenReply<'a> {
 fn success(data_: &[u8]) -> Result<OpenReply<'_>, DataFault>
     ensures { Gives success_of result (open_reply_at data_.now) }
 {
-    let reply = counted_part(data_, 24, 26)?;
+    let reply = counted_part(data_, SUCCESS_WORDS, SUCCESS_FIXED_PART)?;
     Ok(OpenReply {
-        ot_id: double_at(data_, 0),
-        to_id: double_at(data_, 4),
+        ot_id: double_at(data_, SUCCESS_OT_ID),
+        to_id: double_at(data_, SUCCESS_TO_ID),
         triad: triad_at(data_, 8),
         ot_api: double_at(data_, 16),
         to_api: double_at(data_, 20),

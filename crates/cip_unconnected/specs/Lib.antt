@@ -1,3 +1,4 @@
 pub mod Unconnected
 pub mod UnconnectedAt
 pub mod Reading
+pub mod GoesOn

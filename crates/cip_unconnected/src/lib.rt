@@ -9,5 +9,6 @@ mod unconnected;
 pub use fault::UnconnectedFault;
 pub use laws::{unconnected_is_exact, written_unconnected_is_read};
 pub use unconnected::{
-    UNCONNECTED_SEND, UnconnectedView, inner, read_unconnected, route_words, write_unconnected,
+    UNCONNECTED_REQUEST, UNCONNECTED_SEND, UNCONNECTED_SIZE, UNCONNECTED_TICKS, UnconnectedView,
+    inner, read_unconnected, request_size, route_words, write_unconnected,
 };

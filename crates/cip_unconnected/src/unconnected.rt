@@ -15,6 +15,12 @@ use std::alloc::{AllocError, Global};
 
 /// The service Unconnected_Send of the Connection Manager.
 pub const UNCONNECTED_SEND: u8 = 0x52;
+/// Where the time-out ticks stand in its data.
+pub const UNCONNECTED_TICKS: usize = 1;
+/// Where the size of the embedded request stands in its data.
+pub const UNCONNECTED_SIZE: usize = 2;
+/// Where the embedded request begins in its data.
+pub const UNCONNECTED_REQUEST: usize = 4;
 
 /// The data of an Unconnected_Send whose embedded request and route are borrowed
 /// (Volume 1, chapter 3, Unconnected_Send).
@@ -28,16 +34,24 @@ pub struct UnconnectedView<'a> {
     pub route: PathView<'a>,
 }
 
+/// The size in bytes of the embedded request, in the data of an Unconnected_Send.
+pub fn request_size(data_: &[u8]) -> usize
+    requires { UNCONNECTED_REQUEST ≤ length data_.now }
+    ensures { result ≡ word_in data_.now 2 }
+{
+    usize::from(word_at(data_, UNCONNECTED_SIZE))
+}
+
 // Where the route size stands; None where the size of the embedded request is missing.
 fn size_place(data_: &[u8]) -> Option<usize>
     ensures none { IsNone result ↔ (length data_.now < 4) }
     ensures some { IfSome result (λ at. at ≡ route_place data_.now) }
 {
-    if data_.len() < 4 {
+    if data_.len() < UNCONNECTED_REQUEST {
         return None;
     }
-    let size = usize::from(word_at(data_, 2));
-    Some(4 + (size + size % 2))
+    let size = request_size(data_);
+    Some(UNCONNECTED_REQUEST + (size + size % 2))
 }
 
 // The embedded request, which is whole.
@@ -45,8 +59,8 @@ fn embedded(data_: &[u8]) -> &[u8]
     requires { 4 + word_in data_.now 2 ≤ length data_.now }
     ensures { result.now ≡ take (word_in data_.now 2) (drop 4 data_.now) }
 {
-    let size = usize::from(word_at(data_, 2));
-    &data_[4..][..size]
+    let size = request_size(data_);
+    &data_[UNCONNECTED_REQUEST..][..size]
 }
 
 #[tactic(auto, unfolding(crate::specs::UnconnectedAt::unconnected_at))]
@@ -60,7 +74,7 @@ fn unconnected(data_: &[u8]) -> Result<UnconnectedView<'_>, UnconnectedFault>
         Ok(route) => Ok(UnconnectedView {
             timing: Timing {
                 tick: data_[0],
-                ticks: data_[1],
+                ticks: data_[UNCONNECTED_TICKS],
             },
             request: embedded(data_),
             route,

@@ -4,6 +4,8 @@
 #[cfg(test)]
 mod connections;
 #[cfg(test)]
+mod edited_messages;
+#[cfg(test)]
 mod ends;
 #[cfg(test)]
 mod forward_closes;
