@@ -1,3 +1,4 @@
+pub mod CameIn
 pub mod OpsLemmas
 pub mod Walks
 pub mod TimeOuts
