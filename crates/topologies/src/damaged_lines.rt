@@ -194,7 +194,8 @@ fn with_lines(alloc: Global, place: usize, lines: &str) -> Result<String, AllocE
 }
 
 // The line of the file that a fault begins with.
-fn place_of(alloc: Global, tables: Tables, name: &str) -> Result<String, AllocError> {
+fn place_of(alloc: Global, tables: Tables) -> Result<String, AllocError> {
+    let name = name_of(tables);
     let Tables {
         link,
         module: owner,
@@ -212,7 +213,7 @@ fn place_of(alloc: Global, tables: Tables, name: &str) -> Result<String, AllocEr
 }
 
 // The table of a fault in a key: its name is not known where the name is at fault.
-fn table_of(alloc: Global, tables: Tables, key: &str, name: &str) -> Result<String, AllocError> {
+fn table_of(alloc: Global, tables: Tables, key: &str) -> Result<String, AllocError> {
     let Tables {
         link,
         module: owner,
@@ -221,7 +222,7 @@ fn table_of(alloc: Global, tables: Tables, key: &str, name: &str) -> Result<Stri
     match (key, tables.kind()) {
         ("name", "link") => format!(in alloc; "[[link]] {link}"),
         ("name", _) => format!(in alloc; "[[module]] {owner}"),
-        _ => place_of(alloc, tables, name),
+        _ => place_of(alloc, tables),
     }
 }
 
@@ -276,11 +277,16 @@ fn play_key(alloc: Global, place: usize, line: &str, at: &str, rule: Rule) -> Re
     Ok(())
 }
 
-// The name that a line gives to its table, or the one that the table has.
-fn name_at<'a>(line: &'a str, name: &'a str) -> &'a str {
-    match line.split_once(" = ") {
-        Some(("name", value)) => value.trim_matches('"'),
-        _ => name,
+// The name of the link or the module.
+fn name_of(tables: Tables) -> &'static str {
+    match (tables.link, tables.module) {
+        (1, _) => "LAN",
+        (2, _) => "RACK",
+        (3, _) => "SUB",
+        (_, 1) => "S",
+        (_, 2) => "A",
+        (_, 3) => "B",
+        _ => "E",
     }
 }
 
@@ -288,18 +294,16 @@ fn name_at<'a>(line: &'a str, name: &'a str) -> &'a str {
 fn each_key_dropped_doubled_and_changed(rt: HostRuntime) -> Result<(), Fail> {
     let alloc = rt.alloc();
     let mut tables = NONE;
-    let mut name = "";
     let mut played = 0usize;
     for (place, line) in CHASSIS.lines().enumerate() {
         tables = tables.at(line);
-        name = name_at(line, name);
         let Some(key) = key_of(line) else {
             continue;
         };
         let Some(rule) = rule_of(tables.kind(), key) else {
             return Err(Fail::new(format_args!("no rule for {line}")));
         };
-        let at = table_of(alloc, tables, key, name)?;
+        let at = table_of(alloc, tables, key)?;
         play_key(alloc, place, line, at.as_str(), rule)?;
         played = played.saturating_add(1);
     }

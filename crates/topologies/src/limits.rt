@@ -85,15 +85,53 @@ fn at_most_64_assemblies(rt: HostRuntime) -> Result<(), Fail> {
     )
 }
 
+const LARGE: Size = Size {
+    links: 32,
+    modules: 64,
+    ports: 8,
+    assemblies: 64,
+};
+
+// By these four the time that loading takes is measured, as `docs/PERFORMANCE.md` says.
 #[test]
-fn the_largest_file(rt: HostRuntime) -> Result<(), Fail> {
-    let size = Size {
-        links: 32,
-        modules: 64,
-        ports: 8,
-        assemblies: 64,
-    };
-    gives(rt.alloc(), size, "loaded")
+fn a_file_of_8_full_modules(rt: HostRuntime) -> Result<(), Fail> {
+    gives(
+        rt.alloc(),
+        Size {
+            modules: 8,
+            ..LARGE
+        },
+        "loaded",
+    )
+}
+
+#[test]
+fn a_file_of_16_full_modules(rt: HostRuntime) -> Result<(), Fail> {
+    gives(
+        rt.alloc(),
+        Size {
+            modules: 16,
+            ..LARGE
+        },
+        "loaded",
+    )
+}
+
+#[test]
+fn a_file_of_32_full_modules(rt: HostRuntime) -> Result<(), Fail> {
+    gives(
+        rt.alloc(),
+        Size {
+            modules: 32,
+            ..LARGE
+        },
+        "loaded",
+    )
+}
+
+#[test]
+fn a_file_of_64_full_modules(rt: HostRuntime) -> Result<(), Fail> {
+    gives(rt.alloc(), LARGE, "loaded")
 }
 
 #[test]
