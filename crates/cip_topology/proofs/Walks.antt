@@ -2,7 +2,7 @@
 use Rattle.std.proofs.Common.{◌≡◌, ℕ, zero, suc, ◌<◌, List, length, Option, Some, None, refl, ap, ◌∙◌, arith}
 use Rattle.std.specs.Prelude.{option_and_then}
 use Rattle.cip_segment.specs.Reading.{HopAt, hop_of}
-use Rattle.cip_module.proofs.PathsShorten.{hop_shortens}
+use Rattle.cip_segment.proofs.PathsShorten.{hop_shortens}
 use Rattle.cip_topology.specs.Plan.{Plan}
 use Rattle.cip_topology.specs.Nodes.{node}
 use Rattle.cip_topology.specs.Walk.{walk_by, walk_within, walk}

@@ -16,3 +16,4 @@ pub mod Stepped
 pub mod Delivered
 pub mod Freshness
 pub mod Ran
+pub mod Nexts

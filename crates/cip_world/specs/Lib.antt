@@ -5,5 +5,6 @@ pub mod Waiting
 pub mod Ledgers
 pub mod Coming
 pub mod Fresh
+pub mod Nexts
 pub mod Worlds
 pub mod Mirrors

@@ -240,8 +240,9 @@ impl World {
         Ok(number)
     }
 
-    // Delivers the waiting frame of least name, if any waits.
-    fn deliver_least(&mut self) -> Result<bool, WorldFault>
+    /// Delivers the waiting frame of least name; false where none waits. NoMemory, and nothing is
+    /// changed, where an allocation is refused.
+    pub fn deliver_least(&mut self) -> Result<bool, WorldFault>
         requires stand { Stand self.old.ledger (map (λ b. config_of b) self.old.modules.items)
             (map (λ b. state_of b) self.old.modules.items) }
         ensures stand { Stand self.new.ledger (map (λ b. config_of b) self.new.modules.items)
