@@ -2,17 +2,17 @@
 use Rattle.std.proofs.Common.{◌≡◌, ℕ, List, [], Option, Some, None, Ok, Err, refl}
 use Rattle.std.specs.Prelude.{IfSome}
 use Rattle.std.proofs.KnownBytes.{Keeps-refl}
-use Rattle.cip_module.specs.declared.config.ModuleSettings.{ModuleSettings}
-use Rattle.cip_console.specs.declared.run.ConsoleFault.TheVariants.{Read, NoMemory}
+use Rattle.cip_topology.specs.Plan.{Plan}
+use Rattle.cip_console.specs.declared.console.ConsoleFault.TheVariants.{Read, NoMemory}
 use Rattle.cip_console.specs.Outcome.{Steps, Front, WroteOf}
 use Rattle.cip_console.specs.Steps.{steps}
 use Rattle.cip_console.specs.Transcript.{names_of, transcript}
 use Rattle.cip_console.proofs.Prints.{front_nothing}
 
 -- where nothing was written, a front was
-pub nothing_written : (configs : List ModuleSettings) (old : Option (List ℕ)) (script : Steps) → Front configs old old script
-nothing_written configs old (Ok all) = front_nothing old (transcript configs all)
-nothing_written configs old (Err first) = Keeps-refl old
+pub nothing_written : (t : Plan) (old : Option (List ℕ)) (script : Steps) → Front t old old script
+nothing_written t old (Ok all) = front_nothing old (transcript t all)
+nothing_written t old (Err first) = Keeps-refl old
 
 -- some script that the reader may have had
 abbrev pub left_of : Option (List ℕ) → List ℕ
@@ -23,13 +23,13 @@ is_left : (left : Option (List ℕ)) → IfSome left (λ bytes. left_of left ≡
 is_left None = tt
 is_left (Some bytes) = refl
 
-pub none_read : (configs : List ModuleSettings) (left old : Option (List ℕ)) → WroteOf configs left old old (Err Read)
-none_read configs left old = record { script = left_of left; read = is_left left; wrote = Keeps-refl old }
+pub none_read : (t : Plan) (left old : Option (List ℕ)) → WroteOf t left old old (Err Read)
+none_read t left old = record { script = left_of left; read = is_left left; wrote = Keeps-refl old }
 
-pub no_memory_to_read : (configs : List ModuleSettings) (left old : Option (List ℕ)) → WroteOf configs left old old (Err NoMemory)
-no_memory_to_read configs left old = record {
+pub no_memory_to_read : (t : Plan) (left old : Option (List ℕ)) → WroteOf t left old old (Err NoMemory)
+no_memory_to_read t left old = record {
   script = left_of left;
   read = is_left left;
   wrote =
-      nothing_written configs old (steps (names_of configs) (left_of left));
+      nothing_written t old (steps (names_of t) (left_of left));
 }

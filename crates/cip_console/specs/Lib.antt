@@ -1,12 +1,7 @@
 pub mod Known
 pub mod Text
 pub mod Steps
-pub mod Links
-pub mod Journal
-pub mod Runs
 pub mod Show
 pub mod Transcript
-pub mod Worlds
-pub mod Chassis
 pub mod Playing
 pub mod Outcome

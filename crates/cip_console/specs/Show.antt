@@ -1,13 +1,11 @@
 -- The lines of a transcript. Numbers are decimal; bytes are upper-case pairs, `-` for none.
-use Rattle.std.specs.Prelude.{ℕ, ◌+◌, ◌==◌, List, [], ◌∷◌, ◌++◌, length, codes, decimal, if◌then◌else◌, Option, Some, None, unwrap_or, slice_get}
+use Rattle.std.specs.Prelude.{ℕ, ◌+◌, ◌==◌, List, [], ◌∷◌, ◌++◌, length, codes, decimal, if◌then◌else◌, unwrap_or, slice_get}
 use Rattle.hex.specs.Hex.{encode_upper}
 use Rattle.cip_base.specs.declared.triad.Triad.{Triad}
 use Rattle.cip_module.specs.declared.event.Body.{Body}
 use Rattle.cip_module.specs.declared.event.Body.TheVariants.{Request, Reply, Data}
 use Rattle.cip_module.specs.declared.event.Command.{Command}
 use Rattle.cip_module.specs.declared.event.Command.TheVariants as commands
-use Rattle.cip_module.specs.declared.event.Event.{Event}
-use Rattle.cip_module.specs.declared.event.Event.TheVariants as events
 use Rattle.cip_module.specs.declared.event.Output.{Output}
 use Rattle.cip_module.specs.declared.event.Output.TheVariants.{Send, Done, Refused, Consumed, Arrived, Expired, Dropped}
 use Rattle.cip_module.specs.declared.event.Refused.{Refused as Refusal}
@@ -15,8 +13,11 @@ use Rattle.cip_module.specs.declared.event.Refused.TheVariants.{OpUsed, NotOpen,
 use Rattle.cip_module.specs.declared.event.Dropped.{Dropped as Drop}
 use Rattle.cip_module.specs.declared.event.Dropped.TheVariants.{Malformed, Late, UnknownId}
 use Rattle.cip_module.specs.declared.event.Dropped.TheVariants as dropped
-use Rattle.cip_console.specs.declared.waiting.FrameName.{FrameName}
-use Rattle.cip_console.specs.Journal.{Entry, Happened, Lost}
+use Rattle.cip_world.specs.declared.journal.FrameName.{FrameName}
+use Rattle.cip_world.specs.declared.journal.Input.{Input}
+use Rattle.cip_world.specs.declared.journal.Input.TheVariants as inputs
+use Rattle.cip_world.specs.declared.journal.Entry.{Entry}
+use Rattle.cip_world.specs.declared.journal.Entry.TheVariants.{Step, Lost}
 
 abbrev pub bytes_text : List ℕ → List ℕ
 bytes_text bytes = if length bytes == 0 then codes "-" else encode_upper bytes
@@ -81,15 +82,11 @@ command_text (commands.Send op timing path asked) = codes "send " ++ decimal op
 abbrev pub arrived_text : FrameName → List ℕ
 arrived_text f = codes "frame " ++ frame_text f
 
--- a command, or a tick; a frame that arrives has a name
-abbrev pub fed_text : Event → List ℕ
-fed_text (events.Command command) = command_text command
-fed_text (events.Tick ms) = codes "tick " ++ decimal ms
-fed_text (events.Frame port from body) = codes "frame"
-
-abbrev pub event_text : Option FrameName → Event → List ℕ
-event_text (Some f) event = arrived_text f
-event_text None event = fed_text event
+-- a command, a tick, or a frame by its name
+abbrev pub input_text : Input → List ℕ
+input_text (inputs.Command command) = command_text command
+input_text (inputs.Tick ms) = codes "tick " ++ decimal ms
+input_text (inputs.Frame port from f) = arrived_text f
 
 -- the name of module m
 abbrev pub name_of : List (List ℕ) → ℕ → List ℕ
@@ -101,6 +98,6 @@ head_text k name what = decimal k ++ codes " " ++ name ++ codes " " ++ what ++ c
 
 -- entry k: its own line, and one for each output; the names are those of the modules
 abbrev pub entry_text : List (List ℕ) → ℕ → Entry → List ℕ
-entry_text names k (Happened m arrived event outputs) =
-    head_text k (name_of names m) (event_text arrived event) ++ outputs_text 0 outputs
+entry_text names k (Step m input outputs) =
+    head_text k (name_of names m.0) (input_text input) ++ outputs_text 0 outputs
 entry_text names k (Lost frame) = decimal k ++ codes " lost " ++ frame_text frame ++ codes "\n"

@@ -1,10 +1,10 @@
 //! The lines of a transcript.
-ghost use Rattle.std.specs.Prelude.{◌≡◌, ◌++◌, IfOk, OnOk, string_bytes};
-ghost use Rattle.cip_console.specs.Show.{bytes_text, body_text, triad_text, refusal_text, drop_text, output_text, outputs_text, frame_text, command_text, event_text, head_text};
+ghost use Rattle.std.specs.Prelude.{◌≡◌, ◌++◌, IfOk, OnOk, codes, decimal, string_bytes};
+ghost use Rattle.cip_console.specs.Show.{bytes_text, body_text, triad_text, refusal_text, drop_text, output_text, outputs_text, frame_text, command_text, input_text, name_of, head_text, entry_text};
 
-use crate::waiting::FrameName;
 use cip_base::{Address, Bytes, NoMemory, PortNumber, Triad};
-use cip_module::{Body, Command, Dropped, Event, Output, Refused};
+use cip_module::{Body, Command, Dropped, Output, Refused};
+use cip_world::{Entry, FrameName, Input};
 use std::alloc::Global;
 
 // Bytes as upper-case pairs, a dash for none.
@@ -179,8 +179,8 @@ fn output_line(alloc: Global, index: usize, output: &Output) -> Result<String, N
 
 ghost use Rattle.cip_console.specs.Show.{output_line};
 
-/// The lines of all outputs of an entry, behind a text.
-pub(crate) fn put_outputs(
+// The lines of all outputs of an entry, behind a text.
+fn put_outputs(
     alloc: Global,
     outputs: &[Output],
     text: &mut Vec<u8>,
@@ -235,38 +235,22 @@ fn command_text(alloc: Global, command: &Command) -> Result<String, NoMemory>
     }
 }
 
-// What is fed to a module.
-fn fed_text(alloc: Global, event: &Event) -> Result<String, NoMemory>
-    ensures { IfOk result (λ text. string_bytes text ≡ fed_text event.now) }
+// What a module was given: a command or a tick by what it asks for, a frame by its name.
+fn input_text(alloc: Global, input: &Input) -> Result<String, NoMemory>
+    ensures { IfOk result (λ text. string_bytes text ≡ input_text input.now) }
 {
-    match event {
-        Event::Command(command) => command_text(alloc, command),
-        Event::Tick(by) => {
+    match input {
+        Input::Command(command) => command_text(alloc, command),
+        Input::Tick(by) => {
             let ms = by.get();
             Ok(format!(in alloc; "tick {ms}")?)
         }
-        Event::Frame { .. } => Ok(String::from_str(alloc, "frame")?),
+        Input::Frame { name, .. } => arrived_text(alloc, *name),
     }
 }
 
-ghost use Rattle.cip_console.specs.Show.{fed_text};
-
-/// An event: a frame by its name, a command or a tick by what it asks for.
-pub(crate) fn event_text(
-    alloc: Global,
-    arrived: Option<FrameName>,
-    event: &Event,
-) -> Result<String, NoMemory>
-    ensures { IfOk result (λ text. string_bytes text ≡ event_text arrived event.now) }
-{
-    match arrived {
-        Some(name) => arrived_text(alloc, name),
-        None => fed_text(alloc, event),
-    }
-}
-
-/// The first line of an entry, behind a text.
-pub(crate) fn put_head(
+// The first line of an entry, behind a text.
+fn put_head(
     alloc: Global,
     entry: usize,
     name: &[u8],
@@ -280,4 +264,45 @@ pub(crate) fn put_head(
     put(text, number.as_bytes())?;
     put(text, name)?;
     put(text, rest.as_bytes())
+}
+
+// The name of a module.
+fn name_in(names: &[Bytes], place: usize) -> &[u8]
+    ensures { result.now ≡ name_of names.now place }
+{
+    match names.get(place) {
+        Some(name) => name.as_slice(),
+        None => &[],
+    }
+}
+
+fn lost_text(alloc: Global, number: usize, frame: FrameName) -> Result<String, NoMemory>
+    ensures { IfOk result (λ text. string_bytes text
+        ≡ decimal number ++ codes " lost " ++ frame_text frame ++ codes "\n") }
+{
+    let FrameName { entry, output } = frame;
+    Ok(format!(in alloc; "{number} lost {entry}.{output}\n")?)
+}
+
+/// An entry of a journal, by its number, behind a text.
+pub(crate) fn put_entry(
+    alloc: Global,
+    names: &[Bytes],
+    number: usize,
+    entry: &Entry,
+    text: &mut Vec<u8>,
+) -> Result<(), NoMemory>
+    ensures { OnOk result (text.new.items ≡ text.old.items ++ entry_text names.now number entry.now) }
+{
+    match entry {
+        Entry::Step { at, input, outputs } => {
+            let what = input_text(alloc, input)?;
+            put_head(alloc, number, name_in(names, at.0), what.as_str(), text)?;
+            put_outputs(alloc, outputs.as_slice(), text)
+        }
+        Entry::Lost { frame } => {
+            let line = lost_text(alloc, number, *frame)?;
+            put(text, line.as_bytes())
+        }
+    }
 }
