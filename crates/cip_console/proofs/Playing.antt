@@ -208,3 +208,10 @@ pub fed_stopped : (t : Plan) (j : Journal) (m : ModuleId) (command : Command) (f
 fed_stopped t j m command fault old before h n =
     let is : fed t j m command ≡ record { text = []; after = None } = ap (shown (names_of t)) (no_fed t j m command fault h n) in
     (ap (λ (part : Part). part.after) is, subst (Prints old old before before) (sym (ap (λ (part : Part). part.text) is)) (prints_nothing old before))
+
+-- what could not be written or gathered was a front
+pub unwritten_as : (part : Part) (old new : Option (List ℕ)) (before after : List ℕ) (j : Journal) (fault : PlayFault) → (fault ≡ NoStep → ⊥) → AppendsFront old new (before ++ part.text)
+    → Plays part old new before after j (Err fault)
+unwritten_as part old new before after j NoStep n f = absurd (n refl)
+unwritten_as part old new before after j Write n f = f
+unwritten_as part old new before after j NoMemory n f = f

@@ -151,7 +151,10 @@ fn deliver<W: Sink>(
 {
     for i in 0..limit {
         match world.deliver_least() {
-            Ok(true) => show(alloc, world, names, writer, text)?,
+            Ok(true) => match show(alloc, world, names, writer, text) {
+                Ok(()) => {}
+                Err(fault) => return Err(fault),
+            },
             Ok(false) => return Ok(()),
             Err(_) => return Err(PlayFault::NoMemory),
         }
@@ -368,6 +371,7 @@ pub fn run<R: Source, W: Sink>(
     match read_script(alloc, reader) {
         Ok(script) => run_script(alloc, script.as_slice(), writer, topology, modules),
         Err(ReadFault::NoMemory) => Err(ConsoleFault::NoMemory),
-        Err(_) => Err(ConsoleFault::Read),
+        Err(ReadFault::Failed) => Err(ConsoleFault::Read),
+        Err(ReadFault::TooLong) => Err(ConsoleFault::Read),
     }
 }

@@ -1,0 +1,11 @@
+use Rattle.cip_console.proofs.Outcomes.{none_read, no_memory_to_read}
+use Rattle.cip_console.proofs.console.run.Goals as goal
+
+pub returns-in-Err-NoMemory-clause-wrote : goal.returns-in-Err-NoMemory-clause-wrote
+returns-in-Err-NoMemory-clause-wrote g c = no_memory_to_read _ _ _
+
+pub returns-in-Err-Failed-clause-wrote : goal.returns-in-Err-Failed-clause-wrote
+returns-in-Err-Failed-clause-wrote g c = none_read _ _ _
+
+pub returns-clause-wrote : goal.returns-clause-wrote
+returns-clause-wrote g c = none_read _ _ _
