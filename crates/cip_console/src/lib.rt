@@ -1,6 +1,7 @@
 //! The console: a script in, its transcript out.
 #![tactic(auto)]
 
+mod chassis;
 mod console;
 mod names;
 mod show;
@@ -8,6 +9,7 @@ mod source;
 mod steps;
 mod text;
 
+pub use chassis::run_chassis;
 pub use console::{ConsoleFault, run};
 pub use source::{Out, Plain, SCRIPT_LIMIT, Script, Sink, Source};
 pub use steps::{Numbered, ScriptFault, Step};

@@ -2,7 +2,7 @@
 //! fault of a script. Each test passes too where one allocation, whichever, is refused.
 ghost use Rattle.std.specs.Prelude.{None};
 
-use cip_console::{ConsoleFault, Out, Plain, SCRIPT_LIMIT, ScriptFault, Sink, Source, run_fixed};
+use cip_console::{ConsoleFault, Out, Plain, SCRIPT_LIMIT, ScriptFault, Sink, Source, run_chassis};
 use std::alloc::Global;
 use std::io;
 use std::test::Fail;
@@ -108,7 +108,7 @@ fn once(alloc: Global, script: &[u8], whole: &[u8], trial: Trial) -> Outcome {
         calls: 0,
         failing: trial.failing_write,
     };
-    let result = run_fixed(alloc, &mut reader, &mut writer);
+    let result = run_chassis(alloc, &mut reader, &mut writer);
     Outcome {
         result,
         count: writer.taken.len(),
@@ -239,7 +239,7 @@ fn over_any(alloc: Global) -> Outcome {
     };
     let mut reader = Plain { inner: SEND };
     let mut writer = Out { inner: taken };
-    let result = run_fixed(alloc, &mut reader, &mut writer);
+    let result = run_chassis(alloc, &mut reader, &mut writer);
     Outcome {
         result,
         count: writer.inner.len(),

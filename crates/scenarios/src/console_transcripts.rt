@@ -1,5 +1,5 @@
 //! The console over scripts in memory.
-use cip_console::{ConsoleFault, Out, Script, ScriptFault, run_fixed};
+use cip_console::{ConsoleFault, Out, Script, ScriptFault, run_chassis};
 use std::alloc::Global;
 use std::test::Fail;
 
@@ -76,7 +76,7 @@ fn written(alloc: Global, script: &[u8]) -> (Result<(), ConsoleFault>, Vec<u8>) 
     let mut writer = Out {
         inner: Vec::new(alloc),
     };
-    let result = run_fixed(alloc, &mut reader, &mut writer);
+    let result = run_chassis(alloc, &mut reader, &mut writer);
     (result, writer.inner)
 }
 
