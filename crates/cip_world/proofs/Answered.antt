@@ -20,6 +20,7 @@ use Rattle.cip_world.specs.declared.journal.FrameName.{FrameName}
 use Rattle.cip_module.specs.Histories.{next_state}
 use Rattle.cip_topology.specs.Nodes.{Way, across as goes}
 use Rattle.cip_world.specs.Journals.{Journal, Flight, frame_at, part}
+use Rattle.cip_world.specs.Answers.{Answered}
 use Rattle.cip_world.specs.Runs.{IsModule, IsArrival, state_in, IsStepAt, IsRun}
 use Rattle.cip_world.proofs.Chassis.{Chassis}
 use Rattle.cip_module.specs.Weights.{mark, is_reply, weight, came}
@@ -44,18 +45,6 @@ taken_waited t j m port n from bytes input outs s is kept =
     kept
 
 -- ---- the theorem
-
--- Frame f brings the reply n to module m, by a port from an address, whether it is taken or dropped as late. The module sent one request n; that went there, and
--- came before to the module that sent this reply; and this is that module's one reply to it.
-pub record Answered (t : Chassis) (j : Journal) (f : FrameName) (m port n : ℕ) (from : List ℕ) : Type 0 where
-  pub there : Way
-  pub across : goes t.plan (way_in m port from) ≡ Some there
-  pub asked : List ℕ
-  pub sent : Gave (part m j) (outputs.Send port from (bodies.Request n asked))
-  pub only : (g h : FrameName) (x y : Flight) (b c : List ℕ) → x.way.at ≡ m → y.way.at ≡ m → x.body ≡ bodies.Request n b → y.body ≡ bodies.Request n c
-      → frame_at j g ≡ Some x → frame_at j h ≡ Some y → g ≡ h
-  pub came : Came (λ event. event ≡ events.Frame there.port there.address (bodies.Request n asked)) (part there.at j)
-  pub once : (g : FrameName) (x : Flight) (b : List ℕ) → x.way ≡ there → x.body ≡ bodies.Reply n b → frame_at j g ≡ Some x → g ≡ f
 
 frame_body : (port : ℕ) (from : List ℕ) (b c : Body) → events.Frame port from b ≡ events.Frame port from c → b ≡ c
 frame_body port from b c e = cc
@@ -112,7 +101,7 @@ module _ (t : Chassis) (j : Journal) (f : FrameName) (m port n : ℕ) (from byte
       subst (λ (o : Output). Gave (part m j) o) sent_out
       (subst (λ (k : ℕ). Gave (part k j) (out_of brought.flight)) (ap (λ (w : Way). w.at) from_here) (frame_gave t.plan j brought.name brought.flight run brought.sent))
 
-  pub answers : Answered t j f m port n from
+  pub answers : Answered t.plan j f m port n from
   answers = record {
     there = there;
     across = leads;

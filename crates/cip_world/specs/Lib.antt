@@ -7,4 +7,5 @@ pub mod Coming
 pub mod Fresh
 pub mod Nexts
 pub mod Worlds
+pub mod Answers
 pub mod Mirrors

@@ -6,6 +6,7 @@ mod fault;
 mod flight;
 mod fresh;
 mod journal;
+mod laws;
 mod ledger;
 mod names;
 mod step;
@@ -14,4 +15,8 @@ mod world;
 pub use fault::WorldFault;
 pub use fresh::NewFault;
 pub use journal::{Entry, FrameName, Input, Outputs};
+pub use laws::{
+    a_request_gets_one_reply, replies_answer_their_requests, requests_come_once,
+    runs_are_histories, what_waits_is_listed,
+};
 pub use world::{End, World};

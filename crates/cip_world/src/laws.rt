@@ -1,0 +1,65 @@
+//! What holds of every run.
+ghost use Rattle.std.specs.Prelude.{◌≡◌, ℕ, ◌≤◌, true, List, Some};
+ghost use Rattle.std.specs.FinMap as map;
+ghost use Rattle.std.specs.List.{list_any};
+ghost use Rattle.cip_pending.specs.declared.entry.Entry.{Entry as Pending};
+ghost use Rattle.cip_pending.specs.declared.entry.UpSide.TheVariants.{Link};
+ghost use Rattle.cip_module.specs.declared.config.ModuleSettings.{ModuleSettings as Settings};
+ghost use Rattle.cip_module.specs.declared.event.Body.TheVariants.{Reply};
+ghost use Rattle.cip_module.specs.declared.event.Event.TheVariants as events;
+ghost use Rattle.cip_module.specs.Histories.{IsHistory};
+ghost use Rattle.cip_module.specs.Weights.{same_up, is_reply, is_asked_by, weight, came};
+ghost use Rattle.cip_topology.specs.Plan.{Plan, IsTopology};
+ghost use Rattle.cip_world.specs.declared.journal.FrameName.{FrameName as Name};
+ghost use Rattle.cip_world.specs.Journals.{Journal, same_name, part};
+ghost use Rattle.cip_world.specs.Names.{AreRising};
+ghost use Rattle.cip_world.specs.Runs.{IsArrival, IsModule, IsRun, IsWaiting, state_in};
+ghost use Rattle.cip_world.specs.Waiting.{waiting};
+ghost use Rattle.cip_world.specs.Answers.{Answered};
+
+/// A frame is in the list of those that wait exactly where it waits, and the list rises.
+pub fn what_waits_is_listed()
+    ensures waits { (t : Plan) (j : Journal) (f : Name) → IsWaiting t j f
+        → list_any (λ g. same_name g f) (waiting t j) ≡ true }
+    ensures listed { (t : Plan) (j : Journal) (f : Name)
+        → list_any (λ g. same_name g f) (waiting t j) ≡ true → IsWaiting t j f }
+    ensures rising { (t : Plan) (j : Journal) → AreRising (waiting t j) }
+{}
+
+/// What a module did in a run is a history of it: what holds of all that a module ever does holds in
+/// every run.
+pub fn runs_are_histories()
+    ensures { (t : Plan) (j : Journal) (m : ℕ) (config : Settings) → IsRun t j
+        → IsModule t m config → IsHistory config (part m j) }
+{}
+
+/// A request number comes to a module by a port from an address once at most.
+pub fn requests_come_once()
+    ensures { (t : Plan) → IsTopology t → (j : Journal) (m port n : ℕ) (from : List ℕ) → IsRun t j
+        → came (is_asked_by (Link port from n)) (part m j) ≤ 1 }
+{}
+
+/// A request that came gets one reply at most, none before it came, and none while something waits
+/// for that reply.
+pub fn a_request_gets_one_reply()
+    ensures once { (t : Plan) → IsTopology t → (j : Journal) (m : ℕ) (config : Settings)
+        → IsRun t j → IsModule t m config → (port n : ℕ) (from : List ℕ)
+        → weight (is_reply (Link port from n)) (part m j) ≤ 1 }
+    ensures after { (t : Plan) → IsTopology t → (j : Journal) (m : ℕ) (config : Settings)
+        → IsRun t j → IsModule t m config → (port n : ℕ) (from : List ℕ)
+        → 1 ≤ weight (is_reply (Link port from n)) (part m j)
+        → 1 ≤ came (is_asked_by (Link port from n)) (part m j) }
+    ensures unreplied { (t : Plan) → IsTopology t → (j : Journal) (m : ℕ) (config : Settings)
+        → IsRun t j → IsModule t m config → (port n : ℕ) (from : List ℕ) (k : ℕ) (p : Pending)
+        → map.get (state_in config m j).pendings.entries k ≡ Some p
+        → same_up p.up (Link port from n) ≡ true
+        → weight (is_reply (Link port from n)) (part m j) ≡ 0 }
+{}
+
+/// A reply that comes answers the one request of its number that the module sent there.
+pub fn replies_answer_their_requests()
+    ensures { (t : Plan) → IsTopology t → (j : Journal) (f : Name) (m port n : ℕ)
+        (from bytes : List ℕ) → IsRun t j
+        → IsArrival t j f m port from (events.Frame port from (Reply n bytes))
+        → Answered t j f m port n from }
+{}

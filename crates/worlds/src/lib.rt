@@ -1,0 +1,17 @@
+//! Tests of worlds: chassis in boxes, what they are given, and what then stands in the journal.
+#![tactic(auto)]
+
+#[cfg(test)]
+mod boxes;
+#[cfg(test)]
+mod counted_steps;
+#[cfg(test)]
+mod given;
+#[cfg(test)]
+mod journals;
+#[cfg(test)]
+mod refusals;
+#[cfg(test)]
+mod runs;
+#[cfg(test)]
+mod ways;
