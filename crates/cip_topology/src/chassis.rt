@@ -2,7 +2,7 @@
 
 /// A topology file: a scanner S, the bridges A and B behind it, and behind these the adapter E.
 pub const CHASSIS: &str =
-    r#"# A scanner S on the plant network sends through the bridges A and B of a rack to an adapter E.
+    r#"# A scanner S, the bridges A and B of a rack, and behind them the adapter E.
 
 # The plant network.
 [[link]]

@@ -99,7 +99,7 @@ pub enum LoadFault {
         name: Excerpt,
     },
     /// The address is none of those of the link.
-    #[error("{place}: `address` {} is not legal on link {link}: {}", Pairs(.address), Legal(*.legal))]
+    #[error("{place}: `address` {} is not legal on link {link}; allowed: {}", Pairs(.address), Legal(*.legal))]
     AddressNotLegal {
         place: Place,
         link: Name,
@@ -164,11 +164,9 @@ impl fmt::Display for Legal {
     fn fmt<W: fmt::Write>(&self, f: &mut fmt::Formatter<W>) -> fmt::Result {
         match self.0 {
             LegalAddresses::Byte { first, last } => {
-                write!(f, "allowed: one byte from {first:02X} to {last:02X}")
+                write!(f, "one byte from {first:02X} to {last:02X}")
             }
-            LegalAddresses::Text { longest } => {
-                write!(f, "allowed: 1 to {longest} bytes from 21 to 7E")
-            }
+            LegalAddresses::Text { longest } => { write!(f, "1 to {longest} bytes from 21 to 7E") }
         }
     }
 }

@@ -121,6 +121,7 @@ fn values_of_64_kibibytes(rt: HostRuntime) -> Result<(), Fail> {
     gives(
         alloc,
         text.as_str(),
-        "[[link]] 1: `name` is \"vvvvvvvvvvvvvvvvvvvvvvvvvvvvvvvvvvvvvvvv..\", a text of 65536 bytes; allowed: 1 to 16 ASCII letters, digits, `_` or `-`",
+        "[[link]] 1: `name` is \"vvvvvvvvvvvvvvvvvvvvvvvvvvvvvvvvvvvvvvvv..\", \
+         a text of 65536 bytes; allowed: 1 to 16 ASCII letters, digits, `_` or `-`",
     )
 }

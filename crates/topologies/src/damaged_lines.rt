@@ -1,12 +1,13 @@
-//! Damaged copies of the chassis file: each line dropped, doubled, and its value replaced by others.
+//! Damaged copies of the chassis file: each line dropped, doubled, and its value replaced by
+//! others.
 use crate::edits::answer;
 use crate::spots::{NONE, Tables, key_of};
 use cip_topology::CHASSIS;
 use std::alloc::{AllocError, Global};
 use std::test::Fail;
 
-/// What the rules say of a key: a value just out of its range as the file would have it, how a fault tells that value, what is allowed,
-/// and whether the key may be left out.
+/// What the rules say of a key: a value just out of its range as the file would have it, how a
+/// fault tells that value, what is allowed, and whether the key has to be there.
 #[derive(Clone, Copy)]
 struct Rule {
     table: &'static str,
@@ -311,7 +312,7 @@ fn each_key_dropped_doubled_and_changed(rt: HostRuntime) -> Result<(), Fail> {
     Ok(())
 }
 
-/// The lines without a key that a fault tells of, each dropped and doubled, with the fault that either gives.
+/// Some headers by their lines, each dropped and doubled, with the fault that either gives.
 const HEADERS: [(usize, &str, &str); 6] = [
     // The first link: its keys stand at the top of the file, where they mean nothing.
     (
@@ -334,14 +335,17 @@ const HEADERS: [(usize, &str, &str); 6] = [
     // The port of the first module: its keys stand in the module, which has no port.
     (
         37,
-        "[[module]] 1 (S): `port` is 0 tables; allowed: [[module.port]] tables, 1 to 8, of an adapter exactly 1",
+        "[[module]] 1 (S): `port` is 0 tables; allowed: \
+         [[module.port]] tables, 1 to 8, of an adapter exactly 1",
         "[[module]] 1 (S), [[module.port]] 1: `number` is missing",
     ),
     // The port of the adapter.
     (
         101,
-        "[[module]] 4 (E): `port` is 0 tables; allowed: [[module.port]] tables, 1 to 8, of an adapter exactly 1",
-        "[[module]] 4 (E): `port` is 2 tables; allowed: [[module.port]] tables, 1 to 8, of an adapter exactly 1",
+        "[[module]] 4 (E): `port` is 0 tables; allowed: \
+         [[module.port]] tables, 1 to 8, of an adapter exactly 1",
+        "[[module]] 4 (E): `port` is 2 tables; allowed: \
+         [[module.port]] tables, 1 to 8, of an adapter exactly 1",
     ),
     // Its first assembly: the keys stand in the port, where they mean nothing.
     (

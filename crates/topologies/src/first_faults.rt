@@ -1,5 +1,5 @@
-//! The order of the rules: of two rules that a file breaks, the one that is looked at first answers. Each row breaks a rule and the one
-//! that is next to it in that order.
+//! The order of the rules: of two rules that a file breaks, the one that is looked at first
+//! answers. Each row breaks a rule and the one that is next to it in that order.
 use crate::edits::{answer, play};
 use crate::generated::{Size, generated};
 use std::alloc::Global;
@@ -17,7 +17,8 @@ fn gives(alloc: Global, text: &str, want: &str) -> Result<(), Fail> {
 #[test]
 fn the_file_before_its_tables(rt: HostRuntime) -> Result<(), Fail> {
     let alloc = rt.alloc();
-    // No TOML and no link; no link and no module; another type and no module; no module and too many links.
+    // No TOML and no link; no link and no module; another type and no module; no module and too
+    // many links.
     gives(
         alloc,
         "\nlink",
@@ -72,14 +73,38 @@ fn the_keys_of_a_link(rt: HostRuntime) -> Result<(), Fail> {
     play(
         rt.alloc(),
         r#"
-        link1.name := - & link1.kind := - => [[link]] 1: `name` is missing
-        link1.kind := - & link1.first := - => [[link]] 1 (LAN): `kind` is missing
-        link1.first := - & link1.last := - => [[link]] 1 (LAN): `first` is missing
-        link1.kind := kind = "text" & link1.first := longest = 0 & link2.name := - => [[link]] 1 (LAN): `longest` is 0; allowed: 1 to 16
-        link2.name := name = "LAN" & link2.last := - => [[link]] 2 (LAN): `last` is missing
-        link2.name := name = "LAN" & link3.name := - => [[link]] 2 (LAN): `name` is that of a table before it
-        link3.last := - & module1.name := - => [[link]] 3 (SUB): `last` is missing
-        link1.first := first = 255 & link1.last := last = 254 => [[link]] 1 (LAN): `last` is 254; allowed: `first` to 255
+        link1.name := -
+        link1.kind := -
+        => [[link]] 1: `name` is missing
+
+        link1.kind := -
+        link1.first := -
+        => [[link]] 1 (LAN): `kind` is missing
+
+        link1.first := -
+        link1.last := -
+        => [[link]] 1 (LAN): `first` is missing
+
+        link1.kind := kind = "text"
+        link1.first := longest = 0
+        link2.name := -
+        => [[link]] 1 (LAN): `longest` is 0; allowed: 1 to 16
+
+        link2.name := name = "LAN"
+        link2.last := -
+        => [[link]] 2 (LAN): `last` is missing
+
+        link2.name := name = "LAN"
+        link3.name := -
+        => [[link]] 2 (LAN): `name` is that of a table before it
+
+        link3.last := -
+        module1.name := -
+        => [[link]] 3 (SUB): `last` is missing
+
+        link1.first := first = 255
+        link1.last := last = 254
+        => [[link]] 1 (LAN): `last` is 254; allowed: `first` to 255
         "#,
     )
 }
@@ -89,21 +114,57 @@ fn the_keys_of_a_module(rt: HostRuntime) -> Result<(), Fail> {
     play(
         rt.alloc(),
         r#"
-        module2.name := - & module2.kind := - => [[module]] 2: `name` is missing
-        module2.kind := - & module2.vendor := - => [[module]] 2 (A): `kind` is missing
-        module2.vendor := - & module2.device_type := - => [[module]] 2 (A): `vendor` is missing
-        module2.device_type := - & module2.product := - => [[module]] 2 (A): `device_type` is missing
-        module2.product := - & module2.major := - => [[module]] 2 (A): `product` is missing
-        module2.major := - & module2.minor := - => [[module]] 2 (A): `major` is missing
-        module2.minor := status = -1 => [[module]] 2 (A): `minor` is missing
-        module2.serial := status = -1 => [[module]] 2 (A): `status` is -1; allowed: 0 to 65535
-        module2.serial := - & module2.product_name := - => [[module]] 2 (A): `serial` is missing
-        module2.product_name := clock = -1 => [[module]] 2 (A): `product_name` is missing
-        module2.first_id := clock = -1 ~ first_id = 0 => [[module]] 2 (A): `clock` is -1; allowed: 0 to 9223372036854775807
-        module2.first_id := first_number = 0 ~ first_id = 0 => [[module]] 2 (A): `first_id` is 0; allowed: 1 to 4294967295
-        module2.first_id := first_number = 0 ~ pending_room = 0 => [[module]] 2 (A): `first_number` is 0; allowed: 1 to 4294967295
-        module2.first_id := hop_room = 0 ~ pending_room = 0 => [[module]] 2 (A): `pending_room` is 0; allowed: 1 to 256
-        module2.name := name = "S" ~ hop_room = 0 => [[module]] 2 (S): `hop_room` is 0; allowed: 1 to 256
+        module2.name := -
+        module2.kind := -
+        => [[module]] 2: `name` is missing
+
+        module2.kind := -
+        module2.vendor := -
+        => [[module]] 2 (A): `kind` is missing
+
+        module2.vendor := -
+        module2.device_type := -
+        => [[module]] 2 (A): `vendor` is missing
+
+        module2.device_type := -
+        module2.product := -
+        => [[module]] 2 (A): `device_type` is missing
+
+        module2.product := -
+        module2.major := -
+        => [[module]] 2 (A): `product` is missing
+
+        module2.major := -
+        module2.minor := -
+        => [[module]] 2 (A): `major` is missing
+
+        module2.minor := status = -1
+        => [[module]] 2 (A): `minor` is missing
+
+        module2.serial := status = -1
+        => [[module]] 2 (A): `status` is -1; allowed: 0 to 65535
+
+        module2.serial := -
+        module2.product_name := -
+        => [[module]] 2 (A): `serial` is missing
+
+        module2.product_name := clock = -1
+        => [[module]] 2 (A): `product_name` is missing
+
+        module2.first_id := clock = -1 ~ first_id = 0
+        => [[module]] 2 (A): `clock` is -1; allowed: 0 to 9223372036854775807
+
+        module2.first_id := first_number = 0 ~ first_id = 0
+        => [[module]] 2 (A): `first_id` is 0; allowed: 1 to 4294967295
+
+        module2.first_id := first_number = 0 ~ pending_room = 0
+        => [[module]] 2 (A): `first_number` is 0; allowed: 1 to 4294967295
+
+        module2.first_id := hop_room = 0 ~ pending_room = 0
+        => [[module]] 2 (A): `pending_room` is 0; allowed: 1 to 256
+
+        module2.name := name = "S" ~ hop_room = 0
+        => [[module]] 2 (S): `hop_room` is 0; allowed: 1 to 256
         "#,
     )
 }
@@ -113,13 +174,46 @@ fn from_the_keys_of_a_module_to_its_ports(rt: HostRuntime) -> Result<(), Fail> {
     play(
         rt.alloc(),
         r#"
-        module4.name := name = "S" & module4.port1 := port = 5 & module4.port1.number := - & module4.port1.link := - & module4.port1.address := - => [[module]] 4 (S): `name` is that of a table before it
-        module4.port1 := port = 5 & module4.port1.number := - & module4.port1.link := - & module4.port1.address := - => [[module]] 4 (E): `port` is 5; allowed: [[module.port]] tables, 1 to 8, of an adapter exactly 1
-        module4.name := name = "S" & module4.port1 := [[module.port]] ~ [[module.port]] ~ [[module.port]] ~ [[module.port]] ~ [[module.port]] ~ [[module.port]] ~ [[module.port]] ~ [[module.port]] ~ . => [[module]] 4 (S): `name` is that of a table before it
-        module4.port1 := [[module.port]] ~ [[module.port]] ~ [[module.port]] ~ [[module.port]] ~ [[module.port]] ~ [[module.port]] ~ [[module.port]] ~ [[module.port]] ~ . => [[module]] 4 (E): 9 [[module.port]] tables; allowed: at most 8
-        module4.port1 := [[module.port]] ~ . => [[module]] 4 (E): `port` is 2 tables; allowed: [[module.port]] tables, 1 to 8, of an adapter exactly 1
-        module4.port1 := - & module4.port1.number := - & module4.port1.link := - & module4.port1.address := - & module4.assembly1.instance := - => [[module]] 4 (E): `port` is 0 tables; allowed: [[module.port]] tables, 1 to 8, of an adapter exactly 1
-        module1.port1 := - & module1.port1.number := - & module1.port1.link := - & module1.port1.address := - & module2.name := - => [[module]] 1 (S): `port` is 0 tables; allowed: [[module.port]] tables, 1 to 8, of an adapter exactly 1
+        module4.name := name = "S"
+        module4.port1 := port = 5
+        module4.port1.number := -
+        module4.port1.link := -
+        module4.port1.address := -
+        => [[module]] 4 (S): `name` is that of a table before it
+
+        module4.port1 := port = 5
+        module4.port1.number := -
+        module4.port1.link := -
+        module4.port1.address := -
+        => [[module]] 4 (E): `port` is 5; allowed: [[module.port]] tables, 1 to 8, of an adapter
+        .. exactly 1
+
+        module4.name := name = "S"
+        module4.port1 := 8 of [[module.port]] ~ .
+        => [[module]] 4 (S): `name` is that of a table before it
+
+        module4.port1 := 8 of [[module.port]] ~ .
+        => [[module]] 4 (E): 9 [[module.port]] tables; allowed: at most 8
+
+        module4.port1 := [[module.port]] ~ .
+        => [[module]] 4 (E): `port` is 2 tables; allowed: [[module.port]] tables, 1 to 8, of an
+        .. adapter exactly 1
+
+        module4.port1 := -
+        module4.port1.number := -
+        module4.port1.link := -
+        module4.port1.address := -
+        module4.assembly1.instance := -
+        => [[module]] 4 (E): `port` is 0 tables; allowed: [[module.port]] tables, 1 to 8, of an
+        .. adapter exactly 1
+
+        module1.port1 := -
+        module1.port1.number := -
+        module1.port1.link := -
+        module1.port1.address := -
+        module2.name := -
+        => [[module]] 1 (S): `port` is 0 tables; allowed: [[module.port]] tables, 1 to 8, of an
+        .. adapter exactly 1
         "#,
     )
 }
@@ -129,15 +223,44 @@ fn the_keys_of_a_port(rt: HostRuntime) -> Result<(), Fail> {
     play(
         rt.alloc(),
         r#"
-        module2.port2.number := - & module2.port2.link := - => [[module]] 2 (A), [[module.port]] 2: `number` is missing
-        module2.port2.number := number = 2 & module2.port2.link := - => [[module]] 2 (A), [[module.port]] 2: `number` is 2; allowed: 1 to 65535, each once in a module
-        module2.port2.link := - & module2.port2.address := - => [[module]] 2 (A), [[module.port]] 2: `link` is missing
-        module2.port2.link := link = "WAN" & module2.port2.address := - => [[module]] 2 (A), [[module.port]] 2: `address` is missing
-        module2.port1.link := link = "WAN" & module2.port2.number := - => [[module]] 2 (A), [[module.port]] 1: `link` is "WAN", which names no link
-        module2.port1.link := link = "WAN" & module2.port1.address := address = "FF" => [[module]] 2 (A), [[module.port]] 1: `link` is "WAN", which names no link
-        module2.port1.address := address = "FF" & module2.port2.number := - => [[module]] 2 (A), [[module.port]] 1: `address` FF is not legal on link LAN: allowed: one byte from 00 to FE
-        module2.port1.address := address = "01" & module2.port2.number := - => [[module]] 2 (A), [[module.port]] 1: `address` 01 on link LAN is that of a port before it
-        module2.port2.link := link = "LAN" & module2.port2.address := address = "05" & module3.name := - => [[module]] 2 (A), [[module.port]] 2: `address` 05 on link LAN is that of a port before it
+        module2.port2.number := -
+        module2.port2.link := -
+        => [[module]] 2 (A), [[module.port]] 2: `number` is missing
+
+        module2.port2.number := number = 2
+        module2.port2.link := -
+        => [[module]] 2 (A), [[module.port]] 2: `number` is 2; allowed: 1 to 65535, each once in a
+        .. module
+
+        module2.port2.link := -
+        module2.port2.address := -
+        => [[module]] 2 (A), [[module.port]] 2: `link` is missing
+
+        module2.port2.link := link = "WAN"
+        module2.port2.address := -
+        => [[module]] 2 (A), [[module.port]] 2: `address` is missing
+
+        module2.port1.link := link = "WAN"
+        module2.port2.number := -
+        => [[module]] 2 (A), [[module.port]] 1: `link` is "WAN", which names no link
+
+        module2.port1.link := link = "WAN"
+        module2.port1.address := address = "FF"
+        => [[module]] 2 (A), [[module.port]] 1: `link` is "WAN", which names no link
+
+        module2.port1.address := address = "FF"
+        module2.port2.number := -
+        => [[module]] 2 (A), [[module.port]] 1: `address` FF is not legal on link LAN; allowed: one
+        .. byte from 00 to FE
+
+        module2.port1.address := address = "01"
+        module2.port2.number := -
+        => [[module]] 2 (A), [[module.port]] 1: `address` 01 on link LAN is that of a port before it
+
+        module2.port2.link := link = "LAN"
+        module2.port2.address := address = "05"
+        module3.name := -
+        => [[module]] 2 (A), [[module.port]] 2: `address` 05 on link LAN is that of a port before it
         "#,
     )
 }
@@ -147,16 +270,47 @@ fn from_the_ports_of_a_module_to_the_next_module(rt: HostRuntime) -> Result<(), 
     play(
         rt.alloc(),
         r#"
-        module4.port1.address := address = "01" & module4.assembly1.instance := - => [[module]] 4 (E), [[module.port]] 1: `address` 01 on link SUB is that of a port before it
-        module4.assembly1.instance := - & module4.assembly1.size := - => [[module]] 4 (E), [[module.assembly]] 1: `instance` is missing
-        module4.assembly2.instance := instance = 100 & module4.assembly2.size := - => [[module]] 4 (E), [[module.assembly]] 2: `instance` is 100; allowed: 1 to 65535, each once in a module
-        module4.assembly1.size := - & module4.assembly2.instance := - => [[module]] 4 (E), [[module.assembly]] 1: `size` is missing
-        module4.serial := serial = 0x0A0B0C0D & module4.assembly4.size := - => [[module]] 4 (E), [[module.assembly]] 4: `size` is missing
-        module3.serial := serial = 0x00000A0A & module4.name := - => [[module]] 3 (B): `vendor` 257 and `serial` 2570 are those of a module before it
-        module2.port1.address := address = "FF" & module3.serial := serial = 0x0A0A => [[module]] 2 (A), [[module.port]] 1: `address` FF is not legal on link LAN: allowed: one byte from 00 to FE
-        module2.kind := - & module2.port1.address := address = "FF" & module3.serial := serial = 0x0A0A => [[module]] 2 (A): `kind` is missing
-        module3.serial := serial = 0x0A0A & module3.vendor := vendor = 0x0102 => loaded
-        module2.kind := kind = "indexed" => [[module]] 2 (A): `kind` is "indexed", a text of 7 bytes; allowed: "plain" or "adapter"
+        module4.port1.address := address = "01"
+        module4.assembly1.instance := -
+        => [[module]] 4 (E), [[module.port]] 1: `address` 01 on link SUB is that of a port before it
+
+        module4.assembly1.instance := -
+        module4.assembly1.size := -
+        => [[module]] 4 (E), [[module.assembly]] 1: `instance` is missing
+
+        module4.assembly2.instance := instance = 100
+        module4.assembly2.size := -
+        => [[module]] 4 (E), [[module.assembly]] 2: `instance` is 100; allowed: 1 to 65535, each
+        .. once in a module
+
+        module4.assembly1.size := -
+        module4.assembly2.instance := -
+        => [[module]] 4 (E), [[module.assembly]] 1: `size` is missing
+
+        module4.serial := serial = 0x0A0B0C0D
+        module4.assembly4.size := -
+        => [[module]] 4 (E), [[module.assembly]] 4: `size` is missing
+
+        module3.serial := serial = 0x00000A0A
+        module4.name := -
+        => [[module]] 3 (B): `vendor` 257 and `serial` 2570 are those of a module before it
+
+        module2.port1.address := address = "FF"
+        module3.serial := serial = 0x0A0A
+        => [[module]] 2 (A), [[module.port]] 1: `address` FF is not legal on link LAN; allowed: one
+        .. byte from 00 to FE
+
+        module2.kind := -
+        module2.port1.address := address = "FF"
+        module3.serial := serial = 0x0A0A
+        => [[module]] 2 (A): `kind` is missing
+
+        module3.serial := serial = 0x0A0A
+        module3.vendor := vendor = 0x0102
+        => loaded
+
+        module2.kind := kind = "indexed"
+        => [[module]] 2 (A): `kind` is "indexed", a text of 7 bytes; allowed: "plain" or "adapter"
         "#,
     )
 }

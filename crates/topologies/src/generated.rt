@@ -1,7 +1,7 @@
 //! Topology files of any size.
 use std::alloc::{AllocError, Global};
 
-/// How many tables of each kind a file is to have. Each port is on the link of its number, modulo 32.
+/// How many tables of each kind a file is to have. Each port is on the link of its number.
 #[derive(Clone, Copy)]
 pub struct Size {
     pub links: usize,
@@ -41,7 +41,9 @@ fn put_module(
     size: Size,
 ) -> Result<(), AllocError> {
     let keys = format!(in alloc;
-        "[[module]]\nname = \"M{number}\"\nkind = \"plain\"\nvendor = 1\ndevice_type = 12\nproduct = 1\nmajor = 1\nminor = 1\nserial = {number}\nproduct_name = \"a module\"\n"
+        "[[module]]\nname = \"M{number}\"\nkind = \"plain\"\nvendor = 1\n\
+         device_type = 12\nproduct = 1\nmajor = 1\nminor = 1\nserial = {number}\n\
+         product_name = \"a module\"\n"
     )?;
     text.push_str(keys.as_str())?;
     for port in 1..=size.ports {

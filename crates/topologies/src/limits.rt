@@ -139,11 +139,24 @@ fn names_of_1_to_16_characters(rt: HostRuntime) -> Result<(), Fail> {
     play(
         rt.alloc(),
         r#"
-        module4.name := name = "Az09_-7890123456" => loaded
-        module4.name := name = "Az09_-78901234567" => [[module]] 4: `name` is "Az09_-78901234567", a text of 17 bytes; allowed: 1 to 16 ASCII letters, digits, `_` or `-`
-        module4.name := name = "" => [[module]] 4: `name` is "", a text of 0 bytes; allowed: 1 to 16 ASCII letters, digits, `_` or `-`
-        module4.name := name = "E 1" => [[module]] 4: `name` is "E 1", a text of 3 bytes; allowed: 1 to 16 ASCII letters, digits, `_` or `-`
-        module4.name := name = "É" => [[module]] 4: `name` is "\xC3\x89", a text of 2 bytes; allowed: 1 to 16 ASCII letters, digits, `_` or `-`
+        module4.name := name = "Az09_-7890123456"
+        => loaded
+
+        module4.name := name = "Az09_-78901234567"
+        => [[module]] 4: `name` is "Az09_-78901234567", a text of 17 bytes; allowed: 1 to 16 ASCII
+        .. letters, digits, `_` or `-`
+
+        module4.name := name = ""
+        => [[module]] 4: `name` is "", a text of 0 bytes; allowed: 1 to 16 ASCII letters, digits,
+        .. `_` or `-`
+
+        module4.name := name = "E 1"
+        => [[module]] 4: `name` is "E 1", a text of 3 bytes; allowed: 1 to 16 ASCII letters, digits,
+        .. `_` or `-`
+
+        module4.name := name = "É"
+        => [[module]] 4: `name` is "\xC3\x89", a text of 2 bytes; allowed: 1 to 16 ASCII letters,
+        .. digits, `_` or `-`
         "#,
     )
 }
@@ -153,10 +166,19 @@ fn product_names_of_at_most_32_characters(rt: HostRuntime) -> Result<(), Fail> {
     play(
         rt.alloc(),
         r#"
-        module4.product_name := product_name = "" => loaded
-        module4.product_name := product_name = "~ 345678901234567890123456789012" => loaded
-        module4.product_name := product_name = "~ 3456789012345678901234567890123" => [[module]] 4 (E): `product_name` is "~ 3456789012345678901234567890123", a text of 33 bytes; allowed: 0 to 32 characters from 20 to 7E
-        module4.product_name := product_name = "a\tb" => [[module]] 4 (E): `product_name` is "a\x09b", a text of 3 bytes; allowed: 0 to 32 characters from 20 to 7E
+        module4.product_name := product_name = ""
+        => loaded
+
+        module4.product_name := product_name = "~ 345678901234567890123456789012"
+        => loaded
+
+        module4.product_name := product_name = "~ 3456789012345678901234567890123"
+        => [[module]] 4 (E): `product_name` is "~ 3456789012345678901234567890123", a text of 33
+        .. bytes; allowed: 0 to 32 characters from 20 to 7E
+
+        module4.product_name := product_name = "a\tb"
+        => [[module]] 4 (E): `product_name` is "a\x09b", a text of 3 bytes; allowed: 0 to 32
+        .. characters from 20 to 7E
         "#,
     )
 }
@@ -166,16 +188,59 @@ fn addresses_of_1_to_16_bytes(rt: HostRuntime) -> Result<(), Fail> {
     play(
         rt.alloc(),
         r#"
-        link3.kind := kind = "text" & link3.first := longest = 16 & link3.last := - & module3.port2.address := address = "21" & module4.port1.address := address = "7E7e7E7e7E7e7E7e7E7e7E7e7E7e7E7e" => loaded
-        link3.kind := kind = "text" & link3.first := longest = 15 & link3.last := - & module3.port2.address := address = "21" & module4.port1.address := address = "7E7e7E7e7E7e7E7e7E7e7E7e7E7e7E7e" => [[module]] 4 (E), [[module.port]] 1: `address` 7E7E7E7E7E7E7E7E7E7E7E7E7E7E7E7E is not legal on link SUB: allowed: 1 to 15 bytes from 21 to 7E
-        link3.kind := kind = "text" & link3.first := longest = 16 & link3.last := - & module3.port2.address := address = "20" => [[module]] 3 (B), [[module.port]] 2: `address` 20 is not legal on link SUB: allowed: 1 to 16 bytes from 21 to 7E
-        link3.kind := kind = "text" & link3.first := longest = 16 & link3.last := - & module3.port2.address := address = "217F" => [[module]] 3 (B), [[module.port]] 2: `address` 217F is not legal on link SUB: allowed: 1 to 16 bytes from 21 to 7E
-        module4.port1.address := address = "0707070707070707070707070707070707" => [[module]] 4 (E), [[module.port]] 1: `address` is "0707070707070707070707070707070707", a text of 34 bytes; allowed: 1 to 16 pairs of hexadecimal digits
-        module4.port1.address := address = "" => [[module]] 4 (E), [[module.port]] 1: `address` is "", a text of 0 bytes; allowed: 1 to 16 pairs of hexadecimal digits
-        module4.port1.address := address = "070" => [[module]] 4 (E), [[module.port]] 1: `address` is "070", a text of 3 bytes; allowed: 1 to 16 pairs of hexadecimal digits
-        module4.port1.address := address = "0G" => [[module]] 4 (E), [[module.port]] 1: `address` is "0G", a text of 2 bytes; allowed: 1 to 16 pairs of hexadecimal digits
-        module4.port1.address := address = "0707" => [[module]] 4 (E), [[module.port]] 1: `address` 0707 is not legal on link SUB: allowed: one byte from 00 to 3F
-        link3.first := first = 7 & link3.last := last = 7 & module3.port2.link := link = "RACK" => loaded
+        link3.kind := kind = "text"
+        link3.first := longest = 16
+        link3.last := -
+        module3.port2.address := address = "21"
+        module4.port1.address := address = "7E7e7E7e7E7e7E7e7E7e7E7e7E7e7E7e"
+        => loaded
+
+        link3.kind := kind = "text"
+        link3.first := longest = 15
+        link3.last := -
+        module3.port2.address := address = "21"
+        module4.port1.address := address = "7E7e7E7e7E7e7E7e7E7e7E7e7E7e7E7e"
+        => [[module]] 4 (E), [[module.port]] 1: `address` 7E7E7E7E7E7E7E7E7E7E7E7E7E7E7E7E is not
+        .. legal on link SUB; allowed: 1 to 15 bytes from 21 to 7E
+
+        link3.kind := kind = "text"
+        link3.first := longest = 16
+        link3.last := -
+        module3.port2.address := address = "20"
+        => [[module]] 3 (B), [[module.port]] 2: `address` 20 is not legal on link SUB; allowed: 1 to
+        .. 16 bytes from 21 to 7E
+
+        link3.kind := kind = "text"
+        link3.first := longest = 16
+        link3.last := -
+        module3.port2.address := address = "217F"
+        => [[module]] 3 (B), [[module.port]] 2: `address` 217F is not legal on link SUB; allowed: 1
+        .. to 16 bytes from 21 to 7E
+
+        module4.port1.address := address = "0707070707070707070707070707070707"
+        => [[module]] 4 (E), [[module.port]] 1: `address` is "0707070707070707070707070707070707", a
+        .. text of 34 bytes; allowed: 1 to 16 pairs of hexadecimal digits
+
+        module4.port1.address := address = ""
+        => [[module]] 4 (E), [[module.port]] 1: `address` is "", a text of 0 bytes; allowed: 1 to 16
+        .. pairs of hexadecimal digits
+
+        module4.port1.address := address = "070"
+        => [[module]] 4 (E), [[module.port]] 1: `address` is "070", a text of 3 bytes; allowed: 1 to
+        .. 16 pairs of hexadecimal digits
+
+        module4.port1.address := address = "0G"
+        => [[module]] 4 (E), [[module.port]] 1: `address` is "0G", a text of 2 bytes; allowed: 1 to
+        .. 16 pairs of hexadecimal digits
+
+        module4.port1.address := address = "0707"
+        => [[module]] 4 (E), [[module.port]] 1: `address` 0707 is not legal on link SUB; allowed:
+        .. one byte from 00 to 3F
+
+        link3.first := first = 7
+        link3.last := last = 7
+        module3.port2.link := link = "RACK"
+        => loaded
         "#,
     )
 }
@@ -185,16 +250,36 @@ fn what_stands_where_the_file_says_nothing(rt: HostRuntime) -> Result<(), Fail> 
     play(
         rt.alloc(),
         r#"
-        module1.first_id := - => loaded
-        module1.first_id := status = 65535 ~ clock = 9223372036854775807 ~ first_id = 4294967295 ~ first_number = 4294967295 ~ pending_room = 256 ~ hop_room = 1 => loaded
-        module1.first_id := clock = -1 => [[module]] 1 (S): `clock` is -1; allowed: 0 to 9223372036854775807
-        module1.first_id := clock = 9223372036854775808 => not TOML, line 35: number out of range
-        module1.first_id := status = 65536 => [[module]] 1 (S): `status` is 65536; allowed: 0 to 65535
-        module1.first_id := first_id = 0 => [[module]] 1 (S): `first_id` is 0; allowed: 1 to 4294967295
-        module1.first_id := first_number = 4294967296 => [[module]] 1 (S): `first_number` is 4294967296; allowed: 1 to 4294967295
-        module1.first_id := pending_room = 0 => [[module]] 1 (S): `pending_room` is 0; allowed: 1 to 256
-        module1.first_id := hop_room = 257 => [[module]] 1 (S): `hop_room` is 257; allowed: 1 to 256
-        module1.first_id := colour = "red" ~ link = 5 => loaded
+        module1.first_id := -
+        => loaded
+
+        module1.first_id := status = 65535 ~ clock = 9223372036854775807 ~ first_id = 4294967295 ~
+        .. first_number = 4294967295 ~ pending_room = 256 ~ hop_room = 1
+        => loaded
+
+        module1.first_id := clock = -1
+        => [[module]] 1 (S): `clock` is -1; allowed: 0 to 9223372036854775807
+
+        module1.first_id := clock = 9223372036854775808
+        => not TOML, line 35: number out of range
+
+        module1.first_id := status = 65536
+        => [[module]] 1 (S): `status` is 65536; allowed: 0 to 65535
+
+        module1.first_id := first_id = 0
+        => [[module]] 1 (S): `first_id` is 0; allowed: 1 to 4294967295
+
+        module1.first_id := first_number = 4294967296
+        => [[module]] 1 (S): `first_number` is 4294967296; allowed: 1 to 4294967295
+
+        module1.first_id := pending_room = 0
+        => [[module]] 1 (S): `pending_room` is 0; allowed: 1 to 256
+
+        module1.first_id := hop_room = 257
+        => [[module]] 1 (S): `hop_room` is 257; allowed: 1 to 256
+
+        module1.first_id := colour = "red" ~ link = 5
+        => loaded
         "#,
     )
 }

@@ -12,7 +12,7 @@ fn chassis(alloc: Global) -> Result<Topology, Fail> {
     }
 }
 
-// `NODE`: the module that a port of a module reaches by an address of one byte, as `module port address = module`.
+// The module that a port of a module reaches by an address of one byte.
 fn node(topology: &Topology, from: usize, port: u16, address: u8) -> Option<usize> {
     let port = PortNumber::new(port)?;
     let address = Address::read(&[address]).ok()?;

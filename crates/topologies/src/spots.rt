@@ -1,7 +1,8 @@
 //! The lines of a topology file by the tables that they stand in.
 use std::alloc::{AllocError, Global};
 
-/// The table that a line stands in, by numbers from 1 in the order of the file; 0 where there is none.
+/// The table that a line stands in, by numbers from 1 in the order of the file; 0 where it stands
+/// in none of the kind.
 #[derive(Clone, Copy)]
 pub struct Tables {
     pub link: usize,
