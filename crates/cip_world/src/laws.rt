@@ -26,8 +26,7 @@ pub fn what_waits_is_listed()
     ensures rising { (t : Plan) (j : Journal) → AreRising (waiting t j) }
 {}
 
-/// What a module did in a run is a history of it: what holds of all that a module ever does holds in
-/// every run.
+/// What a module did in a run is a history of it: what holds of every history holds there.
 pub fn runs_are_histories()
     ensures { (t : Plan) (j : Journal) (m : ℕ) (config : Settings) → IsRun t j
         → IsModule t m config → IsHistory config (part m j) }
