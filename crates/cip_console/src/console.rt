@@ -138,10 +138,12 @@ fn deliver<W: Sink>(
     writer: &mut W,
     text: &mut Vec<u8>,
 ) -> Result<(), PlayFault>
-    requires stand { Stand world.old.ledger (map (λ b. config_of (b.vtable, b.value)) world.old.modules.items)
+    requires stand { Stand world.old.ledger
+        (map (λ b. config_of (b.vtable, b.value)) world.old.modules.items)
         (map (λ b. state_of (b.vtable, b.value)) world.old.modules.items) }
     requires names { names.now ≡ names_of world.old.ledger.plan }
-    ensures stand { Stand world.new.ledger (map (λ b. config_of (b.vtable, b.value)) world.new.modules.items)
+    ensures stand { Stand world.new.ledger
+        (map (λ b. config_of (b.vtable, b.value)) world.new.modules.items)
         (map (λ b. state_of (b.vtable, b.value)) world.new.modules.items) }
     ensures plan { world.new.ledger.plan ≡ world.old.ledger.plan }
     ensures plays { Plays (deliveries world.old.ledger.plan limit world.old.ledger.journal)
@@ -164,9 +166,11 @@ fn deliver<W: Sink>(
 
 // Whether a frame is left that waits.
 fn put_end(world: &mut World, text: &mut Vec<u8>) -> Result<(), NoMemory>
-    requires stand { Stand world.old.ledger (map (λ b. config_of (b.vtable, b.value)) world.old.modules.items)
+    requires stand { Stand world.old.ledger
+        (map (λ b. config_of (b.vtable, b.value)) world.old.modules.items)
         (map (λ b. state_of (b.vtable, b.value)) world.old.modules.items) }
-    ensures stand { Stand world.new.ledger (map (λ b. config_of (b.vtable, b.value)) world.new.modules.items)
+    ensures stand { Stand world.new.ledger
+        (map (λ b. config_of (b.vtable, b.value)) world.new.modules.items)
         (map (λ b. state_of (b.vtable, b.value)) world.new.modules.items) }
     ensures plan { world.new.ledger.plan ≡ world.old.ledger.plan }
     ensures journal { world.new.ledger.journal ≡ world.old.ledger.journal }
@@ -190,10 +194,12 @@ fn feed<W: Sink>(
     writer: &mut W,
     text: &mut Vec<u8>,
 ) -> Result<(), PlayFault>
-    requires stand { Stand world.old.ledger (map (λ b. config_of (b.vtable, b.value)) world.old.modules.items)
+    requires stand { Stand world.old.ledger
+        (map (λ b. config_of (b.vtable, b.value)) world.old.modules.items)
         (map (λ b. state_of (b.vtable, b.value)) world.old.modules.items) }
     requires names { names.now ≡ names_of world.old.ledger.plan }
-    ensures stand { Stand world.new.ledger (map (λ b. config_of (b.vtable, b.value)) world.new.modules.items)
+    ensures stand { Stand world.new.ledger
+        (map (λ b. config_of (b.vtable, b.value)) world.new.modules.items)
         (map (λ b. state_of (b.vtable, b.value)) world.new.modules.items) }
     ensures plan { world.new.ledger.plan ≡ world.old.ledger.plan }
     ensures plays { Plays (fed world.old.ledger.plan world.old.ledger.journal at command)
@@ -219,10 +225,12 @@ fn run_line<W: Sink>(
     writer: &mut W,
     text: &mut Vec<u8>,
 ) -> Result<(), PlayFault>
-    requires stand { Stand world.old.ledger (map (λ b. config_of (b.vtable, b.value)) world.old.modules.items)
+    requires stand { Stand world.old.ledger
+        (map (λ b. config_of (b.vtable, b.value)) world.old.modules.items)
         (map (λ b. state_of (b.vtable, b.value)) world.old.modules.items) }
     requires names { names.now ≡ names_of world.old.ledger.plan }
-    ensures stand { Stand world.new.ledger (map (λ b. config_of (b.vtable, b.value)) world.new.modules.items)
+    ensures stand { Stand world.new.ledger
+        (map (λ b. config_of (b.vtable, b.value)) world.new.modules.items)
         (map (λ b. state_of (b.vtable, b.value)) world.new.modules.items) }
     ensures plan { world.new.ledger.plan ≡ world.old.ledger.plan }
     ensures plays { Plays (ran world.old.ledger.plan limit world.old.ledger.journal)
@@ -248,10 +256,12 @@ fn play<W: Sink>(
     writer: &mut W,
     text: &mut Vec<u8>,
 ) -> Result<(), PlayFault>
-    requires stand { Stand world.old.ledger (map (λ b. config_of (b.vtable, b.value)) world.old.modules.items)
+    requires stand { Stand world.old.ledger
+        (map (λ b. config_of (b.vtable, b.value)) world.old.modules.items)
         (map (λ b. state_of (b.vtable, b.value)) world.old.modules.items) }
     requires names { names.now ≡ names_of world.old.ledger.plan }
-    ensures stand { Stand world.new.ledger (map (λ b. config_of (b.vtable, b.value)) world.new.modules.items)
+    ensures stand { Stand world.new.ledger
+        (map (λ b. config_of (b.vtable, b.value)) world.new.modules.items)
         (map (λ b. state_of (b.vtable, b.value)) world.new.modules.items) }
     ensures plan { world.new.ledger.plan ≡ world.old.ledger.plan }
     ensures plays { Plays (played world.old.ledger.plan world.old.ledger.journal step)
@@ -287,7 +297,8 @@ fn run_steps<W: Sink>(
     steps: Vec<Numbered>,
     writer: &mut W,
 ) -> Result<(), ConsoleFault>
-    requires stand { Stand world.old.ledger (map (λ b. config_of (b.vtable, b.value)) world.old.modules.items)
+    requires stand { Stand world.old.ledger
+        (map (λ b. config_of (b.vtable, b.value)) world.old.modules.items)
         (map (λ b. state_of (b.vtable, b.value)) world.old.modules.items) }
     requires names { names.now ≡ names_of world.old.ledger.plan }
     requires first { world.old.ledger.journal ≡ [] }

@@ -10,10 +10,7 @@ use std::alloc::Global;
 fn name_of(alloc: Global, config: &ModuleConfig) -> Result<Bytes, NoMemory>
     ensures { IfOk result (λ name. name ≡ config.now.name) }
 {
-    Ok(Bytes::of(Vec::from_slice(
-        alloc,
-        config.settings().name.as_slice(),
-    )?))
+    Ok(Bytes::of(Vec::from_slice(alloc, config.settings().name.as_slice())?))
 }
 
 /// The names, in the order of the topology.

@@ -180,11 +180,7 @@ fn output_line(alloc: Global, index: usize, output: &Output) -> Result<String, N
 ghost use Rattle.cip_console.specs.Show.{output_line};
 
 // The lines of all outputs of an entry, behind a text.
-fn put_outputs(
-    alloc: Global,
-    outputs: &[Output],
-    text: &mut Vec<u8>,
-) -> Result<(), NoMemory>
+fn put_outputs(alloc: Global, outputs: &[Output], text: &mut Vec<u8>) -> Result<(), NoMemory>
     ensures { OnOk result (text.new.items ≡ text.old.items ++ outputs_text 0 outputs.now) }
 {
     for (index, output) in outputs.iter().enumerate() {
@@ -292,7 +288,8 @@ pub(crate) fn put_entry(
     entry: &Entry,
     text: &mut Vec<u8>,
 ) -> Result<(), NoMemory>
-    ensures { OnOk result (text.new.items ≡ text.old.items ++ entry_text names.now number entry.now) }
+    ensures { OnOk result (text.new.items
+        ≡ text.old.items ++ entry_text names.now number entry.now) }
 {
     match entry {
         Entry::Step { at, input, outputs } => {

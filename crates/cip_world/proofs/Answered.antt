@@ -1,7 +1,7 @@
 -- A reply that comes answers the one request of its number.
-use Rattle.std.proofs.Common.{◌≡◌, ℕ, ◌≤◌, Bool, true, false, cond, ◌&&◌, List, Option, Some, None, refl, sym, ap, subst, ◌∙◌, inl, arith, eqb}
+use Rattle.std.proofs.Common.{◌≡◌, ℕ, ◌≤◌, true, ◌&&◌, List, Some, refl, sym, ap, subst, ◌∙◌, arith, eqb}
 use Rattle.std.specs.Str.{bytes_eq}
-use Rattle.std.proofs.lemmas.Bool.{and_parts, and_from, eqb-true, eq-eqb}
+use Rattle.std.proofs.lemmas.Bool.{and_from, eq-eqb}
 use Rattle.std.proofs.lemmas.Slice.Eq.{bytes_eq-Decides}
 use Rattle.cip_pending.specs.declared.entry.UpSide.TheVariants.{Link}
 use Rattle.cip_module.specs.declared.config.ModuleSettings.{ModuleSettings}
@@ -11,7 +11,6 @@ use Rattle.cip_module.specs.declared.event.Event.{Event}
 use Rattle.cip_module.specs.declared.event.Event.TheVariants as events
 use Rattle.cip_module.specs.declared.event.Output.{Output}
 use Rattle.cip_module.specs.declared.event.Output.TheVariants as outputs
-use Rattle.cip_module.specs.State.{State}
 use Rattle.cip_module.specs.declared.event.Body.{Body}
 use Rattle.cip_module.specs.Table.{table_step}
 use Rattle.cip_module.proofs.AskedBy.{Waits, taken_waits}
@@ -19,17 +18,17 @@ use Rattle.cip_world.specs.declared.journal.Input.{Input}
 use Rattle.cip_world.specs.declared.journal.FrameName.{FrameName}
 use Rattle.cip_module.specs.Histories.{next_state}
 use Rattle.cip_topology.specs.Nodes.{Way, across as goes}
-use Rattle.cip_world.specs.Journals.{Journal, Flight, frame_at, part}
+use Rattle.cip_world.specs.Journals.{Journal, Flight, part}
 use Rattle.cip_world.specs.Answers.{Answered}
 use Rattle.cip_world.specs.Runs.{IsModule, IsArrival, state_in, IsStepAt, IsRun}
 use Rattle.cip_world.proofs.Chassis.{Chassis}
-use Rattle.cip_module.specs.Weights.{mark, is_reply, weight, came}
+use Rattle.cip_module.specs.Weights.{mark, is_reply, weight}
 use Rattle.cip_module.specs.Words.{Has, Came, Gave}
 use Rattle.cip_world.proofs.Arrivals.{way_in, Brought, arrives, came_brought, counted_came, one_request, name_eq}
 use Rattle.cip_world.proofs.Frames.{out_of, frame_gave, sender, one_frame}
 use Rattle.cip_world.proofs.Parts.{step_here}
 use Rattle.cip_world.proofs.Replies.{replied_once, replied_after}
-use Rattle.cip_module.proofs.Turns.{Turned, turned}
+use Rattle.cip_module.proofs.Turns.{turned}
 use Rattle.cip_module.proofs.Weighing.{weight_gave}
 
 -- what a module takes waited: it does not drop the reply

@@ -1,10 +1,9 @@
 -- What a ledger finds of a frame: where it comes in, just where it waits.
-use Rattle.std.proofs.Common.{◌≡◌, ℕ, Bool, true, false, List, length, reverse, Option, Some, None, refl, sym, ap, subst, ◌∙◌}
+use Rattle.std.proofs.Common.{◌≡◌, ℕ, Bool, true, false, List, length, Option, Some, None, sym, ap, ◌∙◌}
 use Rattle.std.specs.Prelude.{option_map, IfSome}
 use Rattle.std.specs.List.{list_any}
-use Rattle.cip_module.specs.declared.event.Body.{Body}
 use Rattle.cip_topology.specs.Plan.{Plan}
-use Rattle.cip_topology.specs.Nodes.{Way, across as goes}
+use Rattle.cip_topology.specs.Nodes.{across as goes}
 use Rattle.cip_world.specs.declared.flight.Flying.{Flying}
 use Rattle.cip_world.specs.declared.flight.Coming.{Coming}
 use Rattle.cip_world.specs.declared.journal.FrameName.{FrameName}

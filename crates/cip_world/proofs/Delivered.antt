@@ -1,8 +1,7 @@
 -- A frame that comes in comes to a module of the topology, and the routing table has a step for it.
-use Rattle.std.proofs.Common.{◌≡◌, ℕ, zero, suc, ◌<◌, ◌≤◌, List, [], ◌∷◌, length, map, Result, Ok, Err, Option, Some, None, refl, sym, ap, subst, ◌∙◌, arith}
+use Rattle.std.proofs.Common.{◌≡◌, ℕ, zero, suc, ◌<◌, List, [], ◌∷◌, length, map, Result, Ok, Err, Option, Some, None, refl, sym, ap, ◌∙◌, arith}
 use Rattle.std.specs.Prelude.{slice_get, IfErr}
 use Rattle.std.proofs.lemmas.List.{length-map}
-use Rattle.cip_module.specs.declared.config.ModuleSettings.{ModuleSettings}
 use Rattle.cip_module.specs.declared.config.PortConfig.{PortConfig}
 use Rattle.cip_module.specs.declared.event.Body.{Body}
 use Rattle.cip_module.specs.declared.event.Event.TheVariants as events
@@ -13,10 +12,10 @@ use Rattle.cip_world.specs.declared.fault.WorldFault.{WorldFault}
 use Rattle.cip_world.specs.declared.fault.WorldFault.TheVariants.{NoModule, NoFrame, Step, NoMemory}
 use Rattle.cip_world.specs.declared.flight.Coming.{Coming}
 use Rattle.cip_world.specs.declared.journal.FrameName.{FrameName}
-use Rattle.cip_world.specs.Coming.{way_in, IsComing}
+use Rattle.cip_world.specs.Coming.{IsComing}
 use Rattle.cip_world.specs.Journals.{Journal}
 use Rattle.cip_world.specs.Runs.{IsArrival}
-use Rattle.cip_world.specs.Worlds.{HasNoStep, IsFeedFault, IsFrameFault}
+use Rattle.cip_world.specs.Worlds.{IsFeedFault, IsFrameFault}
 
 pub got_within : {A : Type 0} (xs : List A) (i : ℕ) (x : A) → slice_get xs i ≡ Some x → i < length xs
 got_within [] i x e = absurd (cc)

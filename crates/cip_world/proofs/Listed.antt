@@ -1,5 +1,5 @@
 -- What a ledger keeps when its newest entry is looked at, and when one is added.
-use Rattle.std.proofs.Common.{◌≡◌, ℕ, ◌≤◌, Bool, true, not, ◌&&◌, List, [], ◌∷◌, ◌++◌, length, reverse, drop, refl, sym, ap, subst, ◌∙◌, arith, eqb, filter}
+use Rattle.std.proofs.Common.{◌≡◌, ℕ, Bool, true, not, ◌&&◌, List, [], ◌∷◌, ◌++◌, length, reverse, drop, refl, sym, ap, subst, ◌∙◌, arith, eqb, filter}
 use Rattle.std.proofs.lemmas.Bool.{and_parts, eqb-true}
 use Rattle.std.proofs.lemmas.List.{reverse-append, append-nil}
 use Rattle.cip_module.specs.declared.event.Output.{Output}
@@ -8,7 +8,7 @@ use Rattle.cip_world.specs.declared.journal.FrameName.{FrameName}
 use Rattle.cip_world.specs.declared.journal.Entry.{Entry}
 use Rattle.cip_world.specs.declared.journal.Entry.TheVariants.{Step, Lost}
 use Rattle.cip_world.specs.Journals.{Journal, named_by, is_that}
-use Rattle.cip_world.specs.Ledgers.{Told, newest_outputs, newest_from, IsLedger, IsNewest}
+use Rattle.cip_world.specs.Ledgers.{newest_outputs, newest_from, IsLedger, IsNewest}
 use Rattle.cip_world.specs.Names.{AreRising}
 use Rattle.cip_world.specs.Runs.{IsNext}
 use Rattle.cip_world.specs.Waiting.{frames_of, frames_in, waiting}

@@ -1,5 +1,5 @@
 -- The order of names is total and tells any two apart; what is added at the end of a rising list, and what is taken out of it.
-use Rattle.std.proofs.Common.{◌≡◌, ℕ, Bool, true, false, cond, not, ◌&&◌, List, [], ◌∷◌, ◌++◌, refl, sym, ap, subst, ◌∙◌, arith, eqb, nat_lt, filter}
+use Rattle.std.proofs.Common.{◌≡◌, ℕ, true, false, cond, not, ◌&&◌, List, [], ◌∷◌, ◌++◌, refl, sym, ap, subst, ◌∙◌, arith, eqb, nat_lt, filter}
 use Rattle.std.specs.Cmp.{IsTotalOrder, nat_cmp_total, both_ways}
 use Rattle.std.specs.List.{AllByRecursion}
 use Rattle.std.specs.List.Sorted.{IsStrictlySortedBy}

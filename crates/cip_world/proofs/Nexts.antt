@@ -1,5 +1,5 @@
 -- What a run adds is what the function of the next journal gives.
-use Rattle.std.proofs.Common.{◌≡◌, ℕ, List, ◌∷◌, Option, Some, None, refl, sym, ap, subst, ◌∙◌}
+use Rattle.std.proofs.Common.{◌≡◌, ℕ, List, ◌∷◌, Option, Some, None, refl, ap, ◌∙◌}
 use Rattle.std.specs.Prelude.{option_map, option_and_then, slice_get}
 use Rattle.cip_base.specs.declared.numbers.ModuleId.{ModuleId}
 use Rattle.cip_module.specs.declared.config.ModuleSettings.{ModuleSettings}
@@ -7,12 +7,12 @@ use Rattle.cip_module.specs.declared.event.Event.{Event}
 use Rattle.cip_module.specs.declared.event.Output.{Output}
 use Rattle.cip_module.specs.Table.{Stepped, table_step}
 use Rattle.cip_topology.specs.Plan.{Plan}
-use Rattle.cip_topology.specs.Nodes.{Way, across as goes}
+use Rattle.cip_topology.specs.Nodes.{across as goes}
 use Rattle.cip_world.specs.declared.journal.FrameName.{FrameName}
 use Rattle.cip_world.specs.declared.journal.Input.{Input}
 use Rattle.cip_world.specs.declared.journal.Input.TheVariants.{Frame}
 use Rattle.cip_world.specs.declared.journal.Entry.TheVariants.{Step}
-use Rattle.cip_world.specs.Journals.{Journal, Flight, event_of, frame_at}
+use Rattle.cip_world.specs.Journals.{Journal, Flight, event_of}
 use Rattle.cip_world.specs.Nexts.{with_step, next, comes, delivered}
 use Rattle.cip_world.specs.Runs.{IsModule, state_in, IsStepAt}
 use Rattle.cip_world.specs.Worlds.{HasNoStep}

@@ -1,5 +1,5 @@
 -- Frames that arrive one by one, each of least name.
-use Rattle.std.proofs.Common.{◌≡◌, ◌≢◌, ℕ, suc, ◌+◌, ◌≤◌, Bool, true, List, [], ◌∷◌, map, Some, None, refl, sym, ap, subst, ◌∙◌, arith}
+use Rattle.std.proofs.Common.{◌≡◌, ◌≢◌, ℕ, suc, ◌+◌, Bool, true, List, [], ◌∷◌, map, Some, None, refl, sym, ap, subst, ◌∙◌, arith}
 use Rattle.std.specs.Prelude.{slice_get, Option}
 use Rattle.cip_module.specs.declared.config.ModuleSettings.{ModuleSettings}
 use Rattle.cip_module.specs.declared.tables.Tables.{Tables}
@@ -11,7 +11,7 @@ use Rattle.cip_world.specs.Journals.{Journal}
 use Rattle.cip_world.specs.Ledgers.{Told}
 use Rattle.cip_world.specs.Runs.{IsModule, state_in}
 use Rattle.cip_world.specs.Waiting.{waiting}
-use Rattle.cip_world.specs.Worlds.{Stand, DeliversOne, Delivers, DeliversUpTo, IsOneMore, IsShownAt}
+use Rattle.cip_world.specs.Worlds.{Stand, DeliversOne, Delivers, IsOneMore, IsShownAt}
 use Rattle.cip_world.proofs.Delivered.{some_same}
 use Rattle.cip_world.proofs.StepAt.{slice_get-map}
 

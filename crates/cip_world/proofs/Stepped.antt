@@ -1,23 +1,22 @@
 -- What a step of a box is in a run, and that the boxes stand as its journal has them afterwards.
-use Rattle.std.proofs.Common.{◌≡◌, ◌≢◌, ℕ, zero, suc, true, false, cond, List, [], ◌∷◌, length, map, Option, Some, None, refl, sym, ap, subst, ◌∙◌, arith, eqb, slice_get, slice_set}
+use Rattle.std.proofs.Common.{◌≡◌, ◌≢◌, ℕ, zero, suc, true, false, cond, List, [], ◌∷◌, length, Option, Some, refl, sym, ap, subst, ◌∙◌, eqb, slice_get, slice_set}
 use Rattle.std.proofs.lemmas.Bool.{eqb-true, eq-eqb, ne_eqb}
 use Rattle.cip_base.specs.declared.numbers.ModuleId.{ModuleId}
 use Rattle.cip_module.specs.declared.config.ModuleSettings.{ModuleSettings}
 use Rattle.cip_module.specs.declared.event.Event.{Event}
 use Rattle.cip_module.specs.declared.event.Output.{Output}
-use Rattle.cip_module.specs.Histories.{Turn, stepped, next_state, state_after}
+use Rattle.cip_module.specs.Histories.{Turn, stepped, state_after}
 use Rattle.cip_module.specs.State.{State}
 use Rattle.cip_module.specs.Table.{Stepped, table_step}
 use Rattle.cip_topology.specs.Plan.{Plan}
 use Rattle.cip_world.specs.declared.journal.Input.{Input}
-use Rattle.cip_world.specs.declared.journal.Entry.{Entry}
 use Rattle.cip_world.specs.declared.journal.Entry.TheVariants.{Step, Lost}
 use Rattle.cip_world.specs.declared.journal.FrameName.{FrameName}
 use Rattle.cip_world.specs.Journals.{Journal, event_of, with_turn, part}
 use Rattle.cip_world.specs.Ledgers.{Told}
 use Rattle.cip_world.specs.Runs.{IsModule, state_in, IsGiven, IsStepAt}
 use Rattle.cip_world.specs.Worlds.{AreStates, Stand, IsStepOf}
-use Rattle.cip_world.proofs.Parts.{part_here, turn_of}
+use Rattle.cip_world.proofs.Parts.{part_here}
 
 some_same : {A : Type 0} (a b : A) → Some a ≡ Some b → a ≡ b
 some_same a b e = cc

@@ -1,13 +1,12 @@
 -- The list of the frames that wait: it rises, an entry takes out of it the frame that it names and adds those that it sends, and a frame is in it just where it waits.
-use Rattle.std.proofs.Common.{◌≡◌, ℕ, zero, suc, ◌+◌, ◌<◌, ◌≤◌, Bool, true, false, cond, not, ◌&&◌, ◌||◌, List, [], ◌∷◌, ◌++◌, length, Option, Some, None, refl, sym, ap, subst, ◌∙◌, inl, inr, ◌⊎◌, arith, eqb, filter, get_or}
+use Rattle.std.proofs.Common.{◌≡◌, ℕ, zero, suc, ◌+◌, ◌<◌, ◌≤◌, Bool, true, false, cond, not, ◌&&◌, ◌||◌, List, [], ◌∷◌, ◌++◌, length, Option, Some, None, refl, sym, ap, subst, ◌∙◌, arith, filter, get_or}
 use Rattle.std.specs.Prelude.{slice_get, is_some, drop}
 use Rattle.std.specs.List.{AllByRecursion, list_any}
 use Rattle.std.specs.List.Sorted.{IsStrictlySortedBy}
 use Rattle.std.specs.Ordering.{nat_cmp, ordering_then}
 use Rattle.std.specs.Cmp.{nat_cmp_is}
-use Rattle.std.specs.declared.cmp.Ordering.{Ordering}
-use Rattle.std.specs.declared.cmp.Ordering.TheVariants.{Less, Equal, Greater}
-use Rattle.std.proofs.lemmas.Bool.{and_parts, and_from, eqb-true, eq-eqb, ne_eqb}
+use Rattle.std.specs.declared.cmp.Ordering.TheVariants.{Less, Equal}
+use Rattle.std.proofs.lemmas.Bool.{and_parts, eq-eqb}
 use Rattle.std.proofs.lemmas.List.{drop_more}
 use Rattle.std.proofs.lemmas.List.Elements.{filter-append}
 use Rattle.std.proofs.lemmas.List.Folds.{list_any-append}
@@ -17,7 +16,6 @@ use Rattle.cip_module.specs.declared.event.Output.{Output}
 use Rattle.cip_topology.specs.Plan.{Plan}
 use Rattle.cip_topology.specs.Nodes.{Way, across as goes}
 use Rattle.cip_world.specs.declared.journal.FrameName.{FrameName}
-use Rattle.cip_world.specs.declared.journal.Input.{Input}
 use Rattle.cip_world.specs.declared.journal.Input.TheVariants as inputs
 use Rattle.cip_world.specs.declared.journal.Entry.{Entry}
 use Rattle.cip_world.specs.declared.journal.Entry.TheVariants.{Step, Lost}
@@ -25,7 +23,7 @@ use Rattle.cip_world.specs.Journals.{Journal, Flight, flight_of, sent_by, frame_
 use Rattle.cip_world.specs.Names.{name_cmp, AreRising, AllBefore}
 use Rattle.cip_world.specs.Runs.{IsWaiting, IsNext, IsRun}
 use Rattle.cip_world.specs.Waiting.{arrives, or_none, frames_of, frames_in, frames, waiting}
-use Rattle.cip_world.proofs.Frames.{at_entry, entry_at-past}
+use Rattle.cip_world.proofs.Frames.{at_entry}
 use Rattle.cip_world.proofs.Named.{name_eq, same_self}
 
 -- ---- names of one entry
@@ -283,7 +281,7 @@ named_before t (e ∷ j) f run h = named_either t j e f run.1 (λ is. named_befo
 
 filter_both : (p q : FrameName → Bool) (fs : List FrameName) → filter (λ f. not (p f || q f)) fs ≡ filter (λ f. not (p f)) (filter (λ f. not (q f)) fs)
 filter_both p q [] = refl
-filter_both p q (f ∷ fs) = both_by (p f) (q f)  (filter (λ f. not (p f || q f)) fs) (filter (λ f. not (q f)) fs) refl (filter_both p q fs)
+filter_both p q (f ∷ fs) = both_by (p f) (q f) (filter (λ f. not (p f || q f)) fs) (filter (λ f. not (q f)) fs) refl (filter_both p q fs)
   where
     both_by : (a b : Bool) (x y : List FrameName) → p f ≡ a → x ≡ filter (λ f. not (p f)) y
         → cond (not (a || b)) (f ∷ x) x ≡ filter (λ f. not (p f)) (cond (not b) (f ∷ y) y)

@@ -1,6 +1,5 @@
 -- Frames as the code finds them.
-use Rattle.std.specs.Prelude.{◌≡◌, ℕ, List}
-use Rattle.cip_module.specs.declared.event.Body.{Body}
+use Rattle.std.specs.Prelude.{◌≡◌}
 use Rattle.cip_topology.specs.Plan.{Plan}
 use Rattle.cip_topology.specs.Nodes.{Way}
 use Rattle.cip_world.specs.declared.journal.FrameName.{FrameName}

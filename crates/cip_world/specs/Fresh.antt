@@ -1,5 +1,5 @@
 -- Whether modules are those of a topology, and in their first states.
-use Rattle.std.specs.Prelude.{◌≡◌, ◌≢◌, ℕ, ◌<◌, List, length, map, take, Some, slice_get}
+use Rattle.std.specs.Prelude.{◌≡◌, ◌≢◌, ℕ, ◌<◌, List, length, map, take, slice_get}
 use Rattle.cip_module.specs.declared.config.ModuleSettings.{ModuleSettings}
 use Rattle.cip_module.specs.State.{State, initial_state}
 use Rattle.cip_topology.specs.Plan.{Plan}

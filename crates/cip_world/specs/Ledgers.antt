@@ -1,10 +1,9 @@
 -- What a ledger keeps: a journal that is a run of its topology, and which frames wait.
-use Rattle.std.specs.Prelude.{◌≡◌, ℕ, Bool, true, false, ◌==◌, ◌&&◌, nat_lt, List, [], ◌∷◌, ◌++◌, ◌≤◌, length, drop, reverse}
+use Rattle.std.specs.Prelude.{◌≡◌, ℕ, Bool, List, [], ◌∷◌, ◌++◌, ◌≤◌, length, drop}
 use Rattle.cip_module.specs.declared.event.Output.{Output}
 use Rattle.cip_topology.specs.Plan.{Plan}
 use Rattle.cip_world.specs.declared.journal.FrameName.{FrameName}
 use Rattle.cip_world.specs.declared.journal.Input.{Input}
-use Rattle.cip_world.specs.declared.journal.Entry.{Entry}
 use Rattle.cip_world.specs.declared.journal.Entry.TheVariants.{Step, Lost}
 use Rattle.cip_world.specs.Journals.{Journal}
 use Rattle.cip_world.specs.Runs.{IsRun}

@@ -1,5 +1,5 @@
 -- Hops that mirror one another on the two ends of a link.
-use Rattle.std.specs.Prelude.{◌≡◌, ℕ, List, [], ◌∷◌, ◌⊎◌, Some}
+use Rattle.std.specs.Prelude.{◌≡◌, ℕ, [], ◌∷◌, ◌⊎◌, Some}
 use Rattle.std.specs.FinMap as map
 use Rattle.cip_base.specs.declared.triad.Triad.{Triad}
 use Rattle.cip_segment.specs.Reading.{HopAt, hop_of}
@@ -17,8 +17,10 @@ abbrev pub IsOlder : Journal → Journal → Type 0
 IsOlder k [] = k ≡ []
 IsOlder k (e ∷ j) = (k ≡ e ∷ j) ⊎ IsOlder k j
 
--- Hop g mirrors hop h, whose frames come in by this way: the same triad, the port and the address of the way, g's own up id is the O→T id that
--- h has from there, and g sends under h's own down id. Its path is what h's has left behind its first hop, and the sizes and the class are h's.
+-- Hop g mirrors hop h, whose frames come in by this way: the same triad, the port and the address
+-- of the way, g's own up id is the O→T id that
+-- h has from there, and g sends under h's own down id. Its path is what h's has left behind its
+-- first hop, and the sizes and the class are h's.
 pub record Mirrors (there : Way) (h g : Hop) : Type 0 where
   pub own : ℕ
   pub own_is : h.ids.down ≡ Some own
@@ -32,7 +34,8 @@ pub record Mirrors (there : Way) (h g : Hop) : Type 0 where
   pub to_size_is : g.opening.to_size ≡ h.opening.to_size
   pub class_is : g.opening.class ≡ h.opening.class
 
--- where the frames of a hop go there is a module, and whatever hop it has at any moment under the id that the hop names mirrors the hop
+-- where the frames of a hop go there is a module, and whatever hop it has at any moment under the
+-- id that the hop names mirrors the hop
 pub record IsMirrored (t : Plan) (j : Journal) (out : Way) (h : Hop) : Type 0 where
   pub there : Way
   pub across : across t out ≡ Some there
@@ -40,4 +43,6 @@ pub record IsMirrored (t : Plan) (j : Journal) (out : Way) (h : Hop) : Type 0 wh
   pub is_module : IsModule t there.at config
   pub id : ℕ
   pub their_is : h.their_id ≡ Some id
-  pub only : (k : Journal) → IsOlder k j → (q : Triad) (g : Hop) → map.get (state_in config there.at k).hops.held q ≡ Some (Open g) → g.ids.up ≡ Some id → Mirrors there h g
+  pub only : (k : Journal) → IsOlder k j → (q : Triad) (g : Hop)
+      → map.get (state_in config there.at k).hops.held q ≡ Some (Open g) → g.ids.up ≡ Some id
+      → Mirrors there h g

@@ -1,8 +1,6 @@
 -- The journal that follows one more event, as a function.
-use Rattle.std.specs.Prelude.{ℕ, List, ◌∷◌, Option, option_map, option_and_then, slice_get}
+use Rattle.std.specs.Prelude.{◌∷◌, Option, option_map, option_and_then, slice_get}
 use Rattle.cip_base.specs.declared.numbers.ModuleId.{ModuleId}
-use Rattle.cip_module.specs.declared.config.ModuleSettings.{ModuleSettings}
-use Rattle.cip_module.specs.declared.event.Event.{Event}
 use Rattle.cip_module.specs.Table.{Stepped, table_step}
 use Rattle.cip_topology.specs.Plan.{Plan}
 use Rattle.cip_topology.specs.Nodes.{Way, across}
@@ -10,7 +8,7 @@ use Rattle.cip_world.specs.declared.journal.FrameName.{FrameName}
 use Rattle.cip_world.specs.declared.journal.Input.{Input}
 use Rattle.cip_world.specs.declared.journal.Input.TheVariants.{Frame}
 use Rattle.cip_world.specs.declared.journal.Entry.TheVariants.{Step}
-use Rattle.cip_world.specs.Journals.{Journal, Flight, event_of, frame_at}
+use Rattle.cip_world.specs.Journals.{Journal, event_of, frame_at}
 use Rattle.cip_world.specs.Runs.{state_in}
 
 abbrev pub with_step : ModuleId → Input → Journal → Stepped → Journal

@@ -65,10 +65,7 @@ fn is_fresh(alloc: Global, boxed: &Box<dyn Module + Send>) -> Result<bool, NoMem
 }
 
 // The least place where a module is not in the first state of its config.
-fn first_stale(
-    alloc: Global,
-    modules: &[Box<dyn Module + Send>],
-) -> Result<Option<usize>, NoMemory>
+fn first_stale(alloc: Global, modules: &[Box<dyn Module + Send>]) -> Result<Option<usize>, NoMemory>
     ensures none { IfOk result (λ m. IfNone m (map (λ b. state_of b) modules.now
         ≡ map initial_state (map (λ b. config_of b) modules.now))) }
     ensures some { IfOk result (λ m. IfSome m (DifferFirst (map (λ b. state_of b) modules.now)

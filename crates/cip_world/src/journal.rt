@@ -68,5 +68,7 @@ pub enum Entry {
         outputs: Outputs,
     },
     /// A frame was lost on its link.
-    Lost { frame: FrameName },
+    Lost {
+        frame: FrameName,
+    },
 }

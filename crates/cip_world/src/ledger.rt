@@ -39,10 +39,10 @@ impl Model for Ledger {
     ghost Value = { Told };
 
     ghost view = { λ l. record {
-        plan = l.topology;
-        journal = reverse l.entries.items;
-        ready = nat_lt (vec_len l.entries) (vec_capacity l.entries)
-            && length (newest_outputs (reverse l.entries.items)) == l.looked
+      plan = l.topology;
+      journal = reverse l.entries.items;
+      ready = nat_lt (vec_len l.entries) (vec_capacity l.entries)
+          && length (newest_outputs (reverse l.entries.items)) == l.looked;
     } };
 
     ghost invariant = { λ l. IsLedger l.topology (reverse l.entries.items) l.listed l.looked };

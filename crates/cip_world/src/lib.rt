@@ -1,7 +1,6 @@
 //! Modules in boxes, joined by the links of a topology, and the journal of what they did.
 #![tactic(auto)]
 
-
 mod fault;
 mod flight;
 mod fresh;

@@ -1,4 +1,4 @@
-use Rattle.std.proofs.Common.{◌≡◌, ◌∙◌, sym, arith, rules}
+use Rattle.std.proofs.Common.{arith}
 use Rattle.cip_world.proofs.Freshness.{differ_at}
 use Rattle.cip_world.proofs.StepAt.{at_place}
 use Rattle.cip_world.proofs.fresh.first_other.Goals as goal

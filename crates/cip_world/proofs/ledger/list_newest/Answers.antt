@@ -1,8 +1,7 @@
-use Rattle.std.proofs.Common.{◌≡◌, ◌++◌, ◌∷◌, ◌+◌, ◌∙◌, sym, ap, subst, List, drop}
+use Rattle.std.proofs.Common.{◌++◌, ◌∙◌, sym, ap, subst, List}
 use Rattle.cip_world.specs.declared.journal.FrameName.{FrameName}
 use Rattle.cip_world.specs.Names.{AreRising}
-use Rattle.cip_world.specs.Waiting.{frames_of}
-use Rattle.cip_world.proofs.Waits.{before_mid, one_more, no_more}
+use Rattle.cip_world.proofs.Waits.{before_mid, one_more}
 use Rattle.cip_world.proofs.ledger.list_newest.Goals as goal
 
 pub add-requires : goal.add-requires

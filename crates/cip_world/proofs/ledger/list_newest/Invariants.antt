@@ -1,4 +1,4 @@
-use Rattle.std.proofs.Common.{◌≡◌, ◌++◌, ◌≤◌, ◌-◌, ℕ, length, drop}
+use Rattle.std.proofs.Common.{◌≡◌, ◌++◌, ◌≤◌, ◌-◌, length, drop}
 use Rattle.cip_world.specs.Waiting.{frames_of}
 use Rattle.cip_world.proofs.ledger.list_newest.Given as goal
 

@@ -1,4 +1,4 @@
-use Rattle.std.proofs.Common.{◌≡◌, ◌++◌, ℕ, drop}
+use Rattle.std.proofs.Common.{◌≡◌, ◌++◌, drop}
 use Rattle.cip_world.specs.Waiting.{frames_of}
 use Rattle.cip_world.proofs.ledger.push_newest.Given as goal
 

@@ -1,4 +1,4 @@
-use Rattle.std.proofs.Common.{◌≡◌, sym, ap, subst, ◌∙◌, Option, None, not, filter}
+use Rattle.std.proofs.Common.{sym, ap, ◌∙◌, Option, not, filter}
 use Rattle.cip_world.specs.declared.journal.FrameName.{FrameName}
 use Rattle.cip_world.specs.Journals.{is_that}
 use Rattle.cip_world.proofs.Waits.{none_out}

@@ -1,7 +1,6 @@
-use Rattle.std.proofs.Common.{◌≡◌, ◌∙◌, List, ap, sym, subst, reverse, length, nat_lt, Some, Option}
+use Rattle.std.proofs.Common.{◌≡◌, ◌∙◌, List, ap, sym, subst, reverse, length, nat_lt, Some}
 use Rattle.std.specs.Prelude.{IfSome, option_map}
 use Rattle.std.specs.Vec.{vec_len, vec_capacity}
-use Rattle.cip_world.specs.declared.flight.Flying.{Flying}
 use Rattle.cip_world.specs.Coming.{flight, IsComing}
 use Rattle.cip_world.specs.declared.journal.Entry.{Entry}
 use Rattle.cip_world.specs.Journals.{frame_at}

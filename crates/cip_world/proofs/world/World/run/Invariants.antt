@@ -1,4 +1,4 @@
-use Rattle.std.proofs.Common.{◌≡◌, ◌≤◌, map, List}
+use Rattle.std.proofs.Common.{◌≡◌, ◌≤◌, map}
 use Rattle.cip_world.specs.Worlds.{Stand, Delivers}
 use Rattle.cip_world.proofs.world.World.run.Given as goal
 
