@@ -1,8 +1,9 @@
 -- The steps of a script under way.
-use Rattle.std.proofs.Common.{◌≡◌, ℕ, suc, length, drop, arith, List, [], ◌∷◌, ◌++◌, Option, Some, None, Result, refl, sym, ap, ◌∙◌, subst, append_assoc, append-nil}
+use Rattle.std.proofs.Common.{◌≡◌, ℕ, suc, length, drop, arith, List, [], ◌∷◌, ◌++◌, Option, Some, None, Result, Ok, Err, refl, sym, ap, ◌∙◌, subst, append_assoc, append-nil}
 use Rattle.std.specs.Io.KnownBytes.{Appends}
-use Rattle.cip_console.specs.declared.console.PlayFault.{PlayFault}
+use Rattle.cip_console.specs.declared.playing.PlayFault.{PlayFault}
 use Rattle.cip_console.specs.declared.steps.Step.{Step}
+use Rattle.cip_console.specs.declared.steps.ScriptFault.{ScriptFault}
 use Rattle.cip_console.specs.declared.steps.Numbered.{Numbered}
 use Rattle.cip_console.specs.Known.{AppendsFront}
 use Rattle.cip_console.specs.Playing.{Prints, Played, Plays}
@@ -27,15 +28,16 @@ running_start t all old j e = record {
 }
 
 then_played : (t : Plan) (run next : Journal) (numbered : Numbered) (more : List Numbered)
-    → (played t run numbered.step).after ≡ Some next
+    → (played t run numbered.step).after ≡ Ok next
     → played_all t run (numbered ∷ more) ≡ printed (played t run numbered.step).text (played_all t next more)
 then_played t run next numbered more e =
-    ap (λ (o : Option Journal). continued (played t run numbered.step).text o (λ x. played_all t x more)) e
+    ap (λ (o : Result Journal ScriptFault). continued (played t run numbered.step).text o (λ x. played_all t x more)) e
 
-stopped_there : (t : Plan) (run : Journal) (numbered : Numbered) (more : List Numbered) → (played t run numbered.step).after ≡ None
+stopped_there : (t : Plan) (run : Journal) (numbered : Numbered) (more : List Numbered) (fault : ScriptFault)
+    → (played t run numbered.step).after ≡ Err fault
     → (played_all t run (numbered ∷ more)).text ≡ (played t run numbered.step).text
-stopped_there t run numbered more e =
-    ap (λ (o : Option Journal). (continued (played t run numbered.step).text o (λ x. played_all t x more)).text) e
+stopped_there t run numbered more fault e =
+    ap (λ (o : Result Journal ScriptFault). (continued (played t run numbered.step).text o (λ x. played_all t x more)).text) e
 
 -- the same, said of an equal list
 pub running_on : (t : Plan) (all : List Numbered) (old new : Option (List ℕ)) (gathered : List ℕ) (s : Journal)
@@ -55,7 +57,7 @@ running_step t all old mid new between after s s' numbered more r p =
       prints = prints_then old mid new [] between after r.done part.text r.prints p.prints;
       text = r.text ∙ ap (λ (x : Part). r.done ++ x.text) (then_played t s s' numbered more p.ends)
           ∙ sym (append_assoc r.done part.text (played_all t s' more).text);
-      stop = r.stop ∙ ap (λ (o : Option Journal). stop_after numbered.line o (λ x. stop_from t x more)) p.ends;
+      stop = r.stop ∙ ap (λ (o : Result Journal ScriptFault). stop_after numbered.line o (λ x. stop_from t x more)) p.ends;
     }
 
 -- all was played, and what was gathered was written
@@ -70,23 +72,24 @@ running_ends t all old mid new between s r f = (
 
 -- a clock was full there, and what was gathered was written
 pub running_stops : (t : Plan) (all : List Numbered) (old mid mid' new : Option (List ℕ)) (between after : List ℕ) (s : Journal)
-    (numbered : Numbered) (more : List Numbered)
+    (numbered : Numbered) (more : List Numbered) (fault : ScriptFault)
     → (r : Running t all old mid between s (numbered ∷ more))
-    → ((played t s numbered.step).after ≡ None) × Prints mid mid' between after (played t s numbered.step).text
+    → ((played t s numbered.step).after ≡ Err fault) × Prints mid mid' between after (played t s numbered.step).text
     → Prints mid' new after [] []
-    → (stop_of t all ≡ Some numbered.line) × Appends old new (transcript t all)
-running_stops t all old mid mid' new between after s numbered more r p f =
+    → (stop_of t all ≡ Some (numbered.line, fault)) × Appends old new (transcript t all)
+running_stops t all old mid mid' new between after s numbered more fault r p f =
     let text = (played t s numbered.step).text in
-    let whole = r.text ∙ ap (λ l. r.done ++ l) (stopped_there t s numbered more p.0) in (
-      r.stop ∙ ap (λ (o : Option Journal). stop_after numbered.line o (λ x. stop_from t x more)) p.0,
+    let whole = r.text ∙ ap (λ l. r.done ++ l) (stopped_there t s numbered more fault p.0) in (
+      r.stop ∙ ap (λ (o : Result Journal ScriptFault). stop_after numbered.line o (λ x. stop_from t x more)) p.0,
       subst (Appends old new) (append-nil (r.done ++ text) ∙ sym whole)
           (prints_all old new [] ((r.done ++ text) ++ []) (prints_then old mid' new [] after [] (r.done ++ text) []
           (prints_then old mid mid' [] between after r.done text r.prints p.1) f)),
     )
 
-more_text : (part : Part) (after : Option Journal) (rest : Journal → Part) → (more : List ℕ) × ((continued part.text after rest).text ≡ part.text ++ more)
-more_text part None rest = ([], sym (append-nil part.text))
-more_text part (Some run) rest = ((rest run).text, refl)
+more_text : (part : Part) (after : Result Journal ScriptFault) (rest : Journal → Part)
+    → (more : List ℕ) × ((continued part.text after rest).text ≡ part.text ++ more)
+more_text part (Err fault) rest = ([], sym (append-nil part.text))
+more_text part (Ok run) rest = ((rest run).text, refl)
 
 -- a front of what the next step prints was written
 pub running_front : (t : Plan) (all : List Numbered) (old mid new : Option (List ℕ)) (between : List ℕ) (s : Journal)
@@ -112,14 +115,14 @@ running_unwritten t all old mid new gathered s left r f =
 
 -- the same after a clock was full
 pub stop_unwritten : (t : Plan) (all : List Numbered) (old mid mid' new : Option (List ℕ)) (between after : List ℕ) (s : Journal)
-    (numbered : Numbered) (more : List Numbered)
+    (numbered : Numbered) (more : List Numbered) (fault : ScriptFault)
     → (r : Running t all old mid between s (numbered ∷ more))
-    → ((played t s numbered.step).after ≡ None) × Prints mid mid' between after (played t s numbered.step).text
+    → ((played t s numbered.step).after ≡ Err fault) × Prints mid mid' between after (played t s numbered.step).text
     → AppendsFront mid' new after
     → AppendsFront old new (transcript t all)
-stop_unwritten t all old mid mid' new between after s numbered more r p f =
+stop_unwritten t all old mid mid' new between after s numbered more fault r p f =
     let text = (played t s numbered.step).text in
-    let whole = r.text ∙ ap (λ l. r.done ++ l) (stopped_there t s numbered more p.0) in
+    let whole = r.text ∙ ap (λ l. r.done ++ l) (stopped_there t s numbered more fault p.0) in
     let front = front_then old mid' new [] after (r.done ++ text) [] (prints_then old mid mid' [] between after r.done text r.prints p.1)
     (front_more mid' new after [] f) in
     subst (AppendsFront old new) (append-nil (r.done ++ text) ∙ sym whole) front

@@ -4,7 +4,6 @@ use Rattle.std.specs.Io.KnownBytes.{Keeps, Appends}
 use Rattle.cip_topology.specs.Plan.{Plan}
 use Rattle.cip_console.specs.declared.steps.Numbered.{Numbered}
 use Rattle.cip_console.specs.declared.steps.ScriptFault.{ScriptFault}
-use Rattle.cip_console.specs.declared.steps.ScriptFault.TheVariants.{ClockFull}
 use Rattle.cip_console.specs.declared.console.ConsoleFault.{ConsoleFault}
 use Rattle.cip_console.specs.declared.console.ConsoleFault.TheVariants.{Script, Read, Write, NoMemory, New}
 use Rattle.cip_console.specs.Known.{AppendsFront}
@@ -14,20 +13,19 @@ use Rattle.cip_console.specs.Transcript.{names_of, transcript, stop_of}
 abbrev pub Steps : Type 0
 Steps = Result (List Numbered) (ℕ × ScriptFault)
 
--- the script has no faulty line, no clock got full, and the whole transcript was written
+-- the script has no faulty line, the run did not stop, and the whole transcript was written
 abbrev pub Done : Plan → Option (List ℕ) → Option (List ℕ) → Steps → Type 0
 Done t old new (Err first) = ⊥
 Done t old new (Ok steps) = (stop_of t steps ≡ None)
     × Appends old new (transcript t steps)
 
--- that is the first faulty line, and nothing was written; or a clock got full there, and the
+-- that is the first faulty line, and nothing was written; or the run stopped there, and the
 -- transcript so far was written
 abbrev pub Fails : Plan → Option (List ℕ) → Option (List ℕ) → Steps → ℕ → ScriptFault
     → Type 0
 Fails t old new (Err first) line fault = (first ≡ (line, fault)) × Keeps old new
 Fails t old new (Ok steps) line fault =
-    (fault ≡ ClockFull) × (stop_of t steps ≡ Some line)
-    × Appends old new (transcript t steps)
+    (stop_of t steps ≡ Some (line, fault)) × Appends old new (transcript t steps)
 
 -- a front of the transcript was written
 abbrev pub Front : Plan → Option (List ℕ) → Option (List ℕ) → Steps → Type 0

@@ -1,5 +1,5 @@
 -- The lines of a transcript. Numbers are decimal; bytes are upper-case pairs, `-` for none.
-use Rattle.std.specs.Prelude.{ℕ, ◌+◌, ◌==◌, List, [], ◌∷◌, ◌++◌, length, codes, decimal, if◌then◌else◌, unwrap_or, slice_get}
+use Rattle.std.specs.Prelude.{ℕ, ◌+◌, ◌==◌, List, [], ◌∷◌, ◌++◌, length, codes, decimal, if◌then◌else◌, unwrap_or, slice_get, Option, Some, None}
 use Rattle.hex.specs.Hex.{encode_upper}
 use Rattle.cip_base.specs.declared.triad.Triad.{Triad}
 use Rattle.cip_module.specs.declared.event.Body.{Body}
@@ -21,6 +21,11 @@ use Rattle.cip_world.specs.declared.journal.Entry.TheVariants.{Step, Lost}
 
 abbrev pub bytes_text : List ℕ → List ℕ
 bytes_text bytes = if length bytes == 0 then codes "-" else encode_upper bytes
+
+-- a number, a dash for none
+abbrev pub optional_text : Option ℕ → List ℕ
+optional_text None = codes "-"
+optional_text (Some n) = decimal n
 
 -- `request NUMBER BYTES` and the like
 abbrev pub body_text : Body → List ℕ
@@ -96,8 +101,11 @@ name_of names m = unwrap_or (slice_get names m) []
 abbrev pub head_text : ℕ → List ℕ → List ℕ → List ℕ
 head_text k name what = decimal k ++ codes " " ++ name ++ codes " " ++ what ++ codes "\n"
 
+abbrev pub lost_text : ℕ → FrameName → List ℕ
+lost_text k frame = decimal k ++ codes " lost " ++ frame_text frame ++ codes "\n"
+
 -- entry k: its own line, and one for each output; the names are those of the modules
 abbrev pub entry_text : List (List ℕ) → ℕ → Entry → List ℕ
 entry_text names k (Step m input outputs) =
     head_text k (name_of names m.0) (input_text input) ++ outputs_text 0 outputs
-entry_text names k (Lost frame) = decimal k ++ codes " lost " ++ frame_text frame ++ codes "\n"
+entry_text names k (Lost frame) = lost_text k frame

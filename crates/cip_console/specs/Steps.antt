@@ -3,14 +3,18 @@
 use Rattle.std.specs.Prelude.{◌≡◌, ℕ, ◌+◌, ◌^◌, List, [], ◌∷◌, map, length, codes, nat_lt, ◌==◌, slice_index, slice_index_or, if◌then◌else◌, Option, Some, None, Result, Ok, Err}
 use Rattle.std.specs.Str.{bytes_eq}
 use Rattle.std.specs.Str.Lines.{lines}
-use Rattle.std.specs.List.{list_all, position}
+use Rattle.std.specs.List.{list_all, position, slice_split}
 use denote.Ref.{Bor}
 use Rattle.cip_base.specs.declared.numbers.ModuleId.{ModuleId}
+use Rattle.cip_base.specs.declared.timing.Timing.{Timing}
+use Rattle.cip_module.specs.declared.event.Command.TheVariants as commands
+use Rattle.cip_module.specs.declared.event.OpenParams.{OpenParams}
+use Rattle.cip_world.specs.declared.journal.FrameName.{FrameName}
 use Rattle.cip_segment.specs.declared.segment.Segment.{Segment}
 use Rattle.cip_segment.specs.declared.fault.PathFault.{PathFault}
 use Rattle.cip_segment.specs.Reading.{path_at}
 use Rattle.cip_console.specs.declared.steps.Step.{Step}
-use Rattle.cip_console.specs.declared.steps.Step.TheVariants.{Send, Run}
+use Rattle.cip_console.specs.declared.steps.Step.TheVariants.{Feed, Tick, Deliver, Lose, Run, Tables}
 use Rattle.cip_console.specs.declared.steps.Numbered.{Numbered}
 use Rattle.cip_console.specs.declared.steps.ScriptFault.{ScriptFault}
 use Rattle.cip_console.specs.declared.steps.ScriptFault.TheVariants.{UnknownWord, Count, BadNumber, BadBytes, BadPath, NoModule, NotText}
@@ -18,7 +22,7 @@ use Rattle.cip_console.specs.declared.steps.StepFault.{StepFault}
 use Rattle.cip_console.specs.declared.steps.StepFault.TheVariants as step_fault
 use Rattle.cip_console.specs.declared.steps.StepsFault.{StepsFault}
 use Rattle.cip_console.specs.declared.steps.StepsFault.TheVariants as steps_fault
-use Rattle.cip_console.specs.Text.{words_of, number_of, below, bytes_of}
+use Rattle.cip_console.specs.Text.{words_of, number_of, below, bytes_of, is_dot}
 
 -- what references lead to
 abbrev pub texts : List (Bor (List ℕ)) → List (List ℕ)
@@ -57,38 +61,156 @@ if_path (Err fault) bytes = Err BadPath
 abbrev pub path_of : List ℕ → Result (List ℕ) ScriptFault
 path_of word = bytes_at word >>= λ bytes. if_path (path_at bytes) bytes
 
--- the words of `send M OP TICK TICKS PATH REQUEST`, from the left
-abbrev pub send_words : List (List ℕ) → List ℕ → List ℕ → List ℕ → List ℕ → List ℕ → List ℕ
-    → Result Step ScriptFault
-send_words names m o t n p r = do
-  m' ← module_of names m
-  op ← bounded (2 ^ 32) o
-  tick ← bounded (2 ^ 8) t
-  ticks ← bounded (2 ^ 8) n
-  path ← path_of p
-  asked ← bytes_at r
-  Ok (Send m' op (record { tick = tick; ticks = ticks }) path asked)
+-- TICK TICKS
+abbrev pub timing_of : List ℕ → List ℕ → Result Timing ScriptFault
+timing_of tick ticks = do
+  t ← bounded (2 ^ 8) tick
+  n ← bounded (2 ^ 8) ticks
+  Ok (record { tick = t; ticks = n })
 
--- the k-th word
+abbrev pub if_time : ℕ → Result ℕ ScriptFault
+if_time n = if n == 0 then Err BadNumber else Ok n
+
+-- milliseconds, at least one
+abbrev pub ms_of : List ℕ → Result ℕ ScriptFault
+ms_of word = bounded (2 ^ 16) word >>= if_time
+
+abbrev pub name_of : List ℕ → List ℕ → Result FrameName ScriptFault
+name_of e k = do
+  entry ← bounded (2 ^ 64) e
+  output ← bounded (2 ^ 64) k
+  Ok (record { entry = entry; output = output })
+
+abbrev pub frame_by : List (List ℕ) → Result FrameName ScriptFault
+frame_by (e ∷ k ∷ []) = name_of e k
+frame_by parts = Err BadNumber
+
+-- `E.K`: output K of entry E
+abbrev pub frame_of : List ℕ → Result FrameName ScriptFault
+frame_of word = frame_by (slice_split is_dot word)
+
+-- the k-th word behind the first
 abbrev pub nth : List (List ℕ) → ℕ → List ℕ
 nth args k = slice_index_or args k []
 
-abbrev pub send_by : List (List ℕ) → List (List ℕ) → Result Step ScriptFault
-send_by names args =
-    if length args == 6 then send_words names (nth args 0) (nth args 1) (nth args 2) (nth args 3)
-    (nth args 4) (nth args 5) else Err Count
+-- what so many words behind the first make
+abbrev pub of_words : ℕ → List (List ℕ) → Result Step ScriptFault → Result Step ScriptFault
+of_words count args step = if length args == count then step else Err Count
+
+-- `send M OP TICK TICKS PATH REQUEST`
+abbrev pub send_words : List (List ℕ) → List (List ℕ) → Result Step ScriptFault
+send_words names args = do
+  m ← module_of names (nth args 0)
+  op ← bounded (2 ^ 32) (nth args 1)
+  timing ← timing_of (nth args 2) (nth args 3)
+  path ← path_of (nth args 4)
+  asked ← bytes_at (nth args 5)
+  Ok (Feed m (commands.Send op timing path asked))
+
+-- `SERIAL MULT TRANSPORT OT_RPI OT_PARAMS TO_RPI TO_PARAMS`, from the sixth word on
+abbrev pub params_of : List (List ℕ) → Result OpenParams ScriptFault
+params_of args = do
+  serial ← bounded (2 ^ 16) (nth args 5)
+  multiplier ← bounded (2 ^ 8) (nth args 6)
+  transport ← bounded (2 ^ 8) (nth args 7)
+  ot_rpi ← bounded (2 ^ 32) (nth args 8)
+  ot_params ← bounded (2 ^ 16) (nth args 9)
+  to_rpi ← bounded (2 ^ 32) (nth args 10)
+  to_params ← bounded (2 ^ 16) (nth args 11)
+  Ok (record {
+    serial = serial;
+    multiplier = multiplier;
+    transport = transport;
+    ot_rpi = ot_rpi;
+    ot_params = ot_params;
+    to_rpi = to_rpi;
+    to_params = to_params;
+  })
+
+-- `open M OP TICK TICKS PATH SERIAL MULT TRANSPORT OT_RPI OT_PARAMS TO_RPI TO_PARAMS`
+abbrev pub open_words : List (List ℕ) → List (List ℕ) → Result Step ScriptFault
+open_words names args = do
+  m ← module_of names (nth args 0)
+  op ← bounded (2 ^ 32) (nth args 1)
+  timing ← timing_of (nth args 2) (nth args 3)
+  path ← path_of (nth args 4)
+  params ← params_of args
+  Ok (Feed m (commands.Open op timing path params))
+
+-- `close M OP OF TICK TICKS`
+abbrev pub close_words : List (List ℕ) → List (List ℕ) → Result Step ScriptFault
+close_words names args = do
+  m ← module_of names (nth args 0)
+  op ← bounded (2 ^ 32) (nth args 1)
+  of_ ← bounded (2 ^ 32) (nth args 2)
+  timing ← timing_of (nth args 3) (nth args 4)
+  Ok (Feed m (commands.Close op of_ timing))
+
+-- `enter M OF BYTES`
+abbrev pub enter_words : List (List ℕ) → List (List ℕ) → Result Step ScriptFault
+enter_words names args = do
+  m ← module_of names (nth args 0)
+  of_ ← bounded (2 ^ 32) (nth args 1)
+  bytes ← bytes_at (nth args 2)
+  Ok (Feed m (commands.Enter of_ bytes))
+
+-- `set M INSTANCE BYTES`
+abbrev pub set_words : List (List ℕ) → List (List ℕ) → Result Step ScriptFault
+set_words names args = do
+  m ← module_of names (nth args 0)
+  instance ← bounded (2 ^ 32) (nth args 1)
+  bytes ← bytes_at (nth args 2)
+  Ok (Feed m (commands.Set instance bytes))
+
+-- `produce M INSTANCE`
+abbrev pub produce_words : List (List ℕ) → List (List ℕ) → Result Step ScriptFault
+produce_words names args = do
+  m ← module_of names (nth args 0)
+  instance ← bounded (2 ^ 32) (nth args 1)
+  Ok (Feed m (commands.Produce instance))
+
+-- `tick M MS`
+abbrev pub tick_words : List (List ℕ) → List (List ℕ) → Result Step ScriptFault
+tick_words names args = do
+  m ← module_of names (nth args 0)
+  by ← ms_of (nth args 1)
+  Ok (Tick m by)
+
+-- `deliver E.K` and `lose E.K`
+abbrev pub deliver_words : List (List ℕ) → Result Step ScriptFault
+deliver_words args = frame_of (nth args 0) >>= λ frame. Ok (Deliver frame)
+
+abbrev pub lose_words : List (List ℕ) → Result Step ScriptFault
+lose_words args = frame_of (nth args 0) >>= λ frame. Ok (Lose frame)
 
 -- `run N`
-abbrev pub run_by : List (List ℕ) → Result Step ScriptFault
-run_by (n ∷ []) = bounded (2 ^ 64) n >>= λ limit. Ok (Run limit)
-run_by args = Err Count
+abbrev pub run_words : List (List ℕ) → Result Step ScriptFault
+run_words args = bounded (2 ^ 64) (nth args 0) >>= λ limit. Ok (Run limit)
+
+-- `tables M`
+abbrev pub tables_words : List (List ℕ) → List (List ℕ) → Result Step ScriptFault
+tables_words names args = module_of names (nth args 0) >>= λ m. Ok (Tables m)
+
+-- the words that give a module nothing
+abbrev pub other_step : List (List ℕ) → List ℕ → List (List ℕ) → Result Step ScriptFault
+other_step names word args =
+    if bytes_eq word (codes "deliver") then of_words 1 args (deliver_words args)
+    else if bytes_eq word (codes "lose") then of_words 1 args (lose_words args)
+    else if bytes_eq word (codes "run") then of_words 1 args (run_words args)
+    else if bytes_eq word (codes "tables") then of_words 1 args (tables_words names args)
+    else Err UnknownWord
 
 -- the first word says what the others are
 abbrev pub step_by : List (List ℕ) → List ℕ → List (List ℕ) → Result Step ScriptFault
 step_by names word args =
-    if bytes_eq word (codes "send") then send_by names args
-    else if bytes_eq word (codes "run") then run_by args
-    else Err UnknownWord
+    if bytes_eq word (codes "send") then of_words 6 args (send_words names args)
+    else if bytes_eq word (codes "open") then of_words 12 args (open_words names args)
+    else if bytes_eq word (codes "close") then of_words 5 args (close_words names args)
+    else if bytes_eq word (codes "enter") then of_words 3 args (enter_words names args)
+    else if bytes_eq word (codes "set") then of_words 3 args (set_words names args)
+    else if bytes_eq word (codes "produce") then of_words 2 args (produce_words names args)
+    else if bytes_eq word (codes "tick") then of_words 2 args (tick_words names args)
+    else other_step names word args
 
 abbrev pub some_step : Result Step ScriptFault → Result (Option Step) ScriptFault
 some_step (Ok step) = Ok (Some step)

@@ -1,24 +1,20 @@
 //! The run of a script over the modules of a topology.
-ghost use Rattle.std.specs.Prelude.{◌≡◌, ◌≢◌, ◌⊎◌, ◌+◌, ◌<◌, ◌≤◌, ◌++◌, [], length, map, reverse, IfErr, IfOk, IfSome, OnOk, OnErr};
+ghost use Rattle.std.specs.Prelude.{◌≡◌, ◌≢◌, ◌⊎◌, ◌+◌, ◌<◌, ◌≤◌, [], length, map, IfSome};
 ghost use Rattle.cip_world.specs.Fresh.{IsNewFault};
-ghost use Rattle.cip_world.specs.Runs.{IsRun};
-ghost use Rattle.cip_world.specs.Waiting.{waiting};
 ghost use Rattle.cip_world.specs.Worlds.{Stand};
-ghost use Rattle.cip_console.specs.Known.{AppendsFront};
 ghost use Rattle.cip_console.specs.Outcome.{Wrote, WroteOf};
-ghost use Rattle.cip_console.specs.Playing.{Prints, Plays};
 ghost use Rattle.cip_console.specs.Steps.{steps};
-ghost use Rattle.cip_console.specs.Transcript.{deliveries, end_text, fed, newest, ran, played, names_of};
+ghost use Rattle.cip_console.specs.Transcript.{names_of};
 ghost use Rattle.cip_console.specs.declared.console.ConsoleFault.TheVariants.{NoMemory as NoConsoleMemory};
 
 use crate::names::names_of;
-use crate::show::{put, put_entry};
-use crate::source::{ReadFault, SCRIPT_LIMIT, Sink, Source, WriteFault, read_script, write_text};
-use crate::steps::{Numbered, ScriptFault, Step, StepsFault, read_steps};
-use cip_base::{Bytes, ModuleId, NoMemory};
-use cip_module::{Command, Module};
+use crate::playing::{PlayFault, flush, play};
+use crate::source::{ReadFault, SCRIPT_LIMIT, Sink, Source, WriteFault, read_script};
+use crate::steps::{Numbered, ScriptFault, StepsFault, read_steps};
+use cip_base::{Bytes, NoMemory};
+use cip_module::Module;
 use cip_topology::Topology;
-use cip_world::{End, Entry, NewFault, World, WorldFault};
+use cip_world::{NewFault, World};
 use std::alloc::{AllocError, Global};
 use std::collections::VecDeque;
 use thiserror::Error;
@@ -26,8 +22,8 @@ use thiserror::Error;
 /// Why a script was not run to its end.
 #[derive(Clone, Copy, Debug, PartialEq, Eq, Error)]
 pub enum ConsoleFault {
-    /// The first faulty line, from 1, and its fault. Nothing was written, but for ClockFull: that
-    /// comes in the run, after the transcript so far.
+    /// The first faulty line, from 1, and its fault. Nothing was written, but for NoFrame and
+    /// ClockFull: these come in the run, after the transcript so far.
     #[error("line {0}: {1}")]
     Script(usize, ScriptFault),
     /// The script can't be read, or has more than 1,048,576 bytes. Nothing was written.
@@ -60,235 +56,6 @@ impl From<NoMemory> for ConsoleFault {
     }
 }
 
-/// Why a step of a script was not played to its end.
-#[derive(Clone, Copy, Debug, PartialEq, Eq)]
-pub(crate) enum PlayFault {
-    /// The clock is full.
-    NoStep,
-    Write,
-    NoMemory,
-}
-
-// How much text is gathered before it is written.
-const FULL: usize = 32_768;
-
-// Writes the text that was gathered, once there is enough of it.
-fn flush<W: Sink>(writer: &mut W, text: &mut Vec<u8>, least: usize) -> Result<(), WriteFault>
-    ensures ok { OnOk result (Prints (W.contents writer.old) (W.contents writer.new) text.old.items
-        text.new.items []) }
-    ensures all { OnOk result (least ≡ 0 → text.new.items ≡ []) }
-    ensures err { OnErr result (AppendsFront (W.contents writer.old) (W.contents writer.new)
-        text.old.items) }
-    ensures refused { OnErr result (W.has_refused writer.new) }
-{
-    if text.len() >= least {
-        write_text(writer, text.as_slice())?;
-        text.clear();
-    }
-    Ok(())
-}
-
-// The newest entry of a journal, behind a text.
-fn put_newest(
-    alloc: Global,
-    names: &[Bytes],
-    journal: &[Entry],
-    text: &mut Vec<u8>,
-) -> Result<(), NoMemory>
-    ensures { OnOk result (text.new.items ≡ text.old.items
-        ++ newest names.now (reverse journal.now)) }
-{
-    match journal.last() {
-        Some(entry) => put_entry(alloc, names, journal.len() - 1, entry, text),
-        None => Ok(()),
-    }
-}
-
-// The newest entry is printed, and what was gathered is written once there is enough of it.
-fn show<W: Sink>(
-    alloc: Global,
-    world: &World,
-    names: &[Bytes],
-    writer: &mut W,
-    text: &mut Vec<u8>,
-) -> Result<(), PlayFault>
-    ensures run { IsRun world.now.ledger.plan world.now.ledger.journal }
-    ensures ok { OnOk result (Prints (W.contents writer.old) (W.contents writer.new) text.old.items
-        text.new.items (newest names.now world.now.ledger.journal)) }
-    ensures err { OnErr result (AppendsFront (W.contents writer.old) (W.contents writer.new)
-        (text.old.items ++ newest names.now world.now.ledger.journal)) }
-    ensures step { result ≢ Err PlayFault.NoStep }
-    ensures write { result ≡ Err PlayFault.Write → W.has_refused writer.new }
-{
-    match put_newest(alloc, names, world.journal(), text) {
-        Ok(()) => match flush(writer, text, FULL) {
-            Ok(()) => Ok(()),
-            Err(WriteFault) => Err(PlayFault::Write),
-        },
-        Err(NoMemory) => Err(PlayFault::NoMemory),
-    }
-}
-
-// Delivers the waiting frame of least name, up to so many times.
-fn deliver<W: Sink>(
-    alloc: Global,
-    world: &mut World,
-    names: &[Bytes],
-    limit: usize,
-    writer: &mut W,
-    text: &mut Vec<u8>,
-) -> Result<(), PlayFault>
-    requires stand { Stand world.old.ledger
-        (map (λ b. config_of (b.vtable, b.value)) world.old.modules.items)
-        (map (λ b. state_of (b.vtable, b.value)) world.old.modules.items) }
-    requires names { names.now ≡ names_of world.old.ledger.plan }
-    ensures stand { Stand world.new.ledger
-        (map (λ b. config_of (b.vtable, b.value)) world.new.modules.items)
-        (map (λ b. state_of (b.vtable, b.value)) world.new.modules.items) }
-    ensures plan { world.new.ledger.plan ≡ world.old.ledger.plan }
-    ensures plays { Plays (deliveries world.old.ledger.plan limit world.old.ledger.journal)
-        (W.contents writer.old) (W.contents writer.new) text.old.items text.new.items
-        world.new.ledger.journal result }
-    ensures write { result ≡ Err PlayFault.Write → W.has_refused writer.new }
-{
-    for i in 0..limit {
-        match world.deliver_least() {
-            Ok(true) => match show(alloc, world, names, writer, text) {
-                Ok(()) => {}
-                Err(fault) => return Err(fault),
-            },
-            Ok(false) => return Ok(()),
-            Err(_) => return Err(PlayFault::NoMemory),
-        }
-    }
-    Ok(())
-}
-
-// Whether a frame is left that waits.
-fn put_end(world: &mut World, text: &mut Vec<u8>) -> Result<(), NoMemory>
-    requires stand { Stand world.old.ledger
-        (map (λ b. config_of (b.vtable, b.value)) world.old.modules.items)
-        (map (λ b. state_of (b.vtable, b.value)) world.old.modules.items) }
-    ensures stand { Stand world.new.ledger
-        (map (λ b. config_of (b.vtable, b.value)) world.new.modules.items)
-        (map (λ b. state_of (b.vtable, b.value)) world.new.modules.items) }
-    ensures plan { world.new.ledger.plan ≡ world.old.ledger.plan }
-    ensures journal { world.new.ledger.journal ≡ world.old.ledger.journal }
-    ensures ok { OnOk result (text.new.items ≡ text.old.items
-        ++ end_text (waiting world.old.ledger.plan world.old.ledger.journal)) }
-{
-    match world.run(0) {
-        Ok(End::Quiet) => put(text, b"quiet\n"),
-        Ok(End::Limit) => put(text, b"limit\n"),
-        Err(_) => Err(NoMemory),
-    }
-}
-
-// A command to a module.
-fn feed<W: Sink>(
-    alloc: Global,
-    world: &mut World,
-    names: &[Bytes],
-    at: ModuleId,
-    command: Command,
-    writer: &mut W,
-    text: &mut Vec<u8>,
-) -> Result<(), PlayFault>
-    requires stand { Stand world.old.ledger
-        (map (λ b. config_of (b.vtable, b.value)) world.old.modules.items)
-        (map (λ b. state_of (b.vtable, b.value)) world.old.modules.items) }
-    requires names { names.now ≡ names_of world.old.ledger.plan }
-    ensures stand { Stand world.new.ledger
-        (map (λ b. config_of (b.vtable, b.value)) world.new.modules.items)
-        (map (λ b. state_of (b.vtable, b.value)) world.new.modules.items) }
-    ensures plan { world.new.ledger.plan ≡ world.old.ledger.plan }
-    ensures plays { Plays (fed world.old.ledger.plan world.old.ledger.journal at command)
-        (W.contents writer.old) (W.contents writer.new) text.old.items text.new.items
-        world.new.ledger.journal result }
-    ensures write { result ≡ Err PlayFault.Write → W.has_refused writer.new }
-{
-    match world.feed(at, command) {
-        Ok(_) => show(alloc, world, names, writer, text),
-        Err(WorldFault::NoMemory) => Err(PlayFault::NoMemory),
-        Err(WorldFault::NoModule) => Err(PlayFault::NoStep),
-        Err(WorldFault::NoFrame) => Err(PlayFault::NoStep),
-        Err(WorldFault::Step(_)) => Err(PlayFault::NoStep),
-    }
-}
-
-// `run N`
-fn run_line<W: Sink>(
-    alloc: Global,
-    world: &mut World,
-    names: &[Bytes],
-    limit: usize,
-    writer: &mut W,
-    text: &mut Vec<u8>,
-) -> Result<(), PlayFault>
-    requires stand { Stand world.old.ledger
-        (map (λ b. config_of (b.vtable, b.value)) world.old.modules.items)
-        (map (λ b. state_of (b.vtable, b.value)) world.old.modules.items) }
-    requires names { names.now ≡ names_of world.old.ledger.plan }
-    ensures stand { Stand world.new.ledger
-        (map (λ b. config_of (b.vtable, b.value)) world.new.modules.items)
-        (map (λ b. state_of (b.vtable, b.value)) world.new.modules.items) }
-    ensures plan { world.new.ledger.plan ≡ world.old.ledger.plan }
-    ensures plays { Plays (ran world.old.ledger.plan limit world.old.ledger.journal)
-        (W.contents writer.old) (W.contents writer.new) text.old.items text.new.items
-        world.new.ledger.journal result }
-    ensures write { result ≡ Err PlayFault.Write → W.has_refused writer.new }
-{
-    match deliver(alloc, world, names, limit, writer, text) {
-        Ok(()) => match put_end(world, text) {
-            Ok(()) => Ok(()),
-            Err(NoMemory) => Err(PlayFault::NoMemory),
-        },
-        Err(fault) => Err(fault),
-    }
-}
-
-// One step of a script.
-fn play<W: Sink>(
-    alloc: Global,
-    world: &mut World,
-    names: &[Bytes],
-    step: Step,
-    writer: &mut W,
-    text: &mut Vec<u8>,
-) -> Result<(), PlayFault>
-    requires stand { Stand world.old.ledger
-        (map (λ b. config_of (b.vtable, b.value)) world.old.modules.items)
-        (map (λ b. state_of (b.vtable, b.value)) world.old.modules.items) }
-    requires names { names.now ≡ names_of world.old.ledger.plan }
-    ensures stand { Stand world.new.ledger
-        (map (λ b. config_of (b.vtable, b.value)) world.new.modules.items)
-        (map (λ b. state_of (b.vtable, b.value)) world.new.modules.items) }
-    ensures plan { world.new.ledger.plan ≡ world.old.ledger.plan }
-    ensures plays { Plays (played world.old.ledger.plan world.old.ledger.journal step)
-        (W.contents writer.old) (W.contents writer.new) text.old.items text.new.items
-        world.new.ledger.journal result }
-    ensures write { result ≡ Err PlayFault.Write → W.has_refused writer.new }
-{
-    match step {
-        Step::Send {
-            module_,
-            op,
-            timing,
-            path,
-            request,
-        } => {
-            let command = Command::Send {
-                op,
-                timing,
-                path,
-                request,
-            };
-            feed(alloc, world, names, module_, command, writer, text)
-        }
-        Step::Run { limit } => run_line(alloc, world, names, limit, writer, text),
-    }
-}
-
 // All steps of a script, from the beginning on.
 fn run_steps<W: Sink>(
     alloc: Global,
@@ -312,10 +79,10 @@ fn run_steps<W: Sink>(
     let mut text = Vec::new(alloc);
     while let Some(numbered) = left.pop_front() {
         let line = numbered.line;
-        match play(alloc, world, names, numbered.step, writer, &mut text) {
+        match play(world, names, numbered.step, writer, &mut text) {
             Ok(()) => {}
-            Err(PlayFault::NoStep) => match flush(writer, &mut text, 0) {
-                Ok(()) => return Err(ConsoleFault::Script(line, ScriptFault::ClockFull)),
+            Err(PlayFault::Stopped(fault)) => match flush(writer, &mut text, 0) {
+                Ok(()) => return Err(ConsoleFault::Script(line, fault)),
                 Err(WriteFault) => return Err(ConsoleFault::Write),
             },
             Err(PlayFault::Write) => return Err(ConsoleFault::Write),
@@ -355,9 +122,8 @@ fn run_script<W: Sink>(
     }
 }
 
-/// Reads a whole script of the words `send` and `run`, runs it over the modules of a topology, in
-/// its order and each as at its beginning, and writes the transcript. The reader is asked at most
-/// 1,048,577 times.
+/// Reads a whole script, runs it over the modules of a topology, in its order and each as at its
+/// beginning, and writes the transcript. The reader is asked at most 1,048,577 times.
 pub fn run<R: Source, W: Sink>(
     alloc: Global,
     reader: &mut R,

@@ -4,10 +4,14 @@
 mod chassis;
 mod console;
 mod names;
+mod playing;
+mod put;
 mod show;
+mod show_tables;
 mod source;
 mod steps;
 mod text;
+mod words;
 
 pub use chassis::run_chassis;
 pub use console::{ConsoleFault, run};

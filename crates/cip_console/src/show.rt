@@ -1,63 +1,42 @@
 //! The lines of a transcript.
-ghost use Rattle.std.specs.Prelude.{◌≡◌, ◌++◌, IfOk, OnOk, codes, decimal, string_bytes};
-ghost use Rattle.cip_console.specs.Show.{bytes_text, body_text, triad_text, refusal_text, drop_text, output_text, outputs_text, frame_text, command_text, input_text, name_of, head_text, entry_text};
+ghost use Rattle.std.specs.Prelude.{◌≡◌, ◌++◌, OnOk, codes, decimal};
+ghost use Rattle.cip_console.specs.Show.{bytes_text, body_text, triad_text, refusal_text, drop_text, output_text, output_line, outputs_text, frame_text, arrived_text, command_text, input_text, name_of, head_text, lost_text, entry_text};
 
+use crate::put::{put, put_bytes, put_number};
 use cip_base::{Address, Bytes, NoMemory, PortNumber, Triad};
 use cip_module::{Body, Command, Dropped, Output, Refused};
 use cip_world::{Entry, FrameName, Input};
-use std::alloc::Global;
 
-// Bytes as upper-case pairs, a dash for none.
-fn bytes_text(alloc: Global, bytes: &[u8]) -> Result<String, NoMemory>
-    ensures { IfOk result (λ text. string_bytes text ≡ bytes_text bytes.now) }
+// A word, a number, and bytes.
+fn put_message(text: &mut Vec<u8>, word: &[u8], number: u32, bytes: &Bytes) -> Result<(), NoMemory>
+    ensures { OnOk result (text.new.items
+        ≡ text.old.items ++ word.now ++ decimal number ++ codes " " ++ bytes_text bytes.now) }
 {
-    if bytes.is_empty() {
-        return Ok(String::from_str(alloc, "-")?);
-    }
-    Ok(hex::encode_upper(alloc, bytes)?)
+    put(text, word)?;
+    put_number(text, u64::from(number))?;
+    put(text, b" ")?;
+    put_bytes(text, bytes.as_slice())
 }
 
-fn request_text(alloc: Global, number: u32, bytes: &Bytes) -> Result<String, NoMemory>
-    ensures { IfOk result (λ text. string_bytes text ≡ body_text (Body.Request number bytes.now)) }
-{
-    let bytes = bytes_text(alloc, bytes.as_slice())?;
-    Ok(format!(in alloc; "request {number} {bytes}")?)
-}
-
-fn reply_text(alloc: Global, number: u32, bytes: &Bytes) -> Result<String, NoMemory>
-    ensures { IfOk result (λ text. string_bytes text ≡ body_text (Body.Reply number bytes.now)) }
-{
-    let bytes = bytes_text(alloc, bytes.as_slice())?;
-    Ok(format!(in alloc; "reply {number} {bytes}")?)
-}
-
-fn data_text(alloc: Global, id: u32, bytes: &Bytes) -> Result<String, NoMemory>
-    ensures { IfOk result (λ text. string_bytes text ≡ body_text (Body.Data id bytes.now)) }
-{
-    let bytes = bytes_text(alloc, bytes.as_slice())?;
-    Ok(format!(in alloc; "data {id} {bytes}")?)
-}
-
-fn body_text(alloc: Global, body: &Body) -> Result<String, NoMemory>
-    ensures { IfOk result (λ text. string_bytes text ≡ body_text body.now) }
+fn put_body(text: &mut Vec<u8>, body: &Body) -> Result<(), NoMemory>
+    ensures { OnOk result (text.new.items ≡ text.old.items ++ body_text body.now) }
 {
     match body {
-        Body::Request { number, bytes } => request_text(alloc, *number, bytes),
-        Body::Reply { number, bytes } => reply_text(alloc, *number, bytes),
-        Body::Data { id, bytes } => data_text(alloc, *id, bytes),
+        Body::Request { number, bytes } => put_message(text, b"request ", *number, bytes),
+        Body::Reply { number, bytes } => put_message(text, b"reply ", *number, bytes),
+        Body::Data { id, bytes } => put_message(text, b"data ", *id, bytes),
     }
 }
 
-// A triad by its serial number, vendor, and originator's serial number.
-fn triad_text(alloc: Global, triad: &Triad) -> Result<String, NoMemory>
-    ensures { IfOk result (λ text. string_bytes text ≡ triad_text triad.now) }
+/// A triad by its serial number, vendor, and originator's serial number.
+pub(crate) fn put_triad(text: &mut Vec<u8>, triad: &Triad) -> Result<(), NoMemory>
+    ensures { OnOk result (text.new.items ≡ text.old.items ++ triad_text triad.now) }
 {
-    let Triad {
-        serial,
-        vendor,
-        originator,
-    } = *triad;
-    Ok(format!(in alloc; "{serial} {vendor} {originator}")?)
+    put_number(text, u64::from(triad.serial))?;
+    put(text, b" ")?;
+    put_number(text, u64::from(triad.vendor))?;
+    put(text, b" ")?;
+    put_number(text, u64::from(triad.originator))
 }
 
 fn refusal_text(fault: Refused) -> &'static str
@@ -83,187 +62,138 @@ fn drop_text(reason: Dropped) -> &'static str
     }
 }
 
-fn send_text(alloc: Global, port: PortNumber, to: &Address, body: &Body) -> Result<String, NoMemory>
-    ensures { IfOk result (λ text. string_bytes text
-        ≡ output_text (Output.Send port to.now body.now)) }
+fn put_send(text: &mut Vec<u8>, port: PortNumber, to: &Address, body: &Body) -> Result<(), NoMemory>
+    ensures { OnOk result (text.new.items
+        ≡ text.old.items ++ output_text (Output.Send port to.now body.now)) }
 {
-    let number = port.get();
-    let address = bytes_text(alloc, to.as_slice())?;
-    let body = body_text(alloc, body)?;
-    Ok(format!(in alloc; "send {number} {address} {body}")?)
+    put(text, b"send ")?;
+    put_number(text, u64::from(port.get()))?;
+    put(text, b" ")?;
+    put_bytes(text, to.as_slice())?;
+    put(text, b" ")?;
+    put_body(text, body)
 }
 
-fn done_text(alloc: Global, op: u32, reply: &Bytes) -> Result<String, NoMemory>
-    ensures { IfOk result (λ text. string_bytes text ≡ output_text (Output.Done op reply.now)) }
-{
-    let reply = bytes_text(alloc, reply.as_slice())?;
-    Ok(format!(in alloc; "done {op} {reply}")?)
-}
-
-fn refused_text(alloc: Global, fault: Refused) -> Result<String, NoMemory>
-    ensures { IfOk result (λ text. string_bytes text ≡ output_text (Output.Refused fault)) }
-{
-    let fault = refusal_text(fault);
-    Ok(format!(in alloc; "refused {fault}")?)
-}
-
-fn consumed_text(
-    alloc: Global,
+fn put_consumed(
+    text: &mut Vec<u8>,
     triad: &Triad,
     instance: u32,
     bytes: &Bytes,
-) -> Result<String, NoMemory>
-    ensures { IfOk result (λ text. string_bytes text
-        ≡ output_text (Output.Consumed triad.now instance bytes.now)) }
+) -> Result<(), NoMemory>
+    ensures { OnOk result (text.new.items
+        ≡ text.old.items ++ output_text (Output.Consumed triad.now instance bytes.now)) }
 {
-    let triad = triad_text(alloc, triad)?;
-    let bytes = bytes_text(alloc, bytes.as_slice())?;
-    Ok(format!(in alloc; "consumed {triad} {instance} {bytes}")?)
+    put(text, b"consumed ")?;
+    put_triad(text, triad)?;
+    put_message(text, b" ", instance, bytes)
 }
 
-fn datum_text(alloc: Global, op: u32, bytes: &Bytes) -> Result<String, NoMemory>
-    ensures { IfOk result (λ text. string_bytes text ≡ output_text (Output.Arrived op bytes.now)) }
+fn put_expired(text: &mut Vec<u8>, triad: &Triad) -> Result<(), NoMemory>
+    ensures { OnOk result (text.new.items
+        ≡ text.old.items ++ output_text (Output.Expired triad.now)) }
 {
-    let bytes = bytes_text(alloc, bytes.as_slice())?;
-    Ok(format!(in alloc; "arrived {op} {bytes}")?)
+    put(text, b"expired ")?;
+    put_triad(text, triad)
 }
 
-fn expired_text(alloc: Global, triad: &Triad) -> Result<String, NoMemory>
-    ensures { IfOk result (λ text. string_bytes text ≡ output_text (Output.Expired triad.now)) }
+// A word and a word of its own.
+fn put_named(text: &mut Vec<u8>, word: &[u8], name: &str) -> Result<(), NoMemory>
+    ensures { OnOk result (text.new.items ≡ text.old.items ++ word.now ++ name.now) }
 {
-    let triad = triad_text(alloc, triad)?;
-    Ok(format!(in alloc; "expired {triad}")?)
-}
-
-fn dropped_text(alloc: Global, reason: Dropped) -> Result<String, NoMemory>
-    ensures { IfOk result (λ text. string_bytes text ≡ output_text (Output.Dropped reason)) }
-{
-    let reason = drop_text(reason);
-    Ok(format!(in alloc; "dropped {reason}")?)
+    put(text, word)?;
+    put(text, name.as_bytes())
 }
 
 // The text of an output.
-fn output_text(alloc: Global, output: &Output) -> Result<String, NoMemory>
-    ensures { IfOk result (λ text. string_bytes text ≡ output_text output.now) }
+fn put_output(text: &mut Vec<u8>, output: &Output) -> Result<(), NoMemory>
+    ensures { OnOk result (text.new.items ≡ text.old.items ++ output_text output.now) }
 {
     match output {
-        Output::Send { port, to, body } => send_text(alloc, *port, to, body),
-        Output::Done { op, reply } => done_text(alloc, *op, reply),
-        Output::Refused(fault) => refused_text(alloc, *fault),
+        Output::Send { port, to, body } => put_send(text, *port, to, body),
+        Output::Done { op, reply } => put_message(text, b"done ", *op, reply),
+        Output::Refused(fault) => put_named(text, b"refused ", refusal_text(*fault)),
         Output::Consumed {
             triad,
             instance,
             bytes,
-        } => consumed_text(alloc, triad, *instance, bytes),
-        Output::Arrived { op, bytes } => datum_text(alloc, *op, bytes),
-        Output::Expired { triad } => expired_text(alloc, triad),
-        Output::Dropped(reason) => dropped_text(alloc, *reason),
+        } => put_consumed(text, triad, *instance, bytes),
+        Output::Arrived { op, bytes } => put_message(text, b"arrived ", *op, bytes),
+        Output::Expired { triad } => put_expired(text, triad),
+        Output::Dropped(reason) => put_named(text, b"dropped ", drop_text(*reason)),
     }
-}
-
-/// Bytes behind a text.
-pub(crate) fn put(text: &mut Vec<u8>, bytes: &[u8]) -> Result<(), NoMemory>
-    ensures { OnOk result (text.new.items ≡ text.old.items ++ bytes.now) }
-{
-    text.extend_from_slice(bytes)?;
-    Ok(())
 }
 
 // The line of an output, numbered from 0 within its entry.
-fn output_line(alloc: Global, index: usize, output: &Output) -> Result<String, NoMemory>
-    ensures { IfOk result (λ text. string_bytes text ≡ output_line index output.now) }
+fn put_line(text: &mut Vec<u8>, index: usize, output: &Output) -> Result<(), NoMemory>
+    ensures { OnOk result (text.new.items ≡ text.old.items ++ output_line index output.now) }
 {
-    let output = output_text(alloc, output)?;
-    Ok(format!(in alloc; "  {index} {output}\n")?)
+    put(text, b"  ")?;
+    put_number(text, index as u64)?;
+    put(text, b" ")?;
+    put_output(text, output)?;
+    put(text, b"\n")
 }
 
-ghost use Rattle.cip_console.specs.Show.{output_line};
-
-// The lines of all outputs of an entry, behind a text.
-fn put_outputs(alloc: Global, outputs: &[Output], text: &mut Vec<u8>) -> Result<(), NoMemory>
+// The lines of all outputs of an entry.
+fn put_outputs(text: &mut Vec<u8>, outputs: &[Output]) -> Result<(), NoMemory>
     ensures { OnOk result (text.new.items ≡ text.old.items ++ outputs_text 0 outputs.now) }
 {
     for (index, output) in outputs.iter().enumerate() {
-        let line = output_line(alloc, index, output)?;
-        put(text, line.as_bytes())?;
+        put_line(text, index, output)?;
     }
     Ok(())
 }
 
-// The name of a frame, behind a word.
-fn arrived_text(alloc: Global, name: FrameName) -> Result<String, NoMemory>
-    ensures { IfOk result (λ text. string_bytes text ≡ arrived_text name) }
+// A frame by its name.
+fn put_frame(text: &mut Vec<u8>, name: FrameName) -> Result<(), NoMemory>
+    ensures { OnOk result (text.new.items ≡ text.old.items ++ frame_text name) }
 {
-    let FrameName { entry, output } = name;
-    Ok(format!(in alloc; "frame {entry}.{output}")?)
+    put_number(text, name.entry as u64)?;
+    put(text, b".")?;
+    put_number(text, name.output as u64)
 }
 
-ghost use Rattle.cip_console.specs.Show.{arrived_text};
+// A word and a number.
+fn put_numbered(text: &mut Vec<u8>, word: &[u8], number: u64) -> Result<(), NoMemory>
+    ensures { OnOk result (text.new.items ≡ text.old.items ++ word.now ++ decimal number) }
+{
+    put(text, word)?;
+    put_number(text, number)
+}
 
-fn command_text(alloc: Global, command: &Command) -> Result<String, NoMemory>
-    ensures { IfOk result (λ text. string_bytes text ≡ command_text command.now) }
+fn put_command(text: &mut Vec<u8>, command: &Command) -> Result<(), NoMemory>
+    ensures { OnOk result (text.new.items ≡ text.old.items ++ command_text command.now) }
 {
     match command {
-        Command::Open { op, .. } => {
-            let op = *op;
-            Ok(format!(in alloc; "open {op}")?)
-        }
-        Command::Close { op, .. } => {
-            let op = *op;
-            Ok(format!(in alloc; "close {op}")?)
-        }
-        Command::Send { op, .. } => {
-            let op = *op;
-            Ok(format!(in alloc; "send {op}")?)
-        }
-        Command::Enter { of, .. } => {
-            let of = *of;
-            Ok(format!(in alloc; "enter {of}")?)
-        }
-        Command::Set { instance, .. } => {
-            let instance = *instance;
-            Ok(format!(in alloc; "set {instance}")?)
-        }
-        Command::Produce { instance } => {
-            let instance = *instance;
-            Ok(format!(in alloc; "produce {instance}")?)
-        }
+        Command::Open { op, .. } => put_numbered(text, b"open ", u64::from(*op)),
+        Command::Close { op, .. } => put_numbered(text, b"close ", u64::from(*op)),
+        Command::Send { op, .. } => put_numbered(text, b"send ", u64::from(*op)),
+        Command::Enter { of, .. } => put_numbered(text, b"enter ", u64::from(*of)),
+        Command::Set { instance, .. } => put_numbered(text, b"set ", u64::from(*instance)),
+        Command::Produce { instance } => put_numbered(text, b"produce ", u64::from(*instance)),
     }
+}
+
+fn put_arrived(text: &mut Vec<u8>, name: FrameName) -> Result<(), NoMemory>
+    ensures { OnOk result (text.new.items ≡ text.old.items ++ arrived_text name) }
+{
+    put(text, b"frame ")?;
+    put_frame(text, name)
 }
 
 // What a module was given: a command or a tick by what it asks for, a frame by its name.
-fn input_text(alloc: Global, input: &Input) -> Result<String, NoMemory>
-    ensures { IfOk result (λ text. string_bytes text ≡ input_text input.now) }
+fn put_input(text: &mut Vec<u8>, input: &Input) -> Result<(), NoMemory>
+    ensures { OnOk result (text.new.items ≡ text.old.items ++ input_text input.now) }
 {
     match input {
-        Input::Command(command) => command_text(alloc, command),
-        Input::Tick(by) => {
-            let ms = by.get();
-            Ok(format!(in alloc; "tick {ms}")?)
-        }
-        Input::Frame { name, .. } => arrived_text(alloc, *name),
+        Input::Command(command) => put_command(text, command),
+        Input::Tick(by) => put_numbered(text, b"tick ", u64::from(by.get())),
+        Input::Frame { name, .. } => put_arrived(text, *name),
     }
 }
 
-// The first line of an entry, behind a text.
-fn put_head(
-    alloc: Global,
-    entry: usize,
-    name: &[u8],
-    what: &str,
-    text: &mut Vec<u8>,
-) -> Result<(), NoMemory>
-    ensures { OnOk result (text.new.items ≡ text.old.items ++ head_text entry name.now what.now) }
-{
-    let number = format!(in alloc; "{entry} ")?;
-    let rest = format!(in alloc; " {what}\n")?;
-    put(text, number.as_bytes())?;
-    put(text, name)?;
-    put(text, rest.as_bytes())
-}
-
-// The name of a module.
-fn name_in(names: &[Bytes], place: usize) -> &[u8]
+/// The name of a module.
+pub(crate) fn name_in(names: &[Bytes], place: usize) -> &[u8]
     ensures { result.now ≡ name_of names.now place }
 {
     match names.get(place) {
@@ -272,34 +202,43 @@ fn name_in(names: &[Bytes], place: usize) -> &[u8]
     }
 }
 
-fn lost_text(alloc: Global, number: usize, frame: FrameName) -> Result<String, NoMemory>
-    ensures { IfOk result (λ text. string_bytes text
-        ≡ decimal number ++ codes " lost " ++ frame_text frame ++ codes "\n") }
+// The first line of an entry.
+fn put_head(text: &mut Vec<u8>, number: usize, name: &[u8], input: &Input) -> Result<(), NoMemory>
+    ensures { OnOk result (text.new.items
+        ≡ text.old.items ++ head_text number name.now (input_text input.now)) }
 {
-    let FrameName { entry, output } = frame;
-    Ok(format!(in alloc; "{number} lost {entry}.{output}\n")?)
+    put_number(text, number as u64)?;
+    put(text, b" ")?;
+    put(text, name)?;
+    put(text, b" ")?;
+    put_input(text, input)?;
+    put(text, b"\n")
+}
+
+fn put_lost(text: &mut Vec<u8>, number: usize, frame: FrameName) -> Result<(), NoMemory>
+    ensures { OnOk result (text.new.items ≡ text.old.items ++ lost_text number frame) }
+{
+    put_number(text, number as u64)?;
+    put(text, b" lost ")?;
+    put_frame(text, frame)?;
+    put(text, b"\n")
 }
 
 /// An entry of a journal, by its number, behind a text.
 pub(crate) fn put_entry(
-    alloc: Global,
+    text: &mut Vec<u8>,
     names: &[Bytes],
     number: usize,
     entry: &Entry,
-    text: &mut Vec<u8>,
 ) -> Result<(), NoMemory>
     ensures { OnOk result (text.new.items
         ≡ text.old.items ++ entry_text names.now number entry.now) }
 {
     match entry {
         Entry::Step { at, input, outputs } => {
-            let what = input_text(alloc, input)?;
-            put_head(alloc, number, name_in(names, at.0), what.as_str(), text)?;
-            put_outputs(alloc, outputs.as_slice(), text)
+            put_head(text, number, name_in(names, at.0), input)?;
+            put_outputs(text, outputs.as_slice())
         }
-        Entry::Lost { frame } => {
-            let line = lost_text(alloc, number, *frame)?;
-            put(text, line.as_bytes())
-        }
+        Entry::Lost { frame } => put_lost(text, number, *frame),
     }
 }

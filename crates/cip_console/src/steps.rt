@@ -1,32 +1,35 @@
 //! The steps of a script, or its first faulty line.
-ghost use Rattle.std.specs.Prelude.{◌≡◌, ◌<◌, ◌^◌, ◌++◌, ◌∷◌, [], length, OnOk};
-ghost use Rattle.std.specs.List.{position};
-ghost use Rattle.std.specs.Str.{bytes_eq};
-ghost use Rattle.cip_console.specs.Steps.{Gives, Reads, module_of, bounded, bytes_at, path_of, nth, send_words, send_by, run_by, step_by, line_step, steps, texts};
+ghost use Rattle.std.specs.Prelude.{◌≡◌, ◌++◌, ◌∷◌, [], length, OnOk};
+ghost use Rattle.cip_console.specs.Steps.{Gives, Reads, of_words, send_words, params_of, open_words, close_words, enter_words, set_words, produce_words, tick_words, deliver_words, lose_words, run_words, tables_words, other_step, step_by, line_step, steps, texts};
 ghost use Rattle.cip_console.specs.declared.steps.StepFault.TheVariants.{NoMemory as NoStepMemory};
 ghost use Rattle.cip_console.specs.declared.steps.StepsFault.TheVariants.{NoMemory as NoStepsMemory};
 
 use crate::text;
-use cip_base::{Bytes, ModuleId, Timing};
-use cip_segment::{Path, read_path, view_path};
+use crate::words::{
+    bytes_at, frame_at, module_of, ms_at, nth, number_u8, number_u16, number_u32, number_usize,
+    path_at, timing_at,
+};
+use cip_base::{Bytes, ModuleId, Ms};
+use cip_module::{Command, OpenParams};
+use cip_world::FrameName;
 use std::alloc::{AllocError, Global};
 use thiserror::Error;
 
 /// One step of a script.
 #[derive(Debug, Drop)]
 pub enum Step {
-    /// The command Send to a module.
-    Send {
-        module_: ModuleId,
-        op: u32,
-        timing: Timing,
-        path: Path,
-        request: Bytes,
-    },
-    /// Deliver the waiting frame of least name, up to so many times.
-    Run {
-        limit: usize,
-    },
+    /// A command to a module.
+    Feed { module_: ModuleId, command: Command },
+    /// So much time goes by at a module.
+    Tick { module_: ModuleId, by: Ms },
+    /// This waiting frame arrives.
+    Deliver { frame: FrameName },
+    /// This waiting frame is lost.
+    Lose { frame: FrameName },
+    /// The waiting frame of least name arrives, up to so many times.
+    Run { limit: usize },
+    /// The tables of a module are shown.
+    Tables { module_: ModuleId },
 }
 
 /// A step, and the line that it stands in, from 1.
@@ -60,6 +63,9 @@ pub enum ScriptFault {
     /// The line has a byte that is not ASCII.
     #[error("not text")]
     NotText,
+    /// No such frame waits. This comes in the run alone.
+    #[error("no such frame waits")]
+    NoFrame,
     /// The clock of a module is full. This comes in the run alone.
     #[error("the clock is full")]
     ClockFull,
@@ -95,141 +101,199 @@ impl From<AllocError> for StepsFault {
     }
 }
 
-fn place_of(names: &[Bytes], word: &str) -> Option<usize>
-    ensures { result ≡ position (λ name. bytes_eq name word.now) names.now }
-{
-    names
-        .iter()
-        .position(|name| name.as_slice() == word.as_bytes())
-}
-
-// The module of a name.
-fn module_of(names: &[Bytes], word: &str) -> Result<ModuleId, StepFault>
-    ensures { Gives result (module_of names.now word.now) }
-{
-    match place_of(names, word) {
-        Some(place) => Ok(ModuleId(place)),
-        None => Err(StepFault::Fault(ScriptFault::NoModule)),
-    }
-}
-
-fn number_u8(word: &str) -> Result<u8, StepFault>
-    ensures { Gives result (bounded (2 ^ 8) word.now) }
-{
-    match text::number(word) {
-        Some(n) => match u8::try_from(n) {
-            Ok(n) => Ok(n),
-            Err(_) => Err(StepFault::Fault(ScriptFault::BadNumber)),
-        },
-        None => Err(StepFault::Fault(ScriptFault::BadNumber)),
-    }
-}
-
-fn number_u32(word: &str) -> Result<u32, StepFault>
-    ensures { Gives result (bounded (2 ^ 32) word.now) }
-{
-    match text::number(word) {
-        Some(n) => match u32::try_from(n) {
-            Ok(n) => Ok(n),
-            Err(_) => Err(StepFault::Fault(ScriptFault::BadNumber)),
-        },
-        None => Err(StepFault::Fault(ScriptFault::BadNumber)),
-    }
-}
-
-fn number_usize(word: &str) -> Result<usize, StepFault>
-    ensures { Gives result (bounded (2 ^ 64) word.now) }
-{
-    match text::number(word) {
-        Some(n) => Ok(n as usize),
-        None => Err(StepFault::Fault(ScriptFault::BadNumber)),
-    }
-}
-
-fn bytes_at(alloc: Global, word: &str) -> Result<Bytes, StepFault>
-    ensures { Gives result (bytes_at word.now) }
-{
-    match text::bytes(alloc, word)? {
-        Some(bytes) => Ok(Bytes::of(bytes)),
-        None => Err(StepFault::Fault(ScriptFault::BadBytes)),
-    }
-}
-
-fn path_at(alloc: Global, word: &str) -> Result<Path, StepFault>
-    ensures { Gives result (path_of word.now) }
-{
-    let bytes = bytes_at(alloc, word)?;
-    match view_path(bytes.as_slice()) {
-        Err(_) => Err(StepFault::Fault(ScriptFault::BadPath)),
-        Ok(_) => match read_path(alloc, bytes.as_slice()) {
-            Ok(path) => Ok(path),
-            Err(_) => Err(StepFault::NoMemory),
-        },
-    }
-}
-
-// The words of `send M OP TICK TICKS PATH REQUEST`, from the left.
-fn send_words(
-    alloc: Global,
-    names: &[Bytes],
-    name: &str,
-    op: &str,
-    timing: (&str, &str),
-    path: &str,
-    request: &str,
-) -> Result<Step, StepFault>
-    ensures { Gives result (send_words names.now name.now op.now timing.entry.0.now
-        timing.entry.1.now path.now request.now) }
-{
-    let module_ = module_of(names, name)?;
-    let op = number_u32(op)?;
-    let tick = number_u8(timing.0)?;
-    let ticks = number_u8(timing.1)?;
-    let path = path_at(alloc, path)?;
-    let request = bytes_at(alloc, request)?;
-    Ok(Step::Send {
-        module_,
-        op,
-        timing: Timing { tick, ticks },
-        path,
-        request,
-    })
-}
-
-// The k-th of the words.
-fn nth<'a>(args: &[&'a str], k: usize) -> &'a str
-    requires { k < length args.now }
-    ensures { result.now ≡ nth (texts args.now) k }
-{
-    args[k]
-}
-
+// `send M OP TICK TICKS PATH REQUEST`
 fn send_step(alloc: Global, names: &[Bytes], args: &[&str]) -> Result<Step, StepFault>
-    ensures { Gives result (send_by names.now (texts args.now)) }
+    ensures { Gives result (of_words 6 (texts args.now) (send_words names.now (texts args.now))) }
 {
     if args.len() != 6 {
         return Err(StepFault::Fault(ScriptFault::Count));
     }
-    send_words(
-        alloc,
-        names,
-        nth(args, 0),
-        nth(args, 1),
-        (nth(args, 2), nth(args, 3)),
-        nth(args, 4),
-        nth(args, 5),
-    )
+    let module_ = module_of(names, nth(args, 0))?;
+    let op = number_u32(nth(args, 1))?;
+    let timing = timing_at(nth(args, 2), nth(args, 3))?;
+    let path = path_at(alloc, nth(args, 4))?;
+    let request = bytes_at(alloc, nth(args, 5))?;
+    let command = Command::Send {
+        op,
+        timing,
+        path,
+        request,
+    };
+    Ok(Step::Feed { module_, command })
+}
+
+// `SERIAL MULT TRANSPORT OT_RPI OT_PARAMS TO_RPI TO_PARAMS`, from the sixth word on.
+fn params_at(args: &[&str]) -> Result<OpenParams, StepFault>
+    requires { length args.now ≡ 12 }
+    ensures { Gives result (params_of (texts args.now)) }
+{
+    let serial = number_u16(nth(args, 5))?;
+    let multiplier = number_u8(nth(args, 6))?;
+    let transport = number_u8(nth(args, 7))?;
+    let ot_rpi = number_u32(nth(args, 8))?;
+    let ot_params = number_u16(nth(args, 9))?;
+    let to_rpi = number_u32(nth(args, 10))?;
+    let to_params = number_u16(nth(args, 11))?;
+    Ok(OpenParams {
+        serial,
+        multiplier,
+        transport,
+        ot_rpi,
+        ot_params,
+        to_rpi,
+        to_params,
+    })
+}
+
+// `open M OP TICK TICKS PATH SERIAL MULT TRANSPORT OT_RPI OT_PARAMS TO_RPI TO_PARAMS`
+fn open_step(alloc: Global, names: &[Bytes], args: &[&str]) -> Result<Step, StepFault>
+    ensures { Gives result (of_words 12 (texts args.now) (open_words names.now (texts args.now))) }
+{
+    if args.len() != 12 {
+        return Err(StepFault::Fault(ScriptFault::Count));
+    }
+    let module_ = module_of(names, nth(args, 0))?;
+    let op = number_u32(nth(args, 1))?;
+    let timing = timing_at(nth(args, 2), nth(args, 3))?;
+    let path = path_at(alloc, nth(args, 4))?;
+    let params = params_at(args)?;
+    let command = Command::Open {
+        op,
+        timing,
+        path,
+        params,
+    };
+    Ok(Step::Feed { module_, command })
+}
+
+// `close M OP OF TICK TICKS`
+fn close_step(names: &[Bytes], args: &[&str]) -> Result<Step, StepFault>
+    ensures { Gives result (of_words 5 (texts args.now) (close_words names.now (texts args.now))) }
+{
+    if args.len() != 5 {
+        return Err(StepFault::Fault(ScriptFault::Count));
+    }
+    let module_ = module_of(names, nth(args, 0))?;
+    let op = number_u32(nth(args, 1))?;
+    let of = number_u32(nth(args, 2))?;
+    let timing = timing_at(nth(args, 3), nth(args, 4))?;
+    let command = Command::Close { op, of, timing };
+    Ok(Step::Feed { module_, command })
+}
+
+// `enter M OF BYTES`
+fn enter_step(alloc: Global, names: &[Bytes], args: &[&str]) -> Result<Step, StepFault>
+    ensures { Gives result (of_words 3 (texts args.now) (enter_words names.now (texts args.now))) }
+{
+    if args.len() != 3 {
+        return Err(StepFault::Fault(ScriptFault::Count));
+    }
+    let module_ = module_of(names, nth(args, 0))?;
+    let of = number_u32(nth(args, 1))?;
+    let bytes = bytes_at(alloc, nth(args, 2))?;
+    let command = Command::Enter { of, bytes };
+    Ok(Step::Feed { module_, command })
+}
+
+// `set M INSTANCE BYTES`
+fn set_step(alloc: Global, names: &[Bytes], args: &[&str]) -> Result<Step, StepFault>
+    ensures { Gives result (of_words 3 (texts args.now) (set_words names.now (texts args.now))) }
+{
+    if args.len() != 3 {
+        return Err(StepFault::Fault(ScriptFault::Count));
+    }
+    let module_ = module_of(names, nth(args, 0))?;
+    let instance = number_u32(nth(args, 1))?;
+    let bytes = bytes_at(alloc, nth(args, 2))?;
+    let command = Command::Set { instance, bytes };
+    Ok(Step::Feed { module_, command })
+}
+
+// `produce M INSTANCE`
+fn produce_step(names: &[Bytes], args: &[&str]) -> Result<Step, StepFault>
+    ensures { Gives result (of_words 2 (texts args.now)
+        (produce_words names.now (texts args.now))) }
+{
+    if args.len() != 2 {
+        return Err(StepFault::Fault(ScriptFault::Count));
+    }
+    let module_ = module_of(names, nth(args, 0))?;
+    let instance = number_u32(nth(args, 1))?;
+    let command = Command::Produce { instance };
+    Ok(Step::Feed { module_, command })
+}
+
+// `tick M MS`
+fn tick_step(names: &[Bytes], args: &[&str]) -> Result<Step, StepFault>
+    ensures { Gives result (of_words 2 (texts args.now) (tick_words names.now (texts args.now))) }
+{
+    if args.len() != 2 {
+        return Err(StepFault::Fault(ScriptFault::Count));
+    }
+    let module_ = module_of(names, nth(args, 0))?;
+    let by = ms_at(nth(args, 1))?;
+    Ok(Step::Tick { module_, by })
+}
+
+// `deliver E.K`
+fn deliver_step(alloc: Global, args: &[&str]) -> Result<Step, StepFault>
+    ensures { Gives result (of_words 1 (texts args.now) (deliver_words (texts args.now))) }
+{
+    if args.len() != 1 {
+        return Err(StepFault::Fault(ScriptFault::Count));
+    }
+    let frame = frame_at(alloc, nth(args, 0))?;
+    Ok(Step::Deliver { frame })
+}
+
+// `lose E.K`
+fn lose_step(alloc: Global, args: &[&str]) -> Result<Step, StepFault>
+    ensures { Gives result (of_words 1 (texts args.now) (lose_words (texts args.now))) }
+{
+    if args.len() != 1 {
+        return Err(StepFault::Fault(ScriptFault::Count));
+    }
+    let frame = frame_at(alloc, nth(args, 0))?;
+    Ok(Step::Lose { frame })
 }
 
 // `run N`
 fn run_step(args: &[&str]) -> Result<Step, StepFault>
-    ensures { Gives result (run_by (texts args.now)) }
+    ensures { Gives result (of_words 1 (texts args.now) (run_words (texts args.now))) }
 {
-    let [limit] = args else {
+    if args.len() != 1 {
         return Err(StepFault::Fault(ScriptFault::Count));
-    };
-    let limit = number_usize(limit)?;
+    }
+    let limit = number_usize(nth(args, 0))?;
     Ok(Step::Run { limit })
+}
+
+// `tables M`
+fn tables_step(names: &[Bytes], args: &[&str]) -> Result<Step, StepFault>
+    ensures { Gives result (of_words 1 (texts args.now) (tables_words names.now (texts args.now))) }
+{
+    if args.len() != 1 {
+        return Err(StepFault::Fault(ScriptFault::Count));
+    }
+    let module_ = module_of(names, nth(args, 0))?;
+    Ok(Step::Tables { module_ })
+}
+
+// The words that give a module nothing.
+fn other_step(alloc: Global, names: &[Bytes], word: &str, args: &[&str]) -> Result<Step, StepFault>
+    ensures { Gives result (other_step names.now word.now (texts args.now)) }
+{
+    if word == "deliver" {
+        deliver_step(alloc, args)
+    } else if word == "lose" {
+        lose_step(alloc, args)
+    } else if word == "run" {
+        run_step(args)
+    } else if word == "tables" {
+        tables_step(names, args)
+    } else {
+        Err(StepFault::Fault(ScriptFault::UnknownWord))
+    }
 }
 
 // The step that the first word and the others make.
@@ -238,10 +302,20 @@ fn step_of(alloc: Global, names: &[Bytes], word: &str, args: &[&str]) -> Result<
 {
     if word == "send" {
         send_step(alloc, names, args)
-    } else if word == "run" {
-        run_step(args)
+    } else if word == "open" {
+        open_step(alloc, names, args)
+    } else if word == "close" {
+        close_step(names, args)
+    } else if word == "enter" {
+        enter_step(alloc, names, args)
+    } else if word == "set" {
+        set_step(alloc, names, args)
+    } else if word == "produce" {
+        produce_step(names, args)
+    } else if word == "tick" {
+        tick_step(names, args)
     } else {
-        Err(StepFault::Fault(ScriptFault::UnknownWord))
+        other_step(alloc, names, word, args)
     }
 }
 

@@ -1,7 +1,7 @@
 use Rattle.std.proofs.Common.{◌≡◌, ◌∙◌, [], sym, subst, refl, Ok, Err}
 use Rattle.cip_topology.specs.Plan.{Plan}
-use Rattle.cip_console.specs.declared.console.PlayFault.{PlayFault}
-use Rattle.cip_console.specs.declared.console.PlayFault.TheVariants.{NoStep, Write, NoMemory}
+use Rattle.cip_console.specs.declared.playing.PlayFault.{PlayFault}
+use Rattle.cip_console.specs.declared.playing.PlayFault.TheVariants.{Stopped, Write, NoMemory}
 use Rattle.cip_console.specs.Playing.{Prints, Plays}
 use Rattle.cip_console.specs.Transcript.{played}
 use Rattle.cip_console.proofs.Running.{running_on, running_step, running_ends, running_stops, running_front, running_unwritten, stop_unwritten, none_popped}
@@ -26,11 +26,11 @@ returns-in-Ok-flush-clause-wrote g c =
     let j = c.loop-numbered.world.ledger.journal in
     let running = running_on t c.args.steps.items _ _ _ j _ _ c.loop-numbered.invariant.running c.in-Some.ensures.items in
     let full = subst (λ (p : Plan). Plays (played p j c.in-Some.numbered.step) (g.W.Sink.contents c.loop-numbered.writer) (g.W.Sink.contents c.play.new.writer) c.loop-numbered.text.items
-    c.play.new.text.items c.play.new.world.ledger.journal (Err NoStep)) c.loop-numbered.invariant.plan (rw c.in-Err-NoStep.field-0-is at c.in-Err-NoStep.ensures.plays) in
+    c.play.new.text.items c.play.new.world.ledger.journal (Err (Stopped c.in-Err-Stopped.fault))) c.loop-numbered.invariant.plan (rw c.in-Err-Stopped.field-0-is at c.in-Err-Stopped.ensures.plays) in
     let whole = subst (λ l. Prints (g.W.Sink.contents c.play.new.writer) (g.W.Sink.contents c.flush.new.writer) c.play.new.text.items l [])
     (c.in-Ok-flush.ensures.all refl) c.in-Ok-flush.ensures.ok in
-    let (stop, wrote) = running_stops t c.args.steps.items _ _ _ _ _ _ j c.in-Some.numbered c.pop_front.new.self.items running full whole in
-    (refl, stop, wrote)
+    let (stop, wrote) = running_stops t c.args.steps.items _ _ _ _ _ _ j c.in-Some.numbered c.pop_front.new.self.items _ running full whole in
+    (stop, wrote)
 
 pub returns-in-Err-clause-wrote : goal.returns-in-Err-clause-wrote
 returns-in-Err-clause-wrote g c =
@@ -38,8 +38,8 @@ returns-in-Err-clause-wrote g c =
     let j = c.loop-numbered.world.ledger.journal in
     let running = running_on t c.args.steps.items _ _ _ j _ _ c.loop-numbered.invariant.running c.in-Some.ensures.items in
     let full = subst (λ (p : Plan). Plays (played p j c.in-Some.numbered.step) (g.W.Sink.contents c.loop-numbered.writer) (g.W.Sink.contents c.play.new.writer) c.loop-numbered.text.items
-    c.play.new.text.items c.play.new.world.ledger.journal (Err NoStep)) c.loop-numbered.invariant.plan (rw c.in-Err-NoStep.field-0-is at c.in-Err-NoStep.ensures.plays) in
-    stop_unwritten t c.args.steps.items _ _ _ _ _ _ j c.in-Some.numbered c.pop_front.new.self.items running full c.in-Err.ensures.err
+    c.play.new.text.items c.play.new.world.ledger.journal (Err (Stopped c.in-Err-Stopped.fault))) c.loop-numbered.invariant.plan (rw c.in-Err-Stopped.field-0-is at c.in-Err-Stopped.ensures.plays) in
+    stop_unwritten t c.args.steps.items _ _ _ _ _ _ j c.in-Some.numbered c.pop_front.new.self.items _ running full c.in-Err.ensures.err
 
 pub returns-in-Err-Write-clause-wrote : goal.returns-in-Err-Write-clause-wrote
 returns-in-Err-Write-clause-wrote g c =

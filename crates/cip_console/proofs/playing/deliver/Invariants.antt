@@ -1,8 +1,8 @@
 use Rattle.std.proofs.Common.{◌≡◌, ◌-◌, map}
 use Rattle.cip_world.specs.Worlds.{Stand}
 use Rattle.cip_console.specs.Transcript.{deliveries}
-use Rattle.cip_console.proofs.Playing.{Playing}
-use Rattle.cip_console.proofs.console.deliver.Given as goal
+use Rattle.cip_console.proofs.PlayedLaws.{Playing}
+use Rattle.cip_console.proofs.playing.deliver.Given as goal
 
 abbrev pub invariant-loop-i : goal.invariant-loop-i
 invariant-loop-i g l =

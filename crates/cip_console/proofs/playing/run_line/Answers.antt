@@ -1,5 +1,5 @@
-use Rattle.cip_console.proofs.Playing.{run_fails}
-use Rattle.cip_console.proofs.console.run_line.Goals as goal
+use Rattle.cip_console.proofs.PlayedLaws.{run_fails}
+use Rattle.cip_console.proofs.playing.run_line.Goals as goal
 
 pub returns-in-Err-clause-plays : goal.returns-in-Err-clause-plays
 returns-in-Err-clause-plays g c =

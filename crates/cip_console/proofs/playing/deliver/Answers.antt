@@ -5,12 +5,12 @@ use Rattle.cip_world.specs.Runs.{IsRun}
 use Rattle.cip_world.specs.Waiting.{waiting}
 use Rattle.cip_world.specs.Worlds.{DeliversOne, IsOneMore}
 use Rattle.cip_world.proofs.Ran.{one_more}
-use Rattle.cip_console.specs.declared.console.PlayFault.{PlayFault}
+use Rattle.cip_console.specs.declared.playing.PlayFault.{PlayFault}
 use Rattle.cip_console.specs.Known.{AppendsFront}
 use Rattle.cip_console.specs.Playing.{Prints}
 use Rattle.cip_console.specs.Transcript.{deliveries, newest, names_of}
-use Rattle.cip_console.proofs.Playing.{one_played, one_unwritten, unwritten_as, front_so_far, none_waits, all_delivered}
-use Rattle.cip_console.proofs.console.deliver.Goals as goal
+use Rattle.cip_console.proofs.PlayedLaws.{one_played, one_unwritten, unwritten_as, front_so_far, none_waits, all_delivered}
+use Rattle.cip_console.proofs.playing.deliver.Goals as goal
 
 pub returns-clause-plays : goal.returns-clause-plays
 returns-clause-plays g c =
@@ -50,7 +50,7 @@ returns-in-Err-show-clause-plays g c =
     let k = c.deliver_least.new.self.ledger.journal in
     let plan = c.deliver_least.ensures.plan ∙ c.loop-i.invariant.plan in
     unwritten_as (deliveries t c.args.limit c.args.world.now.ledger.journal) (g.W.Sink.contents c.args.writer.now) (g.W.Sink.contents c.show.new.writer) c.args.text.now.items
-    c.show.new.text.items k c.in-Err-show.fault (λ e. c.show.ensures.step (c.in-Err-show.is ∙ ap (λ (f : PlayFault). Err f) e))
+    c.show.new.text.items k c.in-Err-show.fault (λ why e. c.show.ensures.step why (c.in-Err-show.is ∙ ap (λ (f : PlayFault). Err f) e))
     (one_unwritten t _ _ _ _ _ _ c.args.limit c.loop-i.i j k c.loop-i-test.true c.loop-i.invariant.playing
     (subst (λ (p : Plan). DeliversOne p j k) c.loop-i.invariant.plan (one_more c.loop-i.world.ledger.plan j k c.in-Ok-true.field-0 c.in-Ok-true.field-0-test c.in-Ok-true.ensures.ok))
     (subst (λ (p : Plan). IsRun p k) plan c.show.ensures.run)

@@ -1,0 +1,348 @@
+//! The steps of a script, played over a world.
+ghost use Rattle.std.specs.Prelude.{◌≡◌, ◌≢◌, ◌++◌, [], map, reverse, OnOk, OnErr};
+ghost use Rattle.cip_world.specs.declared.journal.Input.TheVariants as inputs;
+ghost use Rattle.cip_world.specs.Runs.{IsRun};
+ghost use Rattle.cip_world.specs.Waiting.{waiting};
+ghost use Rattle.cip_world.specs.Worlds.{Stand};
+ghost use Rattle.cip_console.specs.Known.{AppendsFront};
+ghost use Rattle.cip_console.specs.Playing.{Prints, Plays};
+ghost use Rattle.cip_console.specs.Transcript.{brought, deliveries, end_text, given, lost, newest, ran, played, tabled, names_of};
+
+use crate::put::put;
+use crate::show::{name_in, put_entry};
+use crate::show_tables::put_tables;
+use crate::source::{Sink, WriteFault, write_text};
+use crate::steps::{ScriptFault, Step};
+use cip_base::{Bytes, ModuleId, Ms, NoMemory};
+use cip_module::Command;
+use cip_world::{End, Entry, FrameName, World, WorldFault};
+
+/// Why a step of a script was not played to its end.
+#[derive(Clone, Copy, Debug, PartialEq, Eq)]
+pub(crate) enum PlayFault {
+    /// The run stops there: no such frame waits, or a clock is full.
+    Stopped(ScriptFault),
+    Write,
+    NoMemory,
+}
+
+// How much text is gathered before it is written.
+const FULL: usize = 32_768;
+
+/// Writes the text that was gathered, once there is enough of it.
+pub(crate) fn flush<W: Sink>(
+    writer: &mut W,
+    text: &mut Vec<u8>,
+    least: usize,
+) -> Result<(), WriteFault>
+    ensures ok { OnOk result (Prints (W.contents writer.old) (W.contents writer.new) text.old.items
+        text.new.items []) }
+    ensures all { OnOk result (least ≡ 0 → text.new.items ≡ []) }
+    ensures err { OnErr result (AppendsFront (W.contents writer.old) (W.contents writer.new)
+        text.old.items) }
+    ensures refused { OnErr result (W.has_refused writer.new) }
+{
+    if text.len() >= least {
+        write_text(writer, text.as_slice())?;
+        text.clear();
+    }
+    Ok(())
+}
+
+// The newest entry of a journal, behind a text.
+fn put_newest(names: &[Bytes], journal: &[Entry], text: &mut Vec<u8>) -> Result<(), NoMemory>
+    ensures { OnOk result (text.new.items ≡ text.old.items
+        ++ newest names.now (reverse journal.now)) }
+{
+    match journal.last() {
+        Some(entry) => put_entry(text, names, journal.len() - 1, entry),
+        None => Ok(()),
+    }
+}
+
+// The newest entry is printed, and what was gathered is written once there is enough of it.
+fn show<W: Sink>(
+    world: &World,
+    names: &[Bytes],
+    writer: &mut W,
+    text: &mut Vec<u8>,
+) -> Result<(), PlayFault>
+    ensures run { IsRun world.now.ledger.plan world.now.ledger.journal }
+    ensures ok { OnOk result (Prints (W.contents writer.old) (W.contents writer.new) text.old.items
+        text.new.items (newest names.now world.now.ledger.journal)) }
+    ensures err { OnErr result (AppendsFront (W.contents writer.old) (W.contents writer.new)
+        (text.old.items ++ newest names.now world.now.ledger.journal)) }
+    ensures step { (fault : _) → result ≢ Err (PlayFault.Stopped fault) }
+    ensures write { result ≡ Err PlayFault.Write → W.has_refused writer.new }
+{
+    match put_newest(names, world.journal(), text) {
+        Ok(()) => match flush(writer, text, FULL) {
+            Ok(()) => Ok(()),
+            Err(WriteFault) => Err(PlayFault::Write),
+        },
+        Err(NoMemory) => Err(PlayFault::NoMemory),
+    }
+}
+
+// Delivers the waiting frame of least name, up to so many times.
+fn deliver<W: Sink>(
+    world: &mut World,
+    names: &[Bytes],
+    limit: usize,
+    writer: &mut W,
+    text: &mut Vec<u8>,
+) -> Result<(), PlayFault>
+    requires stand { Stand world.old.ledger
+        (map (λ b. config_of (b.vtable, b.value)) world.old.modules.items)
+        (map (λ b. state_of (b.vtable, b.value)) world.old.modules.items) }
+    requires names { names.now ≡ names_of world.old.ledger.plan }
+    ensures stand { Stand world.new.ledger
+        (map (λ b. config_of (b.vtable, b.value)) world.new.modules.items)
+        (map (λ b. state_of (b.vtable, b.value)) world.new.modules.items) }
+    ensures plan { world.new.ledger.plan ≡ world.old.ledger.plan }
+    ensures plays { Plays (deliveries world.old.ledger.plan limit world.old.ledger.journal)
+        (W.contents writer.old) (W.contents writer.new) text.old.items text.new.items
+        world.new.ledger.journal result }
+    ensures write { result ≡ Err PlayFault.Write → W.has_refused writer.new }
+{
+    for i in 0..limit {
+        match world.deliver_least() {
+            Ok(true) => match show(world, names, writer, text) {
+                Ok(()) => {}
+                Err(fault) => return Err(fault),
+            },
+            Ok(false) => return Ok(()),
+            Err(_) => return Err(PlayFault::NoMemory),
+        }
+    }
+    Ok(())
+}
+
+// Whether a frame is left that waits.
+fn put_end(world: &mut World, text: &mut Vec<u8>) -> Result<(), NoMemory>
+    requires stand { Stand world.old.ledger
+        (map (λ b. config_of (b.vtable, b.value)) world.old.modules.items)
+        (map (λ b. state_of (b.vtable, b.value)) world.old.modules.items) }
+    ensures stand { Stand world.new.ledger
+        (map (λ b. config_of (b.vtable, b.value)) world.new.modules.items)
+        (map (λ b. state_of (b.vtable, b.value)) world.new.modules.items) }
+    ensures plan { world.new.ledger.plan ≡ world.old.ledger.plan }
+    ensures journal { world.new.ledger.journal ≡ world.old.ledger.journal }
+    ensures ok { OnOk result (text.new.items ≡ text.old.items
+        ++ end_text (waiting world.old.ledger.plan world.old.ledger.journal)) }
+{
+    match world.run(0) {
+        Ok(End::Quiet) => put(text, b"quiet\n"),
+        Ok(End::Limit) => put(text, b"limit\n"),
+        Err(_) => Err(NoMemory),
+    }
+}
+
+// A command to a module.
+fn feed<W: Sink>(
+    world: &mut World,
+    names: &[Bytes],
+    at: ModuleId,
+    command: Command,
+    writer: &mut W,
+    text: &mut Vec<u8>,
+) -> Result<(), PlayFault>
+    requires stand { Stand world.old.ledger
+        (map (λ b. config_of (b.vtable, b.value)) world.old.modules.items)
+        (map (λ b. state_of (b.vtable, b.value)) world.old.modules.items) }
+    requires names { names.now ≡ names_of world.old.ledger.plan }
+    ensures stand { Stand world.new.ledger
+        (map (λ b. config_of (b.vtable, b.value)) world.new.modules.items)
+        (map (λ b. state_of (b.vtable, b.value)) world.new.modules.items) }
+    ensures plan { world.new.ledger.plan ≡ world.old.ledger.plan }
+    ensures plays { Plays (given world.old.ledger.plan world.old.ledger.journal at (inputs.Command command))
+        (W.contents writer.old) (W.contents writer.new) text.old.items text.new.items
+        world.new.ledger.journal result }
+    ensures write { result ≡ Err PlayFault.Write → W.has_refused writer.new }
+{
+    match world.feed(at, command) {
+        Ok(_) => show(world, names, writer, text),
+        Err(WorldFault::NoMemory) => Err(PlayFault::NoMemory),
+        Err(WorldFault::NoModule) => Err(PlayFault::Stopped(ScriptFault::ClockFull)),
+        Err(WorldFault::NoFrame) => Err(PlayFault::Stopped(ScriptFault::ClockFull)),
+        Err(WorldFault::Step(_)) => Err(PlayFault::Stopped(ScriptFault::ClockFull)),
+    }
+}
+
+// Time goes by at a module.
+fn tick<W: Sink>(
+    world: &mut World,
+    names: &[Bytes],
+    at: ModuleId,
+    by: Ms,
+    writer: &mut W,
+    text: &mut Vec<u8>,
+) -> Result<(), PlayFault>
+    requires stand { Stand world.old.ledger
+        (map (λ b. config_of (b.vtable, b.value)) world.old.modules.items)
+        (map (λ b. state_of (b.vtable, b.value)) world.old.modules.items) }
+    requires names { names.now ≡ names_of world.old.ledger.plan }
+    ensures stand { Stand world.new.ledger
+        (map (λ b. config_of (b.vtable, b.value)) world.new.modules.items)
+        (map (λ b. state_of (b.vtable, b.value)) world.new.modules.items) }
+    ensures plan { world.new.ledger.plan ≡ world.old.ledger.plan }
+    ensures plays { Plays (given world.old.ledger.plan world.old.ledger.journal at (inputs.Tick by))
+        (W.contents writer.old) (W.contents writer.new) text.old.items text.new.items
+        world.new.ledger.journal result }
+    ensures write { result ≡ Err PlayFault.Write → W.has_refused writer.new }
+{
+    match world.tick(at, by) {
+        Ok(_) => show(world, names, writer, text),
+        Err(WorldFault::NoMemory) => Err(PlayFault::NoMemory),
+        Err(WorldFault::NoModule) => Err(PlayFault::Stopped(ScriptFault::ClockFull)),
+        Err(WorldFault::NoFrame) => Err(PlayFault::Stopped(ScriptFault::ClockFull)),
+        Err(WorldFault::Step(_)) => Err(PlayFault::Stopped(ScriptFault::ClockFull)),
+    }
+}
+
+// `deliver E.K`
+fn bring<W: Sink>(
+    world: &mut World,
+    names: &[Bytes],
+    frame: FrameName,
+    writer: &mut W,
+    text: &mut Vec<u8>,
+) -> Result<(), PlayFault>
+    requires stand { Stand world.old.ledger
+        (map (λ b. config_of (b.vtable, b.value)) world.old.modules.items)
+        (map (λ b. state_of (b.vtable, b.value)) world.old.modules.items) }
+    requires names { names.now ≡ names_of world.old.ledger.plan }
+    ensures stand { Stand world.new.ledger
+        (map (λ b. config_of (b.vtable, b.value)) world.new.modules.items)
+        (map (λ b. state_of (b.vtable, b.value)) world.new.modules.items) }
+    ensures plan { world.new.ledger.plan ≡ world.old.ledger.plan }
+    ensures plays { Plays (brought world.old.ledger.plan world.old.ledger.journal frame)
+        (W.contents writer.old) (W.contents writer.new) text.old.items text.new.items
+        world.new.ledger.journal result }
+    ensures write { result ≡ Err PlayFault.Write → W.has_refused writer.new }
+{
+    match world.deliver(frame) {
+        Ok(_) => show(world, names, writer, text),
+        Err(WorldFault::NoMemory) => Err(PlayFault::NoMemory),
+        Err(_) => Err(PlayFault::Stopped(ScriptFault::NoFrame)),
+    }
+}
+
+// `lose E.K`
+fn lose<W: Sink>(
+    world: &mut World,
+    names: &[Bytes],
+    frame: FrameName,
+    writer: &mut W,
+    text: &mut Vec<u8>,
+) -> Result<(), PlayFault>
+    requires stand { Stand world.old.ledger
+        (map (λ b. config_of (b.vtable, b.value)) world.old.modules.items)
+        (map (λ b. state_of (b.vtable, b.value)) world.old.modules.items) }
+    requires names { names.now ≡ names_of world.old.ledger.plan }
+    ensures stand { Stand world.new.ledger
+        (map (λ b. config_of (b.vtable, b.value)) world.new.modules.items)
+        (map (λ b. state_of (b.vtable, b.value)) world.new.modules.items) }
+    ensures plan { world.new.ledger.plan ≡ world.old.ledger.plan }
+    ensures plays { Plays (lost world.old.ledger.plan world.old.ledger.journal frame)
+        (W.contents writer.old) (W.contents writer.new) text.old.items text.new.items
+        world.new.ledger.journal result }
+    ensures write { result ≡ Err PlayFault.Write → W.has_refused writer.new }
+{
+    match world.lose(frame) {
+        Ok(_) => show(world, names, writer, text),
+        Err(WorldFault::NoMemory) => Err(PlayFault::NoMemory),
+        Err(_) => Err(PlayFault::Stopped(ScriptFault::NoFrame)),
+    }
+}
+
+// `run N`
+fn run_line<W: Sink>(
+    world: &mut World,
+    names: &[Bytes],
+    limit: usize,
+    writer: &mut W,
+    text: &mut Vec<u8>,
+) -> Result<(), PlayFault>
+    requires stand { Stand world.old.ledger
+        (map (λ b. config_of (b.vtable, b.value)) world.old.modules.items)
+        (map (λ b. state_of (b.vtable, b.value)) world.old.modules.items) }
+    requires names { names.now ≡ names_of world.old.ledger.plan }
+    ensures stand { Stand world.new.ledger
+        (map (λ b. config_of (b.vtable, b.value)) world.new.modules.items)
+        (map (λ b. state_of (b.vtable, b.value)) world.new.modules.items) }
+    ensures plan { world.new.ledger.plan ≡ world.old.ledger.plan }
+    ensures plays { Plays (ran world.old.ledger.plan limit world.old.ledger.journal)
+        (W.contents writer.old) (W.contents writer.new) text.old.items text.new.items
+        world.new.ledger.journal result }
+    ensures write { result ≡ Err PlayFault.Write → W.has_refused writer.new }
+{
+    match deliver(world, names, limit, writer, text) {
+        Ok(()) => match put_end(world, text) {
+            Ok(()) => Ok(()),
+            Err(NoMemory) => Err(PlayFault::NoMemory),
+        },
+        Err(fault) => Err(fault),
+    }
+}
+
+// `tables M`
+fn show_tables<W: Sink>(
+    world: &World,
+    names: &[Bytes],
+    at: ModuleId,
+    writer: &mut W,
+    text: &mut Vec<u8>,
+) -> Result<(), PlayFault>
+    requires stand { Stand world.now.ledger
+        (map (λ b. config_of (b.vtable, b.value)) world.now.modules.items)
+        (map (λ b. state_of (b.vtable, b.value)) world.now.modules.items) }
+    requires names { names.now ≡ names_of world.now.ledger.plan }
+    ensures plays { Plays (tabled world.now.ledger.plan world.now.ledger.journal at)
+        (W.contents writer.old) (W.contents writer.new) text.old.items text.new.items
+        world.now.ledger.journal result }
+    ensures write { result ≡ Err PlayFault.Write → W.has_refused writer.new }
+{
+    match world.tables(at) {
+        Ok(tables) => match put_tables(text, name_in(names, at.0), &tables) {
+            Ok(()) => match flush(writer, text, FULL) {
+                Ok(()) => Ok(()),
+                Err(WriteFault) => Err(PlayFault::Write),
+            },
+            Err(NoMemory) => Err(PlayFault::NoMemory),
+        },
+        Err(WorldFault::NoModule) => Ok(()),
+        Err(_) => Err(PlayFault::NoMemory),
+    }
+}
+
+/// One step of a script: its text is gathered, and written once there is enough of it.
+pub(crate) fn play<W: Sink>(
+    world: &mut World,
+    names: &[Bytes],
+    step: Step,
+    writer: &mut W,
+    text: &mut Vec<u8>,
+) -> Result<(), PlayFault>
+    requires stand { Stand world.old.ledger
+        (map (λ b. config_of (b.vtable, b.value)) world.old.modules.items)
+        (map (λ b. state_of (b.vtable, b.value)) world.old.modules.items) }
+    requires names { names.now ≡ names_of world.old.ledger.plan }
+    ensures stand { Stand world.new.ledger
+        (map (λ b. config_of (b.vtable, b.value)) world.new.modules.items)
+        (map (λ b. state_of (b.vtable, b.value)) world.new.modules.items) }
+    ensures plan { world.new.ledger.plan ≡ world.old.ledger.plan }
+    ensures plays { Plays (played world.old.ledger.plan world.old.ledger.journal step)
+        (W.contents writer.old) (W.contents writer.new) text.old.items text.new.items
+        world.new.ledger.journal result }
+    ensures write { result ≡ Err PlayFault.Write → W.has_refused writer.new }
+{
+    match step {
+        Step::Feed { module_, command } => feed(world, names, module_, command, writer, text),
+        Step::Tick { module_, by } => tick(world, names, module_, by, writer, text),
+        Step::Deliver { frame } => bring(world, names, frame, writer, text),
+        Step::Lose { frame } => lose(world, names, frame, writer, text),
+        Step::Run { limit } => run_line(world, names, limit, writer, text),
+        Step::Tables { module_ } => show_tables(world, names, module_, writer, text),
+    }
+}
