@@ -1,9 +1,10 @@
 //! The console: a script in, its transcript out.
 #![tactic(auto)]
 
-mod chassis;
+mod boxes;
 mod console;
 mod names;
+mod options;
 mod playing;
 mod put;
 mod show;
@@ -13,7 +14,8 @@ mod steps;
 mod text;
 mod words;
 
-pub use chassis::run_chassis;
+pub use boxes::{chassis, run_chassis, run_new};
 pub use console::{ConsoleFault, run};
-pub use source::{Out, Plain, SCRIPT_LIMIT, Script, Sink, Source};
+pub use options::{HELP, Options, OptionsFault, VERSION, read_options};
+pub use source::{Out, Plain, ReadFault, SCRIPT_LIMIT, Script, Sink, Source, read_script};
 pub use steps::{Numbered, ScriptFault, Step};

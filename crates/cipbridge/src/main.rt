@@ -1,32 +1,34 @@
-//! Reads a script from standard input, runs it over the chassis, and writes the transcript.
+//! Runs a script over the modules of a CIP chassis, and writes the transcript.
 #![tactic(auto)]
 
-use cip_console::{ConsoleFault, Out, Plain, run_chassis};
-use std::io;
+mod fault;
+mod program;
+
+use cip_console::OptionsFault;
+use fault::Fault;
 use std::process::ExitCode;
 
-// The exit status of a fault: 1 for the script, 3 for modules that are not those of the topology, 4
-// for reading and writing, 5 for want of memory.
-fn status(fault: ConsoleFault) -> u8 {
+// A text that was asked for goes to the standard output, a fault to the standard error.
+fn tell(rt: &HostRuntime, fault: &Fault) {
     match fault {
-        ConsoleFault::Script(..) => 1,
-        ConsoleFault::New(_) => 3,
-        ConsoleFault::Read => 4,
-        ConsoleFault::Write => 4,
-        ConsoleFault::NoMemory => 5,
+        Fault::Options(OptionsFault::Help) => {
+            let _ = println!(rt; "{fault}");
+        }
+        Fault::Options(OptionsFault::Version) => {
+            let _ = println!(rt; "{fault}");
+        }
+        _ => {
+            let _ = eprintln!(rt; "cipbridge: {fault}");
+        }
     }
 }
 
 fn main(rt: HostRuntime) -> ExitCode {
-    let mut reader = Plain { inner: rt.reader() };
-    let mut writer = Out {
-        inner: io::writer(&rt),
-    };
-    match run_chassis(rt.alloc(), &mut reader, &mut writer) {
+    match program::run(&rt) {
         Ok(()) => ExitCode::SUCCESS,
         Err(fault) => {
-            let _ = eprintln!(rt; "cipbridge: {fault}");
-            ExitCode::from(status(fault))
+            tell(&rt, &fault);
+            ExitCode::from(fault.status())
         }
     }
 }

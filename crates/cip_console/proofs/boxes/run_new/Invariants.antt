@@ -1,4 +1,4 @@
-use Rattle.cip_console.proofs.chassis.run_chassis.Given as goal
+use Rattle.cip_console.proofs.boxes.run_new.Given as goal
 
 abbrev pub invariant-loop-config : goal.invariant-loop-config
 invariant-loop-config g l =

@@ -1,0 +1,134 @@
+//! The options of the program.
+ghost use Rattle.std.specs.Prelude.{◌≡◌, ◌≤◌, IfOk};
+ghost use Rattle.cip_console.specs.declared.options.OptionsFault.TheVariants.{NoMemory as NoOptionsMemory};
+
+use clap::error::ErrorKind;
+use clap::{Arg, ArgAction, ArgMatches, Command, value_parser};
+use std::alloc::{AllocError, Global};
+use thiserror::Error;
+
+/// What the program is asked for: a topology file and a script, or the chassis and the standard
+/// input in their place; whether each module has a thread of its own; and how many steps these may
+/// take together.
+#[derive(Debug, Drop)]
+pub struct Options {
+    pub topology: Option<String>,
+    pub script: Option<String>,
+    pub threads: bool,
+    pub turns: u32,
+}
+
+/// Why there are no options.
+#[derive(Clone, Copy, Debug, PartialEq, Eq, Error)]
+pub enum OptionsFault {
+    /// The words are none of the program's.
+    #[error("usage: cipbridge [--topology FILE] [--script FILE]; `cipbridge --help` says more")]
+    Usage,
+    /// What the program does was asked for.
+    #[error("{HELP}")]
+    Help,
+    /// Which program this is was asked for.
+    #[error("cipbridge {VERSION}")]
+    Version,
+    /// An allocation was refused.
+    #[error("out of memory")]
+    NoMemory,
+}
+
+impl From<AllocError> for OptionsFault {
+    ghost from_gives = { λ _ fault. fault ≡ NoOptionsMemory };
+
+    fn from(_refused: AllocError) -> OptionsFault {
+        OptionsFault::NoMemory
+    }
+}
+
+/// The program's version.
+pub const VERSION: &str = "0.1.0";
+
+/// What the program does, and its options.
+pub const HELP: &str = "\
+cipbridge runs a script over the modules of a CIP chassis and prints each hop of each message.
+
+usage: cipbridge [--topology FILE] [--script FILE]
+
+  --topology FILE   the links and modules, as TOML; without it a chassis of a scanner S,
+                    bridges A and B, and an adapter E
+  --script FILE     the commands, ticks, deliveries and losses, a line each; without it the
+                    standard input
+  -h, --help        this text
+  -V, --version     the version
+
+exit status: 0 done, 1 a faulty script, a frame that does not wait or a full clock, 2 wrong
+options, 3 a faulty topology, 4 a file that can't be read or output that can't be written,
+5 no memory";
+
+/// The greatest number of turns.
+pub const MOST_TURNS: u32 = 1_000_000;
+
+/// The number of turns where none is asked for.
+pub const DEFAULT_TURNS: u32 = 100_000;
+
+fn command<'a>(alloc: Global) -> Result<Command<'a>, AllocError> {
+    let topology = Arg::new(alloc, "topology")
+        .long("topology")
+        .action(ArgAction::Set);
+    let script = Arg::new(alloc, "script")
+        .long("script")
+        .action(ArgAction::Set);
+    let threads = Arg::new(alloc, "threads")
+        .long("threads")
+        .action(ArgAction::SetTrue);
+    let turns = Arg::new(alloc, "turns")
+        .long("turns")
+        .action(ArgAction::Set)
+        .value_parser(value_parser!(u32));
+    Command::new(alloc, "cipbridge")
+        .version(VERSION)
+        .no_binary_name(true)
+        .arg(topology)?
+        .arg(script)?
+        .arg(threads)?
+        .arg(turns)
+}
+
+fn text_at(
+    alloc: Global,
+    matches: &ArgMatches<'_>,
+    id: &str,
+) -> Result<Option<String>, AllocError> {
+    match matches.get_str(id) {
+        Some(text) => Ok(Some(String::from_str(alloc, text)?)),
+        None => Ok(None),
+    }
+}
+
+fn fault_of(error: &clap::Error) -> OptionsFault {
+    match error.kind() {
+        ErrorKind::OutOfMemory => OptionsFault::NoMemory,
+        ErrorKind::DisplayHelp => OptionsFault::Help,
+        ErrorKind::DisplayVersion => OptionsFault::Version,
+        _ => OptionsFault::Usage,
+    }
+}
+
+/// Reads the words after the program's name: `--topology FILE`, `--script FILE`, each at most once,
+/// and `--help` and `--version`. There are no workers yet, so `--threads` and `--turns` are Usage, as
+/// is every other word. NoMemory where an allocation is refused.
+pub fn read_options(alloc: Global, words: &[String]) -> Result<Options, OptionsFault>
+    ensures { IfOk result (λ options. (1 ≤ options.turns) × (options.turns ≤ MOST_TURNS)) }
+{
+    let matches = match command(alloc)?.try_get_matches_from(words) {
+        Ok(matches) => matches,
+        Err(error) => return Err(fault_of(&error)),
+    };
+    if matches.get_flag("threads") || matches.get_str("turns").is_some() {
+        return Err(OptionsFault::Usage);
+    }
+    Ok(Options {
+        topology: text_at(alloc, &matches, "topology")?,
+        script: text_at(alloc, &matches, "script")?,
+        threads: false,
+        turns: DEFAULT_TURNS,
+    })
+}

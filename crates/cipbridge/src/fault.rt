@@ -1,0 +1,66 @@
+//! Why the program ends with an exit status above 0.
+use cip_base::NoMemory;
+use cip_console::{ConsoleFault, OptionsFault, ScriptFault};
+use cip_topology::LoadFault;
+use thiserror::Error;
+
+/// Why the program ends before its work is done, with the file that it is about.
+#[derive(Drop, Error)]
+pub enum Fault {
+    #[error("{0}")]
+    Options(OptionsFault),
+    /// The topology file breaks a rule.
+    #[error("{0}: {1}")]
+    Topology(String, LoadFault),
+    /// The topology file is no text.
+    #[error("{0}: not UTF-8")]
+    NotText(String),
+    /// A file can't be read, or is too long.
+    #[error("{0}: can't be read, or has more than 1,048,576 bytes")]
+    Read(String),
+    /// A line of the script.
+    #[error("{0}:{1}: {2}")]
+    Script(String, usize, ScriptFault),
+    /// The console, but for reading and for the script.
+    #[error("{0}")]
+    Console(ConsoleFault),
+    #[error("out of memory")]
+    NoMemory,
+}
+
+// The exit status of a fault of the console.
+fn status_of(fault: &ConsoleFault) -> u8 {
+    match fault {
+        ConsoleFault::Script(..) => 1,
+        ConsoleFault::New(_) => 3,
+        ConsoleFault::Read => 4,
+        ConsoleFault::Write => 4,
+        ConsoleFault::NoMemory => 5,
+    }
+}
+
+impl Fault {
+    /// The exit status: 1 for the script, 2 for the options, 3 for the topology, 4 for reading and
+    /// writing, 5 for want of memory; 0 where only a text was asked for.
+    pub fn status(&self) -> u8 {
+        match self {
+            Fault::Options(OptionsFault::Help) => 0,
+            Fault::Options(OptionsFault::Version) => 0,
+            Fault::Options(OptionsFault::Usage) => 2,
+            Fault::Options(OptionsFault::NoMemory) => 5,
+            Fault::Topology(_, LoadFault::NoMemory) => 5,
+            Fault::Topology(..) => 3,
+            Fault::NotText(_) => 3,
+            Fault::Read(_) => 4,
+            Fault::Script(..) => 1,
+            Fault::Console(fault) => status_of(fault),
+            Fault::NoMemory => 5,
+        }
+    }
+}
+
+impl From<NoMemory> for Fault {
+    fn from(_refused: NoMemory) -> Fault {
+        Fault::NoMemory
+    }
+}
