@@ -1,7 +1,7 @@
 // To be preloaded into a program: it refuses memory, and fails input and output, as the environment says. Only what the
 // program itself calls is counted, from 1 on, and not what the C library or the loader calls.
 //
-//   REFUSE_ALLOC=N  the Nth allocation is refused         REFUSE_READ=N   the Nth read of standard input fails
+//   REFUSE_ALLOC=N  the Nth allocation is refused         REFUSE_READ=N   the Nth read of input or a file fails
 //   REFUSE_WRITE=N  the Nth write of standard output fails REFUSE_TAKE=N  the Nth write of standard output takes no byte
 //   ONE_BYTE=1      each read and write moves one byte     REFUSE_TELL=FD  a byte goes to this file where one was refused
 #define _GNU_SOURCE
@@ -38,8 +38,9 @@ void *calloc(size_t n, size_t size) { return is_no_memory(__builtin_return_addre
 void *realloc(void *old, size_t size) { return is_no_memory(__builtin_return_address(0)) ? 0 : __libc_realloc(old, size); }
 
 ssize_t read(int file, void *to, size_t size) {
-  if (file == 0 && is_refused(++reads, "REFUSE_READ")) return errno = EIO, -1;
-  return syscall(SYS_read, file, to, file == 0 && word("ONE_BYTE") && size ? 1 : size);
+  int is_input = file == 0 || file > 2;
+  if (is_input && is_refused(++reads, "REFUSE_READ")) return errno = EIO, -1;
+  return syscall(SYS_read, file, to, is_input && word("ONE_BYTE") && size ? 1 : size);
 }
 
 ssize_t write(int file, const void *from, size_t size) {

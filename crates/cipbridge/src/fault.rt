@@ -5,7 +5,7 @@ use cip_topology::LoadFault;
 use thiserror::Error;
 
 /// Why the program ends before its work is done, with the file that it is about.
-#[derive(Drop, Error)]
+#[derive(Debug, Drop, Error)]
 pub enum Fault {
     #[error("{0}")]
     Options(OptionsFault),

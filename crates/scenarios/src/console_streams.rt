@@ -201,8 +201,8 @@ fn scripts_that_do_nothing(rt: HostRuntime) -> Result<(), Fail> {
 fn the_first_faulty_line(rt: HostRuntime) -> Result<(), Fail> {
     let rows: [(&[u8], usize, ScriptFault); 22] = [
         (b"# \xC3\xA9", 1, ScriptFault::NotText),
-        (b"open S \xFF", 1, ScriptFault::NotText),
-        (b"open S", 1, ScriptFault::UnknownWord),
+        (b"opens S \xFF", 1, ScriptFault::NotText),
+        (b"opens S", 1, ScriptFault::UnknownWord),
         (b"RUN 1", 1, ScriptFault::UnknownWord),
         (b"run\t1", 1, ScriptFault::UnknownWord),
         (b" # 1", 1, ScriptFault::UnknownWord),

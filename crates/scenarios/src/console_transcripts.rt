@@ -121,7 +121,7 @@ fn a_script_that_does_nothing(rt: HostRuntime) -> Result<(), Fail> {
 #[test]
 fn unknown_words_and_wrong_counts(rt: HostRuntime) -> Result<(), Fail> {
     let alloc = rt.alloc();
-    assert!(rt; refused(alloc, b"open S", 1, ScriptFault::UnknownWord));
+    assert!(rt; refused(alloc, b"opens S", 1, ScriptFault::UnknownWord));
     assert!(rt; refused(alloc, b"\nrun", 2, ScriptFault::Count));
     assert!(rt; refused(alloc, b"run 1 2", 1, ScriptFault::Count));
     assert!(rt; refused(alloc, b"# \xC3\xA9", 1, ScriptFault::NotText));

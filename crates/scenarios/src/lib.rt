@@ -6,6 +6,7 @@ mod asking_objects;
 #[cfg(test)]
 mod closing;
 #[cfg(test)]
+mod console_rows;
 mod console_streams;
 #[cfg(test)]
 mod console_transcripts;

@@ -1,0 +1,444 @@
+//! Scripts of every word over the chassis, and lines that their transcripts have, in this order.
+use cip_console::{ConsoleFault, Out, Script, ScriptFault, run_chassis};
+use std::alloc::Global;
+use std::test::Fail;
+
+/// A script, and lines of its transcript.
+struct Row {
+    name: &'static str,
+    script: &'static str,
+    lines: &'static [&'static str],
+}
+
+const ROWS: [Row; 16] = [
+    Row {
+        name: "a request of an odd length gets a pad behind it",
+        script: "\
+send S 1 0x07 0xFA 020501030207 1003200424643003AA
+run 100
+send S 2 0x07 0xFA 020501030207 1003200424643003AABB
+",
+        lines: &[
+            "  0 send 2 05 request 1 52022006240107F909001003200424643003AA00020001030207",
+            "  0 done 1 90001500",
+            "  0 send 2 05 request 2 52022006240107F90A001003200424643003AABB020001030207",
+        ],
+    },
+    Row {
+        name: "nobody has the address that the bridge is to send to",
+        script: "\
+open S 1 0x07 0xFA 0205090320042464 0x42 0 1 10000 0x4806 10000 0x4804
+run 100
+open S 2 0x07 0xFA 02050903200424642C652C66 0x42 0 1 10000 0x4806 10000 0x4804
+run 100
+tables S
+",
+        lines: &[
+            "  0 done 1 D40001011103420001010D0C0B0A0300",
+            "  0 done 2 D40001011103420001010D0C0B0A0500",
+            "tables S now 0 id 18 number 2",
+        ],
+    },
+    Row {
+        name: "a request to nobody times out",
+        script: "\
+send S 1 0x00 0x0A 0209 010220012401
+run 5
+tables S
+tick S 9
+tick S 1
+tables S
+",
+        lines: &[
+            "0 S send 1",
+            "  0 send 2 09 request 1 010220012401",
+            "quiet",
+            "tables S now 0 id 16 number 1",
+            "  pending 1 2 09 due 10000 words 1 unconnected",
+            "1 S tick 9",
+            "2 S tick 1",
+            "  0 done 1 D2000101040201",
+            "tables S now 10000 id 16 number 1",
+        ],
+    },
+    Row {
+        name: "a path that leads back to the scanner",
+        script: "\
+open S 1 0x07 0xFA 0205020102052004 0x42 0 1 10000 0x4806 10000 0x4804
+run 10
+open S 2 0x07 0xFA 020502010205200424642C652C66 0x42 0 1 10000 0x4806 10000 0x4804
+run 10
+",
+        lines: &["  0 done 2 D40001010001420001010D0C0B0A0500", "quiet"],
+    },
+    Row {
+        name: "a connection, a datum down and one up, and its close",
+        script: "\
+open S 1 0x07 0xFA 020501030207200424642C652C66 0x42 0 1 10000 0x4806 10000 0x4804
+run 100
+tables A
+enter S 1 0100AABBCCDD
+run 100
+tables E
+enter S 1 0100AABBCC
+enter S 1 0100AABBCCDDEE
+produce E 102
+run 100
+close S 2 1 0x07 0xFA
+run 100
+enter S 1 0100AABBCCDD
+close S 2 1 0x07 0xFA
+",
+        lines: &[
+            "0 S open 1",
+            "  0 send 2 05 request 1 54022006240107F90000000011000000420001010D0C0B0A00000000102700000648102700000448010601030207200424642C652C66",
+            "1 A frame 0.0",
+            "2 B frame 1.0",
+            "3 E frame 2.0",
+            "  0 send 2 01 reply 1 D40000004100000031000000420001010D0C0B0A10270000102700000000",
+            "  0 send 1 00 reply 1 D40000003200000021000000420001010D0C0B0A10270000102700000000",
+            "  0 done 1 D40000002200000011000000420001010D0C0B0A10270000102700000000",
+            "quiet",
+            "tables A now 0 id 34 number 1",
+            "  hop 66 257 168496141 up 2 01 own 34 their 17 down 1 03 their 50 own 33 watch 40000 40000",
+            "7 S enter 1",
+            "  0 send 2 05 data 34 0100AABBCCDD",
+            "  0 send 1 03 data 50 0100AABBCCDD",
+            "  0 send 2 07 data 65 0100AABBCCDD",
+            "  0 consumed 66 257 168496141 101 0100AABBCCDD",
+            "  assembly 101 AABBCCDD",
+            "  0 refused WrongSize",
+            "  0 refused WrongSize",
+            "  0 send 2 01 data 49 01000000",
+            "  0 send 1 00 data 33 01000000",
+            "  0 send 2 01 data 17 01000000",
+            "  0 arrived 1 01000000",
+            "  0 done 2 CE000000420001010D0C0B0A0000",
+            "quiet",
+            "  0 refused NotOpen",
+            "  0 refused OpUsed",
+        ],
+    },
+    Row {
+        name: "a close that is lost below the first bridge",
+        script: "\
+open S 1 0x07 0xFA 020501030207200424642C652C66 0x42 0 1 10000 0x4806 10000 0x4804
+run 100
+enter S 1 0100AABBCCDD
+deliver 7.0
+close S 2 1 0x07 0xFA
+deliver 9.0
+lose 10.0
+open S 3 0x07 0xFA 020501030207200424642C652C66 0x42 0 1 10000 0x4806 10000 0x4804
+deliver 12.0
+deliver 13.0
+deliver 14.0
+deliver 15.0
+tick B 40
+tick E 40
+open S 4 0x07 0xFA 020501030207200424642C672C66 0x42 0 1 10000 0x4806 10000 0x4804
+deliver 19.0
+deliver 20.0
+deliver 21.0
+deliver 22.0
+deliver 23.0
+deliver 24.0
+deliver 8.0
+",
+        lines: &[
+            "11 lost 10.0",
+            "  0 done 3 D40001010001420001010D0C0B0A0500",
+            "17 B tick 40",
+            "  0 expired 66 257 168496141",
+            "18 E tick 40",
+            "  0 expired 66 257 168496141",
+            "  0 done 4 D40000002600000013000000420001010D0C0B0A10270000102700000000",
+            "26 B frame 8.0",
+            "  0 dropped UnknownId",
+        ],
+    },
+    Row {
+        name: "a reply that comes after the time-out, and another request under the next number",
+        script: "\
+open S 1 0x00 0x64 020501030207200424642C652C66 0x42 0 1 10000 0x4806 10000 0x4804
+deliver 0.0
+deliver 1.0
+deliver 2.0
+deliver 3.0
+tick A 99
+send S 2 0x07 0xFA 02050103 010220012401
+deliver 6.0
+deliver 7.0
+deliver 4.0
+deliver 8.0
+tick B 40
+",
+        lines: &[
+            "5 A tick 99",
+            "  0 send 2 01 reply 1 D40001010402420001010D0C0B0A0600",
+            "  0 send 1 03 request 2 010220012401",
+            "9 A frame 4.0",
+            "  0 dropped Late",
+            "10 A frame 8.0",
+            "  0 send 2 01 reply 2 8100000001010C000200010300000B0B0000024252",
+            "11 B tick 40",
+            "  0 expired 66 257 168496141",
+        ],
+    },
+    Row {
+        name: "a watchdog at the end",
+        script: "\
+open S 1 0x07 0xFA 020501030207200424642C652C66 0x42 0 1 10000 0x4806 10000 0x4804
+run 100
+tick E 39
+tick E 1
+",
+        lines: &["7 E tick 39", "8 E tick 1", "  0 expired 66 257 168496141"],
+    },
+    Row {
+        name: "a watchdog that a datum renews",
+        script: "\
+open S 1 0x07 0xFA 020501030207200424642C652C66 0x42 0 1 10000 0x4806 10000 0x4804
+run 100
+tick E 39
+enter S 1 0100AABBCCDD
+run 100
+tick E 39
+tick E 1
+",
+        lines: &[
+            "  0 consumed 66 257 168496141 101 0100AABBCCDD",
+            "12 E tick 39",
+            "13 E tick 1",
+            "  0 expired 66 257 168496141",
+        ],
+    },
+    Row {
+        name: "an output that another connection owns, and a triad that is in use",
+        script: "\
+open S 1 0x07 0xFA 020501030207200424642C652C66 0x42 0 1 10000 0x4806 10000 0x4804
+run 100
+open S 2 0x07 0xFA 020501030207200424642C652C66 0x43 0 1 10000 0x4806 10000 0x4804
+run 100
+open S 3 0x07 0xFA 020501030207200424642C652C66 0x42 0 1 10000 0x4806 10000 0x4804
+open S 4 0x07 0xFA 020501030207200424642C652C66 0x44 0 1 10000 0x4806 10000 0x2804
+open S 5 0x07 0xFA 020501030207200424642C652C66 0x45 0 3 10000 0x4806 10000 0x4804
+run 100
+",
+        lines: &[
+            "  0 done 2 D40001010601430001010D0C0B0A0400",
+            "  0 done 3 D40001010001420001010D0C0B0A0700",
+            "  0 done 4 D40001010801440001010D0C0B0A0700",
+            "  0 done 5 D40001010301450001010D0C0B0A0400",
+        ],
+    },
+    Row {
+        name: "a datum that comes twice is not written twice",
+        script: "\
+open S 1 0x07 0xFA 020501030207200424642C652C66 0x42 0 1 10000 0x4806 10000 0x4804
+run 100
+enter S 1 0100AABBCCDD
+run 100
+enter S 1 010011223344
+run 100
+tables E
+",
+        lines: &[
+            "  0 consumed 66 257 168496141 101 0100AABBCCDD",
+            "  0 consumed 66 257 168496141 101 010011223344",
+            "  assembly 101 AABBCCDD",
+        ],
+    },
+    Row {
+        name: "an assembly that is set and produced",
+        script: "\
+set E 102 1234
+open S 1 0x07 0xFA 020501030207200424642C652C66 0x42 0 1 10000 0x4806 10000 0x4804
+run 100
+produce E 102
+set E 102 12
+set E 9 12
+produce E 9
+",
+        lines: &[
+            "0 E set 102",
+            "8 E produce 102",
+            "  0 send 2 01 data 49 01001234",
+            "9 E set 102",
+            "  0 refused WrongSize",
+            "10 E set 9",
+            "  0 refused NoInstance",
+            "11 E produce 9",
+            "  0 refused NoInstance",
+        ],
+    },
+    Row {
+        name: "requests and connections that wait, as tables show them",
+        script: "\
+open S 1 0x07 0xFA 020501030207200424642C652C66 0x42 0 1 10000 0x4806 10000 0x4804
+deliver 0.0
+tables A
+run 100
+close S 2 1 0x07 0xFA
+deliver 7.0
+tables A
+tables S
+",
+        lines: &[
+            "  pending 1 1 03 due 31872000 words 6 opening 66 257 168496141",
+            "  pending 2 1 03 due 31872000 words 6 closing 66 257 168496141",
+            "tables S now 0 id 17 number 2",
+            "  pending 2 2 05 due 32000000 words 7 closing 66 257 168496141",
+        ],
+    },
+    Row {
+        name: "the connection at its originator, and at its end",
+        script: "\
+open S 1 0x07 0xFA 020501030207200424642C652C66 0x42 0 1 10000 0x4806 10000 0x4804
+run 100
+tables S
+tables E
+",
+        lines: &[
+            "tables S now 0 id 17 number 1",
+            "  hop 66 257 168496141 up op 1 down 2 05 their 34 own 17 watch - 40000",
+            "tables E now 0 id 65 number 0",
+            "  hop 66 257 168496141 up 2 01 own 65 their 49 down end 100 101 102 watch 40000 -",
+            "  assembly 100 -",
+            "  assembly 101 00000000",
+            "  assembly 102 0000",
+            "  assembly 103 00000000",
+        ],
+    },
+    Row {
+        name: "limits of a run",
+        script: "\
+send S 1 0x07 0xFA 02050103 010220012401
+run 0
+run 1
+run 3
+run 0
+",
+        lines: &[
+            "limit",
+            "1 A frame 0.0",
+            "limit",
+            "4 S frame 3.0",
+            "quiet",
+            "quiet",
+        ],
+    },
+    Row {
+        name: "spellings of a frame's name",
+        script: "\
+send S 1 0x07 0xFA 02050103 010220012401
+deliver 0x00.000
+lose 1.0x0
+",
+        lines: &["1 A frame 0.0", "2 lost 1.0"],
+    },
+];
+
+// What a script writes, and how it ends.
+fn written(alloc: Global, script: &[u8]) -> (Result<(), ConsoleFault>, Vec<u8>) {
+    let mut reader = Script { rest: script };
+    let mut writer = Out {
+        inner: Vec::new(alloc),
+    };
+    let result = run_chassis(alloc, &mut reader, &mut writer);
+    (result, writer.inner)
+}
+
+// Whether the text has these lines, in this order.
+fn has_lines(text: &str, lines: &[&str]) -> bool {
+    let mut wanted = lines.iter();
+    let mut next = wanted.next();
+    for line in text.lines() {
+        if next == Some(&line) {
+            next = wanted.next();
+        }
+    }
+    next.is_none()
+}
+
+#[test]
+fn scripts_of_every_word(rt: HostRuntime) -> Result<(), Fail> {
+    for row in &ROWS {
+        let (result, text) = written(rt.alloc(), row.script.as_bytes());
+        result?;
+        let text = std::str::from_utf8(text.as_slice())?;
+        if !has_lines(text, row.lines) {
+            return Err(Fail::new(format_args!("{}: wrote {text}", row.name)));
+        }
+    }
+    Ok(())
+}
+
+/// A faulty script, its first faulty line, and its fault.
+type Faulty = (&'static [u8], usize, ScriptFault);
+
+const FAULTY: [Faulty; 27] = [
+    (b"open S 1", 1, ScriptFault::Count),
+    (b"close S 1 1 7", 1, ScriptFault::Count),
+    (b"enter S 1", 1, ScriptFault::Count),
+    (b"set E 102", 1, ScriptFault::Count),
+    (b"produce E", 1, ScriptFault::Count),
+    (b"tick S", 1, ScriptFault::Count),
+    (b"deliver", 1, ScriptFault::Count),
+    (b"lose 0 0", 1, ScriptFault::Count),
+    (b"tables", 1, ScriptFault::Count),
+    (b"trail S 1", 1, ScriptFault::UnknownWord),
+    (b"chain S 1", 1, ScriptFault::UnknownWord),
+    (b"tables C", 1, ScriptFault::NoModule),
+    (b"tick C 0", 1, ScriptFault::NoModule),
+    (b"tick S 0", 1, ScriptFault::BadNumber),
+    (b"tick S 65536", 1, ScriptFault::BadNumber),
+    (b"deliver 0", 1, ScriptFault::BadNumber),
+    (b"deliver 0.0.0", 1, ScriptFault::BadNumber),
+    (b"deliver .0", 1, ScriptFault::BadNumber),
+    (b"lose 0.18446744073709551616", 1, ScriptFault::BadNumber),
+    (
+        b"open S 1 7 7 - 65536 0 1 1 1 1 1",
+        1,
+        ScriptFault::BadNumber,
+    ),
+    (b"open S 1 7 7 - 1 256 1 1 1 1 1", 1, ScriptFault::BadNumber),
+    (
+        b"open S 1 7 7 - 1 0 1 4294967296 1 1 1",
+        1,
+        ScriptFault::BadNumber,
+    ),
+    (
+        b"open S 1 7 7 - 1 0 1 1 65536 1 1",
+        1,
+        ScriptFault::BadNumber,
+    ),
+    (b"open S 1 7 7 0005 x 0 1 1 1 1 1", 1, ScriptFault::BadPath),
+    (b"enter S 1 0", 1, ScriptFault::BadBytes),
+    (b"run 0\ndeliver 0.0\nrun", 3, ScriptFault::Count),
+    (b"\xC3\xA9 C", 1, ScriptFault::NotText),
+];
+
+#[test]
+fn faults_of_every_word(rt: HostRuntime) -> Result<(), Fail> {
+    for (script, line, fault) in &FAULTY {
+        let (result, text) = written(rt.alloc(), script);
+        if result != Err(ConsoleFault::Script(*line, *fault)) || !text.is_empty() {
+            return Err(Fail::new(format_args!("{script:?}: {result:?}")));
+        }
+    }
+    Ok(())
+}
+
+// Where a run stops, all before that line is written, and nothing of it.
+#[test]
+fn a_frame_that_does_not_wait(rt: HostRuntime) -> Result<(), Fail> {
+    let script = b"run 0\ndeliver 0.0\nrun 0\n";
+    let (result, text) = written(rt.alloc(), script);
+    assert_eq!(&rt; result, Err(ConsoleFault::Script(2, ScriptFault::NoFrame)));
+    assert_eq!(&rt; text.as_slice(), b"quiet\n".as_slice());
+    let script = b"send S 1 7 250 0205 010220012401\ndeliver 0.0\n\nlose 0.0\n";
+    let (result, _) = written(rt.alloc(), script);
+    assert_eq!(&rt; result, Err(ConsoleFault::Script(4, ScriptFault::NoFrame)));
+    Ok(())
+}
