@@ -41,7 +41,7 @@ fn status_of(fault: &ConsoleFault) -> u8 {
 
 impl Fault {
     /// The exit status: 1 for the script, 2 for the options, 3 for the topology, 4 for reading and
-    /// writing, 5 for want of memory; 0 where only a text was asked for.
+    /// writing, 5 for want of memory; 0 for a text that was asked for.
     pub fn status(&self) -> u8 {
         match self {
             Fault::Options(OptionsFault::Help) => 0,

@@ -3,7 +3,8 @@
 use crate::fault::Fault;
 use cip_base::NoMemory;
 use cip_console::{
-    ConsoleFault, Options, Out, Plain, ReadFault, Source, chassis, read_options, read_script, run_new,
+    ConsoleFault, Options, OptionsFault, Out, Plain, ReadFault, Source, chassis, read_options,
+    read_script, run_new,
 };
 use cip_topology::{LoadFault, Topology, load};
 use std::alloc::Global;
@@ -117,10 +118,23 @@ fn play<S: Source>(
     }
 }
 
+// A text that was asked for goes to the standard output.
+fn say(rt: &HostRuntime, asked: OptionsFault) -> Result<(), Fault> {
+    match println!(rt; "{asked}") {
+        Ok(()) => Ok(()),
+        Err(_) => Err(Fault::Console(ConsoleFault::Write)),
+    }
+}
+
 /// The whole program, but for what it says of a fault and for its exit status.
 pub fn run(rt: &HostRuntime) -> Result<(), Fault> {
     let alloc = rt.alloc();
-    let options = options(rt, alloc)?;
+    let options = match options(rt, alloc) {
+        Ok(options) => options,
+        Err(Fault::Options(OptionsFault::Help)) => return say(rt, OptionsFault::Help),
+        Err(Fault::Options(OptionsFault::Version)) => return say(rt, OptionsFault::Version),
+        Err(fault) => return Err(fault),
+    };
     let topology = topology(rt, alloc, &options)?;
     match &options.script {
         Some(path) => {
