@@ -3,6 +3,9 @@ pub mod Parts
 pub mod Frames
 pub mod Arrivals
 pub mod Replies
+pub mod Moments
+pub mod Successes
+pub mod Mirrored
 pub mod Answered
 pub mod Named
 pub mod StepAt

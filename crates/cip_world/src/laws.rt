@@ -2,6 +2,10 @@
 ghost use Rattle.std.specs.Prelude.{◌≡◌, ℕ, ◌≤◌, true, List, Some};
 ghost use Rattle.std.specs.FinMap as map;
 ghost use Rattle.std.specs.List.{list_any};
+ghost use Rattle.cip_base.specs.declared.triad.Triad.{Triad};
+ghost use Rattle.cip_hops.specs.declared.hop.Held.TheVariants.{Open};
+ghost use Rattle.cip_hops.specs.declared.hop.Hop.{Hop};
+ghost use Rattle.cip_hops.specs.declared.opening.HopDown.TheVariants.{Link as DownLink};
 ghost use Rattle.cip_pending.specs.declared.entry.Entry.{Entry as Pending};
 ghost use Rattle.cip_pending.specs.declared.entry.UpSide.TheVariants.{Link};
 ghost use Rattle.cip_module.specs.declared.config.ModuleSettings.{ModuleSettings as Settings};
@@ -10,12 +14,14 @@ ghost use Rattle.cip_module.specs.declared.event.Event.TheVariants as events;
 ghost use Rattle.cip_module.specs.Histories.{IsHistory};
 ghost use Rattle.cip_module.specs.Weights.{same_up, is_reply, is_asked_by, weight, came};
 ghost use Rattle.cip_topology.specs.Plan.{Plan, IsTopology};
+ghost use Rattle.cip_topology.specs.Nodes.{Way};
 ghost use Rattle.cip_world.specs.declared.journal.FrameName.{FrameName as Name};
 ghost use Rattle.cip_world.specs.Journals.{Journal, same_name, part};
 ghost use Rattle.cip_world.specs.Names.{AreRising};
 ghost use Rattle.cip_world.specs.Runs.{IsArrival, IsModule, IsRun, IsWaiting, state_in};
 ghost use Rattle.cip_world.specs.Waiting.{waiting};
 ghost use Rattle.cip_world.specs.Answers.{Answered};
+ghost use Rattle.cip_world.specs.Mirrors.{IsMirrored};
 
 /// A frame is in the list of those that wait exactly where it waits, and the list rises.
 pub fn what_waits_is_listed()
@@ -61,4 +67,14 @@ pub fn replies_answer_their_requests()
         (from bytes : List ℕ) → IsRun t j
         → IsArrival t j f m port from (events.Frame port from (Reply n bytes))
         → Answered t j f m port n from }
+{}
+
+/// Each connection that goes on by a link is mirrored below: at no moment of the run does the
+/// neighbor have a connection under the id that is named that does not mirror it.
+pub fn hops_are_mirrored()
+    ensures { (t : Plan) → IsTopology t → (j : Journal) (m : ℕ) (config : Settings) → IsRun t j
+        → IsModule t m config → (q : Triad) (h : Hop) (port : ℕ) (address : List ℕ)
+        → map.get (state_in config m j).hops.held q ≡ Some (Open h)
+        → h.opening.down ≡ DownLink port address
+        → IsMirrored t j (record { at = m; port = port; address = address }) h }
 {}
