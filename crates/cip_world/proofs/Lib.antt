@@ -6,6 +6,8 @@ pub mod Replies
 pub mod Moments
 pub mod Successes
 pub mod Mirrored
+pub mod BornAs
+pub mod Uppers
 pub mod Answered
 pub mod Named
 pub mod StepAt
