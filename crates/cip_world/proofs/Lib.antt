@@ -8,6 +8,7 @@ pub mod Successes
 pub mod Mirrored
 pub mod BornAs
 pub mod Uppers
+pub mod Leading
 pub mod Given
 pub mod Answered
 pub mod Named
