@@ -10,6 +10,7 @@ pub mod BornAs
 pub mod Uppers
 pub mod Leading
 pub mod Given
+pub mod Steps
 pub mod Answered
 pub mod Named
 pub mod StepAt
