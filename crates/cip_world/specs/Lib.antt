@@ -10,3 +10,4 @@ pub mod Worlds
 pub mod Answers
 pub mod Mirrors
 pub mod Roots
+pub mod Entering
