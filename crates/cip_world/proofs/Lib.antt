@@ -11,6 +11,8 @@ pub mod Uppers
 pub mod Leading
 pub mod Given
 pub mod Steps
+pub mod Rooted
+pub mod Lines
 pub mod Answered
 pub mod Named
 pub mod StepAt

@@ -49,7 +49,7 @@ past_in P F (turn ∷ turns) (inr h) f = past_in P F turns h (λ earlier t p one
 
 -- ---- one output of a kind
 
-one_of : (w : Output → ℕ) (os : List Output) (x y : Output) → weight_in w os ≤ 1 → 1 ≤ w x → 1 ≤ w y → Has os x → Has os y → x ≡ y
+pub one_of : (w : Output → ℕ) (os : List Output) (x y : Output) → weight_in w os ≤ 1 → 1 ≤ w x → 1 ≤ w y → Has os x → Has os y → x ≡ y
 one_of w [] x y most a b h k = absurd h
 one_of w (o ∷ os) x y most a b (inl e) (inl f) = sym e ∙ f
 one_of w (o ∷ os) x y most a b (inl e) (inr k) = let one = ap w e in let other = weight_has w os y k in absurd (omega (arith, one, other, most, a, b))
