@@ -13,6 +13,7 @@ pub mod Given
 pub mod Steps
 pub mod Rooted
 pub mod Lines
+pub mod Commands
 pub mod Answered
 pub mod Named
 pub mod StepAt
