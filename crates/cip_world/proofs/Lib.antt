@@ -14,6 +14,7 @@ pub mod Steps
 pub mod Rooted
 pub mod Lines
 pub mod Commands
+pub mod Entered
 pub mod Answered
 pub mod Named
 pub mod StepAt
