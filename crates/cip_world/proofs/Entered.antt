@@ -132,7 +132,7 @@ came_down t j n input outs before older run hop bytes stands datum =
 pub carried_down : (t : Chassis) (j : Journal) (n : ModuleId) (input : Input) (outs : List Output) (before : Journal) → IsOlder (Step n input outs ∷ before) j
     → (hop : Hop) (bytes : List ℕ) → (c : CameDown t j n input outs before hop bytes)
     → (e : Entered t j (length c.above.sent.before) c.above.sent.at.0 c.above.above.opening bytes)
-    → Behind j (length e.before) (length before) × Entered t j (length before) n.0 hop.opening bytes
+    → (x : Entered t j (length before) n.0 hop.opening bytes) × Behind j (length x.before) (length before)
 carried_down t j n input outs before older hop bytes c e =
     let s = c.above.sent in
     let long = older_length (Step s.at s.input s.outs ∷ s.before) before s.older in
@@ -140,7 +140,7 @@ carried_down t j n input outs before older hop bytes c e =
     let same_root : root_of j c.came.name.entry ≡ root_of before c.came.name.entry =
     root_older before j c.came.name.entry (before_that (Step n input outs) before j older) (omega (arith, long, number)) in
     let b = behind j (length e.before) (length s.before) (length before) c.came.name e.line (sym s.number) c.came.datum c.came.brings in
-    (b, record {
+    (record {
       at = e.at;
       of = e.of;
       outs = e.outs;
@@ -155,7 +155,7 @@ carried_down t j n input outs before older hop bytes c e =
       triad_is = e.triad_is ∙ sym c.above.matches.triad_is;
       walk_is = e.walk_is ∙ c.above.walk_is;
       line = inr b;
-    })
+    }, b)
 
 -- one that is entered here
 pub entered_here : (t : Chassis) (j : Journal) (n : ModuleId) (input : Input) (outs : List Output) (before : Journal) → IsOlder (Step n input outs ∷ before) j
@@ -192,7 +192,7 @@ entered (suc fuel) t j n input outs before older run less hop bytes stands (Came
     let long = older_length (Step s.at s.input s.outs ∷ s.before) before s.older in
     let e = entered fuel t j s.at s.input s.outs s.before (older_trans (Step s.at s.input s.outs ∷ s.before) before j s.older (before_that (Step n input outs) before j older))
     c.above.run (omega (arith, less, long)) c.above.above bytes c.above.stands c.above.source in
-    (carried_down t j n input outs before older hop bytes c e).1
+    (carried_down t j n input outs before older hop bytes c e).0
 entered (suc fuel) t j n input outs before older run less hop bytes stands (EnteredBy of side event_is found sized) =
     entered_here t j n input outs before older run hop bytes of event_is found sized
 entered (suc fuel) t j n input outs before older run less hop bytes stands (MadeBy held side bytes_are made) = absurd (cc)

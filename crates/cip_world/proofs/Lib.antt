@@ -15,6 +15,7 @@ pub mod Rooted
 pub mod Lines
 pub mod Commands
 pub mod Entered
+pub mod Consumed
 pub mod Answered
 pub mod Named
 pub mod StepAt

@@ -183,9 +183,14 @@ abbrev pub Line : Journal → FrameName → ℕ → ℕ → Type 0
 Line j first zero k = IsDatum j first × Brings j k first
 Line j first (suc n) k = (i : ℕ) × (f : FrameName) × Line j first n i × (f.entry ≡ i) × IsDatum j f × Brings j k f
 
-line_gives : (t : Plan) (j : Journal) (first : FrameName) (n k : ℕ) → IsRun t j → Line j first n k → OneDatum j k
+pub line_gives : (t : Plan) (j : Journal) (first : FrameName) (n k : ℕ) → IsRun t j → Line j first n k → OneDatum j k
 line_gives t j first zero k run l = arrival_gives t j k first run l.1 l.0
 line_gives t j first (suc n) k run l = arrival_gives t j k l.1 run l.5 l.4
+
+-- it is of data
+pub line_datum : (j : Journal) (first : FrameName) (n k : ℕ) → Line j first n k → IsDatum j first
+line_datum j first zero k l = l.0
+line_datum j first (suc n) k l = line_datum j first n l.0 l.2
 
 -- it does not branch
 pub line_once : (t : Plan) (j : Journal) (first : FrameName) (n i k : ℕ) → IsRun t j → Line j first n i → Line j first n k → i ≡ k

@@ -11,6 +11,7 @@ ghost use Rattle.cip_pending.specs.declared.entry.UpSide.TheVariants.{Link};
 ghost use Rattle.cip_module.specs.declared.config.ModuleSettings.{ModuleSettings as Settings};
 ghost use Rattle.cip_module.specs.declared.event.Body.TheVariants.{Reply};
 ghost use Rattle.cip_module.specs.declared.event.Event.TheVariants as events;
+ghost use Rattle.cip_module.specs.declared.event.Output.TheVariants.{Consumed};
 ghost use Rattle.cip_module.specs.Histories.{IsHistory};
 ghost use Rattle.cip_module.specs.Weights.{same_up, is_reply, is_asked_by, weight, came};
 ghost use Rattle.cip_topology.specs.Plan.{Plan, IsTopology};
@@ -22,6 +23,7 @@ ghost use Rattle.cip_world.specs.Runs.{IsArrival, IsModule, IsRun, IsWaiting, st
 ghost use Rattle.cip_world.specs.Waiting.{waiting};
 ghost use Rattle.cip_world.specs.Answers.{Answered};
 ghost use Rattle.cip_world.specs.Mirrors.{IsMirrored};
+ghost use Rattle.cip_world.specs.Entering.{HasOutput, ConsumedOf};
 
 /// A frame is in the list of those that wait exactly where it waits, and the list rises.
 pub fn what_waits_is_listed()
@@ -77,4 +79,13 @@ pub fn hops_are_mirrored()
         → map.get (state_in config m j).hops.held q ≡ Some (Open h)
         → h.opening.down ≡ DownLink port address
         → IsMirrored t j (record { at = m; port = port; address = address }) h }
+{}
+
+/// Each datum that an end takes is one that was entered, unchanged and at most once: its root is an
+/// Enter of the same bytes, on an op whose open has the triad of the end's connection and a path
+/// that leads to this end and this assembly.
+pub fn what_is_consumed_was_entered()
+    ensures { (t : Plan) → IsTopology t → (j : Journal) (k e : ℕ) (triad : Triad) (instance : ℕ)
+        (bytes : List ℕ) → IsRun t j → HasOutput j k e (Consumed triad instance bytes)
+        → ConsumedOf t j k e triad instance bytes }
 {}
