@@ -60,6 +60,7 @@ pub record CameAs (t : Chassis) (j : Journal) (n : ModuleId) (input : Input) (ou
   pub name : FrameName
   pub frame : DatumFrame t before name n.0 port id from bytes
   pub datum : IsDatum j name
+  pub flight_is : datum.flight ≡ frame.flight
   pub brings : Brings j (length before) name
   pub root_is : root_of j (length before) ≡ root_of before name.entry
 
@@ -76,6 +77,7 @@ came_as t j n input outs before older run port id from bytes event_is =
         sent = frame_later before j g.name g.flight (before_that (Step n input outs) before j older) g.sent;
         data_ = ap is_data g.body_is;
       };
+      flight_is = refl;
       brings = record {
         at = n;
         port = port;

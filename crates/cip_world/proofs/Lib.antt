@@ -16,6 +16,7 @@ pub mod Lines
 pub mod Commands
 pub mod Entered
 pub mod Consumed
+pub mod Sent
 pub mod Answered
 pub mod Named
 pub mod StepAt
