@@ -72,7 +72,7 @@ own_triad s event triad side bytes (Entered of hop is down event_is found sized)
 own_triad s event triad side bytes (Made held hop is up bytes_are made) = is
 
 -- what is given by the connection that stands is given by the one that stood
-same_up : (old : Held) (hop g : Hop) → SameCore old (Open hop) → old ≡ Open g → g.opening ≡ hop.opening
+pub same_up : (old : Held) (hop g : Hop) → SameCore old (Open hop) → old ≡ Open g → g.opening ≡ hop.opening
 same_up (IsOpening o ids) hop g core e = absurd core
 same_up (Open k) hop g core e = let same : k ≡ g = cc in ap (λ (x : Hop). x.opening) (sym same) ∙ core.0
 

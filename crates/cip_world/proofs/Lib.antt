@@ -17,6 +17,7 @@ pub mod Commands
 pub mod Entered
 pub mod Consumed
 pub mod Sent
+pub mod ProducedOnce
 pub mod Answered
 pub mod Named
 pub mod StepAt
