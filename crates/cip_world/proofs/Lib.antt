@@ -19,6 +19,7 @@ pub mod Consumed
 pub mod OpenedOnce
 pub mod Sent
 pub mod ProducedOnce
+pub mod Arrived
 pub mod Answered
 pub mod Named
 pub mod StepAt

@@ -158,13 +158,17 @@ entered_gives t j k at of bytes outs run is =
 outs_same : (a b : ModuleId) (x y : Input) (o p : List Output) → Some (Step a x o) ≡ Some (Step b y p) → o ≡ p
 outs_same a b x y o p e = cc
 
--- the place of a frame among the outputs of such an entry
-sent_place : (j : Journal) (k : ℕ) (one : OneDatum j k) (f : FrameName) (d : IsDatum j f) → f.entry ≡ k → slice_get one.outs f.output ≡ Some (out_of d.flight)
-sent_place j k one f d same =
+-- the place of a frame among the outputs of its entry
+pub frame_place : (j : Journal) (k : ℕ) (at : ModuleId) (input : Input) (outs : List Output) → entry_at j k ≡ Some (Step at input outs) → (f : FrameName) (d : IsDatum j f) → f.entry ≡ k
+    → slice_get outs f.output ≡ Some (out_of d.flight)
+frame_place j k at input outs entry f d same =
     let s = sent_at j f d.flight d.sent in
-    let is : Some (Step s.at s.input s.outs) ≡ Some (Step one.at one.input one.outs) =
-    sym (number_at (Step s.at s.input s.outs) s.before j s.older) ∙ ap (entry_at j) (s.number ∙ same) ∙ one.is in
-    ap (λ (os : List Output). slice_get os f.output) (sym (outs_same s.at one.at s.input one.input s.outs one.outs is)) ∙ s.place
+    let is : Some (Step s.at s.input s.outs) ≡ Some (Step at input outs) =
+    sym (number_at (Step s.at s.input s.outs) s.before j s.older) ∙ ap (entry_at j) (s.number ∙ same) ∙ entry in
+    ap (λ (os : List Output). slice_get os f.output) (sym (outs_same s.at at s.input input s.outs outs is)) ∙ s.place
+
+sent_place : (j : Journal) (k : ℕ) (one : OneDatum j k) (f : FrameName) (d : IsDatum j f) → f.entry ≡ k → slice_get one.outs f.output ≡ Some (out_of d.flight)
+sent_place j k one f d same = frame_place j k one.at one.input one.outs one.is f d same
 
 weighs : (x : Output) → is_datum x ≡ true → 1 ≤ one_datum x
 weighs x e = let one = ap (λ (b : Bool). mark b) e in omega (arith, one)

@@ -6,12 +6,13 @@ ghost use Rattle.cip_base.specs.declared.triad.Triad.{Triad};
 ghost use Rattle.cip_hops.specs.declared.hop.Held.TheVariants.{Open};
 ghost use Rattle.cip_hops.specs.declared.hop.Hop.{Hop};
 ghost use Rattle.cip_hops.specs.declared.opening.HopDown.TheVariants.{Link as DownLink};
+ghost use Rattle.cip_open.specs.Open.{Open as OpenRequest};
 ghost use Rattle.cip_pending.specs.declared.entry.Entry.{Entry as Pending};
 ghost use Rattle.cip_pending.specs.declared.entry.UpSide.TheVariants.{Link};
 ghost use Rattle.cip_module.specs.declared.config.ModuleSettings.{ModuleSettings as Settings};
 ghost use Rattle.cip_module.specs.declared.event.Body.TheVariants.{Reply};
 ghost use Rattle.cip_module.specs.declared.event.Event.TheVariants as events;
-ghost use Rattle.cip_module.specs.declared.event.Output.TheVariants.{Consumed};
+ghost use Rattle.cip_module.specs.declared.event.Output.TheVariants.{Arrived, Consumed};
 ghost use Rattle.cip_module.specs.Histories.{IsHistory};
 ghost use Rattle.cip_module.specs.Weights.{same_up, is_reply, is_asked_by, weight, came};
 ghost use Rattle.cip_topology.specs.Plan.{Plan, IsTopology};
@@ -23,7 +24,7 @@ ghost use Rattle.cip_world.specs.Runs.{IsArrival, IsModule, IsRun, IsWaiting, st
 ghost use Rattle.cip_world.specs.Waiting.{waiting};
 ghost use Rattle.cip_world.specs.Answers.{Answered};
 ghost use Rattle.cip_world.specs.Mirrors.{IsMirrored};
-ghost use Rattle.cip_world.specs.Entering.{HasOutput, ConsumedOf};
+ghost use Rattle.cip_world.specs.Entering.{HasOutput, IsOpened, ConsumedOf, ArrivedOf};
 
 /// A frame is in the list of those that wait exactly where it waits, and the list rises.
 pub fn what_waits_is_listed()
@@ -88,4 +89,19 @@ pub fn what_is_consumed_was_entered()
     ensures { (t : Plan) → IsTopology t → (j : Journal) (k e : ℕ) (triad : Triad) (instance : ℕ)
         (bytes : List ℕ) → IsRun t j → HasOutput j k e (Consumed triad instance bytes)
         → ConsumedOf t j k e triad instance bytes }
+{}
+
+/// Each datum that arrives at an op is one that was produced, unchanged and at most once: its root is
+/// a Produce, at the module to which the op's open leads and of the assembly there, in which the
+/// frame for the open's triad has the same bytes.
+pub fn what_arrives_was_produced()
+    ensures { (t : Plan) → IsTopology t → (j : Journal) (k m op : ℕ) (bytes : List ℕ) → IsRun t j
+        → HasOutput j k m (Arrived op bytes) → ArrivedOf t j k m op bytes }
+{}
+
+/// Of the Opens of one op at one module one at most is taken: what an op opens is one open.
+pub fn an_op_opens_once()
+    ensures { (t : Plan) (j : Journal) (m op : ℕ) (one other : OpenRequest) → IsRun t j
+        → (a : IsOpened t j m op one) → (b : IsOpened t j m op other)
+        → (a.entry ≡ b.entry) × (one ≡ other) }
 {}
