@@ -20,6 +20,8 @@ pub mod OpenedOnce
 pub mod Sent
 pub mod ProducedOnce
 pub mod Arrived
+pub mod Keeping
+pub mod Carried
 pub mod Answered
 pub mod Named
 pub mod StepAt
