@@ -1,5 +1,5 @@
 //! What holds of every run.
-ghost use Rattle.std.specs.Prelude.{◌≡◌, ℕ, ◌≤◌, true, List, Some};
+ghost use Rattle.std.specs.Prelude.{◌≡◌, ℕ, ◌≤◌, true, List, ◌∷◌, length, Some};
 ghost use Rattle.std.specs.FinMap as map;
 ghost use Rattle.std.specs.List.{list_any};
 ghost use Rattle.cip_base.specs.declared.triad.Triad.{Triad};
@@ -24,7 +24,8 @@ ghost use Rattle.cip_world.specs.Runs.{IsArrival, IsModule, IsRun, IsWaiting, st
 ghost use Rattle.cip_world.specs.Waiting.{waiting};
 ghost use Rattle.cip_world.specs.Answers.{Answered};
 ghost use Rattle.cip_world.specs.Mirrors.{IsMirrored};
-ghost use Rattle.cip_world.specs.Entering.{HasOutput, IsOpened, ConsumedOf, ArrivedOf};
+ghost use Rattle.cip_world.specs.Chains.{Member, IsChain, last_of, AreDeliveries, AreKept, IsTakenBy};
+ghost use Rattle.cip_world.specs.Entering.{HasOutput, before_entry, IsEntered, IsOpened, ConsumedOf, ArrivedOf};
 
 /// A frame is in the list of those that wait exactly where it waits, and the list rises.
 pub fn what_waits_is_listed()
@@ -104,4 +105,16 @@ pub fn an_op_opens_once()
     ensures { (t : Plan) (j : Journal) (m op : ℕ) (one other : OpenRequest) → IsRun t j
         → (a : IsOpened t j m op one) → (b : IsOpened t j m op other)
         → (a.entry ≡ b.entry) × (one ≡ other) }
+{}
+
+/// A datum that is entered on a chain, and followed through as many deliveries as the chain has
+/// links, is consumed at its end with the same bytes, where no connection of the chain is removed
+/// meanwhile.
+pub fn chains_carry_data()
+    ensures { (t : Plan) → IsTopology t → (j : Journal) (entry m op : ℕ) (bytes : List ℕ) → IsRun t j
+        → IsEntered j entry m op bytes → (first : Member) (rest : List Member) → first.at ≡ m
+        → IsChain t (before_entry j entry) op first rest
+        → (ks : List ℕ) → AreDeliveries j entry ks → length ks ≡ length rest
+        → AreKept t j entry (last_of entry ks) (first ∷ rest)
+        → IsTakenBy j (last_of entry ks) (last_of first rest) bytes }
 {}
