@@ -1,27 +1,24 @@
 -- Each datum that arrives at an op was produced where the op's open leads, and arrives once.
-use Rattle.std.proofs.Common.{◌≡◌, ℕ, zero, suc, ◌<◌, ◌≤◌, true, false, ◌&&◌, List, [], ◌∷◌, Option, Some, None, refl, sym, ap, subst, ◌∙◌, ◌⊎◌, inl, inr, arith, eqb, length}
+use Rattle.std.proofs.Common.{◌≡◌, ℕ, suc, ◌≤◌, true, false, ◌&&◌, List, ◌∷◌, Some, refl, sym, ap, subst, ◌∙◌, inr, arith, eqb, length}
 use Rattle.std.specs.FinMap as map
-use Rattle.std.specs.Prelude.{slice_get}
 use Rattle.std.specs.Str.{bytes_eq}
 use Rattle.std.proofs.lemmas.Bool.{and_parts, and_from, eqb-true, eq-eqb}
 use Rattle.std.proofs.lemmas.Slice.Eq.{bytes_eq-Decides}
 use Rattle.cip_base.specs.declared.numbers.ModuleId.{ModuleId}
 use Rattle.cip_base.specs.declared.triad.Triad.{Triad}
-use Rattle.cip_base.proofs.MapCases.{some_same}
 use Rattle.cip_open.specs.Open.{Open as OpenRequest}
 use Rattle.cip_hops.specs.declared.opening.HopDown.{HopDown}
 use Rattle.cip_hops.specs.declared.opening.HopDown.TheVariants.{Link as DownLink, End}
 use Rattle.cip_hops.specs.declared.opening.HopUp.{HopUp}
 use Rattle.cip_hops.specs.declared.opening.HopUp.TheVariants.{Link as UpLink, Local as UpLocal}
 use Rattle.cip_hops.specs.declared.opening.Opening.{Opening}
-use Rattle.cip_hops.specs.declared.opening.OwnIds.{OwnIds}
 use Rattle.cip_hops.specs.declared.hop.Hop.{Hop}
 use Rattle.cip_hops.specs.declared.hop.Held.{Held}
 use Rattle.cip_hops.specs.declared.hop.Held.TheVariants.{Open}
 use Rattle.cip_hops.specs.declared.hop.Side.{Side}
-use Rattle.cip_hops.specs.declared.hop.Side.TheVariants.{Up, Down}
+use Rattle.cip_hops.specs.declared.hop.Side.TheVariants.{Up}
 use Rattle.cip_hops.specs.Sides.{up_is_link}
-use Rattle.cip_hops.specs.Hops.{opening_of, triad_of}
+use Rattle.cip_hops.specs.Hops.{opening_of}
 use Rattle.cip_module.specs.declared.config.ModuleSettings.{ModuleSettings}
 use Rattle.cip_module.specs.declared.event.Body.TheVariants as bodies
 use Rattle.cip_module.specs.declared.event.Command.TheVariants as commands
@@ -31,26 +28,21 @@ use Rattle.cip_module.specs.declared.event.Output.{Output}
 use Rattle.cip_module.specs.declared.event.Output.TheVariants as outputs
 use Rattle.cip_module.specs.Births.{Past, IsBirth}
 use Rattle.cip_module.specs.Histories.{IsHistory}
-use Rattle.cip_module.specs.Outputs.{is_datum, DatumOf, GoesUp, Arrives, GoesDown, IsConsumed}
+use Rattle.cip_module.specs.Outputs.{DatumOf, GoesUp, Arrives, GoesDown, IsConsumed}
 use Rattle.cip_module.specs.Produced.{reads_from}
 use Rattle.cip_module.specs.State.{State}
 use Rattle.cip_module.specs.Table.{table_step}
 use Rattle.cip_module.specs.Weights.{mark, weight_in}
-use Rattle.cip_module.specs.Words.{Has}
 use Rattle.cip_module.proofs.Births.{born_once}
 use Rattle.cip_module.proofs.Triads.{HasOwnTriads, own_triads}
 use Rattle.cip_module.proofs.Turns.{turned}
 use Rattle.cip_module.proofs.Weighing.{one_place}
 use Rattle.cip_topology.specs.Nodes.{Way}
-use Rattle.cip_topology.specs.Walk.{walk}
 use Rattle.cip_world.specs.declared.journal.Entry.TheVariants.{Step}
 use Rattle.cip_world.specs.declared.journal.FrameName.{FrameName}
-use Rattle.cip_world.specs.declared.journal.Input.{Input}
 use Rattle.cip_world.specs.declared.journal.Input.TheVariants as inputs
-use Rattle.cip_world.specs.Entering.{HasOutput, before_entry, IsProduced, IsOpened, ArrivedOf}
-use Rattle.cip_world.specs.Journals.{Journal, Flight, entry_at, part}
-use Rattle.cip_world.specs.Mirrors.{IsOlder}
-use Rattle.cip_world.specs.Roots.{root_of}
+use Rattle.cip_world.specs.Entering.{HasOutput, before_entry, ArrivedOf}
+use Rattle.cip_world.specs.Journals.{Journal, entry_at, part}
 use Rattle.cip_world.specs.Runs.{IsModule, IsRun, state_in}
 use Rattle.cip_world.proofs.Arrivals.{way_in, name_eq}
 use Rattle.cip_world.proofs.Chassis.{Chassis}
@@ -59,8 +51,8 @@ use Rattle.cip_world.proofs.Consumed.{StepOf, step_of, opened_later, leads_to, p
 use Rattle.cip_world.proofs.Frames.{out_of}
 use Rattle.cip_world.proofs.Given.{Given, Source, CameBy, EnteredBy, MadeBy, given}
 use Rattle.cip_world.proofs.Leading.{EndsAt, ends_at}
-use Rattle.cip_world.proofs.Lines.{IsDatum, frame_place, Line, ends_once}
-use Rattle.cip_world.proofs.Moments.{number_at, before_that, itself, run_older, SentAt, sent_at}
+use Rattle.cip_world.proofs.Lines.{frame_place, Line, ends_once}
+use Rattle.cip_world.proofs.Moments.{number_at, before_that, itself, run_older}
 use Rattle.cip_world.proofs.OpenedOnce.{opened_once}
 use Rattle.cip_world.proofs.Parts.{turn_of, same_module, run_history}
 use Rattle.cip_world.proofs.ProducedOnce.{is_there, goes_there, produced_once}

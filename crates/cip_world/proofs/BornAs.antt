@@ -1,5 +1,5 @@
 -- How a connection was born: by a request that goes on, or one that ends here.
-use Rattle.std.proofs.Common.{◌≡◌, ℕ, true, false, List, [], ◌∷◌, Ok, Option, Some, None, refl, sym, ap, subst, ◌∙◌, inl, inr}
+use Rattle.std.proofs.Common.{◌≡◌, List, [], ◌∷◌, Option, Some, None, refl, sym, ap, subst, ◌∙◌, inl, inr}
 use Rattle.std.specs.FinMap as map
 use Rattle.std.specs.Prelude.{option_and_then}
 use Rattle.cip_base.specs.declared.triad.Triad.{Triad}

@@ -1,5 +1,5 @@
 -- An unbroken chain carries a datum from its op to its end.
-use Rattle.std.proofs.Common.{◌≡◌, ℕ, zero, suc, ◌<◌, ◌≤◌, Bool, true, false, cond, ◌&&◌, List, [], ◌∷◌, Option, Some, None, refl, sym, ap, subst, ◌∙◌, ◌⊎◌, inl, inr, arith, eqb, length, is_some}
+use Rattle.std.proofs.Common.{◌≡◌, ℕ, zero, suc, ◌<◌, ◌≤◌, Bool, true, false, cond, List, [], ◌∷◌, Option, Some, None, refl, sym, ap, subst, ◌∙◌, inl, arith, eqb, length, is_some}
 use Rattle.std.specs.FinMap as map
 use Rattle.std.specs.Prelude.{slice_get}
 use Rattle.std.specs.Option.{option_map_or, option_and_then}
@@ -13,35 +13,30 @@ use Rattle.cip_base.proofs.Triads.{triads_total}
 use Rattle.cip_base.proofs.Views.{find-only}
 use Rattle.cip_hops.specs.declared.opening.HopDown.{HopDown}
 use Rattle.cip_hops.specs.declared.opening.HopDown.TheVariants.{Link as DownLink, End}
-use Rattle.cip_hops.specs.declared.opening.HopUp.{HopUp}
 use Rattle.cip_hops.specs.declared.opening.HopUp.TheVariants.{Link as UpLink}
 use Rattle.cip_hops.specs.declared.opening.Opening.{Opening}
 use Rattle.cip_hops.specs.declared.opening.OwnIds.{OwnIds}
 use Rattle.cip_hops.specs.declared.hop.Hop.{Hop}
 use Rattle.cip_hops.specs.declared.hop.Held.{Held}
 use Rattle.cip_hops.specs.declared.hop.Held.TheVariants.{Opening as IsOpening, Open}
-use Rattle.cip_hops.specs.declared.hop.Side.TheVariants.{Up, Down}
+use Rattle.cip_hops.specs.declared.hop.Side.TheVariants.{Down}
 use Rattle.cip_hops.specs.Sides.{up_is}
-use Rattle.cip_hops.specs.Hops.{as_hop, is_hop, is_id, triad_of, is_hop_by_up, hop_by_up, hop_by_op}
+use Rattle.cip_hops.specs.Hops.{as_hop, is_hop, is_id, is_hop_by_up, hop_by_up, hop_by_op}
 use Rattle.cip_hops.proofs.Steps.{triads_apart}
 use Rattle.cip_module.specs.declared.config.ModuleSettings.{ModuleSettings}
 use Rattle.cip_module.specs.declared.command_rows.CommandRow.TheVariants as rows
 use Rattle.cip_module.specs.declared.event.Body.{Body}
 use Rattle.cip_module.specs.declared.event.Body.TheVariants as bodies
 use Rattle.cip_module.specs.declared.event.Command.TheVariants as commands
-use Rattle.cip_module.specs.declared.event.Event.{Event}
 use Rattle.cip_module.specs.declared.event.Event.TheVariants as events
 use Rattle.cip_module.specs.declared.event.Output.{Output}
 use Rattle.cip_module.specs.declared.event.Output.TheVariants as outputs
 use Rattle.cip_module.specs.declared.event.Refused.TheVariants as refused
-use Rattle.cip_module.specs.Births.{IsBirth}
 use Rattle.cip_module.specs.Changes.{SameCore}
 use Rattle.cip_module.specs.Config.{port_of}
 use Rattle.cip_module.specs.Effects.{outputs_of, datum_down, datum_by}
-use Rattle.cip_module.specs.Histories.{IsHistory}
-use Rattle.cip_module.specs.Outputs.{is_data}
 use Rattle.cip_module.specs.State.{State}
-use Rattle.cip_module.specs.Table.{decide, refused_effects, entered_effects, enter_effects, table_step}
+use Rattle.cip_module.specs.Table.{refused_effects, entered_effects, enter_effects, table_step}
 use Rattle.cip_module.specs.Words.{Has}
 use Rattle.cip_module.proofs.Births.{held_born, born_once}
 use Rattle.cip_module.proofs.DataMet.{goes_down, goes_entered}
@@ -50,12 +45,11 @@ use Rattle.cip_module.proofs.Turns.{Turned, turned}
 use Rattle.cip_topology.specs.Plan.{Plan}
 use Rattle.cip_topology.specs.Nodes.{Way, across as goes}
 use Rattle.cip_world.specs.declared.journal.Entry.TheVariants.{Step}
-use Rattle.cip_world.specs.declared.journal.FrameName.{FrameName}
 use Rattle.cip_world.specs.declared.journal.Input.{Input}
 use Rattle.cip_world.specs.declared.journal.Input.TheVariants as inputs
 use Rattle.cip_world.specs.Chains.{Member, HasHop, IsNextTo, GoesToEnd, GoesOnBy, IsChain, last_of, IsDelivery, AreDeliveries, IsHeld, IsKept, AreKept, IsTakenBy}
-use Rattle.cip_world.specs.Entering.{HasOutput, before_entry, IsTaken, IsEntered}
-use Rattle.cip_world.specs.Journals.{Journal, Flight, frame_at, entry_at, part}
+use Rattle.cip_world.specs.Entering.{before_entry, IsTaken, IsEntered}
+use Rattle.cip_world.specs.Journals.{Journal, Flight, entry_at, part}
 use Rattle.cip_world.specs.Mirrors.{IsOlder}
 use Rattle.cip_world.specs.Runs.{IsModule, IsArrival, IsRun, state_in}
 use Rattle.cip_world.proofs.Arrivals.{way_in}
@@ -63,9 +57,9 @@ use Rattle.cip_world.proofs.Chassis.{Chassis}
 use Rattle.cip_world.proofs.Frames.{out_of}
 use Rattle.cip_world.proofs.Keeping.{Still, still}
 use Rattle.cip_world.proofs.Leading.{port_there}
-use Rattle.cip_world.proofs.Lines.{IsDatum, frame_place}
+use Rattle.cip_world.proofs.Lines.{frame_place}
 use Rattle.cip_world.proofs.Mirrored.{Lower, lower}
-use Rattle.cip_world.proofs.Moments.{AtEntry, at_number, number_at, before_that, itself, older_length, older_trans, run_older, SentAt, sent_at}
+use Rattle.cip_world.proofs.Moments.{AtEntry, at_number, number_at, before_that, itself, older_length, older_trans, run_older, sent_at}
 use Rattle.cip_world.proofs.Parts.{same_module, run_history}
 use Rattle.cip_world.proofs.Rooted.{before_at, frame_later}
 

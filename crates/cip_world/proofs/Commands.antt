@@ -1,5 +1,5 @@
 -- Commands that are taken, and the one that opened a connection.
-use Rattle.std.proofs.Common.{◌≡◌, ℕ, true, false, cond, List, [], ◌∷◌, Option, Some, None, refl, sym, ap, subst, ◌∙◌, ◌⊎◌, inl, inr, eqb, length}
+use Rattle.std.proofs.Common.{◌≡◌, ℕ, false, cond, List, [], ◌∷◌, Option, Some, None, refl, sym, ap, ◌∙◌, ◌⊎◌, inl, inr, length}
 use Rattle.std.specs.FinMap as map
 use Rattle.std.proofs.lemmas.Bool.{eq-eqb}
 use Rattle.cip_base.specs.declared.numbers.ModuleId.{ModuleId}
@@ -7,16 +7,13 @@ use Rattle.cip_base.specs.declared.timing.Timing.{Timing}
 use Rattle.cip_base.specs.declared.triad.Triad.{Triad}
 use Rattle.cip_open.specs.Open.{Open as OpenRequest}
 use Rattle.cip_pending.specs.declared.entry.UpSide.{UpSide}
-use Rattle.cip_pending.specs.declared.entry.UpSide.TheVariants.{Link, Local}
 use Rattle.cip_hops.specs.declared.opening.HopDown.{HopDown}
 use Rattle.cip_hops.specs.declared.opening.HopUp.TheVariants.{Link as UpLink, Local as UpLocal}
 use Rattle.cip_hops.specs.declared.opening.Opening.{Opening}
 use Rattle.cip_hops.specs.declared.hop.Held.{Held}
 use Rattle.cip_hops.specs.declared.hop.Hop.{Hop}
-use Rattle.cip_hops.specs.Sides.{up_is_link}
 use Rattle.cip_hops.specs.Hops.{opening_of, ids_of, hop_by_op}
 use Rattle.cip_module.specs.declared.config.ModuleSettings.{ModuleSettings}
-use Rattle.cip_module.specs.declared.command_rows.CommandRow.{CommandRow}
 use Rattle.cip_module.specs.declared.command_rows.CommandRow.TheVariants as rows
 use Rattle.cip_module.specs.declared.event.Command.{Command}
 use Rattle.cip_module.specs.declared.event.Command.TheVariants as commands
@@ -27,7 +24,7 @@ use Rattle.cip_module.specs.declared.event.Output.{Output}
 use Rattle.cip_module.specs.declared.event.Output.TheVariants as outputs
 use Rattle.cip_module.specs.declared.event.Refused.{Refused}
 use Rattle.cip_module.specs.Births.{Past}
-use Rattle.cip_module.specs.CommandRows.{enter_row, op_row}
+use Rattle.cip_module.specs.CommandRows.{enter_row}
 use Rattle.cip_module.specs.Effects.{applied}
 use Rattle.cip_module.specs.Histories.{Turn, state_after, IsHistory}
 use Rattle.cip_module.specs.OpenRows.{opening_with}
@@ -35,7 +32,6 @@ use Rattle.cip_module.specs.Outputs.{EndedBy, ByTimeOut, ByRefusal, ByDrop}
 use Rattle.cip_module.specs.State.{State, is_spent}
 use Rattle.cip_module.specs.Table.{opener, open_of}
 use Rattle.cip_module.specs.Tells.{AsksOpen, command_row, refused_by}
-use Rattle.cip_module.specs.Words.{Has}
 use Rattle.cip_module.proofs.GaveBy.{gave_by}
 use Rattle.cip_module.proofs.GivenBy.{ended_by}
 use Rattle.cip_module.proofs.Turns.{newest}
@@ -48,8 +44,8 @@ use Rattle.cip_world.specs.Journals.{Journal, part}
 use Rattle.cip_world.specs.Mirrors.{IsOlder}
 use Rattle.cip_world.specs.Runs.{IsModule, IsGiven, IsRun, state_in}
 use Rattle.cip_world.proofs.BornAs.{BornAs, GoesOn, EndsHere, Birth, held_as}
-use Rattle.cip_world.proofs.Moments.{number_at, before_newest, itself}
-use Rattle.cip_world.proofs.Parts.{turn_of, part_step, same_module, run_history}
+use Rattle.cip_world.proofs.Moments.{number_at}
+use Rattle.cip_world.proofs.Parts.{turn_of, part_step, run_history}
 
 -- ---- what a command was given as
 

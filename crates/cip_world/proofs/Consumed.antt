@@ -1,25 +1,22 @@
 -- Each datum that an end takes was entered on an open whose path leads there, and is taken once.
-use Rattle.std.proofs.Common.{◌≡◌, ℕ, zero, suc, ◌<◌, true, false, List, [], ◌∷◌, Option, Some, None, refl, sym, ap, subst, ◌∙◌, ◌⊎◌, inl, inr, arith, length}
+use Rattle.std.proofs.Common.{◌≡◌, ℕ, suc, true, false, List, ◌∷◌, Some, refl, sym, ap, subst, ◌∙◌, arith, length}
 use Rattle.std.specs.FinMap as map
 use Rattle.cip_base.specs.declared.numbers.ModuleId.{ModuleId}
 use Rattle.cip_base.specs.declared.triad.Triad.{Triad}
 use Rattle.cip_segment.specs.Reading.{segments_of}
 use Rattle.cip_open.specs.Open.{Open as OpenRequest}
 use Rattle.cip_hops.specs.declared.opening.HopDown.TheVariants.{End}
-use Rattle.cip_hops.specs.declared.opening.HopUp.{HopUp}
 use Rattle.cip_hops.specs.declared.opening.HopUp.TheVariants.{Local as UpLocal}
 use Rattle.cip_hops.specs.declared.opening.Opening.{Opening}
 use Rattle.cip_hops.specs.declared.hop.Hop.{Hop}
 use Rattle.cip_hops.specs.declared.hop.Held.TheVariants.{Open}
 use Rattle.cip_hops.specs.declared.hop.Side.{Side}
-use Rattle.cip_hops.specs.declared.hop.Side.TheVariants.{Up, Down}
+use Rattle.cip_hops.specs.declared.hop.Side.TheVariants.{Down}
 use Rattle.cip_hops.specs.Sides.{up_is_link}
-use Rattle.cip_hops.specs.Hops.{hop_by_op, is_hop_by_op}
-use Rattle.cip_target.specs.ApplicationPath.{Application, application_of}
+use Rattle.cip_hops.specs.Hops.{is_hop_by_op}
+use Rattle.cip_target.specs.ApplicationPath.{application_of}
 use Rattle.cip_target.specs.declared.link.EndLink.{EndLink}
-use Rattle.cip_module.specs.declared.config.ModuleSettings.{ModuleSettings}
 use Rattle.cip_module.specs.declared.event.Command.TheVariants as commands
-use Rattle.cip_module.specs.declared.event.Event.{Event}
 use Rattle.cip_module.specs.declared.event.Output.{Output}
 use Rattle.cip_module.specs.declared.event.Output.TheVariants as outputs
 use Rattle.cip_module.specs.Outputs.{is_datum, DatumOf, GoesUp, Arrives, GoesDown, IsConsumed}
@@ -37,18 +34,18 @@ use Rattle.cip_world.specs.declared.journal.Entry.TheVariants.{Step}
 use Rattle.cip_world.specs.declared.journal.FrameName.{FrameName}
 use Rattle.cip_world.specs.declared.journal.Input.{Input}
 use Rattle.cip_world.specs.declared.journal.Input.TheVariants as inputs
-use Rattle.cip_world.specs.Entering.{HasOutput, IsEntered, IsOpened, LeadsTo, ConsumedOf}
+use Rattle.cip_world.specs.Entering.{HasOutput, IsOpened, LeadsTo, ConsumedOf}
 use Rattle.cip_world.specs.Journals.{Journal, Flight, entry_at, part}
 use Rattle.cip_world.specs.Mirrors.{IsOlder}
 use Rattle.cip_world.specs.Roots.{root_of}
-use Rattle.cip_world.specs.Runs.{IsModule, IsRun, state_in}
+use Rattle.cip_world.specs.Runs.{IsRun, state_in}
 use Rattle.cip_world.proofs.Chassis.{Chassis}
 use Rattle.cip_world.proofs.Commands.{OpenOf, opened_by_op}
-use Rattle.cip_world.proofs.Entered.{Behind, Entered, CameDown, came_down, carried_down, entered}
+use Rattle.cip_world.proofs.Entered.{Behind, Entered, came_down, carried_down, entered}
 use Rattle.cip_world.proofs.Given.{Given, Source, CameBy, EnteredBy, MadeBy, given, by_op}
 use Rattle.cip_world.proofs.Leading.{EndsAt, ends_at}
-use Rattle.cip_world.proofs.Lines.{OneDatum, entered_gives, one_frame_of, line_gives, Line, IsEnd, is_end, ends_once, line_datum}
-use Rattle.cip_world.proofs.Moments.{AtEntry, at_number, number_at, before_that, older_length, older_trans, run_older}
+use Rattle.cip_world.proofs.Lines.{entered_gives, one_frame_of, line_gives, Line, IsEnd, is_end, ends_once, line_datum}
+use Rattle.cip_world.proofs.Moments.{at_number, number_at, before_that, older_trans, run_older}
 use Rattle.cip_world.proofs.Frames.{out_of}
 use Rattle.cip_world.proofs.Parts.{turn_of, run_history}
 use Rattle.cip_world.proofs.Steps.{turn_history}

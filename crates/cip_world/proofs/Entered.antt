@@ -1,23 +1,18 @@
 -- A datum that a connection gives down was entered, on the connection at the other end of its chain.
-use Rattle.std.proofs.Common.{◌≡◌, ℕ, zero, suc, ◌<◌, List, [], ◌∷◌, Option, Some, None, refl, sym, ap, subst, ◌∙◌, ◌⊎◌, inl, inr, arith, length}
+use Rattle.std.proofs.Common.{◌≡◌, ℕ, zero, suc, ◌<◌, List, ◌∷◌, Some, refl, sym, ap, subst, ◌∙◌, ◌⊎◌, inl, inr, arith, length}
 use Rattle.std.specs.FinMap as map
 use Rattle.cip_base.specs.declared.numbers.ModuleId.{ModuleId}
-use Rattle.cip_base.specs.declared.triad.Triad.{Triad}
 use Rattle.cip_hops.specs.declared.opening.Opening.{Opening}
 use Rattle.cip_hops.specs.declared.hop.Hop.{Hop}
 use Rattle.cip_hops.specs.declared.hop.Held.TheVariants.{Open}
 use Rattle.cip_hops.specs.declared.hop.Side.TheVariants.{Up, Down}
 use Rattle.cip_hops.specs.Hops.{hop_by_op}
 use Rattle.cip_module.specs.declared.config.ModuleSettings.{ModuleSettings}
-use Rattle.cip_module.specs.declared.event.Body.{Body}
 use Rattle.cip_module.specs.declared.event.Body.TheVariants as bodies
 use Rattle.cip_module.specs.declared.event.Command.TheVariants as commands
-use Rattle.cip_module.specs.declared.event.Event.{Event}
 use Rattle.cip_module.specs.declared.event.Event.TheVariants as events
 use Rattle.cip_module.specs.declared.event.Output.{Output}
-use Rattle.cip_module.specs.Histories.{Turn, state_after, IsHistory}
 use Rattle.cip_module.specs.Outputs.{is_data}
-use Rattle.cip_module.specs.State.{State}
 use Rattle.cip_module.specs.Tells.{DatumCame}
 use Rattle.cip_module.proofs.Triads.{own_triads}
 use Rattle.cip_topology.specs.Walk.{walk}
@@ -35,7 +30,7 @@ use Rattle.cip_world.proofs.Chassis.{Chassis}
 use Rattle.cip_world.proofs.Commands.{command_given, taken_by, enter_taken}
 use Rattle.cip_world.proofs.Given.{Source, CameBy, EnteredBy, MadeBy, by_up}
 use Rattle.cip_world.proofs.Lines.{Brings, IsDatum, Line}
-use Rattle.cip_world.proofs.Moments.{number_at, before_that, older_length, older_trans, SentAt}
+use Rattle.cip_world.proofs.Moments.{number_at, before_that, older_length, older_trans}
 use Rattle.cip_world.proofs.Parts.{turn_of, run_history}
 use Rattle.cip_world.proofs.Rooted.{root_older, root_at, frame_later}
 use Rattle.cip_world.proofs.Steps.{turn_history, DatumFrame, FromAbove, from_above}

@@ -1,5 +1,5 @@
 -- Which connection a datum was given by, and where that had it from.
-use Rattle.std.proofs.Common.{◌≡◌, ℕ, true, List, [], ◌∷◌, ◌++◌, Option, Some, None, refl, sym, ap, subst, ◌∙◌, length, eqb, ◌&&◌}
+use Rattle.std.proofs.Common.{◌≡◌, ℕ, true, List, ◌∷◌, Option, Some, None, sym, ap, subst, ◌∙◌, length, eqb}
 use Rattle.std.specs.FinMap as map
 use Rattle.std.specs.Str.{bytes_eq}
 use Rattle.std.proofs.lemmas.Bool.{and_parts, eqb-true}
@@ -23,9 +23,9 @@ use Rattle.cip_module.specs.declared.event.Command.TheVariants as commands
 use Rattle.cip_module.specs.declared.event.Event.{Event}
 use Rattle.cip_module.specs.declared.event.Event.TheVariants as events
 use Rattle.cip_module.specs.declared.event.Output.{Output}
-use Rattle.cip_module.specs.Changes.{Stood, SameCore}
-use Rattle.cip_module.specs.EffectLists.{HasStood, Stands}
-use Rattle.cip_module.specs.Effects.{Effect, Passes, applied, datum_up, datum_by}
+use Rattle.cip_module.specs.Changes.{SameCore}
+use Rattle.cip_module.specs.EffectLists.{Stands}
+use Rattle.cip_module.specs.Effects.{Passes, applied, datum_up, datum_by}
 use Rattle.cip_module.specs.Histories.{Turn, state_after, IsHistory}
 use Rattle.cip_module.specs.Outputs.{GaveBy, is_datum, PassedBy, DatumOf}
 use Rattle.cip_module.specs.Produced.{datum_bytes}

@@ -1,5 +1,5 @@
 -- A connection that is not removed stays what it is: what stands under its triad at a later moment has its core.
-use Rattle.std.proofs.Common.{◌≡◌, ℕ, ◌≤◌, List, [], ◌∷◌, ◌++◌, Option, Some, None, refl, sym, ap, subst, ◌∙◌, ◌⊎◌, inl, inr, arith, length}
+use Rattle.std.proofs.Common.{◌≡◌, ℕ, ◌≤◌, List, [], ◌∷◌, ◌++◌, Some, None, refl, sym, ap, subst, ◌∙◌, inl, inr, arith, length}
 use Rattle.std.specs.FinMap as map
 use Rattle.cip_base.specs.declared.triad.Triad.{Triad}
 use Rattle.cip_hops.specs.declared.opening.Opening.{Opening}
@@ -9,7 +9,7 @@ use Rattle.cip_hops.specs.declared.hop.Held.TheVariants.{Opening as IsOpening, O
 use Rattle.cip_module.specs.declared.config.ModuleSettings.{ModuleSettings}
 use Rattle.cip_module.specs.declared.event.Output.{Output}
 use Rattle.cip_module.specs.Changes.{SameCore, HeldCase, Stands, Begun, Ended, Finished}
-use Rattle.cip_module.specs.Effects.{Effect, Begins, Accepts, apply, applied}
+use Rattle.cip_module.specs.Effects.{Effect, apply, applied}
 use Rattle.cip_module.specs.Histories.{Turn, state_after, IsHistory}
 use Rattle.cip_module.specs.State.{State}
 use Rattle.cip_module.specs.Tells.{Tells}
@@ -21,7 +21,7 @@ use Rattle.cip_world.specs.declared.journal.Entry.TheVariants.{Step, Lost}
 use Rattle.cip_world.specs.Journals.{Journal, part}
 use Rattle.cip_world.specs.Mirrors.{IsOlder}
 use Rattle.cip_world.specs.Runs.{IsModule, IsRun, state_in}
-use Rattle.cip_world.proofs.Moments.{before_newest, older_length, older_trans, itself}
+use Rattle.cip_world.proofs.Moments.{older_length}
 use Rattle.cip_world.proofs.Parts.{turn_of, part_step, step_here, run_history}
 
 core_trans : (h : Hop) (old x : Held) → SameCore (Open h) old → SameCore old x → SameCore (Open h) x

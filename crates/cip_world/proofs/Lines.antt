@@ -1,5 +1,5 @@
 -- A datum goes from entry to entry along one line: each arrival of a datum gives one datum at most, and each frame arrives once.
-use Rattle.std.proofs.Common.{◌≡◌, ℕ, zero, suc, ◌+◌, ◌≤◌, Bool, true, false, ◌||◌, List, [], ◌∷◌, Option, Some, None, refl, sym, ap, subst, ◌∙◌, ◌⊎◌, inl, inr, arith, length}
+use Rattle.std.proofs.Common.{◌≡◌, ℕ, zero, suc, ◌≤◌, Bool, true, false, ◌||◌, List, [], ◌∷◌, Some, refl, sym, ap, subst, ◌∙◌, ◌⊎◌, inl, inr, arith, length}
 use Rattle.std.specs.Prelude.{slice_get}
 use Rattle.std.proofs.lemmas.Bool.{or_right}
 use Rattle.cip_base.specs.declared.numbers.ModuleId.{ModuleId}
@@ -10,28 +10,26 @@ use Rattle.cip_module.specs.declared.event.Command.TheVariants as commands
 use Rattle.cip_module.specs.declared.event.Event.{Event}
 use Rattle.cip_module.specs.declared.event.Event.TheVariants as events
 use Rattle.cip_module.specs.declared.event.Output.{Output}
-use Rattle.cip_module.specs.Effects.{outputs_of}
 use Rattle.cip_module.specs.Outputs.{is_data, is_datum, one_datum}
 use Rattle.cip_module.specs.State.{State}
 use Rattle.cip_module.specs.Table.{table_step}
 use Rattle.cip_module.specs.Weights.{mark, weight_in}
 use Rattle.cip_module.specs.Words.{Has}
 use Rattle.cip_module.proofs.DataOnce.{frame_once, enter_once}
-use Rattle.cip_module.proofs.Turns.{Turned, turned}
+use Rattle.cip_module.proofs.Turns.{turned}
 use Rattle.cip_module.proofs.Weighing.{one_place}
 use Rattle.cip_topology.specs.Plan.{Plan}
 use Rattle.cip_world.specs.declared.journal.Entry.{Entry}
-use Rattle.cip_world.specs.declared.journal.Entry.TheVariants.{Step, Lost}
+use Rattle.cip_world.specs.declared.journal.Entry.TheVariants.{Step}
 use Rattle.cip_world.specs.declared.journal.FrameName.{FrameName}
 use Rattle.cip_world.specs.declared.journal.Input.{Input}
 use Rattle.cip_world.specs.declared.journal.Input.TheVariants as inputs
 use Rattle.cip_world.specs.Journals.{Journal, Flight, entry_at, frame_at, names, is_named}
-use Rattle.cip_world.specs.Mirrors.{IsOlder}
-use Rattle.cip_world.specs.Runs.{IsArrival, IsGiven, IsStepAt, IsRun, state_in}
+use Rattle.cip_world.specs.Runs.{IsArrival, IsRun, state_in}
 use Rattle.cip_world.proofs.Arrivals.{same_self, name_eq}
 use Rattle.cip_world.proofs.Frames.{out_of, has_at}
 use Rattle.cip_world.proofs.Mirrored.{one_of}
-use Rattle.cip_world.proofs.Moments.{AtEntry, at_number, number_at, SentAt, sent_at, sent_has, before_that, run_older}
+use Rattle.cip_world.proofs.Moments.{at_number, number_at, sent_at, before_that, run_older}
 use Rattle.cip_world.proofs.Rooted.{frame_later, entry_cases}
 
 -- the frame arrived in entry k

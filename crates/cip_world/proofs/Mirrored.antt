@@ -18,11 +18,9 @@ use Rattle.cip_module.specs.declared.event.Body.TheVariants as bodies
 use Rattle.cip_module.specs.declared.event.Event.TheVariants as events
 use Rattle.cip_module.specs.declared.event.Output.{Output}
 use Rattle.cip_module.specs.declared.event.Output.TheVariants as outputs
-use Rattle.cip_world.specs.declared.journal.Entry.{Entry}
 use Rattle.cip_module.specs.Births.{Past, IsBirth}
 use Rattle.cip_module.specs.Histories.{Turn, state_after, IsHistory}
 use Rattle.cip_world.specs.Mirrors.{IsOlder, Mirrors, IsMirrored}
-use Rattle.cip_topology.specs.Plan.{Plan}
 use Rattle.cip_topology.specs.Nodes.{Way, across as goes}
 use Rattle.cip_world.specs.Journals.{Journal, Flight, part}
 use Rattle.cip_world.specs.Runs.{IsModule, state_in, IsRun}
@@ -35,7 +33,7 @@ use Rattle.cip_module.proofs.Joined.{OpenSent}
 use Rattle.cip_module.proofs.Numbers.{sent_once}
 use Rattle.cip_module.proofs.OpenedBelow.{HopOpened, hop_opened}
 use Rattle.cip_world.proofs.Chassis.{Chassis}
-use Rattle.cip_world.proofs.Moments.{run_older, past_older, itself}
+use Rattle.cip_world.proofs.Moments.{run_older, past_older}
 use Rattle.cip_world.proofs.Parts.{run_history}
 use Rattle.cip_world.proofs.Successes.{AllAsk, Below, below}
 use Rattle.cip_module.proofs.Weighing.{weight_has, weight_gave}

@@ -1,5 +1,5 @@
 -- An op opens once: of two Opens of one op at one module one is refused.
-use Rattle.std.proofs.Common.{◌≡◌, ℕ, Bool, true, false, cond, List, [], ◌∷◌, ◌++◌, Option, Some, None, refl, sym, ap, subst, ◌∙◌, ◌⊎◌, inl, inr, length}
+use Rattle.std.proofs.Common.{◌≡◌, ℕ, Bool, true, false, cond, List, [], ◌∷◌, Some, refl, sym, ap, subst, ◌∙◌, ◌⊎◌, inl, inr, length}
 use Rattle.cip_base.specs.declared.numbers.ModuleId.{ModuleId}
 use Rattle.cip_base.specs.declared.timing.Timing.{Timing}
 use Rattle.cip_hops.specs.declared.opening.HopUp.TheVariants.{Local as UpLocal}
@@ -8,7 +8,6 @@ use Rattle.cip_open.specs.Open.{Open as OpenRequest}
 use Rattle.cip_module.specs.declared.config.ModuleSettings.{ModuleSettings}
 use Rattle.cip_module.specs.declared.command_rows.CommandRow.TheVariants as rows
 use Rattle.cip_module.specs.declared.event.Command.TheVariants as commands
-use Rattle.cip_module.specs.declared.event.Event.{Event}
 use Rattle.cip_module.specs.declared.event.Event.TheVariants as events
 use Rattle.cip_module.specs.declared.event.OpenParams.{OpenParams}
 use Rattle.cip_module.specs.declared.event.Output.{Output}
@@ -17,19 +16,18 @@ use Rattle.cip_module.specs.declared.event.Refused.TheVariants as refused
 use Rattle.cip_module.specs.Effects.{Effect, Spends, apply, applied, outputs_of}
 use Rattle.cip_module.specs.Histories.{Turn, state_after, IsHistory}
 use Rattle.cip_module.specs.OpenRows.{open_row}
-use Rattle.cip_module.specs.State.{State, is_spent, spent_with}
-use Rattle.cip_module.specs.Table.{open_effects, with_spending, refused_effects, open_of, decide}
+use Rattle.cip_module.specs.State.{State, is_spent}
+use Rattle.cip_module.specs.Table.{open_effects, refused_effects, open_of, decide}
 use Rattle.cip_module.specs.Words.{Has}
 use Rattle.cip_module.proofs.Kept.{spent_now, spent_still}
 use Rattle.cip_module.proofs.Turns.{Turned, newest}
 use Rattle.cip_topology.specs.Plan.{Plan}
 use Rattle.cip_world.specs.declared.journal.Entry.{Entry}
 use Rattle.cip_world.specs.declared.journal.Entry.TheVariants.{Step, Lost}
-use Rattle.cip_world.specs.declared.journal.Input.{Input}
 use Rattle.cip_world.specs.declared.journal.Input.TheVariants as inputs
 use Rattle.cip_world.specs.Entering.{IsTaken, IsOpened}
 use Rattle.cip_world.specs.Journals.{Journal, entry_at, part}
-use Rattle.cip_world.specs.Runs.{IsModule, IsRun, IsStepAt, state_in}
+use Rattle.cip_world.specs.Runs.{IsModule, IsRun, state_in}
 use Rattle.cip_world.proofs.Parts.{turn_of, part_step, part_here, same_module, step_here, run_history}
 use Rattle.cip_world.proofs.Rooted.{entry_cases}
 

@@ -1,9 +1,8 @@
 -- A Produce sends one datum at most to each up side that one connection alone has.
-use Rattle.std.proofs.Common.{◌≡◌, ℕ, zero, suc, ◌+◌, ◌<◌, ◌≤◌, Bool, true, false, cond, ◌&&◌, T, List, [], ◌∷◌, ◌++◌, length, get_or, eqb, Option, Some, None, refl, sym, ap, subst, ◌∙◌, arith, append_assoc, append-nil}
+use Rattle.std.proofs.Common.{◌≡◌, ℕ, suc, ◌+◌, ◌<◌, ◌≤◌, Bool, true, false, cond, ◌&&◌, T, List, [], ◌∷◌, ◌++◌, length, get_or, eqb, Option, Some, None, refl, sym, ap, subst, ◌∙◌, arith, append_assoc}
 use Rattle.std.specs.FinMap as map
 use Rattle.std.specs.FinMap.Entries.{is_sorted, below_all}
 use Rattle.std.specs.Ordering.{is_lt}
-use Rattle.std.specs.declared.cmp.Ordering.TheVariants.{Less}
 use Rattle.std.specs.Cmp.{tied_itself}
 use Rattle.std.specs.Str.{bytes_eq}
 use Rattle.cip_base.specs.Triads.{triad_cmp}
@@ -30,7 +29,7 @@ use Rattle.cip_module.specs.declared.event.Event.TheVariants as events
 use Rattle.cip_module.specs.declared.event.Output.{Output}
 use Rattle.cip_module.specs.declared.event.Output.TheVariants as outputs
 use Rattle.cip_module.specs.EffectLists.{HasStood}
-use Rattle.cip_module.specs.Effects.{Effect, Passes, Counts, RefusesCommand, datum_up, passed, apply, applied, output_of, outputs_of}
+use Rattle.cip_module.specs.Effects.{Effect, Passes, Counts, datum_up, passed, apply, applied, outputs_of}
 use Rattle.cip_module.specs.Produced.{reads_from, next_count, made_effects, held_effects, each_effects}
 use Rattle.cip_module.specs.State.{State}
 use Rattle.cip_module.specs.Table.{decide, produce_effects}

@@ -1,11 +1,7 @@
 -- A datum that comes up to a connection was produced, by the connection at the end of its chain.
-use Rattle.std.proofs.Common.{◌≡◌, ℕ, zero, suc, ◌<◌, true, false, List, [], ◌∷◌, Option, Some, None, refl, sym, ap, subst, ◌∙◌, ◌⊎◌, inl, inr, arith, eqb, length}
+use Rattle.std.proofs.Common.{◌≡◌, ℕ, zero, suc, ◌<◌, true, List, ◌∷◌, Some, sym, ap, subst, ◌∙◌, arith, length}
 use Rattle.std.specs.FinMap as map
-use Rattle.std.proofs.lemmas.Bool.{eqb-true}
 use Rattle.cip_base.specs.declared.numbers.ModuleId.{ModuleId}
-use Rattle.cip_base.specs.declared.triad.Triad.{Triad}
-use Rattle.cip_hops.specs.declared.opening.HopDown.{HopDown}
-use Rattle.cip_hops.specs.declared.opening.HopDown.TheVariants.{Link as DownLink, End}
 use Rattle.cip_hops.specs.declared.opening.HopUp.TheVariants.{Link as UpLink}
 use Rattle.cip_hops.specs.declared.opening.Opening.{Opening}
 use Rattle.cip_hops.specs.declared.hop.Hop.{Hop}
@@ -14,11 +10,9 @@ use Rattle.cip_hops.specs.declared.hop.Side.TheVariants.{Up, Down}
 use Rattle.cip_module.specs.declared.config.ModuleSettings.{ModuleSettings}
 use Rattle.cip_module.specs.declared.event.Body.TheVariants as bodies
 use Rattle.cip_module.specs.declared.event.Command.TheVariants as commands
-use Rattle.cip_module.specs.declared.event.Event.{Event}
 use Rattle.cip_module.specs.declared.event.Output.{Output}
 use Rattle.cip_module.specs.declared.event.Output.TheVariants as outputs
 use Rattle.cip_module.specs.Produced.{reads_from}
-use Rattle.cip_module.specs.State.{State}
 use Rattle.cip_module.specs.Tells.{DatumCame, Produced}
 use Rattle.cip_module.proofs.Triads.{own_triads}
 use Rattle.cip_topology.specs.Walk.{walk}
@@ -36,7 +30,7 @@ use Rattle.cip_world.proofs.Entered.{CameAs, came_as}
 use Rattle.cip_world.proofs.Frames.{out_of}
 use Rattle.cip_world.proofs.Given.{Source, CameBy, EnteredBy, MadeBy, by_down}
 use Rattle.cip_world.proofs.Lines.{IsDatum, Line}
-use Rattle.cip_world.proofs.Moments.{before_that, older_length, older_trans, SentAt, sent_has}
+use Rattle.cip_world.proofs.Moments.{before_that, older_length, older_trans, sent_has}
 use Rattle.cip_world.proofs.Parts.{run_history}
 use Rattle.cip_world.proofs.Rooted.{root_older, root_at}
 use Rattle.cip_world.proofs.Steps.{FromBelow, from_below}

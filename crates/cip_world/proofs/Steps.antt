@@ -37,9 +37,9 @@ use Rattle.cip_world.proofs.Arrivals.{way_in}
 use Rattle.cip_world.proofs.Chassis.{Chassis}
 use Rattle.cip_world.proofs.Frames.{out_of}
 use Rattle.cip_world.proofs.Given.{Given, Source, given}
-use Rattle.cip_world.proofs.Leading.{LeadsBy, leads_by, walk_on}
-use Rattle.cip_world.proofs.Mirrored.{Matches, Lower, lower, only_lower}
-use Rattle.cip_world.proofs.Moments.{SentAt, sent_at, sent_has, before_that, itself, run_older}
+use Rattle.cip_world.proofs.Leading.{leads_by, walk_on}
+use Rattle.cip_world.proofs.Mirrored.{Matches, Lower, lower}
+use Rattle.cip_world.proofs.Moments.{SentAt, sent_at, sent_has, before_that, run_older}
 use Rattle.cip_world.proofs.Parts.{turn_of, part_here, same_module, run_history}
 use Rattle.cip_world.proofs.Uppers.{HasUpper, upper}
 

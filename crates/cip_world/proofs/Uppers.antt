@@ -1,10 +1,7 @@
 -- Each connection that came by a link was asked for by a connection above, under that one's down id.
-use Rattle.std.proofs.Common.{◌≡◌, ℕ, true, cond, List, [], ◌∷◌, ◌++◌, Ok, Option, Some, None, refl, sym, ap, subst, ◌∙◌, inl, inr, arith}
+use Rattle.std.proofs.Common.{◌≡◌, ℕ, true, cond, List, [], ◌∷◌, ◌++◌, Ok, Some, None, refl, sym, ap, subst, ◌∙◌, inl, inr}
 use Rattle.std.specs.FinMap as map
-use Rattle.std.specs.Prelude.{option_and_then}
-use Rattle.std.proofs.lemmas.Bool.{eq-eqb}
 use Rattle.cip_base.specs.declared.triad.Triad.{Triad}
-use Rattle.cip_message.specs.Reply.{reply_bytes}
 use Rattle.cip_segment.specs.Reading.{HopAt, hop_of}
 use Rattle.cip_open.specs.Open.{Open as OpenRequest, open_data, open_bytes}
 use Rattle.cip_open.specs.GoesOn.{lowered}
@@ -12,15 +9,13 @@ use Rattle.cip_open.specs.OpenAt.{open_at}
 use Rattle.cip_pending.specs.declared.entry.UpSide.{UpSide}
 use Rattle.cip_pending.specs.declared.entry.Kind.{Kind}
 use Rattle.cip_pending.specs.declared.entry.Kind.TheVariants.{Unconnected as UnconnectedKind, Opening as OpeningKind, Closing as ClosingKind}
-use Rattle.cip_hops.specs.declared.opening.HopDown.{HopDown}
 use Rattle.cip_hops.specs.declared.opening.HopDown.TheVariants.{Link as DownLink}
 use Rattle.cip_hops.specs.declared.opening.HopUp.TheVariants.{Link as UpLink, Local as UpLocal}
 use Rattle.cip_hops.specs.declared.opening.Opening.{Opening}
 use Rattle.cip_hops.specs.declared.opening.OwnIds.{OwnIds}
 use Rattle.cip_hops.specs.declared.hop.Held.{Held}
 use Rattle.cip_hops.specs.Sides.{down_is_link, own_ids}
-use Rattle.cip_hops.specs.Hops.{opening_of, ids_of, hop_at}
-use Rattle.cip_target.specs.Objects.{target_answer}
+use Rattle.cip_hops.specs.Hops.{opening_of, ids_of}
 use Rattle.cip_module.specs.declared.config.ModuleSettings.{ModuleSettings}
 use Rattle.cip_module.specs.declared.event.Body.{Body}
 use Rattle.cip_module.specs.declared.event.Body.TheVariants as bodies
@@ -29,12 +24,11 @@ use Rattle.cip_module.specs.declared.event.Event.TheVariants as events
 use Rattle.cip_module.specs.declared.event.Output.{Output}
 use Rattle.cip_module.specs.declared.event.Output.TheVariants as outputs
 use Rattle.cip_module.specs.Effects.{Sending, Effect, Begins, applied}
-use Rattle.cip_module.specs.OpenRows.{opening_with, end_down}
 use Rattle.cip_module.specs.RequestRows.{UnknownPortOrTooLong, ForwardOpen, request_row}
 use Rattle.cip_module.specs.State.{State}
 use Rattle.cip_module.specs.Table.{opener}
-use Rattle.cip_module.specs.Tells.{Tells, AllTell, AsksOpen, ForwardsAs, BeginsAs}
-use Rattle.cip_module.specs.Births.{opened_by, or_else, first_opened, Past, IsBirth}
+use Rattle.cip_module.specs.Tells.{AsksOpen, ForwardsAs, BeginsAs}
+use Rattle.cip_module.specs.Births.{opened_by, Past, IsBirth}
 use Rattle.cip_module.specs.Histories.{Turn, state_after, IsHistory}
 use Rattle.cip_world.specs.Mirrors.{IsOlder}
 use Rattle.cip_topology.specs.Nodes.{Way, across as goes}

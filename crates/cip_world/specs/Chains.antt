@@ -15,7 +15,7 @@ use Rattle.cip_module.specs.declared.event.Output.TheVariants as outputs
 use Rattle.cip_module.specs.Outputs.{is_data}
 use Rattle.cip_topology.specs.Plan.{Plan}
 use Rattle.cip_topology.specs.Nodes.{Way, across as goes}
-use Rattle.cip_world.specs.declared.journal.Entry.TheVariants.{Step, Lost}
+use Rattle.cip_world.specs.declared.journal.Entry.TheVariants.{Step}
 use Rattle.cip_world.specs.declared.journal.FrameName.{FrameName}
 use Rattle.cip_world.specs.declared.journal.Input.TheVariants.{Frame}
 use Rattle.cip_world.specs.Entering.{HasOutput}

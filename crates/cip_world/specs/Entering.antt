@@ -23,7 +23,7 @@ use Rattle.cip_module.specs.Table.{open_of}
 use Rattle.cip_module.specs.Words.{Has}
 use Rattle.cip_topology.specs.Plan.{Plan}
 use Rattle.cip_topology.specs.Walk.{Stop, walk}
-use Rattle.cip_world.specs.declared.journal.Entry.TheVariants.{Step, Lost}
+use Rattle.cip_world.specs.declared.journal.Entry.TheVariants.{Step}
 use Rattle.cip_world.specs.declared.journal.Input.{Input}
 use Rattle.cip_world.specs.declared.journal.Input.TheVariants.{Command}
 use Rattle.cip_world.specs.Journals.{Journal, entry_at}
