@@ -75,7 +75,8 @@ there_is port id to (UpLocal op) t = absurd (cc)
 
 is_itself : (port id : ℕ) (to : List ℕ) → (eqb port port && bytes_eq to to) && eqb id id ≡ true
 is_itself port id to =
-    and_from (eqb port port && bytes_eq to to) (eqb id id) (and_from (eqb port port) (bytes_eq to to) (eq-eqb port port refl) ((bytes_eq-Decides to to).1 refl)) (eq-eqb id id refl)
+    and_from (eqb port port && bytes_eq to to) (eqb id id)
+    (and_from (eqb port port) (bytes_eq to to) (eq-eqb port port refl) ((bytes_eq-Decides to to).1 refl)) (eq-eqb id id refl)
 
 some_way : (a b : Way) → Some a ≡ Some b → a ≡ b
 some_way a b e = cc
@@ -95,7 +96,8 @@ module _ (t : Chassis) (j : Journal) (m : ℕ) (config : ModuleSettings) (run : 
       let birth : Past (IsBirth a.config b.opening b.ids) (part a.above.at j) =
       subst (λ (c : ModuleSettings). Past (IsBirth c b.opening b.ids) (part a.above.at j)) configs
       (subst (λ (k : ℕ). Past (IsBirth b.config b.opening b.ids) (part k j)) place b.birth) in
-      let same = born_once a.config a.opening b.opening a.ids b.ids (part a.above.at j) id (run_history t.plan j a.above.at a.config run a.is_module) a.birth birth (inr a.own_is) (inr b.own_is) in
+      let same = born_once a.config a.opening b.opening a.ids b.ids (part a.above.at j) id
+      (run_history t.plan j a.above.at a.config run a.is_module) a.birth birth (inr a.own_is) (inr b.own_is) in
       sym a.triad_is ∙ ap (λ (x : Opening). x.triad) same.0 ∙ b.triad_is
 
   alone : (q r : Triad) (x y : Held) → map.get state.hops.held q ≡ Some x → map.get state.hops.held r ≡ Some y
@@ -130,7 +132,12 @@ record ReadsEnd (instance : ℕ) (down : HopDown) : Type 0 where
 
 reads_end : (instance : ℕ) (down : HopDown) → reads_from instance down ≡ true → ReadsEnd instance down
 reads_end instance (DownLink port address) t = absurd (cc)
-reads_end instance (End config consume produce) t = record { config = config; consume = consume; is = ap (λ (p : ℕ). End config consume p) (eqb-true produce instance t) }
+reads_end instance (End config consume produce) t = record {
+  config = config;
+  consume = consume;
+  is = ap (λ (p : ℕ). End config consume p)
+      (eqb-true produce instance t);
+}
 
 -- the connection at which the datum of entry k arrived, and its way from the Produce
 pub record Reached (t : Chassis) (j : Journal) (k m op : ℕ) (bytes : List ℕ) : Type 0 where
@@ -171,7 +178,8 @@ module _ (t : Chassis) (j : Journal) (run : IsRun t.plan j) (k m op : ℕ) (byte
         reached (subst (λ (d : List ℕ). Sent t j (length s.before) s.at.0 hop.opening d) bytes_are
         (sent (suc (length s.before)) t j s.at s.input s.outs s.before s.older s.run (omega arith) hop b stands came))
 
-  reached_from : (v : Given before_state s.run.1.event (outputs.Arrived op bytes)) → DatumOf v.hop v.side v.bytes (outputs.Arrived op bytes) → Reached t j k m op bytes
+  reached_from : (v : Given before_state s.run.1.event (outputs.Arrived op bytes)) → DatumOf v.hop v.side v.bytes (outputs.Arrived op bytes)
+      → Reached t j k m op bytes
   reached_from v (GoesUp port to their_id side up x_is) = absurd (cc)
   reached_from v (GoesDown port to side down x_is) = absurd (cc)
   reached_from v (IsConsumed c consume p side down x_is) = absurd (cc)
@@ -182,12 +190,14 @@ module _ (t : Chassis) (j : Journal) (run : IsRun t.plan j) (k m op : ℕ) (byte
 
   pub reached_by : Reached t j k m op bytes
   reached_by =
-      let v = given s.run.1.config (part s.at.0 s.before) (turn_of s.run.1.event s.outs) (turn_history t.plan s.before s.at s.input s.outs s.run) (outputs.Arrived op bytes) refl s.has in
+      let v = given s.run.1.config (part s.at.0 s.before) (turn_of s.run.1.event s.outs) (turn_history t.plan s.before s.at s.input s.outs s.run)
+      (outputs.Arrived op bytes) refl s.has in
       reached_from v v.of
 
 -- ---- once
 
-produce_parts : (a b : ModuleId) (i k : ℕ) (o p : List Output) → Some (Step a (inputs.Command (commands.Produce i)) o) ≡ Some (Step b (inputs.Command (commands.Produce k)) p)
+produce_parts : (a b : ModuleId) (i k : ℕ) (o p : List Output)
+    → Some (Step a (inputs.Command (commands.Produce i)) o) ≡ Some (Step b (inputs.Command (commands.Produce k)) p)
     → (a ≡ b) × (i ≡ k) × (o ≡ p)
 produce_parts a b i k o p e = (cc, cc, cc)
 
@@ -211,7 +221,8 @@ module _ (t : Chassis) (j : Journal) (run : IsRun t.plan j) (m op i k : ℕ) (b 
   u = x.sent
 
   parts : (v.at ≡ u.at) × (v.instance ≡ u.instance) × (v.outs ≡ u.outs)
-  parts = produce_parts v.at u.at v.instance u.instance v.outs u.outs (sym (produces_at t j i m y.o b v) ∙ ap (entry_at j) same_root ∙ produces_at t j k m x.o d u)
+  parts = produce_parts v.at u.at v.instance u.instance v.outs u.outs
+      (sym (produces_at t j i m y.o b v) ∙ ap (entry_at j) same_root ∙ produces_at t j k m x.o d u)
 
   befores : v.before ≡ u.before
   befores =
@@ -236,9 +247,11 @@ module _ (t : Chassis) (j : Journal) (run : IsRun t.plan j) (m op i k : ℕ) (b 
   most =
       let then : IsRun t.plan (Step u.at (inputs.Command (commands.Produce u.instance)) u.outs ∷ u.before) =
       run_older t.plan (Step u.at (inputs.Command (commands.Produce u.instance)) u.outs ∷ u.before) j u.older run in
-      sent_once_there t u.before u.at.0 then.1.config then.0 then.1.is_module u.port u.their_id u.to then.1.event u.instance then.1.new u.outs then.1.given then.1.step
+      sent_once_there t u.before u.at.0 then.1.config then.0 then.1.is_module u.port u.their_id u.to then.1.event u.instance then.1.new
+      u.outs then.1.given then.1.step
 
-  weighs : (f : Output) (p c : ℕ) (a e : List ℕ) → f ≡ outputs.Send p a (bodies.Data c e) → p ≡ u.port → a ≡ u.to → c ≡ u.their_id → 1 ≤ goes_there u.port u.their_id u.to f
+  weighs : (f : Output) (p c : ℕ) (a e : List ℕ) → f ≡ outputs.Send p a (bodies.Data c e) → p ≡ u.port → a ≡ u.to → c ≡ u.their_id
+      → 1 ≤ goes_there u.port u.their_id u.to f
   weighs f p c a e is same_port same_to same_id =
       let whole : f ≡ outputs.Send u.port u.to (bodies.Data u.their_id e) = is ∙ (λ i. outputs.Send (same_port i) (same_to i) (bodies.Data (same_id i) e)) in
       let one = ap (goes_there u.port u.their_id u.to) whole in
@@ -250,7 +263,8 @@ module _ (t : Chassis) (j : Journal) (run : IsRun t.plan j) (m op i k : ℕ) (b 
       let entry = v.starts ∙ same_root in
       name_eq v.first u.first (entry ∙ sym u.starts)
       (one_place (goes_there u.port u.their_id u.to) u.outs v.first.output u.first.output (out_of v.datum.flight) (out_of u.datum.flight) most
-      (weighs (out_of v.datum.flight) v.port v.their_id v.to b v.out_is ups.0 ups.1 ups.2) (weighs (out_of u.datum.flight) u.port u.their_id u.to d u.out_is refl refl refl)
+      (weighs (out_of v.datum.flight) v.port v.their_id v.to b v.out_is ups.0 ups.1 ups.2)
+      (weighs (out_of u.datum.flight) u.port u.their_id u.to d u.out_is refl refl refl)
       (frame_place j (length u.before) u.at (inputs.Command (commands.Produce u.instance)) u.outs (produces_at t j k m x.o d u) v.first v.datum entry)
       (frame_place j (length u.before) u.at (inputs.Command (commands.Produce u.instance)) u.outs (produces_at t j k m x.o d u) u.first u.datum u.starts))
 
@@ -284,7 +298,8 @@ told t j k m op bytes run h x c i p ends same = record {
     config = x.sent.config;
     is_module = x.sent.is_module;
     hop = x.sent.hop;
-    stands = (λ n. map.get (state_in x.sent.config x.sent.at.0 (before_at (Step x.sent.at (inputs.Command (commands.Produce x.sent.instance)) x.sent.outs) x.sent.before j x.sent.older n)).hops.held
+    stands = (λ n. map.get (state_in x.sent.config x.sent.at.0 (before_at (Step x.sent.at (inputs.Command
+        (commands.Produce x.sent.instance)) x.sent.outs) x.sent.before j x.sent.older n)).hops.held
         ((x.open_.triad_is ∙ sym x.sent.triad_is) n)) ∙ x.sent.stands;
     port = x.sent.port;
     to = x.sent.to;
@@ -297,13 +312,16 @@ told t j k m op bytes run h x c i p ends same = record {
       reached_once t j run m op n k b bytes y x (some_number (length y.sent.before) (length x.sent.before) (sym y.sent.root_is ∙ root)) g h;
 }
 
-pub arrived_of : (t : Chassis) (j : Journal) (k m op : ℕ) (bytes : List ℕ) → IsRun t.plan j → HasOutput j k m (outputs.Arrived op bytes) → ArrivedOf t.plan j k m op bytes
+pub arrived_of : (t : Chassis) (j : Journal) (k m op : ℕ) (bytes : List ℕ) → IsRun t.plan j → HasOutput j k m (outputs.Arrived op bytes)
+    → ArrivedOf t.plan j k m op bytes
 arrived_of t j k m op bytes run h = by_end (reached_by t j run k m op bytes (step_of t j k m (outputs.Arrived op bytes) run h))
   where
     by_end : Reached t j k m op bytes → ArrivedOf t.plan j k m op bytes
     by_end x =
         let end = reads_end x.sent.instance x.sent.hop.opening.down x.sent.reads in
-        let then = run_older t.plan x.sent.before j (before_that (Step x.sent.at (inputs.Command (commands.Produce x.sent.instance)) x.sent.outs) x.sent.before j x.sent.older) run in
+        let then = run_older t.plan x.sent.before j
+        (before_that (Step x.sent.at (inputs.Command (commands.Produce x.sent.instance)) x.sent.outs) x.sent.before j x.sent.older) run in
         told t j k m op bytes run h x end.config end.consume x.sent.instance
-        (ends_at x.sent.config (part x.sent.at.0 x.sent.before) (run_history t.plan x.sent.before x.sent.at.0 x.sent.config then x.sent.is_module) x.sent.hop.opening.triad (Open x.sent.hop)
+        (ends_at x.sent.config (part x.sent.at.0 x.sent.before)
+        (run_history t.plan x.sent.before x.sent.at.0 x.sent.config then x.sent.is_module) x.sent.hop.opening.triad (Open x.sent.hop)
         end.config end.consume x.sent.instance x.sent.stands end.is) refl

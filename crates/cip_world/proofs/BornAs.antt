@@ -24,14 +24,16 @@ pub data BornAs (config : ModuleSettings) (s : State) (event : Event) (o : Openi
   GoesOn : (sending : Sending) → BeginsAs config s event sending o → BornAs config s event o
   EndsHere : (request : OpenRequest) (link : EndLink) → AcceptsAs config s event o request link → BornAs config s event o
 
-opened_as : (config : ModuleSettings) (s : State) (event : Event) (e : Effect) (o : Opening) → opened_by e ≡ Some o → Tells config s event e → BornAs config s event o
+opened_as : (config : ModuleSettings) (s : State) (event : Event) (e : Effect) (o : Opening) → opened_by e ≡ Some o → Tells config s event e
+    → BornAs config s event o
 opened_as config s event (Begins sending opening) o h tells =
     let same : opening ≡ o = cc in GoesOn sending (subst (λ (x : Opening). BeginsAs config s event sending x) same tells)
 opened_as config s event (Accepts opening request link) o h tells =
     let same : opening ≡ o = cc in EndsHere request link (subst (λ (x : Opening). AcceptsAs config s event x request link) same tells)
 opened_as config s event e o h tells = absurd (cc)
 
-first_as : (config : ModuleSettings) (s : State) (event : Event) (es : List Effect) (o : Opening) → first_opened es ≡ Some o → AllTell config s event es → BornAs config s event o
+first_as : (config : ModuleSettings) (s : State) (event : Event) (es : List Effect) (o : Opening) → first_opened es ≡ Some o → AllTell config s event es
+    → BornAs config s event o
 first_as config s event [] o h tells = absurd (cc)
 first_as config s event (e ∷ es) o h tells =
     elim (opened_by e) as (λ (x : Option Opening). opened_by e ≡ x → or_else x (first_opened es) ≡ Some o → BornAs config s event o) [
@@ -45,7 +47,8 @@ pub record Birth (config : ModuleSettings) (o : Opening) (ids : OwnIds) (before 
   pub birth : IsBirth config o ids before turn
   pub as_ : BornAs config (state_after config before) turn.event o
 
-pub born_as : (config : ModuleSettings) (o : Opening) (ids : OwnIds) (turns : List Turn) → IsHistory config turns → Past (IsBirth config o ids) turns → Past (Birth config o ids) turns
+pub born_as : (config : ModuleSettings) (o : Opening) (ids : OwnIds) (turns : List Turn) → IsHistory config turns → Past (IsBirth config o ids) turns
+    → Past (Birth config o ids) turns
 born_as config o ids [] h past = absurd past
 born_as config o ids (turn ∷ turns) h (inl b) =
     let now = newest config turn turns h in
@@ -57,6 +60,7 @@ born_as config o ids (turn ∷ turns) h (inl b) =
 born_as config o ids (turn ∷ turns) h (inr old) = inr (born_as config o ids turns h.0 old)
 
 -- whatever is held was born so
-pub held_as : (config : ModuleSettings) (turns : List Turn) → IsHistory config turns → (q : Triad) (x : Held) → map.get (state_after config turns).hops.held q ≡ Some x
+pub held_as : (config : ModuleSettings) (turns : List Turn) → IsHistory config turns → (q : Triad) (x : Held)
+    → map.get (state_after config turns).hops.held q ≡ Some x
     → Past (Birth config (opening_of x) (ids_of x)) turns
 held_as config turns h q x at = born_as config (opening_of x) (ids_of x) turns h (held_born config turns h q x at)

@@ -79,7 +79,8 @@ id_of id None t = absurd (cc)
 id_of id (Some k) t = ap (λ (i : ℕ). Some i) (eqb-true k id t)
 
 module _ (t : Plan) (j : Journal) (m : ℕ) (config : ModuleSettings) (run : IsRun t j) (is : IsModule t m config) (hop : Hop)
-    (at : map.get (state_in config m j).hops.held hop.opening.triad ≡ Some (Open hop)) (id port own : ℕ) (from : List ℕ) (ids : hop.ids.up ≡ Some id) (up : hop.opening.up ≡ UpLink port from own) where
+    (at : map.get (state_in config m j).hops.held hop.opening.triad ≡ Some (Open hop)) (id port own : ℕ) (from : List ℕ) (ids : hop.ids.up ≡ Some id)
+    (up : hop.opening.up ≡ UpLink port from own) where
   abbrev state : State
   state = state_in config m j
 
@@ -129,11 +130,13 @@ send_parts : (p q : ℕ) (a c : List ℕ) (b d : Body) → outputs.Send p a b �
 send_parts p q a c b d e = (cc, cc, cc)
 
 -- the frame that such an entry sent
-module _ (t : Chassis) (j : Journal) (i k : ℕ) (x : Member) (bytes : List ℕ) (gives : GivesDown j i x bytes) (d : IsDelivery j i k) (port : ℕ) (address : List ℕ)
+module _ (t : Chassis) (j : Journal) (i k : ℕ) (x : Member) (bytes : List ℕ) (gives : GivesDown j i x bytes) (d : IsDelivery j i k) (port : ℕ)
+    (address : List ℕ)
     (down : x.hop.opening.down ≡ DownLink port address) where
   sent_is : out_of d.flight ≡ outputs.Send port address (bodies.Data (option_map_or (λ n. n) x.hop.their_id 0) bytes)
   sent_is =
-      let place = frame_place j i gives.at gives.input (datum_by Down x.hop bytes ∷ []) gives.is d.name (record { flight = d.flight; sent = d.sent; data_ = d.datum }) d.from_there in
+      let place = frame_place j i gives.at gives.input (datum_by Down x.hop bytes ∷ []) gives.is d.name
+      (record { flight = d.flight; sent = d.sent; data_ = d.datum }) d.from_there in
       sym (one_output (datum_by Down x.hop bytes) (out_of d.flight) d.name.output place) ∙ ap (λ (o : HopDown). datum_down x.hop o bytes) down
 
   parts : (d.flight.way.port ≡ port) × (d.flight.way.address ≡ address) × (d.flight.body ≡ bodies.Data (option_map_or (λ n. n) x.hop.their_id 0) bytes)
@@ -174,11 +177,13 @@ some_flight a b e = cc
 pub delivered : (t : Chassis) (j : Journal) (i k : ℕ) → IsRun t.plan j → (d : IsDelivery j i k) → Delivered t j i k d
 delivered t j i k run d =
     let e = at_number j k (Step d.at (inputs.Frame d.port d.from d.name) d.outs) d.is in
-    let then : IsRun t.plan (Step d.at (inputs.Frame d.port d.from d.name) d.outs ∷ e.before) = run_older t.plan (Step d.at (inputs.Frame d.port d.from d.name) d.outs ∷ e.before) j e.older run in
+    let then : IsRun t.plan (Step d.at (inputs.Frame d.port d.from d.name) d.outs ∷ e.before) = run_older t.plan
+    (Step d.at (inputs.Frame d.port d.from d.name) d.outs ∷ e.before) j e.older run in
     let old = before_that (Step d.at (inputs.Frame d.port d.from d.name) d.outs) e.before j e.older in
     by_arrival e then old then.1.given
   where
-    by_arrival : (e : AtEntry j k (Step d.at (inputs.Frame d.port d.from d.name) d.outs)) → (then : IsRun t.plan (Step d.at (inputs.Frame d.port d.from d.name) d.outs ∷ e.before))
+    by_arrival : (e : AtEntry j k (Step d.at (inputs.Frame d.port d.from d.name) d.outs))
+        → (then : IsRun t.plan (Step d.at (inputs.Frame d.port d.from d.name) d.outs ∷ e.before))
         → IsOlder e.before j → IsArrival t.plan e.before d.name d.at.0 d.port d.from then.1.event → Delivered t j i k d
     by_arrival e then old a =
         let same = some_flight a.waits.flight d.flight (sym (frame_later e.before j d.name a.waits.flight old a.waits.sent) ∙ d.sent) in
@@ -188,7 +193,8 @@ delivered t j i k run d =
         let of = d.from_there in
         let last = e.number in
         let moment : before_entry j i ≡ s.before =
-        ap (before_entry j) (sym (s.number ∙ d.from_there)) ∙ before_at (Step s.at s.input s.outs) s.before j (older_trans (Step s.at s.input s.outs ∷ s.before) e.before j s.older old) in
+        ap (before_entry j) (sym (s.number ∙ d.from_there))
+        ∙ before_at (Step s.at s.input s.outs) s.before j (older_trans (Step s.at s.input s.outs ∷ s.before) e.before j s.older old) in
         record {
           before = e.before;
           older = e.older;
@@ -203,10 +209,13 @@ delivered t j i k run d =
 some_way : (a b : Way) → Some a ≡ Some b → a ≡ b
 some_way a b e = cc
 
-module _ (t : Chassis) (j : Journal) (run : IsRun t.plan j) (c : Journal) (c_old : IsOlder c j) (x y : Member) (has : HasHop t.plan c x) (next : IsNextTo t.plan c x y) (i k last : ℕ) (bytes : List ℕ)
-    (gives : GivesDown j i x bytes) (after : IsOlder c (before_entry j i)) (d : IsDelivery j i k) (kept : IsKept t.plan j (length c) last y) (bound : k ≤ last) where
+module _ (t : Chassis) (j : Journal) (run : IsRun t.plan j) (c : Journal) (c_old : IsOlder c j) (x y : Member) (has : HasHop t.plan c x)
+    (next : IsNextTo t.plan c x y) (i k last : ℕ) (bytes : List ℕ)
+    (gives : GivesDown j i x bytes) (after : IsOlder c (before_entry j i)) (d : IsDelivery j i k) (kept : IsKept t.plan j (length c) last y)
+    (bound : k ≤ last) where
   low : Lower t c (way_in x.at next.port next.address) x.hop
-  low = lower t c c x.at has.config (run_older t.plan c j c_old run) has.is_module (itself c) x.hop.opening.triad x.hop next.port next.address has.stands next.down_is
+  low = lower t c c x.at has.config (run_older t.plan c j c_old run) has.is_module
+      (itself c) x.hop.opening.triad x.hop next.port next.address has.stands next.down_is
 
   arrival : Delivered t j i k d
   arrival = delivered t j i k run d
@@ -251,9 +260,11 @@ module _ (t : Chassis) (j : Journal) (run : IsRun t.plan j) (c : Journal) (c_old
 
       held_at : {l : Journal} → IsHeld t.plan l y → (h : Held) × (map.get (state_in config d.at.0 l).hops.held y.hop.opening.triad ≡ Some h)
       held_at {l} h =
-          let own = same_module t.plan d.at.0 y.at h.config config place h.is_module is_module in
-          (h.held, subst (λ (s : ModuleSettings). map.get (state_in s d.at.0 l).hops.held y.hop.opening.triad ≡ Some h.held) own
-          (subst (λ (m : ℕ). map.get (state_in h.config m l).hops.held y.hop.opening.triad ≡ Some h.held) place h.stands))
+          let own = same_module t.plan d.at.0 y.at h.config config place h.is_module is_module in (
+            h.held,
+            subst (λ (s : ModuleSettings). map.get (state_in s d.at.0 l).hops.held y.hop.opening.triad ≡ Some h.held) own
+                (subst (λ (m : ℕ). map.get (state_in h.config m l).hops.held y.hop.opening.triad ≡ Some h.held) place h.stands),
+          )
 
   id_is : there.now.ids.up ≡ Some low.id
   id_is = ap (λ (o : OwnIds). o.up) (sym there.core.1) ∙ next.mirrors.id_is ∙ low.their_is
@@ -279,11 +290,14 @@ module _ (t : Chassis) (j : Journal) (run : IsRun t.plan j) (c : Journal) (c_old
   outs_are : d.outs ≡ datum_by Down y.hop bytes ∷ []
   outs_are =
       let before_run = run_older t.plan arrival.before j older run in
-      let at_own : map.get here.hops.held there.now.opening.triad ≡ Some (Open there.now) = ap (λ (o : Opening). map.get here.hops.held o.triad) (sym there.core.0) ∙ there.stands in
-      let turn = turned config here (events.Frame d.port d.from (bodies.Data low.id bytes)) arrival.run.1.new d.outs (ap (table_step config here) (sym event_is) ∙ arrival.run.1.step) in
+      let at_own : map.get here.hops.held there.now.opening.triad ≡ Some (Open there.now) = ap (λ (o : Opening). map.get here.hops.held o.triad)
+      (sym there.core.0) ∙ there.stands in
+      let turn = turned config here (events.Frame d.port d.from (bodies.Data low.id bytes)) arrival.run.1.new d.outs
+      (ap (table_step config here) (sym event_is) ∙ arrival.run.1.step) in
       let found = found_up t.plan arrival.before d.at.0 config before_run is_module there.now at_own low.id d.port next.mirrors.own d.from id_is up_here in
       sym turn.out
-      ∙ goes_down config here (own_triads config (part d.at.0 arrival.before) (run_history t.plan arrival.before d.at.0 config before_run is_module)) d.port low.id d.from bytes port_here there.now turn.effects found
+      ∙ goes_down config here (own_triads config (part d.at.0 arrival.before)
+      (run_history t.plan arrival.before d.at.0 config before_run is_module)) d.port low.id d.from bytes port_here there.now turn.effects found
       size_here turn.decided
       ∙ ap (λ (o : Output). o ∷ []) (same_down y.hop there.now bytes there.core)
 
@@ -304,7 +318,8 @@ module _ (t : Chassis) (j : Journal) (run : IsRun t.plan j) (c : Journal) (c_old
 -- ---- the Enter
 
 -- what is entered and taken has the size of the connection
-module _ (config : ModuleSettings) (s new : State) (of : ℕ) (bytes : List ℕ) (outs : List Output) (hop : Hop) (own : HasOwnTriads s) (found : hop_by_op s.hops of ≡ Some hop) (taken : IsTaken outs)
+module _ (config : ModuleSettings) (s new : State) (of : ℕ) (bytes : List ℕ) (outs : List Output) (hop : Hop) (own : HasOwnTriads s)
+    (found : hop_by_op s.hops of ≡ Some hop) (taken : IsTaken outs)
     (step : table_step config s (events.Command (commands.Enter of bytes)) ≡ Some (record { state = new; outputs = outs })) where
   turn : Turned config s (events.Command (commands.Enter of bytes)) new outs
   turn = turned config s (events.Command (commands.Enter of bytes)) new outs step
@@ -326,28 +341,34 @@ module _ (config : ModuleSettings) (s new : State) (of : ℕ) (bytes : List ℕ)
   enter_gives = sym turn.out ∙ goes_entered config s own of bytes hop turn.effects found enter_sized turn.decided
 
 -- the Enter gives the datum by the first connection of the chain
-entered_by : (t : Chassis) (j : Journal) (r m op : ℕ) (bytes : List ℕ) → IsRun t.plan j → (e : IsEntered j r m op bytes) → (first : Member) (rest : List Member) → first.at ≡ m
+entered_by : (t : Chassis) (j : Journal) (r m op : ℕ) (bytes : List ℕ) → IsRun t.plan j → (e : IsEntered j r m op bytes)
+    → (first : Member) (rest : List Member) → first.at ≡ m
     → IsChain t.plan (before_entry j r) op first rest → GivesDown j r first bytes × (IsOlder (before_entry j r) j × (length (before_entry j r) ≡ r))
 entered_by t j r m op bytes run e first rest same chain =
     let x = at_number j r (Step e.at (inputs.Command (commands.Enter op bytes)) e.outs) e.is in
     let then : IsRun t.plan (Step e.at (inputs.Command (commands.Enter op bytes)) e.outs ∷ x.before) =
     run_older t.plan (Step e.at (inputs.Command (commands.Enter op bytes)) e.outs ∷ x.before) j x.older run in
-    let moment : before_entry j r ≡ x.before = ap (before_entry j) (sym x.number) ∙ before_at (Step e.at (inputs.Command (commands.Enter op bytes)) e.outs) x.before j x.older in
+    let moment : before_entry j r ≡ x.before = ap (before_entry j) (sym x.number)
+    ∙ before_at (Step e.at (inputs.Command (commands.Enter op bytes)) e.outs) x.before j x.older in
     let place : first.at ≡ e.at.0 = same ∙ sym e.at_is in
     let config = same_module t.plan e.at.0 first.at chain.has.config then.1.config place chain.has.is_module then.1.is_module in
     let found : hop_by_op (state_in then.1.config e.at.0 x.before).hops op ≡ Some first.hop =
     (λ n. hop_by_op (state_in (sym config n) (sym place n) (sym moment n)).hops op) ∙ chain.opened in
     let own = own_triads then.1.config (part e.at.0 x.before) (run_history t.plan x.before e.at.0 then.1.config then.0 then.1.is_module) in
-    let step = ap (table_step then.1.config (state_in then.1.config e.at.0 x.before)) (sym then.1.given) ∙ then.1.step in
-    (record {
-      at = e.at;
-      input = inputs.Command (commands.Enter op bytes);
-      is = e.is ∙ ap (λ (os : List Output). Some (Step e.at (inputs.Command (commands.Enter op bytes)) os))
-          (enter_gives then.1.config (state_in then.1.config e.at.0 x.before) then.1.new op bytes e.outs first.hop own found e.taken step);
-      at_is = sym place;
-      sized = enter_sized then.1.config (state_in then.1.config e.at.0 x.before) then.1.new op bytes e.outs first.hop own found e.taken step;
-    }, (subst (λ (l : Journal). IsOlder l j) (sym moment) (before_that (Step e.at (inputs.Command (commands.Enter op bytes)) e.outs) x.before j x.older),
-      ap (λ (l : Journal). length l) moment ∙ x.number))
+    let step = ap (table_step then.1.config (state_in then.1.config e.at.0 x.before)) (sym then.1.given) ∙ then.1.step in (
+      record {
+        at = e.at;
+        input = inputs.Command (commands.Enter op bytes);
+        is = e.is ∙ ap (λ (os : List Output). Some (Step e.at (inputs.Command (commands.Enter op bytes)) os))
+            (enter_gives then.1.config (state_in then.1.config e.at.0 x.before) then.1.new op bytes e.outs first.hop own found e.taken step);
+        at_is = sym place;
+        sized = enter_sized then.1.config (state_in then.1.config e.at.0 x.before) then.1.new op bytes e.outs first.hop own found e.taken step;
+      },
+      (
+        subst (λ (l : Journal). IsOlder l j) (sym moment) (before_that (Step e.at (inputs.Command (commands.Enter op bytes)) e.outs) x.before j x.older),
+        ap (λ (l : Journal). length l) moment ∙ x.number,
+      ),
+    )
 
 -- ---- the theorem
 
@@ -369,8 +390,10 @@ at_end j i x bytes gives end = record {
   };
 }
 
-carry : (t : Chassis) (j c : Journal) → IsRun t.plan j → IsOlder c j → (last : ℕ) (bytes : List ℕ) (ys : List Member) (ks : List ℕ) (x : Member) (i : ℕ) → HasHop t.plan c x → GoesOnBy t.plan c x ys
-    → GivesDown j i x bytes → IsOlder c (before_entry j i) → AreDeliveries j i ks → length ks ≡ length ys → last_of i ks ≤ last → AreKept t.plan j (length c) last ys
+carry : (t : Chassis) (j c : Journal) → IsRun t.plan j → IsOlder c j → (last : ℕ) (bytes : List ℕ) (ys : List Member) (ks : List ℕ) (x : Member) (i : ℕ)
+    → HasHop t.plan c x → GoesOnBy t.plan c x ys
+    → GivesDown j i x bytes → IsOlder c (before_entry j i) → AreDeliveries j i ks → length ks ≡ length ys → last_of i ks ≤ last
+    → AreKept t.plan j (length c) last ys
     → IsTakenBy j (last_of i ks) (last_of x ys) bytes
 carry t j c run old last bytes [] [] x i has goes_on gives after deliveries same most kept = at_end j i x bytes gives goes_on
 carry t j c run old last bytes [] (k ∷ ks) x i has goes_on gives after deliveries same most kept = absurd (omega (arith, same))
@@ -385,8 +408,10 @@ carry t j c run old last bytes (y ∷ ys) (k ∷ ks) x i has goes_on gives after
     deliveries.1 (omega (arith, same)) most kept.1
 
 -- a datum that is entered on a chain, and followed through as many deliveries as the chain has links, is taken at its end
-pub carried : (t : Chassis) (j : Journal) (r m op : ℕ) (bytes : List ℕ) → IsRun t.plan j → IsEntered j r m op bytes → (first : Member) (rest : List Member) → first.at ≡ m
-    → IsChain t.plan (before_entry j r) op first rest → (ks : List ℕ) → AreDeliveries j r ks → length ks ≡ length rest → AreKept t.plan j r (last_of r ks) (first ∷ rest)
+pub carried : (t : Chassis) (j : Journal) (r m op : ℕ) (bytes : List ℕ) → IsRun t.plan j → IsEntered j r m op bytes → (first : Member) (rest : List Member)
+    → first.at ≡ m
+    → IsChain t.plan (before_entry j r) op first rest → (ks : List ℕ) → AreDeliveries j r ks → length ks ≡ length rest
+    → AreKept t.plan j r (last_of r ks) (first ∷ rest)
     → IsTakenBy j (last_of r ks) (last_of first rest) bytes
 carried t j r m op bytes run e first rest same chain ks deliveries long kept =
     let x = entered_by t j r m op bytes run e first rest same chain in

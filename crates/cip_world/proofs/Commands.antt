@@ -49,16 +49,19 @@ use Rattle.cip_world.proofs.Parts.{turn_of, part_step, run_history}
 
 -- ---- what a command was given as
 
-pub command_given : (t : Plan) (j : Journal) (m : ℕ) (input : Input) (event : Event) (command : Command) → IsGiven t j m input event → event ≡ events.Command command
+pub command_given : (t : Plan) (j : Journal) (m : ℕ) (input : Input) (event : Event) (command : Command) → IsGiven t j m input event
+    → event ≡ events.Command command
     → input ≡ inputs.Command command
-command_given t j m (inputs.Command c) event command is e = let both : events.Command c ≡ events.Command command = sym is ∙ e in let same : c ≡ command = cc in ap (λ (x : Command). inputs.Command x) same
+command_given t j m (inputs.Command c) event command is e = let both : events.Command c ≡ events.Command command = sym is
+    ∙ e in let same : c ≡ command = cc in ap (λ (x : Command). inputs.Command x) same
 command_given t j m (inputs.Tick ms) event command is e = let both : events.Tick ms ≡ events.Command command = sym is ∙ e in absurd (cc)
 command_given t j m (inputs.Frame port from name) event command a e =
     let both : events.Frame port from a.waits.flight.body ≡ events.Command command = sym a.event_is ∙ e in absurd (cc)
 
 -- ---- what no row refuses is taken
 
-module _ (config : ModuleSettings) (turns : List Turn) (turn : Turn) (h : IsHistory config (turn ∷ turns)) (command : Command) (event_is : turn.event ≡ events.Command command) where
+module _ (config : ModuleSettings) (turns : List Turn) (turn : Turn) (h : IsHistory config (turn ∷ turns)) (command : Command)
+    (event_is : turn.event ≡ events.Command command) where
   abbrev s0 : State
   s0 = state_after config turns
 
@@ -92,7 +95,8 @@ open_taken s op timing path params unused = ap (λ b. refused_by (cond b rows.Op
 -- ---- a past turn is an entry
 
 pub past_moment : (t : Plan) (P : List Turn → Turn → Type 0) (F : Type 0) (m : ℕ) (j : Journal) → IsRun t j → Past P (part m j)
-    → ((n : ModuleId) (input : Input) (outs : List Output) (before : Journal) → IsOlder (Step n input outs ∷ before) j → n.0 ≡ m → (run : IsRun t (Step n input outs ∷ before))
+    → ((n : ModuleId) (input : Input) (outs : List Output) (before : Journal) → IsOlder (Step n input outs ∷ before) j → n.0 ≡ m
+    → (run : IsRun t (Step n input outs ∷ before))
     → P (part m before) (turn_of run.1.event outs) → F) → F
 past_moment t P F m [] run past f = absurd past
 past_moment t P F m (Step n input outs ∷ j) run past f =
@@ -115,7 +119,8 @@ pub record Spelled (config : ModuleSettings) (s : State) (event : Event) (op : �
   pub path_is : path ≡ o.path
   pub triad_is : (open_of config.identity timing path params).fields.triad ≡ o.triad
 
-asked_so : (config : ModuleSettings) (s : State) (event : Event) (op : ℕ) (o : Opening) (up : UpSide) (request : OpenRequest) (down : HopDown) → AsksOpen config s event up request
+asked_so : (config : ModuleSettings) (s : State) (event : Event) (op : ℕ) (o : Opening) (up : UpSide) (request : OpenRequest) (down : HopDown)
+    → AsksOpen config s event up request
     → o ≡ opening_with (opener up request.fields.to_id) down request → o.up ≡ UpLocal op → Spelled config s event op o
 asked_so config s event op o up request down (inl c) is local =
     let no : UpLink c.came.port c.came.from request.fields.to_id ≡ UpLocal op =
@@ -134,7 +139,8 @@ asked_so config s event op o up request down (inr c) is local =
       triad_is = sym (ap (λ (r : OpenRequest). r.fields.triad) c.spells) ∙ sym (ap (λ (x : Opening). x.triad) is);
     }
 
-spelled_by : (config : ModuleSettings) (s : State) (event : Event) (op : ℕ) (o : Opening) → o.up ≡ UpLocal op → BornAs config s event o → Spelled config s event op o
+spelled_by : (config : ModuleSettings) (s : State) (event : Event) (op : ℕ) (o : Opening) → o.up ≡ UpLocal op → BornAs config s event o
+    → Spelled config s event op o
 spelled_by config s event op o local (GoesOn sending tells) = asked_so config s event op o sending.up tells.o _ tells.asks tells.opening_is local
 spelled_by config s event op o local (EndsHere request link tells) = asked_so config s event op o tells.up request _ tells.asks tells.opening_is local
 
@@ -145,8 +151,10 @@ pub record OpenOf (t : Plan) (j : Journal) (m op : ℕ) (o : Opening) : Type 0 w
   pub path_is : request.path ≡ o.path
   pub triad_is : request.fields.triad ≡ o.triad
 
-module _ (t : Plan) (j : Journal) (m : ℕ) (config : ModuleSettings) (is : IsModule t m config) (op : ℕ) (o : Opening) (n : ModuleId) (input : Input) (outs : List Output) (before : Journal)
-    (older : IsOlder (Step n input outs ∷ before) j) (at : n.0 ≡ m) (run : IsRun t (Step n input outs ∷ before)) (h : IsHistory config (turn_of run.1.event outs ∷ part m before))
+module _ (t : Plan) (j : Journal) (m : ℕ) (config : ModuleSettings) (is : IsModule t m config) (op : ℕ) (o : Opening) (n : ModuleId) (input : Input)
+    (outs : List Output) (before : Journal)
+    (older : IsOlder (Step n input outs ∷ before) j) (at : n.0 ≡ m) (run : IsRun t (Step n input outs ∷ before))
+    (h : IsHistory config (turn_of run.1.event outs ∷ part m before))
     (by : Spelled config (state_in config m before) run.1.event op o) where
   input_is : input ≡ inputs.Command (commands.Open op by.timing by.path by.params)
   input_is = command_given t before n.0 input run.1.event (commands.Open op by.timing by.path by.params) run.1.given by.event_is
@@ -177,7 +185,8 @@ module _ (t : Plan) (j : Journal) (m : ℕ) (config : ModuleSettings) (is : IsMo
 pub opened_by_op : (t : Plan) (j : Journal) (m : ℕ) (config : ModuleSettings) → IsRun t j → IsModule t m config → (q : Triad) (x : Held) (op : ℕ)
     → map.get (state_in config m j).hops.held q ≡ Some x → (opening_of x).up ≡ UpLocal op → OpenOf t j m op (opening_of x)
 opened_by_op t j m config run is q x op at local =
-    past_moment t (Birth config (opening_of x) (ids_of x)) (OpenOf t j m op (opening_of x)) m j run (held_as config (part m j) (run_history t j m config run is) q x at)
+    past_moment t (Birth config (opening_of x) (ids_of x)) (OpenOf t j m op (opening_of x)) m j run
+    (held_as config (part m j) (run_history t j m config run is) q x at)
     (λ n input outs before older same then b.
     open_of_it t j m config is op (opening_of x) n input outs before older same then b.history
     (spelled_by config (state_in config m before) then.1.event op (opening_of x) local b.as_))

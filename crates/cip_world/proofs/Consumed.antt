@@ -122,7 +122,8 @@ pub record Taken (t : Chassis) (j : Journal) (k e : ℕ) (triad : Triad) (instan
   pub entered : Entered t j k e o bytes
   pub behind : Behind j (length entered.before) k
 
-module _ (t : Chassis) (j : Journal) (run : IsRun t.plan j) (k e : ℕ) (triad : Triad) (instance : ℕ) (bytes : List ℕ) (s : StepOf t j k e (outputs.Consumed triad instance bytes)) where
+module _ (t : Chassis) (j : Journal) (run : IsRun t.plan j) (k e : ℕ) (triad : Triad) (instance : ℕ) (bytes : List ℕ)
+    (s : StepOf t j k e (outputs.Consumed triad instance bytes)) where
   abbrev state : State
   state = state_in s.run.1.config s.at.0 s.before
 
@@ -151,7 +152,8 @@ module _ (t : Chassis) (j : Journal) (run : IsRun t.plan j) (k e : ℕ) (triad :
         taken_as : (h : Entered t j k e hop.opening bytes) × Behind j (length h.before) k → Taken t j k e triad instance bytes
         taken_as h = record { o = hop.opening; config = c; produce = p; triad_is = triad_is; ends = ends; entered = h.0; behind = h.1 }
 
-  taken_from : (v : Given state s.run.1.event (outputs.Consumed triad instance bytes)) → DatumOf v.hop v.side v.bytes (outputs.Consumed triad instance bytes) → Taken t j k e triad instance bytes
+  taken_from : (v : Given state s.run.1.event (outputs.Consumed triad instance bytes)) → DatumOf v.hop v.side v.bytes (outputs.Consumed triad instance bytes)
+      → Taken t j k e triad instance bytes
   taken_from v (GoesUp port to their_id side up x_is) = absurd (cc)
   taken_from v (Arrives op side up x_is) = absurd (cc)
   taken_from v (GoesDown port to side down x_is) = absurd (cc)
@@ -186,8 +188,10 @@ some_number : (a b : ℕ) → Some a ≡ Some b → a ≡ b
 some_number a b e = cc
 
 -- two that one Enter entered are one
-module _ (t : Chassis) (j : Journal) (run : IsRun t.plan j) (k e : ℕ) (q : Triad) (c : ℕ) (b : List ℕ) (h : HasOutput j k e (outputs.Consumed q c b)) (x : Taken t j k e q c b)
-    (i n : ℕ) (r : Triad) (d : ℕ) (a : List ℕ) (g : HasOutput j i n (outputs.Consumed r d a)) (y : Taken t j i n r d a) (same : root_of j i ≡ Some (length x.entered.before)) where
+module _ (t : Chassis) (j : Journal) (run : IsRun t.plan j) (k e : ℕ) (q : Triad) (c : ℕ) (b : List ℕ) (h : HasOutput j k e (outputs.Consumed q c b))
+    (x : Taken t j k e q c b)
+    (i n : ℕ) (r : Triad) (d : ℕ) (a : List ℕ) (g : HasOutput j i n (outputs.Consumed r d a)) (y : Taken t j i n r d a)
+    (same : root_of j i ≡ Some (length x.entered.before)) where
   root_same : length y.entered.before ≡ length x.entered.before
   root_same = some_number (length y.entered.before) (length x.entered.before) (sym y.entered.root_is ∙ same)
 
@@ -222,7 +226,8 @@ produces o c i p ends = sym (ap (λ (l : EndLink). l.produce) ends.points.link_i
 
 -- ---- the theorem
 
-told : (t : Chassis) (j : Journal) (k e : ℕ) (triad : Triad) (instance : ℕ) (bytes : List ℕ) → IsRun t.plan j → HasOutput j k e (outputs.Consumed triad instance bytes)
+told : (t : Chassis) (j : Journal) (k e : ℕ) (triad : Triad) (instance : ℕ) (bytes : List ℕ) → IsRun t.plan j
+    → HasOutput j k e (outputs.Consumed triad instance bytes)
     → Taken t j k e triad instance bytes → ConsumedOf t.plan j k e triad instance bytes
 told t j k e triad instance bytes run h x =
     let n = x.entered in
@@ -232,7 +237,8 @@ told t j k e triad instance bytes run h x =
     let state : State = state_in n.config n.at.0 n.before in
     let found = found_own (is_hop_by_op n.of) state.hops n.hop n.found own in
     let o : OpenOf t.plan n.before n.at.0 n.of n.hop.opening =
-    opened_by_op t.plan n.before n.at.0 n.config then n.is_module n.hop.opening.triad (Open n.hop) n.of (open_at state.hops n.hop.opening.triad n.hop found.0) (by_op state n.hop n.of own n.found) in
+    opened_by_op t.plan n.before n.at.0 n.config then n.is_module n.hop.opening.triad (Open n.hop) n.of (open_at state.hops n.hop.opening.triad n.hop found.0)
+    (by_op state n.hop n.of own n.found) in
     record {
       root = length n.before;
       root_is = n.root_is;
@@ -250,7 +256,8 @@ told t j k e triad instance bytes run h x =
           (taken_of t j run i n r d a (step_of t j i n (outputs.Consumed r d a) run g)) same;
     }
 
-pub consumed_of : (t : Chassis) (j : Journal) (k e : ℕ) (triad : Triad) (instance : ℕ) (bytes : List ℕ) → IsRun t.plan j → HasOutput j k e (outputs.Consumed triad instance bytes)
+pub consumed_of : (t : Chassis) (j : Journal) (k e : ℕ) (triad : Triad) (instance : ℕ) (bytes : List ℕ) → IsRun t.plan j
+    → HasOutput j k e (outputs.Consumed triad instance bytes)
     → ConsumedOf t.plan j k e triad instance bytes
 consumed_of t j k e triad instance bytes run h =
     told t j k e triad instance bytes run h (taken_of t j run k e triad instance bytes (step_of t j k e (outputs.Consumed triad instance bytes) run h))

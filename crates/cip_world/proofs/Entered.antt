@@ -51,7 +51,8 @@ behind j root i k f (inr b) sent datum brings = record { first = b.first; starts
 -- ---- a datum that came by a link
 
 -- the frame that brought the datum of the newest step
-pub record CameAs (t : Chassis) (j : Journal) (n : ModuleId) (input : Input) (outs : List Output) (before : Journal) (port id : ℕ) (from bytes : List ℕ) : Type 0 where
+pub record CameAs (t : Chassis) (j : Journal) (n : ModuleId) (input : Input) (outs : List Output) (before : Journal) (port id : ℕ)
+    (from bytes : List ℕ) : Type 0 where
   pub name : FrameName
   pub frame : DatumFrame t before name n.0 port id from bytes
   pub datum : IsDatum j name
@@ -63,7 +64,8 @@ pub came_as : (t : Chassis) (j : Journal) (n : ModuleId) (input : Input) (outs :
     → (run : IsRun t.plan (Step n input outs ∷ before)) → (port id : ℕ) (from bytes : List ℕ) → run.1.event ≡ events.Frame port from (bodies.Data id bytes)
     → CameAs t j n input outs before port id from bytes
 came_as t j n input outs before older run port id from bytes event_is =
-    let g : FrameGiven t before n.0 port from (bodies.Data id bytes) input = frame_given t before n.0 input run.1.event port from (bodies.Data id bytes) run.1.given event_is in
+    let g : FrameGiven t before n.0 port from (bodies.Data id bytes) input = frame_given t before n.0 input run.1.event port from
+    (bodies.Data id bytes) run.1.given event_is in
     record {
       name = g.name;
       frame = record { flight = g.flight; sent = g.sent; leads = g.leads; body_is = g.body_is };
@@ -103,7 +105,8 @@ pub record Entered (t : Chassis) (j : Journal) (k g : ℕ) (o : Opening) (bytes 
   pub line : (k ≡ length before) ⊎ Behind j (length before) k
 
 -- one that came by the link above
-pub record CameDown (t : Chassis) (j : Journal) (n : ModuleId) (input : Input) (outs : List Output) (before : Journal) (hop : Hop) (bytes : List ℕ) : Type 0 where
+pub record CameDown (t : Chassis) (j : Journal) (n : ModuleId) (input : Input) (outs : List Output) (before : Journal) (hop : Hop)
+    (bytes : List ℕ) : Type 0 where
   pub port : ℕ
   pub id : ℕ
   pub from : List ℕ
@@ -111,7 +114,8 @@ pub record CameDown (t : Chassis) (j : Journal) (n : ModuleId) (input : Input) (
   pub above : FromAbove t before came.name came.frame.flight n.0 (way_in n.0 port from) hop bytes
 
 pub came_down : (t : Chassis) (j : Journal) (n : ModuleId) (input : Input) (outs : List Output) (before : Journal) → IsOlder (Step n input outs ∷ before) j
-    → (run : IsRun t.plan (Step n input outs ∷ before)) → (hop : Hop) (bytes : List ℕ) → map.get (state_in run.1.config n.0 before).hops.held hop.opening.triad ≡ Some (Open hop)
+    → (run : IsRun t.plan (Step n input outs ∷ before)) → (hop : Hop) (bytes : List ℕ)
+    → map.get (state_in run.1.config n.0 before).hops.held hop.opening.triad ≡ Some (Open hop)
     → DatumCame (state_in run.1.config n.0 before) run.1.event Up hop bytes → CameDown t j n input outs before hop bytes
 came_down t j n input outs before older run hop bytes stands datum =
     let c = came_as t j n input outs before older run datum.port datum.id datum.from bytes datum.event_is in
@@ -136,23 +140,25 @@ carried_down t j n input outs before older hop bytes c e =
     let number = s.number in
     let same_root : root_of j c.came.name.entry ≡ root_of before c.came.name.entry =
     root_older before j c.came.name.entry (before_that (Step n input outs) before j older) (omega (arith, long, number)) in
-    let b = behind j (length e.before) (length s.before) (length before) c.came.name e.line (sym s.number) c.came.datum c.came.brings in
-    (record {
-      at = e.at;
-      of = e.of;
-      outs = e.outs;
-      before = e.before;
-      older = e.older;
-      taken = e.taken;
-      config = e.config;
-      is_module = e.is_module;
-      hop = e.hop;
-      found = e.found;
-      root_is = c.came.root_is ∙ sym same_root ∙ ap (root_of j) (sym s.number) ∙ e.root_is;
-      triad_is = e.triad_is ∙ sym c.above.matches.triad_is;
-      walk_is = e.walk_is ∙ c.above.walk_is;
-      line = inr b;
-    }, b)
+    let b = behind j (length e.before) (length s.before) (length before) c.came.name e.line (sym s.number) c.came.datum c.came.brings in (
+      record {
+        at = e.at;
+        of = e.of;
+        outs = e.outs;
+        before = e.before;
+        older = e.older;
+        taken = e.taken;
+        config = e.config;
+        is_module = e.is_module;
+        hop = e.hop;
+        found = e.found;
+        root_is = c.came.root_is ∙ sym same_root ∙ ap (root_of j) (sym s.number) ∙ e.root_is;
+        triad_is = e.triad_is ∙ sym c.above.matches.triad_is;
+        walk_is = e.walk_is ∙ c.above.walk_is;
+        line = inr b;
+      },
+      b,
+    )
 
 -- one that is entered here
 pub entered_here : (t : Chassis) (j : Journal) (n : ModuleId) (input : Input) (outs : List Output) (before : Journal) → IsOlder (Step n input outs ∷ before) j
@@ -166,7 +172,8 @@ entered_here t j n input outs before older run hop bytes of event_is found sized
       outs = outs;
       before = before;
       older = subst (λ (i : Input). IsOlder (Step n i outs ∷ before) j) is older;
-      taken = taken_by run.1.config (part n.0 before) (turn_of run.1.event outs) (turn_history t.plan before n input outs run) (commands.Enter of bytes) event_is
+      taken = taken_by run.1.config (part n.0 before) (turn_of run.1.event outs) (turn_history t.plan before n input outs run)
+          (commands.Enter of bytes) event_is
           (enter_taken (state_in run.1.config n.0 before) of bytes hop found sized);
       config = run.1.config;
       is_module = run.1.is_module;
@@ -178,7 +185,8 @@ entered_here t j n input outs before older run hop bytes of event_is found sized
       line = inl refl;
     }
 
-pub entered : (fuel : ℕ) (t : Chassis) (j : Journal) (n : ModuleId) (input : Input) (outs : List Output) (before : Journal) → IsOlder (Step n input outs ∷ before) j
+pub entered : (fuel : ℕ) (t : Chassis) (j : Journal) (n : ModuleId) (input : Input) (outs : List Output) (before : Journal)
+    → IsOlder (Step n input outs ∷ before) j
     → (run : IsRun t.plan (Step n input outs ∷ before)) → length before < fuel → (hop : Hop) (bytes : List ℕ)
     → map.get (state_in run.1.config n.0 before).hops.held hop.opening.triad ≡ Some (Open hop)
     → Source (state_in run.1.config n.0 before) run.1.event Down hop bytes → Entered t j (length before) n.0 hop.opening bytes
@@ -187,7 +195,8 @@ entered (suc fuel) t j n input outs before older run less hop bytes stands (Came
     let c = came_down t j n input outs before older run hop bytes stands came in
     let s = c.above.sent in
     let long = older_length (Step s.at s.input s.outs ∷ s.before) before s.older in
-    let e = entered fuel t j s.at s.input s.outs s.before (older_trans (Step s.at s.input s.outs ∷ s.before) before j s.older (before_that (Step n input outs) before j older))
+    let e = entered fuel t j s.at s.input s.outs s.before
+    (older_trans (Step s.at s.input s.outs ∷ s.before) before j s.older (before_that (Step n input outs) before j older))
     c.above.run (omega (arith, less, long)) c.above.above bytes c.above.stands c.above.source in
     (carried_down t j n input outs before older hop bytes c e).0
 entered (suc fuel) t j n input outs before older run less hop bytes stands (EnteredBy of side event_is found sized) =

@@ -75,7 +75,8 @@ pub record Still (config : ModuleSettings) (m : ℕ) (j : Journal) (q : Triad) (
   pub stands : map.get (state_in config m j).hops.held q ≡ Some (Open now)
   pub core : SameCore (Open hop) (Open now)
 
-as_still : (config : ModuleSettings) (m : ℕ) (j : Journal) (q : Triad) (hop : Hop) (x : Held) → map.get (state_in config m j).hops.held q ≡ Some x → SameCore (Open hop) x → Still config m j q hop
+as_still : (config : ModuleSettings) (m : ℕ) (j : Journal) (q : Triad) (hop : Hop) (x : Held) → map.get (state_in config m j).hops.held q ≡ Some x
+    → SameCore (Open hop) x → Still config m j q hop
 as_still config m j q hop (IsOpening o ids) at core = absurd core
 as_still config m j q hop (Open g) at core = record { now = g; stands = at; core = core }
 
@@ -99,7 +100,8 @@ still t k (e ∷ j) m config run is (inr older) q hop at holds =
         → map.get (state_in config m (e ∷ j)).hops.held q ≡ Some x → SameCore (Open g) x
     one_more (Step n input outs) y g was =
         part_step (λ turns. (x : Held) → map.get (state_after config turns).hops.held q ≡ Some x → SameCore (Open g) x) t m n input outs j y.1
-        (λ same. stays_same config (part m j) (turn_of y.1.event outs) (run_history t j m config y.0 is, step_here t j m n.0 config input outs same is y.1) q g was)
+        (λ same. stays_same config (part m j) (turn_of y.1.event outs)
+        (run_history t j m config y.0 is, step_here t j m n.0 config input outs same is y.1) q g was)
         (λ x held. let both : Some (Open g) ≡ Some x = sym was ∙ held in subst (SameCore (Open g)) (held_same (Open g) x both) (same_self (Open g)))
     one_more (Lost frame) y g was =
         λ x held. let both : Some (Open g) ≡ Some x = sym was ∙ held in subst (SameCore (Open g)) (held_same (Open g) x both) (same_self (Open g))

@@ -39,7 +39,8 @@ pub record LeadsBy (path : List ℕ) (port : ℕ) (address : List ℕ) : Type 0 
 down_parts : (p q : ℕ) (a b : List ℕ) → DownLink p a ≡ DownLink q b → (p ≡ q) × (a ≡ b)
 down_parts p q a b e = (cc, cc)
 
-by_link : (config : ModuleSettings) (s : State) (event : Event) (o : Opening) (port : ℕ) (address : List ℕ) → o.down ≡ DownLink port address → BornAs config s event o
+by_link : (config : ModuleSettings) (s : State) (event : Event) (o : Opening) (port : ℕ) (address : List ℕ) → o.down ≡ DownLink port address
+    → BornAs config s event o
     → LeadsBy o.path port address
 by_link config s event o port address down (GoesOn sending tells) =
     let parts = down_parts sending.port port sending.address address (sym (ap (λ (x : Opening). x.down) tells.opening_is) ∙ down) in
@@ -73,7 +74,8 @@ across_node t way there e =
     ] e
 
 -- a way out is by a port of the module
-pub port_there : (t : Plan) (way there : Way) (config : ModuleSettings) → slice_get t.modules way.at ≡ Some config → goes t way ≡ Some there → is_some (port_of config way.port) ≡ true
+pub port_there : (t : Plan) (way there : Way) (config : ModuleSettings) → slice_get t.modules way.at ≡ Some config → goes t way ≡ Some there
+    → is_some (port_of config way.port) ≡ true
 port_there t way there config at e =
     let here : leaves_by t.modules way.address (port_of config way.port) ≡ Some there =
     sym (ap (λ (o : Option ModuleSettings). leaves_by t.modules way.address (option_and_then (λ (c : ModuleSettings). port_of c way.port) o)) at) ∙ e in

@@ -22,6 +22,7 @@ pub mod ProducedOnce
 pub mod Arrived
 pub mod Keeping
 pub mod Carried
+pub mod OneChain
 pub mod Answered
 pub mod Named
 pub mod StepAt

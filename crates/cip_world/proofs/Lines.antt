@@ -57,20 +57,24 @@ named_entry (x ∷ j) k f b =
     ]
 
 -- what arrives now did not arrive before
-fresh_now : (t : Plan) (e : Entry) (j : Journal) (k : ℕ) (f : FrameName) (b : Brings (e ∷ j) k f) → IsRun t (e ∷ j) → e ≡ Step b.at (inputs.Frame b.port b.from f) b.outs → is_named j f ≡ false
+fresh_now : (t : Plan) (e : Entry) (j : Journal) (k : ℕ) (f : FrameName) (b : Brings (e ∷ j) k f) → IsRun t (e ∷ j)
+    → e ≡ Step b.at (inputs.Frame b.port b.from f) b.outs → is_named j f ≡ false
 fresh_now t e j k f b run is =
     let now : IsRun t (Step b.at (inputs.Frame b.port b.from f) b.outs ∷ j) = subst (λ (x : Entry). IsRun t (x ∷ j)) is run in now.1.given.waits.fresh
 
-older_brings : (j : Journal) (k : ℕ) (f : FrameName) (at : ModuleId) (port : ℕ) (from : List ℕ) (outs : List Output) → entry_at j k ≡ Some (Step at (inputs.Frame port from f) outs) → Brings j k f
+older_brings : (j : Journal) (k : ℕ) (f : FrameName) (at : ModuleId) (port : ℕ) (from : List ℕ) (outs : List Output)
+    → entry_at j k ≡ Some (Step at (inputs.Frame port from f) outs) → Brings j k f
 older_brings j k f at port from outs is = record { at = at; port = port; from = from; outs = outs; is = is }
 
 pub arrives_once : (t : Plan) (j : Journal) (i k : ℕ) (f : FrameName) → IsRun t j → Brings j i f → Brings j k f → i ≡ k
 arrives_once t [] i k f run a b = let no = a.is in absurd (cc)
 arrives_once t (e ∷ j) i k f run a b =
-    by_cases (entry_cases e j i (Step a.at (inputs.Frame a.port a.from f) a.outs) a.is) (entry_cases e j k (Step b.at (inputs.Frame b.port b.from f) b.outs) b.is)
+    by_cases (entry_cases e j i (Step a.at (inputs.Frame a.port a.from f) a.outs) a.is)
+    (entry_cases e j k (Step b.at (inputs.Frame b.port b.from f) b.outs) b.is)
     (λ x y. arrives_once t j i k f run.0 x y)
   where
-    by_cases : ((i ≡ length j) × (e ≡ Step a.at (inputs.Frame a.port a.from f) a.outs)) ⊎ (entry_at j i ≡ Some (Step a.at (inputs.Frame a.port a.from f) a.outs))
+    by_cases : ((i ≡ length j) × (e ≡ Step a.at (inputs.Frame a.port a.from f) a.outs)) ⊎
+        (entry_at j i ≡ Some (Step a.at (inputs.Frame a.port a.from f) a.outs))
         → ((k ≡ length j) × (e ≡ Step b.at (inputs.Frame b.port b.from f) b.outs)) ⊎ (entry_at j k ≡ Some (Step b.at (inputs.Frame b.port b.from f) b.outs))
         → (Brings j i f → Brings j k f → i ≡ k) → i ≡ k
     by_cases (inl here) (inl too) rest = here.0 ∙ sym too.0
@@ -104,7 +108,8 @@ datum_body (bodies.Data id bytes) e = record { id = id; bytes = bytes; is = refl
 flight_body : (x y : Flight) → Some x ≡ Some y → is_data y.body ≡ true → DatumBody x.body
 flight_body x y e data_ = let same : x ≡ y = cc in datum_body x.body (ap (λ (z : Flight). is_data z.body) same ∙ data_)
 
-frame_gives : (config : ModuleSettings) (s new : State) (event : Event) (port id : ℕ) (from bytes : List ℕ) (outs : List Output) → event ≡ events.Frame port from (bodies.Data id bytes)
+frame_gives : (config : ModuleSettings) (s new : State) (event : Event) (port id : ℕ) (from bytes : List ℕ) (outs : List Output)
+    → event ≡ events.Frame port from (bodies.Data id bytes)
     → table_step config s event ≡ Some (record { state = new; outputs = outs }) → weight_in one_datum outs ≤ 1
 frame_gives config s new event port id from bytes outs event_is step =
     let turn = turned config s (events.Frame port from (bodies.Data id bytes)) new outs (ap (table_step config s) (sym event_is) ∙ step) in
@@ -112,7 +117,8 @@ frame_gives config s new event port id from bytes outs event_is step =
     let same = ap (weight_in one_datum) turn.out in
     omega (arith, most, same)
 
-enter_gives : (config : ModuleSettings) (s new : State) (event : Event) (of : ℕ) (bytes : List ℕ) (outs : List Output) → event ≡ events.Command (commands.Enter of bytes)
+enter_gives : (config : ModuleSettings) (s new : State) (event : Event) (of : ℕ) (bytes : List ℕ) (outs : List Output)
+    → event ≡ events.Command (commands.Enter of bytes)
     → table_step config s event ≡ Some (record { state = new; outputs = outs }) → weight_in one_datum outs ≤ 1
 enter_gives config s new event of bytes outs event_is step =
     let turn = turned config s (events.Command (commands.Enter of bytes)) new outs (ap (table_step config s) (sym event_is) ∙ step) in
@@ -124,7 +130,8 @@ enter_gives config s new event of bytes outs event_is step =
 pub arrival_gives : (t : Plan) (j : Journal) (k : ℕ) (f : FrameName) → IsRun t j → Brings j k f → IsDatum j f → OneDatum j k
 arrival_gives t j k f run b d =
     let e = at_number j k (Step b.at (inputs.Frame b.port b.from f) b.outs) b.is in
-    let now : IsRun t (Step b.at (inputs.Frame b.port b.from f) b.outs ∷ e.before) = run_older t (Step b.at (inputs.Frame b.port b.from f) b.outs ∷ e.before) j e.older run in
+    let now : IsRun t (Step b.at (inputs.Frame b.port b.from f) b.outs ∷ e.before) = run_older t
+    (Step b.at (inputs.Frame b.port b.from f) b.outs ∷ e.before) j e.older run in
     let a : IsArrival t e.before f b.at.0 b.port b.from now.1.event = now.1.given in
     let both : Some a.waits.flight ≡ Some d.flight =
     sym (frame_later e.before j f a.waits.flight (before_that (Step b.at (inputs.Frame b.port b.from f) b.outs) e.before j e.older) a.waits.sent) ∙ d.sent in
@@ -157,7 +164,8 @@ outs_same : (a b : ModuleId) (x y : Input) (o p : List Output) → Some (Step a 
 outs_same a b x y o p e = cc
 
 -- the place of a frame among the outputs of its entry
-pub frame_place : (j : Journal) (k : ℕ) (at : ModuleId) (input : Input) (outs : List Output) → entry_at j k ≡ Some (Step at input outs) → (f : FrameName) (d : IsDatum j f) → f.entry ≡ k
+pub frame_place : (j : Journal) (k : ℕ) (at : ModuleId) (input : Input) (outs : List Output) → entry_at j k ≡ Some (Step at input outs)
+    → (f : FrameName) (d : IsDatum j f) → f.entry ≡ k
     → slice_get outs f.output ≡ Some (out_of d.flight)
 frame_place j k at input outs entry f d same =
     let s = sent_at j f d.flight d.sent in
@@ -175,7 +183,8 @@ weighs x e = let one = ap (λ (b : Bool). mark b) e in omega (arith, one)
 pub one_frame_of : (j : Journal) (k : ℕ) → OneDatum j k → (f g : FrameName) → IsDatum j f → IsDatum j g → f.entry ≡ k → g.entry ≡ k → f ≡ g
 one_frame_of j k one f g d e a b =
     name_eq f g (a ∙ sym b)
-    (one_place one_datum one.outs f.output g.output (out_of d.flight) (out_of e.flight) one.most (weighs (out_of d.flight) d.data_) (weighs (out_of e.flight) e.data_)
+    (one_place one_datum one.outs f.output g.output (out_of d.flight) (out_of e.flight) one.most (weighs (out_of d.flight) d.data_)
+    (weighs (out_of e.flight) e.data_)
     (sent_place j k one f d a) (sent_place j k one g e b))
 
 -- ---- a line
@@ -222,7 +231,8 @@ beyond_zero zero = refl
 beyond_zero (suc d) = ap (λ (x : ℕ). suc x) (beyond_zero d)
 
 -- an entry farther on has one before it, which sent a datum
-ancestor : (j : Journal) (first : FrameName) (n d k : ℕ) → Line j first (beyond d n) k → (i : ℕ) × (f : FrameName) × Line j first n i × (f.entry ≡ i) × IsDatum j f
+ancestor : (j : Journal) (first : FrameName) (n d k : ℕ) → Line j first (beyond d n) k
+    → (i : ℕ) × (f : FrameName) × Line j first n i × (f.entry ≡ i) × IsDatum j f
 ancestor j first n zero k l = (l.0, l.1, l.2, l.3, l.4)
 ancestor j first n (suc d) k l = ancestor j first n d l.0 l.2
 

@@ -40,7 +40,8 @@ use Rattle.cip_module.proofs.Weighing.{weight_has, weight_gave}
 
 -- a past turn, with the way back to the whole
 pub past_in : (P : List Turn → Turn → Type 0) (F : Type 0) (turns : List Turn) → Past P turns
-    → ((earlier : List Turn) (turn : Turn) → P earlier turn → ((Q : Turn → Type 0) → Q turn → Some_turn Q turns) → ((R : List Turn → Turn → Type 0) → Past R earlier → Past R turns) → F) → F
+    → ((earlier : List Turn) (turn : Turn) → P earlier turn → ((Q : Turn → Type 0) → Q turn → Some_turn Q turns)
+    → ((R : List Turn → Turn → Type 0) → Past R earlier → Past R turns) → F) → F
 past_in P F [] h f = absurd h
 past_in P F (turn ∷ turns) (inl h) f = f turns turn h (λ Q q. inl q) (λ R r. inr r)
 past_in P F (turn ∷ turns) (inr h) f = past_in P F turns h (λ earlier t p one all. f earlier t p (λ Q q. inr (one Q q)) (λ R r. inr (all R r)))
@@ -57,8 +58,10 @@ one_of w (o ∷ os) x y most a b (inr h) (inr k) = one_of w os x y (omega (arith
 pub one_given : (w : Output → ℕ) (turns : List Turn) (x y : Output) → weight w turns ≤ 1 → 1 ≤ w x → 1 ≤ w y → Gave turns x → Gave turns y → x ≡ y
 one_given w [] x y most a b h k = absurd h
 one_given w (turn ∷ turns) x y most a b (inl h) (inl k) = one_of w turn.outputs x y (omega (arith, most)) a b h k
-one_given w (turn ∷ turns) x y most a b (inl h) (inr k) = let one = weight_has w turn.outputs x h in let other = weight_gave w turns y k in absurd (omega (arith, one, other, most, a, b))
-one_given w (turn ∷ turns) x y most a b (inr h) (inl k) = let one = weight_has w turn.outputs y k in let other = weight_gave w turns x h in absurd (omega (arith, one, other, most, a, b))
+one_given w (turn ∷ turns) x y most a b (inl h) (inr k) = let one = weight_has w turn.outputs x h in let other = weight_gave w turns y k in absurd
+    (omega (arith, one, other, most, a, b))
+one_given w (turn ∷ turns) x y most a b (inr h) (inl k) = let one = weight_has w turn.outputs y k in let other = weight_gave w turns x h in absurd
+    (omega (arith, one, other, most, a, b))
 one_given w (turn ∷ turns) x y most a b (inr h) (inr k) = one_given w turns x y (omega (arith, most)) a b h k
 
 all_ask : (port n : ℕ) (from : List ℕ) (oo : OpenRequest) (turns : List Turn)
@@ -99,7 +102,8 @@ same_way : (a b : Way) → Some a ≡ Some b → a ≡ b
 same_way a b e = cc
 
 module _ (t : Chassis) (j k : Journal) (m : ℕ) (config : ModuleSettings) (run : IsRun t.plan j) (is : IsModule t.plan m config) (older : IsOlder k j)
-    (q : Triad) (h : Hop) (port : ℕ) (address : List ℕ) (at : map.get (state_in config m k).hops.held q ≡ Some (Open h)) (down : h.opening.down ≡ DownLink port address) where
+    (q : Triad) (h : Hop) (port : ℕ) (address : List ℕ) (at : map.get (state_in config m k).hops.held q ≡ Some (Open h))
+    (down : h.opening.down ≡ DownLink port address) where
   link : down_is_link h.opening.down ≡ true
   link = ap down_is_link down
 
@@ -107,8 +111,10 @@ module _ (t : Chassis) (j k : Journal) (m : ℕ) (config : ModuleSettings) (run 
   history = run_history t.plan j m config run is
 
   -- with the turns of the request and of its success
-  module _ (earlier : List Turn) (turn : Turn) (opened : HopOpened config h.opening h.ids h.their_id earlier turn) (one : (Q : Turn → Type 0) → Q turn → Some_turn Q (part m j))
-      (first : List Turn) (asking : Turn) (sent : OpenSent config opened.number opened.entry h.opening h.ids first asking) (too : (Q : Turn → Type 0) → Q asking → Some_turn Q (part m j)) where
+  module _ (earlier : List Turn) (turn : Turn) (opened : HopOpened config h.opening h.ids h.their_id earlier turn)
+      (one : (Q : Turn → Type 0) → Q turn → Some_turn Q (part m j))
+      (first : List Turn) (asking : Turn) (sent : OpenSent config opened.number opened.entry h.opening h.ids first asking)
+      (too : (Q : Turn → Type 0) → Q asking → Some_turn Q (part m j)) where
     abbrev n : ℕ
     n = opened.number
 
@@ -129,7 +135,8 @@ module _ (t : Chassis) (j k : Journal) (m : ℕ) (config : ModuleSettings) (run 
         λ i. way_in m ((sent.port_is ∙ ports) i) ((sent.address_is ∙ addresses) i)
 
     brought : Brought t j m opened.entry.port opened.entry.address (bodies.Reply n opened.bytes)
-    brought = came_brought t j m opened.entry.port opened.entry.address (bodies.Reply n opened.bytes) run (one (λ x. x.event ≡ events.Frame opened.entry.port opened.entry.address (bodies.Reply n opened.bytes)) opened.event_is)
+    brought = came_brought t j m opened.entry.port opened.entry.address (bodies.Reply n opened.bytes) run
+        (one (λ x. x.event ≡ events.Frame opened.entry.port opened.entry.address (bodies.Reply n opened.bytes)) opened.event_is)
 
     abbrev there : Way
     there = brought.flight.way
@@ -141,7 +148,8 @@ module _ (t : Chassis) (j k : Journal) (m : ℕ) (config : ModuleSettings) (run 
     replier = sender t.plan j brought.name brought.flight run brought.sent
 
     gave : Gave (part there.at j) (outputs.Send there.port there.address (bodies.Reply n opened.bytes))
-    gave = subst (λ (b : Body). Gave (part there.at j) (outputs.Send there.port there.address b)) brought.body_is (frame_gave t.plan j brought.name brought.flight run brought.sent)
+    gave = subst (λ (b : Body). Gave (part there.at j) (outputs.Send there.port there.address b)) brought.body_is
+        (frame_gave t.plan j brought.name brought.flight run brought.sent)
 
     gave_request : Gave (part m j) (outputs.Send sent.sending.port sent.sending.address (bodies.Request n (open_bytes oo)))
     gave_request = subst (λ (b : List ℕ). Gave (part m j) (outputs.Send sent.sending.port sent.sending.address (bodies.Request n b))) sent.tells.bytes_are
@@ -153,12 +161,18 @@ module _ (t : Chassis) (j k : Journal) (m : ℕ) (config : ModuleSettings) (run 
         let from = came_brought t j there.at there.port there.address (bodies.Request n b) run came in
         let way : from.flight.way ≡ way_in m opened.entry.port opened.entry.address =
         same_way from.flight.way (way_in m opened.entry.port opened.entry.address) (sym (t.back from.flight.way there from.leads) ∙ brought.leads) in
-        let given : Gave (part m j) (out_of from.flight) = subst (λ (i : ℕ). Gave (part i j) (out_of from.flight)) (ap (λ (w : Way). w.at) way) (frame_gave t.plan j from.name from.flight run from.sent) in
-        let other : Flight = record { way = record { at = m; port = sent.sending.port; address = sent.sending.address }; body = bodies.Request n (open_bytes oo) } in
+        let given : Gave (part m j) (out_of from.flight) = subst (λ (i : ℕ). Gave (part i j) (out_of from.flight)) (ap (λ (w : Way). w.at) way)
+        (frame_gave t.plan j from.name from.flight run from.sent) in
+        let other : Flight = record {
+          way = record { at = m; port = sent.sending.port; address = sent.sending.address };
+          body = bodies.Request n
+              (open_bytes oo);
+        } in
         let same : out_of from.flight ≡ outputs.Send sent.sending.port sent.sending.address (bodies.Request n (open_bytes oo)) =
         one_given (is_request n) (part m j) (out_of from.flight) (out_of other) (sent_once config n (part m j) history)
         (request_weighs n from.flight b from.body_is) (request_weighs n other (open_bytes oo) refl) given gave_request in
-        let whole : outputs.Send from.flight.way.port from.flight.way.address (bodies.Request n b) ≡ outputs.Send sent.sending.port sent.sending.address (bodies.Request n (open_bytes oo)) =
+        let whole : outputs.Send from.flight.way.port from.flight.way.address (bodies.Request n b) ≡ outputs.Send sent.sending.port sent.sending.address
+        (bodies.Request n (open_bytes oo)) =
         ap (λ (x : Body). outputs.Send from.flight.way.port from.flight.way.address x) (sym from.body_is) ∙ same in
         cc
 
@@ -231,12 +245,14 @@ same_mirrors there h g o same id x =
     }
 
 -- whatever has the id at any moment is that counterpart
-pub only_lower : (t : Chassis) (j : Journal) (out : Way) (h : Hop) → IsRun t.plan j → (x : Lower t j out h) → (l : Journal) → IsOlder l j → (r : Triad) (g : Hop)
+pub only_lower : (t : Chassis) (j : Journal) (out : Way) (h : Hop) → IsRun t.plan j → (x : Lower t j out h) → (l : Journal) → IsOlder l j
+    → (r : Triad) (g : Hop)
     → map.get (state_in x.config x.there.at l).hops.held r ≡ Some (Open g) → g.ids.up ≡ Some x.id → (g.opening ≡ x.opening) × (g.ids ≡ x.ids)
 only_lower t j out h run x l older r g held id =
     let born = past_older (IsBirth x.config g.opening g.ids) x.there.at l j older
     (held_born x.config (part x.there.at l) (run_history t.plan l x.there.at x.config (run_older t.plan l j older run) x.is_module) r (Open g) held) in
-    born_once x.config g.opening x.opening g.ids x.ids (part x.there.at j) x.id (run_history t.plan j x.there.at x.config run x.is_module) born x.birth (inl id) (inl x.id_is)
+    born_once x.config g.opening x.opening g.ids x.ids (part x.there.at j) x.id (run_history t.plan j x.there.at x.config run x.is_module) born x.birth
+    (inl id) (inl x.id_is)
 
 pub mirrored_by : (t : Chassis) (j : Journal) (out : Way) (h : Hop) → IsRun t.plan j → Lower t j out h → IsMirrored t.plan j out h
 mirrored_by t j out h run x = record {
@@ -250,7 +266,8 @@ mirrored_by t j out h run x = record {
       same_mirrors x.there h g x.opening (only_lower t j out h run x l older r g held id).0 (id ∙ sym x.their_is) x.matches;
 }
 
-pub mirrored : (t : Chassis) (j k : Journal) (m : ℕ) (config : ModuleSettings) → IsRun t.plan j → IsModule t.plan m config → IsOlder k j → (q : Triad) (h : Hop) (port : ℕ) (address : List ℕ)
+pub mirrored : (t : Chassis) (j k : Journal) (m : ℕ) (config : ModuleSettings) → IsRun t.plan j → IsModule t.plan m config → IsOlder k j
+    → (q : Triad) (h : Hop) (port : ℕ) (address : List ℕ)
     → map.get (state_in config m k).hops.held q ≡ Some (Open h) → h.opening.down ≡ DownLink port address → IsMirrored t.plan j (way_in m port address) h
 mirrored t j k m config run is older q h port address at down =
     mirrored_by t j (way_in m port address) h run (lower t j k m config run is older q h port address at down)

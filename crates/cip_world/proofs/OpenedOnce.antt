@@ -41,7 +41,8 @@ stays_all : (config : ModuleSettings) (s : State) (es : List Effect) (op : ℕ) 
 stays_all config s [] op h = h
 stays_all config s (e ∷ es) op h = stays_all config (apply config s e) es op (stays config s e op h)
 
-stays_turn : (config : ModuleSettings) (turns : List Turn) (turn : Turn) → IsHistory config (turn ∷ turns) → (op : ℕ) → is_spent op (state_after config turns).ops ≡ true
+stays_turn : (config : ModuleSettings) (turns : List Turn) (turn : Turn) → IsHistory config (turn ∷ turns) → (op : ℕ)
+    → is_spent op (state_after config turns).ops ≡ true
     → is_spent op (state_after config (turn ∷ turns)).ops ≡ true
 stays_turn config turns turn h op used =
     let now = newest config turn turns h in
@@ -49,7 +50,8 @@ stays_turn config turns turn h op used =
 
 -- ---- an Open that is taken uses its op up
 
-module _ (config : ModuleSettings) (turns : List Turn) (turn : Turn) (h : IsHistory config (turn ∷ turns)) (op : ℕ) (timing : Timing) (path : List ℕ) (params : OpenParams)
+module _ (config : ModuleSettings) (turns : List Turn) (turn : Turn) (h : IsHistory config (turn ∷ turns)) (op : ℕ) (timing : Timing) (path : List ℕ)
+    (params : OpenParams)
     (event_is : turn.event ≡ events.Command (commands.Open op timing path params)) (taken : IsTaken turn.outputs) where
   abbrev s0 : State
   s0 = state_after config turns
@@ -65,7 +67,8 @@ module _ (config : ModuleSettings) (turns : List Turn) (turn : Turn) (h : IsHist
 
   effects_are : now.effects ≡ refused_effects (cond (is_spent op s0.ops) rows.OpUsed rows.Taken) (Spends op ∷ rest)
   effects_are =
-      let whole : Some now.effects ≡ Some (refused_effects (cond (is_spent op s0.ops) rows.OpUsed rows.Taken) (Spends op ∷ rest)) = sym now.decided ∙ ap (decide config s0) event_is in
+      let whole : Some now.effects ≡ Some (refused_effects (cond (is_spent op s0.ops) rows.OpUsed rows.Taken) (Spends op ∷ rest)) = sym now.decided
+      ∙ ap (decide config s0) event_is in
       cc
 
   -- it was not used before
@@ -76,7 +79,8 @@ module _ (config : ModuleSettings) (turns : List Turn) (turn : Turn) (h : IsHist
       by_spent false t = t
       by_spent true t =
           let given : outputs.Refused refused.OpUsed ∷ [] ≡ turn.outputs =
-          ap (λ c. outputs_of config s0 (refused_effects (cond c rows.OpUsed rows.Taken) (Spends op ∷ rest))) (sym t) ∙ ap (outputs_of config s0) (sym effects_are) ∙ now.out in
+          ap (λ c. outputs_of config s0 (refused_effects (cond c rows.OpUsed rows.Taken) (Spends op ∷ rest))) (sym t)
+          ∙ ap (outputs_of config s0) (sym effects_are) ∙ now.out in
           absurd (taken refused.OpUsed (subst (λ (os : List Output). Has os (outputs.Refused refused.OpUsed)) given (inl refl)))
 
   -- and is now
@@ -97,7 +101,8 @@ used_later t (x ∷ j) m config run is k op at timing path params outs e same ta
     by_cases x run (entry_cases x j k (Step at (inputs.Command (commands.Open op timing path params)) outs) e)
     (λ old. used_later t j m config run.0 is k op at timing path params outs old same taken)
   where
-    newest_open : (y : IsRun t (Step at (inputs.Command (commands.Open op timing path params)) outs ∷ j)) → is_spent op (state_in config m (Step at (inputs.Command (commands.Open op timing path params)) outs ∷ j)).ops ≡ true
+    newest_open : (y : IsRun t (Step at (inputs.Command (commands.Open op timing path params)) outs ∷ j))
+        → is_spent op (state_in config m (Step at (inputs.Command (commands.Open op timing path params)) outs ∷ j)).ops ≡ true
     newest_open y =
         let turn = turn_of y.1.event outs in
         let here = part_here t m at (inputs.Command (commands.Open op timing path params)) outs j y.1 same in
@@ -138,22 +143,28 @@ record OpenAt (j : Journal) (k m op : ℕ) : Type 0 where
   taken : IsTaken outs
 
 -- the newest is not used up before
-fresh : (t : Plan) (e : Entry) (j : Journal) (m : ℕ) (config : ModuleSettings) (op : ℕ) (at : ModuleId) (timing : Timing) (path : List ℕ) (params : OpenParams) (outs : List Output)
-    → IsRun t (e ∷ j) → IsModule t m config → e ≡ open_entry at op timing path params outs → at.0 ≡ m → IsTaken outs → is_spent op (state_in config m j).ops ≡ false
+fresh : (t : Plan) (e : Entry) (j : Journal) (m : ℕ) (config : ModuleSettings) (op : ℕ) (at : ModuleId) (timing : Timing) (path : List ℕ)
+    (params : OpenParams) (outs : List Output)
+    → IsRun t (e ∷ j) → IsModule t m config → e ≡ open_entry at op timing path params outs → at.0 ≡ m → IsTaken outs
+    → is_spent op (state_in config m j).ops ≡ false
 fresh t e j m config op at timing path params outs run is same at_is taken =
     let y : IsRun t (open_entry at op timing path params outs ∷ j) = subst (λ (x : Entry). IsRun t (x ∷ j)) same run in
     let h : IsHistory config (turn_of y.1.event outs ∷ part m j) =
     (run_history t j m config y.0 is, step_here t j m at.0 config (inputs.Command (commands.Open op timing path params)) outs at_is is y.1) in
     unused config (part m j) (turn_of y.1.event outs) h op timing path params y.1.given taken
 
-entry_once : (t : Plan) (j : Journal) (m : ℕ) (config : ModuleSettings) (op i k : ℕ) → IsRun t j → IsModule t m config → OpenAt j i m op → OpenAt j k m op → i ≡ k
+entry_once : (t : Plan) (j : Journal) (m : ℕ) (config : ModuleSettings) (op i k : ℕ) → IsRun t j → IsModule t m config → OpenAt j i m op → OpenAt j k m op
+    → i ≡ k
 entry_once t [] m config op i k run is a b = let no = a.is in absurd (cc)
 entry_once t (e ∷ j) m config op i k run is a b =
-    by_cases (entry_cases e j i (open_entry a.at op a.timing a.path a.params a.outs) a.is) (entry_cases e j k (open_entry b.at op b.timing b.path b.params b.outs) b.is)
+    by_cases (entry_cases e j i (open_entry a.at op a.timing a.path a.params a.outs) a.is)
+    (entry_cases e j k (open_entry b.at op b.timing b.path b.params b.outs) b.is)
     (λ x y. entry_once t j m config op i k run.0 is x y)
   where
-    by_cases : ((i ≡ length j) × (e ≡ open_entry a.at op a.timing a.path a.params a.outs)) ⊎ (entry_at j i ≡ Some (open_entry a.at op a.timing a.path a.params a.outs))
-        → ((k ≡ length j) × (e ≡ open_entry b.at op b.timing b.path b.params b.outs)) ⊎ (entry_at j k ≡ Some (open_entry b.at op b.timing b.path b.params b.outs))
+    by_cases : ((i ≡ length j) × (e ≡ open_entry a.at op a.timing a.path a.params a.outs)) ⊎
+        (entry_at j i ≡ Some (open_entry a.at op a.timing a.path a.params a.outs))
+        → ((k ≡ length j) × (e ≡ open_entry b.at op b.timing b.path b.params b.outs)) ⊎
+        (entry_at j k ≡ Some (open_entry b.at op b.timing b.path b.params b.outs))
         → (OpenAt j i m op → OpenAt j k m op → i ≡ k) → i ≡ k
     by_cases (inl here) (inl too) older = here.0 ∙ sym too.0
     by_cases (inl here) (inr old) older =
@@ -171,11 +182,13 @@ entry_once t (e ∷ j) m config op i k run is a b =
 open_at : (t : Plan) (j : Journal) (m op : ℕ) (r : OpenRequest) (o : IsOpened t j m op r) → OpenAt j o.entry m op
 open_at t j m op r o = record { at = o.at; timing = o.timing; path = o.path; params = o.params; outs = o.outs; is = o.is; at_is = o.at_is; taken = o.taken }
 
-open_parts : (a b : ModuleId) (op : ℕ) (t u : Timing) (p q : List ℕ) (x y : OpenParams) (o s : List Output) → Some (open_entry a op t p x o) ≡ Some (open_entry b op u q y s) → (t ≡ u) × (p ≡ q) × (x ≡ y)
+open_parts : (a b : ModuleId) (op : ℕ) (t u : Timing) (p q : List ℕ) (x y : OpenParams) (o s : List Output)
+    → Some (open_entry a op t p x o) ≡ Some (open_entry b op u q y s) → (t ≡ u) × (p ≡ q) × (x ≡ y)
 open_parts a b op t u p q x y o s e = (cc, cc, cc)
 
 -- the op of a module spells one open
-pub opened_once : (t : Plan) (j : Journal) (m op : ℕ) (r s : OpenRequest) → IsRun t j → (a : IsOpened t j m op r) → (b : IsOpened t j m op s) → (a.entry ≡ b.entry) × (r ≡ s)
+pub opened_once : (t : Plan) (j : Journal) (m op : ℕ) (r s : OpenRequest) → IsRun t j → (a : IsOpened t j m op r) → (b : IsOpened t j m op s)
+    → (a.entry ≡ b.entry) × (r ≡ s)
 opened_once t j m op r s run a b =
     let one = entry_once t j m a.config op a.entry b.entry run a.is_module (open_at t j m op r a) (open_at t j m op s b) in
     let config = same_module t m m a.config b.config refl a.is_module b.is_module in

@@ -89,7 +89,8 @@ module _ (port id : ℕ) (to : List ℕ) where
   IsAlone s = (q r : Triad) (x y : Held) → map.get s.hops.held q ≡ Some x → map.get s.hops.held r ≡ Some y
       → is_there (opening_of x).up ≡ true → is_there (opening_of y).up ≡ true → q ≡ r
 
-  no_more : (s : State) (q : Triad) (x : Held) (es : List (Triad × Held)) → IsAlone s → map.get s.hops.held q ≡ Some x → is_there (opening_of x).up ≡ true → AllFine s es
+  no_more : (s : State) (q : Triad) (x : Held) (es : List (Triad × Held)) → IsAlone s → map.get s.hops.held q ≡ Some x → is_there (opening_of x).up ≡ true
+      → AllFine s es
       → T (below_all triad_cmp q es) → having es ≡ 0
   no_more s q x [] alone at has fine below = refl
   no_more s q x (e ∷ es) alone at has fine below =
@@ -121,8 +122,10 @@ module _ (port id : ℕ) (to : List ℕ) where
 
   -- ---- what a Produce sends
 
-  module _ (config : ModuleSettings) (s : State) (instance : ℕ) (held : List ℕ) (es : List Effect) (decided : decide config s (events.Command (commands.Produce instance)) ≡ Some es) where
-    passes_weight : (mid : State) (hop : Hop) (bytes : List ℕ) (o : Option Hop) → hop_at mid.hops hop.opening.triad ≡ o → HasStood s mid → map.get s.hops.held hop.opening.triad ≡ Some (Open hop)
+  module _ (config : ModuleSettings) (s : State) (instance : ℕ) (held : List ℕ) (es : List Effect)
+      (decided : decide config s (events.Command (commands.Produce instance)) ≡ Some es) where
+    passes_weight : (mid : State) (hop : Hop) (bytes : List ℕ) (o : Option Hop) → hop_at mid.hops hop.opening.triad ≡ o → HasStood s mid
+        → map.get s.hops.held hop.opening.triad ≡ Some (Open hop)
         → weight_in goes_there (passed Up o bytes) ≤ mark (is_there hop.opening.up)
     passes_weight mid hop bytes None at stood stands = omega arith
     passes_weight mid hop bytes (Some g) at stood stands =
@@ -133,7 +136,8 @@ module _ (port id : ℕ) (to : List ℕ) where
         let there = ap (λ (x : Opening). mark (is_there x.up)) same in
         omega (arith, one, there)
 
-    made_weight : (before after : List Effect) (hop : Hop) → before ++ (made_effects held hop ++ after) ≡ es → map.get s.hops.held hop.opening.triad ≡ Some (Open hop)
+    made_weight : (before after : List Effect) (hop : Hop) → before ++ (made_effects held hop ++ after) ≡ es
+        → map.get s.hops.held hop.opening.triad ≡ Some (Open hop)
         → weight_in goes_there (outputs_of config (applied config s before) (made_effects held hop)) ≤ mark (is_there hop.opening.up)
     made_weight before after hop place stands =
         elim (eqb hop.opening.class 1) as (λ b.
@@ -190,12 +194,14 @@ module _ (port id : ℕ) (to : List ℕ) where
     where
       by_assembly : (g : Option (List ℕ)) → map.get s.assemblies instance ≡ g → weight_in goes_there (outputs_of config s es) ≤ 1
       by_assembly None found =
-          let whole : Some (produce_effects s instance None) ≡ Some es = ap (λ (x : Option (List ℕ)). Some (produce_effects s instance x)) (sym found) ∙ decided in
+          let whole : Some (produce_effects s instance None) ≡ Some es = ap (λ (x : Option (List ℕ)). Some (produce_effects s instance x)) (sym found)
+          ∙ decided in
           let same : produce_effects s instance None ≡ es = cc in
           let none = ap (λ (x : List Effect). weight_in goes_there (outputs_of config s x)) same in
           omega (arith, none)
       by_assembly (Some held) found =
-          let whole : Some (produce_effects s instance (Some held)) ≡ Some es = ap (λ (x : Option (List ℕ)). Some (produce_effects s instance x)) (sym found) ∙ decided in
+          let whole : Some (produce_effects s instance (Some held)) ≡ Some es = ap (λ (x : Option (List ℕ)). Some (produce_effects s instance x)) (sym found)
+          ∙ decided in
           let same : produce_effects s instance (Some held) ≡ es = cc in
           let entries = map.entries s.hops.held in
           let fine = all_fine s entries (λ i d lt.

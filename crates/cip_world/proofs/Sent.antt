@@ -72,7 +72,8 @@ pub record CameUp (t : Chassis) (j : Journal) (n : ModuleId) (input : Input) (ou
   pub below : FromBelow t before came.name came.frame.flight n.0 hop bytes
 
 came_up : (t : Chassis) (j : Journal) (n : ModuleId) (input : Input) (outs : List Output) (before : Journal) → IsOlder (Step n input outs ∷ before) j
-    → (run : IsRun t.plan (Step n input outs ∷ before)) → (hop : Hop) (bytes : List ℕ) → map.get (state_in run.1.config n.0 before).hops.held hop.opening.triad ≡ Some (Open hop)
+    → (run : IsRun t.plan (Step n input outs ∷ before)) → (hop : Hop) (bytes : List ℕ)
+    → map.get (state_in run.1.config n.0 before).hops.held hop.opening.triad ≡ Some (Open hop)
     → DatumCame (state_in run.1.config n.0 before) run.1.event Down hop bytes → CameUp t j n input outs before hop bytes
 came_up t j n input outs before older run hop bytes stands datum =
     let c = came_as t j n input outs before older run datum.port datum.id datum.from bytes datum.event_is in
@@ -83,20 +84,24 @@ came_up t j n input outs before older run hop bytes stands datum =
       id = datum.id;
       from = datum.from;
       came = c;
-      below = from_below t before run.0 n.0 run.1.config run.1.is_module hop.opening.triad hop stands datum.port datum.id datum.from bytes c.name c.frame by.0 by.1;
+      below = from_below t before run.0 n.0 run.1.config run.1.is_module hop.opening.triad hop stands datum.port datum.id
+          datum.from bytes c.name c.frame by.0 by.1;
     }
 
-module _ (t : Chassis) (j : Journal) (n : ModuleId) (input : Input) (outs : List Output) (before : Journal) (older : IsOlder (Step n input outs ∷ before) j) (hop : Hop) (bytes : List ℕ)
+module _ (t : Chassis) (j : Journal) (n : ModuleId) (input : Input) (outs : List Output) (before : Journal) (older : IsOlder (Step n input outs ∷ before) j)
+    (hop : Hop) (bytes : List ℕ)
     (c : CameUp t j n input outs before hop bytes) where
   same_root : root_of j (length before) ≡ root_of j (length c.below.sent.before)
   same_root =
       let s = c.below.sent in
       let long = older_length (Step s.at s.input s.outs ∷ s.before) before s.older in
       let number = s.number in
-      c.came.root_is ∙ sym (root_older before j c.came.name.entry (before_that (Step n input outs) before j older) (omega (arith, long, number))) ∙ ap (root_of j) (sym s.number)
+      c.came.root_is ∙ sym (root_older before j c.came.name.entry (before_that (Step n input outs) before j older) (omega (arith, long, number)))
+      ∙ ap (root_of j) (sym s.number)
 
   sender_older : IsOlder (Step c.below.sent.at c.below.sent.input c.below.sent.outs ∷ c.below.sent.before) j
-  sender_older = older_trans (Step c.below.sent.at c.below.sent.input c.below.sent.outs ∷ c.below.sent.before) before j c.below.sent.older (before_that (Step n input outs) before j older)
+  sender_older = older_trans (Step c.below.sent.at c.below.sent.input c.below.sent.outs ∷ c.below.sent.before) before j c.below.sent.older
+      (before_that (Step n input outs) before j older)
 
   -- what came up to the connection below came up here
   carried_up : Sent t j (length c.below.sent.before) c.below.sent.at.0 c.below.below.opening bytes → Sent t j (length before) n.0 hop.opening bytes
@@ -128,7 +133,8 @@ module _ (t : Chassis) (j : Journal) (n : ModuleId) (input : Input) (outs : List
   }
 
   -- what was made below came up here
-  made_below : (held : List ℕ) → Produced (state_in c.below.run.1.config c.below.sent.at.0 c.below.sent.before) c.below.run.1.event c.below.below held → Sent t j (length before) n.0 hop.opening bytes
+  made_below : (held : List ℕ) → Produced (state_in c.below.run.1.config c.below.sent.at.0 c.below.sent.before) c.below.run.1.event c.below.below held
+      → Sent t j (length before) n.0 hop.opening bytes
   made_below held made =
       let s = c.below.sent in
       let is = command_given t.plan s.before s.at.0 s.input c.below.run.1.event (commands.Produce made.instance) c.below.run.1.given made.event_is in
@@ -160,7 +166,8 @@ module _ (t : Chassis) (j : Journal) (n : ModuleId) (input : Input) (outs : List
         walk_is = c.below.walk_is;
       }
 
-pub sent : (fuel : ℕ) (t : Chassis) (j : Journal) (n : ModuleId) (input : Input) (outs : List Output) (before : Journal) → IsOlder (Step n input outs ∷ before) j
+pub sent : (fuel : ℕ) (t : Chassis) (j : Journal) (n : ModuleId) (input : Input) (outs : List Output) (before : Journal)
+    → IsOlder (Step n input outs ∷ before) j
     → (run : IsRun t.plan (Step n input outs ∷ before)) → length before < fuel → (hop : Hop) (bytes : List ℕ)
     → map.get (state_in run.1.config n.0 before).hops.held hop.opening.triad ≡ Some (Open hop)
     → DatumCame (state_in run.1.config n.0 before) run.1.event Down hop bytes → Sent t j (length before) n.0 hop.opening bytes
@@ -187,4 +194,5 @@ sent (suc fuel) t j n input outs before older run less hop bytes stands datum =
         let s = c.below.sent in
         let long = older_length (Step s.at s.input s.outs ∷ s.before) before s.older in
         by_source c c.below.source
-        (λ came. rest s.at s.input s.outs s.before (sender_older t j n input outs before older hop bytes c) c.below.run (omega (arith, less, long)) c.below.below bytes c.below.stands came)
+        (λ came. rest s.at s.input s.outs s.before (sender_older t j n input outs before older hop bytes c) c.below.run
+        (omega (arith, less, long)) c.below.below bytes c.below.stands came)

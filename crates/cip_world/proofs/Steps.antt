@@ -50,10 +50,12 @@ id_apart next id true true e f = let a : next + cond true 1 0 ≡ id = cc in let
 id_apart next id true false e f = cc
 id_apart next id false d e f = cc
 
-pub both_ids : (config : ModuleSettings) (o : Opening) (ids : OwnIds) (turns : List Turn) (id : ℕ) → Past (IsBirth config o ids) turns → ids.up ≡ Some id → ids.down ≡ Some id → ⊥
+pub both_ids : (config : ModuleSettings) (o : Opening) (ids : OwnIds) (turns : List Turn) (id : ℕ) → Past (IsBirth config o ids) turns → ids.up ≡ Some id
+    → ids.down ≡ Some id → ⊥
 both_ids config o ids [] id past e f = past
 both_ids config o ids (turn ∷ turns) id (inl b) e f =
-    id_apart (state_after config turns).hops.next id (up_is_link o.up) (down_is_link o.down) (ap (λ (x : OwnIds). x.up) (sym b.ids_are) ∙ e) (ap (λ (x : OwnIds). x.down) (sym b.ids_are) ∙ f)
+    id_apart (state_after config turns).hops.next id (up_is_link o.up) (down_is_link o.down) (ap (λ (x : OwnIds). x.up) (sym b.ids_are) ∙ e)
+    (ap (λ (x : OwnIds). x.down) (sym b.ids_are) ∙ f)
 both_ids config o ids (turn ∷ turns) id (inr old) e f = both_ids config o ids turns id old e f
 
 -- ---- the step that sent a datum
@@ -77,7 +79,8 @@ giver t j f x run h data_ =
     record {
       sent = s;
       run = then;
-      gave = given then.1.config (part s.at.0 s.before) (turn_of then.1.event s.outs) (turn_history t.plan s.before s.at s.input s.outs then) (out_of x) data_ (sent_has j f x s);
+      gave = given then.1.config (part s.at.0 s.before) (turn_of then.1.event s.outs) (turn_history t.plan s.before s.at s.input s.outs then) (out_of x) data_
+          (sent_has j f x s);
     }
 
 -- ---- from above
@@ -113,7 +116,8 @@ rest_same a b e = cc
 some_way : (a b : Way) → Some a ≡ Some b → a ≡ b
 some_way a b e = cc
 
-send_parts : (p q : ℕ) (a c : List ℕ) (i k : ℕ) (b d : List ℕ) → outputs.Send p a (bodies.Data i b) ≡ outputs.Send q c (bodies.Data k d) → (p ≡ q) × (a ≡ c) × (i ≡ k) × (b ≡ d)
+send_parts : (p q : ℕ) (a c : List ℕ) (i k : ℕ) (b d : List ℕ) → outputs.Send p a (bodies.Data i b) ≡ outputs.Send q c (bodies.Data k d)
+    → (p ≡ q) × (a ≡ c) × (i ≡ k) × (b ≡ d)
 send_parts p q a c i k b d e = (cc, cc, cc, cc)
 
 module _ (t : Chassis) (j : Journal) (run : IsRun t.plan j) (g : ℕ) (config : ModuleSettings) (is : IsModule t.plan g config) (q : Triad) (hop : Hop)
@@ -167,7 +171,8 @@ module _ (t : Chassis) (j : Journal) (run : IsRun t.plan j) (g : ℕ) (config : 
 
     walks : (o : Opening) → Matches (way_in g port from) h o → walk t.plan s.at.0 h.opening.path ≡ walk t.plan g o.path
     walks o m =
-        let first = leads_by then.1.config (part s.at.0 s.before) (run_history t.plan s.before s.at.0 then.1.config then.0 then.1.is_module) h.opening.triad (Open h) p a stands down in
+        let first = leads_by then.1.config (part s.at.0 s.before) (run_history t.plan s.before s.at.0 then.1.config then.0 then.1.is_module) h.opening.triad
+        (Open h) p a stands down in
         let one : m.first.rest ≡ first.first.rest = rest_same m.first first.first (sym m.first_is ∙ first.first_is) in
         walk_on t.plan s.at.0 p a (way_in g port from) h.opening.path o.path first (m.path_is ∙ one)
         (ap (goes t.plan) (out_way p a parts.0 parts.1) ∙ leads)
@@ -176,7 +181,8 @@ module _ (t : Chassis) (j : Journal) (run : IsRun t.plan j) (g : ℕ) (config : 
     down_to_up : Source state then.1.event Down h b → hop.ids.up ≡ Some id → FromAbove t j f x g (way_in g port from) hop bytes
     down_to_up source up_id =
         let one = same (inl up_id) in
-        let m : Matches (way_in g port from) h hop.opening = subst (λ (w : Way). Matches w h hop.opening) place (subst (Matches low.there h) (sym one.0) low.matches) in
+        let m : Matches (way_in g port from) h hop.opening = subst (λ (w : Way). Matches w h hop.opening) place
+        (subst (Matches low.there h) (sym one.0) low.matches) in
         record {
           sent = s;
           run = then;
@@ -233,7 +239,8 @@ module _ (t : Chassis) (j : Journal) (run : IsRun t.plan j) (g : ℕ) (config : 
         let one = own (inr down_id) in
         let first = leads_by config (part g j) (run_history t.plan j g config run is) q (Open hop) port from at down in
         let path : hop_of hop.opening.path ≡ Some high.first = ap (λ (o : Opening). hop_of o.path) one.0 ∙ high.first_is in
-        let back : goes t.plan (way_in g port from) ≡ Some (way_in s.at.0 p a) = t.back (way_in s.at.0 p a) (way_in g port from) (ap (goes t.plan) (out_way p a sides.0 sides.1) ∙ leads) in
+        let back : goes t.plan (way_in g port from) ≡ Some (way_in s.at.0 p a) = t.back (way_in s.at.0 p a) (way_in g port from)
+        (ap (goes t.plan) (out_way p a sides.0 sides.1) ∙ leads) in
         record {
           sent = s;
           run = then;
@@ -246,14 +253,16 @@ module _ (t : Chassis) (j : Journal) (run : IsRun t.plan j) (g : ℕ) (config : 
           up_is = up_is;
           out_is = out ∙ ap (λ (d : List ℕ). outputs.Send p a (bodies.Data c d)) (sym sides.3);
           triad_is = sym high.triad_is ∙ ap (λ (o : Opening). o.triad) (sym one.0);
-          walk_is = walk_on t.plan g port from (way_in s.at.0 p a) hop.opening.path h.opening.path first (high.path_is ∙ rest_same high.first first.first (sym path ∙ first.first_is)) back;
+          walk_is = walk_on t.plan g port from (way_in s.at.0 p a) hop.opening.path h.opening.path first
+              (high.path_is ∙ rest_same high.first first.first (sym path ∙ first.first_is)) back;
         }
 
   by_up_id : Given state then.1.event (out_of x) → hop.ids.up ≡ Some id → FromAbove t j f x g (way_in g port from) hop bytes
   by_up_id v up_id = cases v.of
     where
       cases : DatumOf v.hop v.side v.bytes (out_of x) → FromAbove t j f x g (way_in g port from) hop bytes
-      cases (GoesDown p a side down out) = down_to_up v.hop p a v.bytes v.stands down out (subst (λ (d : Side). Source state then.1.event d v.hop v.bytes) side v.source) up_id
+      cases (GoesDown p a side down out) = down_to_up v.hop p a v.bytes v.stands down out
+          (subst (λ (d : Side). Source state then.1.event d v.hop v.bytes) side v.source) up_id
       cases (GoesUp p a c side up out) = absurd (up_to_up v.hop p c a v.bytes v.stands up out up_id)
       cases (Arrives op side up out) = absurd (cc)
       cases (IsConsumed config consume produce side down out) = absurd (cc)
@@ -263,7 +272,8 @@ module _ (t : Chassis) (j : Journal) (run : IsRun t.plan j) (g : ℕ) (config : 
     where
       cases : DatumOf v.hop v.side v.bytes (out_of x) → FromBelow t j f x g hop bytes
       cases (GoesDown p a side down out) = absurd (down_to_down v.hop p a v.bytes v.stands down out down_id)
-      cases (GoesUp p a c side up out) = up_to_down v.hop p c a v.bytes v.stands up out (subst (λ (d : Side). Source state then.1.event d v.hop v.bytes) side v.source) down_id link
+      cases (GoesUp p a c side up out) = up_to_down v.hop p c a v.bytes v.stands up out
+          (subst (λ (d : Side). Source state then.1.event d v.hop v.bytes) side v.source) down_id link
       cases (Arrives op side up out) = absurd (cc)
       cases (IsConsumed config consume produce side down out) = absurd (cc)
 
@@ -276,7 +286,8 @@ pub record DatumFrame (t : Chassis) (j : Journal) (f : FrameName) (g port id : �
 
 -- a datum that came under the up id of a connection was given down by its counterpart above
 pub from_above : (t : Chassis) (j : Journal) (run : IsRun t.plan j) (g : ℕ) (config : ModuleSettings) (is : IsModule t.plan g config) (q : Triad) (hop : Hop)
-    → map.get (state_in config g j).hops.held q ≡ Some (Open hop) → (port id : ℕ) (from bytes : List ℕ) (f : FrameName) → (x : DatumFrame t j f g port id from bytes)
+    → map.get (state_in config g j).hops.held q ≡ Some (Open hop) → (port id : ℕ) (from bytes : List ℕ) (f : FrameName)
+    → (x : DatumFrame t j f g port id from bytes)
     → hop.ids.up ≡ Some id → FromAbove t j f x.flight g (way_in g port from) hop bytes
 from_above t j run g config is q hop at port id from bytes f x up_id =
     let who = giver t j f x.flight run x.sent (ap is_data x.body_is) in
@@ -284,7 +295,8 @@ from_above t j run g config is q hop at port id from bytes f x up_id =
 
 -- a datum that came under the down id of a connection was given up by its counterpart below
 pub from_below : (t : Chassis) (j : Journal) (run : IsRun t.plan j) (g : ℕ) (config : ModuleSettings) (is : IsModule t.plan g config) (q : Triad) (hop : Hop)
-    → map.get (state_in config g j).hops.held q ≡ Some (Open hop) → (port id : ℕ) (from bytes : List ℕ) (f : FrameName) → (x : DatumFrame t j f g port id from bytes)
+    → map.get (state_in config g j).hops.held q ≡ Some (Open hop) → (port id : ℕ) (from bytes : List ℕ) (f : FrameName)
+    → (x : DatumFrame t j f g port id from bytes)
     → hop.ids.down ≡ Some id → hop.opening.down ≡ DownLink port from → FromBelow t j f x.flight g hop bytes
 from_below t j run g config is q hop at port id from bytes f x down_id down =
     let who = giver t j f x.flight run x.sent (ap is_data x.body_is) in

@@ -76,7 +76,8 @@ pub record PutIn (config : ModuleSettings) (n : ℕ) (p : Entry) (before : List 
   pub tells : Tells config (state_after config before) turn.event effect
   pub put : puts mid effect ≡ Some p
 
-pub put_in : (config : ModuleSettings) (turns : List Turn) → IsHistory config turns → (n : ℕ) (p : Entry) → map.get (state_after config turns).pendings.entries n ≡ Some p → Past (PutIn config n p) turns
+pub put_in : (config : ModuleSettings) (turns : List Turn) → IsHistory config turns → (n : ℕ) (p : Entry)
+    → map.get (state_after config turns).pendings.entries n ≡ Some p → Past (PutIn config n p) turns
 put_in config [] h n p at = let none : None ≡ Some p = sym (map.get-empty {X = Entry} nat_cmp n) ∙ at in absurd (cc)
 put_in config (turn ∷ turns) h n p at =
     by_turn config (state_after config turns) turn.event
@@ -107,13 +108,16 @@ no_pass triad r e general =
 
     by_service : (b : Bool) → eqb r.general 0 ≡ true → cond b (opening_row triad r) MalformedForItsKind ≡ PassedUp → ⊥
     by_service true t f = no_success (is_some (slice_get r.extra 0)) (open_reply_at r.data_)
-        (sym (ap (λ b. cond b (cond (is_some (slice_get r.extra 0)) MalformedForItsKind (opened_row triad (open_reply_at r.data_))) (failure_row triad (failure_at r.data_))) t) ∙ f)
+        (sym (ap (λ b. cond b (cond (is_some (slice_get r.extra 0)) MalformedForItsKind (opened_row triad (open_reply_at r.data_)))
+        (failure_row triad (failure_at r.data_))) t) ∙ f)
     by_service false t f = cc
 
 late_general : (kind : Kind) (words : ℕ) (r : Reply) (bytes : List ℕ) → bytes ≡ late_bytes kind words → reply_at bytes ≡ Ok r → r.general ≡ 1
-late_general UnconnectedKind words r bytes is e = ap (λ (x : Reply). x.general) (reply_is (reply_with (128 + 0x52) (link_status TicksSpent) (route_words_data (Some words))) r bytes (omega arith) is e)
+late_general UnconnectedKind words r bytes is e = ap (λ (x : Reply). x.general)
+    (reply_is (reply_with (128 + 0x52) (link_status TicksSpent) (route_words_data (Some words))) r bytes (omega arith) is e)
 late_general (OpeningKind triad) words r bytes is e = failure_back (link_status TicksSpent) (failed_at triad words) r bytes is e
-late_general (ClosingKind triad) words r bytes is e = ap (λ (x : Reply). x.general) (reply_is (reply_with 0xCE (link_status TicksSpent) (failure_data (failed_at triad words))) r bytes (omega arith) is e)
+late_general (ClosingKind triad) words r bytes is e = ap (λ (x : Reply). x.general)
+    (reply_is (reply_with 0xCE (link_status TicksSpent) (failure_data (failed_at triad words))) r bytes (omega arith) is e)
 
 -- an id that is there is the one that is told for it
 told_id : (own : Option ℕ) (given told : ℕ) → own ≡ Some given → told ≡ option_map_or (λ id. id) own 0 → own ≡ Some told
@@ -129,7 +133,8 @@ abbrev pub AllAsk : ℕ → ℕ → List ℕ → Open → List Turn → Type 0
 AllAsk port n from oo [] = Unit {0}
 AllAsk port n from oo (turn ∷ turns) = TurnAsks port n from oo turn × AllAsk port n from oo turns
 
-pub past_asks : (port n : ℕ) (from : List ℕ) (oo : Open) (P : List Turn → Turn → Type 0) (F : Type 0) (turns : List Turn) → AllAsk port n from oo turns → Past P turns
+pub past_asks : (port n : ℕ) (from : List ℕ) (oo : Open) (P : List Turn → Turn → Type 0) (F : Type 0) (turns : List Turn) → AllAsk port n from oo turns
+    → Past P turns
     → ((before : List Turn) (turn : Turn) → TurnAsks port n from oo turn → P before turn → F) → F
 past_asks port n from oo P F [] asks h f = absurd h
 past_asks port n from oo P F (turn ∷ turns) asks (inl h) f = f turns turn asks.0 h
@@ -139,14 +144,16 @@ module _ (config : ModuleSettings) (port n : ℕ) (from : List ℕ) (oo : Open) 
   abbrev up : UpSide
   up = Link port from n
 
-  row_came : (event : Event) (row : RequestRow) → ((b : List ℕ) → event ≡ events.Frame port from (bodies.Request n b) → b ≡ open_bytes oo) → Came config event up row
+  row_came : (event : Event) (row : RequestRow) → ((b : List ℕ) → event ≡ events.Frame port from (bodies.Request n b) → b ≡ open_bytes oo)
+      → Came config event up row
       → (row ≡ request.UnknownPortOrTooLong) ⊎ (row ≡ request.ForwardOpen (open_data oo))
   row_came event row only came =
       let e : Link port from n ≡ Link came.port came.from came.number = came.up_is in
       let ports : port ≡ came.port = cc in
       let froms : from ≡ came.from = cc in
       let numbers : n ≡ came.number = cc in
-      let is : event ≡ events.Frame port from (bodies.Request n came.bytes) = came.event_is ∙ (λ i. events.Frame (sym ports i) (sym froms i) (bodies.Request (sym numbers i) came.bytes)) in
+      let is : event ≡ events.Frame port from (bodies.Request n came.bytes) = came.event_is
+      ∙ (λ i. events.Frame (sym ports i) (sym froms i) (bodies.Request (sym numbers i) came.bytes)) in
       let bytes = only came.bytes is in
       elim (open_row_is config came.port oo) as (λ _. (row ≡ request.UnknownPortOrTooLong) ⊎ (row ≡ request.ForwardOpen (open_data oo))) [
         | inl u ↦ inl (sym came.meets ∙ ap (request_row config came.port) bytes ∙ u)
@@ -186,7 +193,8 @@ module _ (config : ModuleSettings) (port n : ℕ) (from : List ℕ) (oo : Open) 
     open_asked o (inr h) = let e : Link port from n ≡ Local h.op = h.up_is in absurd (cc)
 
     -- what is put among the requests that wait opens a connection
-    put_opens : (mid : State) (e : Effect) (p : Entry) → Tells config s event e → puts mid e ≡ Some p → p.up ≡ up → (triad : Triad) × (p.kind ≡ OpeningKind triad)
+    put_opens : (mid : State) (e : Effect) (p : Entry) → Tells config s event e → puts mid e ≡ Some p → p.up ≡ up
+        → (triad : Triad) × (p.kind ≡ OpeningKind triad)
     put_opens mid (Begins sending opening) p tells put is =
         let same : entry_for mid sending (OpeningKind opening.triad) ≡ p = cc in (opening.triad, ap (λ (x : Entry). x.kind) (sym same))
     put_opens mid (Forwards sending kind) p tells put is =
@@ -218,10 +226,12 @@ module _ (config : ModuleSettings) (port n : ℕ) (from : List ℕ) (oo : Open) 
     next : ℕ
     ids_are : ids ≡ own_ids next o
 
-  sent_for : (number : ℕ) (p : Entry) (o : Opening) (ids : OwnIds) (before : List Turn) (turn : Turn) → TurnAsks port n from oo turn → OpenSent config number p o ids before turn → p.up ≡ up → SentFor o ids
+  sent_for : (number : ℕ) (p : Entry) (o : Opening) (ids : OwnIds) (before : List Turn) (turn : Turn) → TurnAsks port n from oo turn
+      → OpenSent config number p o ids before turn → p.up ≡ up → SentFor o ids
   sent_for number p o ids before turn only sent is =
       let ups : sent.sending.up ≡ up = sym sent.up_is ∙ is in
-      let asks : AsksOpen config (state_after config before) turn.event up sent.tells.o = subst (λ (u : UpSide). AsksOpen config (state_after config before) turn.event u sent.tells.o) ups sent.tells.asks in
+      let asks : AsksOpen config (state_after config before) turn.event up sent.tells.o = subst
+      (λ (u : UpSide). AsksOpen config (state_after config before) turn.event u sent.tells.o) ups sent.tells.asks in
       let same : sent.tells.o ≡ oo = open_asked (state_after config before) turn.event only sent.tells.o asks in
       record {
         down = DownLink sent.sending.port sent.sending.address;
@@ -242,7 +252,8 @@ module _ (config : ModuleSettings) (port n : ℕ) (from : List ℕ) (oo : Open) 
       → success_up o.up ids came done ≡ open_reply_bytes (record done { ot_id = option_map_or (λ id. id) ids.up 0; to_id = oo.fields.to_id })
   up_bytes o ids came done f = ap (λ (u : HopUp). success_up u ids came done) (ap (λ (x : Opening). x.up) f.opening_is)
 
-  module _ (turns : List Turn) (turn : Turn) (h : IsHistory config (turn ∷ turns)) (asks : AllAsk port n from oo (turn ∷ turns)) (bytes : List ℕ) (reply : Reply) (success : OpenSuccess)
+  module _ (turns : List Turn) (turn : Turn) (h : IsHistory config (turn ∷ turns)) (asks : AllAsk port n from oo (turn ∷ turns)) (bytes : List ℕ)
+      (reply : Reply) (success : OpenSuccess)
       (read : reply_at bytes ≡ Ok reply) (general : reply.general ≡ 0) (success_is : open_reply_at reply.data_ ≡ Ok success) where
     abbrev s0 : State
     s0 = state_after config turns
@@ -256,24 +267,30 @@ module _ (config : ModuleSettings) (port n : ℕ) (from : List ℕ) (oo : Open) 
     unread_fails : (asked : List ℕ) (fault : DataFault) → bytes ≡ unread_open_bytes asked fault → ⊥
     unread_fails asked fault =
         cond_both (nat_lt (length asked) 36) (open_failure_bytes (open_status (opens.unread_row asked fault)) failed_unread)
-        (open_failure_bytes (open_status (opens.unread_row asked fault)) (record { triad = open_triad_of asked; words = open_words_of asked })) (λ b. bytes ≡ b → ⊥)
+        (open_failure_bytes (open_status (opens.unread_row asked fault)) (record { triad = open_triad_of asked; words = open_words_of asked }))
+        (λ b. bytes ≡ b → ⊥)
         (λ t e. fails (open_status (opens.unread_row asked fault)) failed_unread e (open_fails (opens.unread_row asked fault)))
-        (λ t e. fails (open_status (opens.unread_row asked fault)) (record { triad = open_triad_of asked; words = open_words_of asked }) e (open_fails (opens.unread_row asked fault)))
+        (λ t e. fails (open_status (opens.unread_row asked fault)) (record { triad = open_triad_of asked; words = open_words_of asked }) e
+        (open_fails (opens.unread_row asked fault)))
 
     -- the open ended here
-    ended : (o : Open) (link : EndLink) → AsksOpen config s0 turn.event up o → open_row config s0 (opener up o.fields.to_id) o ≡ opens.Accepted link → bytes ≡ accepted_bytes o s0.hops.next → Below (turn ∷ turns) success
+    ended : (o : Open) (link : EndLink) → AsksOpen config s0 turn.event up o → open_row config s0 (opener up o.fields.to_id) o ≡ opens.Accepted link
+        → bytes ≡ accepted_bytes o s0.hops.next → Below (turn ∷ turns) success
     ended o link (inr k) meets is = let e : Link port from n ≡ Local k.op = k.up_is in absurd (cc)
     ended o link (inl k) meets is =
         let same : o ≡ oo = open_asked s0 turn.event only o (inl k) in
         let v : UpSide = Link k.came.port k.came.from k.came.number in
         let opening : Opening = opening_with (opener v o.fields.to_id) (end_down link) o in
-        let row : open_row config s0 (opener v o.fields.to_id) o ≡ opens.Accepted link = ap (λ (u : UpSide). open_row config s0 (opener u o.fields.to_id) o) (sym k.came.up_is) ∙ meets in
+        let row : open_row config s0 (opener v o.fields.to_id) o ≡ opens.Accepted link = ap (λ (u : UpSide). open_row config s0 (opener u o.fields.to_id) o)
+        (sym k.came.up_is) ∙ meets in
         let born_is : born config s0 turn.event ≡ Some opening =
         ap (born config s0) k.came.event_is
         ∙ ap (λ r. first_opened (request_effects config s0 v r)) k.came.meets
         ∙ ap (λ r. first_opened (open_data_effects config s0 v k.asked r)) k.read
         ∙ ap (λ r. first_opened (open_effects s0 v o r)) row in
-        let id = success_back (record { ot_id = s0.hops.next; to_id = o.fields.to_id; triad = o.fields.triad; ot_api = o.fields.ot_rpi; to_api = o.fields.to_rpi; reply = [] }) success reply bytes is read success_is in
+        let id = success_back
+        (record { ot_id = s0.hops.next; to_id = o.fields.to_id; triad = o.fields.triad; ot_api = o.fields.ot_rpi; to_api = o.fields.to_rpi; reply = [] })
+        success reply bytes is read success_is in
         record {
           opening = opening;
           ids = own_ids s0.hops.next opening;
@@ -303,37 +320,49 @@ module _ (config : ModuleSettings) (port n : ℕ) (from : List ℕ) (oo : Open) 
     now = newest config turn turns h
 
     -- what came to a request that was passed on
-    passed_up : (before after : List Effect) (e : Effect) (number : ℕ) (p : Entry) → before ++ (e ∷ after) ≡ now.effects → Tells config s0 turn.event e → e ≡ Takes number bytes
+    passed_up : (before after : List Effect) (e : Effect) (number : ℕ) (p : Entry) → before ++ (e ∷ after) ≡ now.effects → Tells config s0 turn.event e
+        → e ≡ Takes number bytes
         → map.get (applied config s0 before).pendings.entries number ≡ Some p → p.up ≡ up → ⊥
     passed_up before after e number p is tells effect_is at ups =
         let told : TakesAs s0 turn.event number bytes = subst (Tells config s0 turn.event) effect_is tells in
-        let first : before ≡ [] = reply_alone config s0 turn.event now.effects before after e told.came.port number told.came.from bytes told.came.event_is now.decided is in
+        let first : before ≡ [] = reply_alone config s0 turn.event now.effects before after e told.came.port number told.came.from bytes
+        told.came.event_is now.decided is in
         let waits = waits_at s0.pendings number told.came.port told.came.from told.entry told.came.waits in
-        let same : p ≡ told.entry = some_same p told.entry (sym at ∙ ap (λ (es : List Effect). map.get (applied config s0 es).pendings.entries number) first ∙ waits) in
+        let same : p ≡ told.entry = some_same p told.entry
+        (sym at ∙ ap (λ (es : List Effect). map.get (applied config s0 es).pendings.entries number) first ∙ waits) in
         let own : told.entry.up ≡ up = ap (λ (x : Entry). x.up) (sym same) ∙ ups in
         let replies : told.reply ≡ reply = ok_reply told.reply reply (sym told.came.read ∙ read) in
         past_asks port n from oo (PutIn config number told.entry) ⊥ turns asks.1 (put_in config turns h.0 number told.entry waits) (λ earlier t asked put.
         let opens_it = put_opens (state_after config earlier) t.event asked put.mid put.effect told.entry put.tells put.put own in
-        no_pass opens_it.0 told.reply (ap (λ (k : Kind). kind_row k told.reply) (sym opens_it.1) ∙ told.meets) (ap (λ (r : Reply). r.general) replies ∙ general))
+        no_pass opens_it.0 told.reply (ap (λ (k : Kind). kind_row k told.reply) (sym opens_it.1) ∙ told.meets)
+        (ap (λ (r : Reply). r.general) replies ∙ general))
 
     -- a success that came from below, with the own up id
-    opened_up : (before after : List Effect) (e : Effect) (number : ℕ) (triad : Triad) (came : List ℕ) (done : OpenSuccess) (p : Entry) → before ++ (e ∷ after) ≡ now.effects → Tells config s0 turn.event e
+    opened_up : (before after : List Effect) (e : Effect) (number : ℕ) (triad : Triad) (came : List ℕ) (done : OpenSuccess) (p : Entry)
+        → before ++ (e ∷ after) ≡ now.effects → Tells config s0 turn.event e
         → e ≡ Finishes number triad came done → map.get (applied config s0 before).pendings.entries number ≡ Some p → p.up ≡ up
         → bytes ≡ succeeded (map.get (applied config s0 before).hops.held triad) came done → Below (turn ∷ turns) success
     opened_up before after e number triad came done p is tells effect_is at ups bytes_are =
         let told : FinishesAs s0 turn.event number triad came done = subst (Tells config s0 turn.event) effect_is tells in
-        let first : before ≡ [] = reply_alone config s0 turn.event now.effects before after e told.came.port number told.came.from came told.came.event_is now.decided is in
+        let first : before ≡ [] = reply_alone config s0 turn.event now.effects before after e told.came.port number told.came.from came
+        told.came.event_is now.decided is in
         let waits = waits_at s0.pendings number told.came.port told.came.from told.entry told.came.waits in
-        let same : p ≡ told.entry = some_same p told.entry (sym at ∙ ap (λ (es : List Effect). map.get (applied config s0 es).pendings.entries number) first ∙ waits) in
+        let same : p ≡ told.entry = some_same p told.entry
+        (sym at ∙ ap (λ (es : List Effect). map.get (applied config s0 es).pendings.entries number) first ∙ waits) in
         let own : told.entry.up ≡ up = ap (λ (x : Entry). x.up) (sym same) ∙ ups in
         let was : Opens (SentIn config turns) s0 number told.entry triad = (joined config turns h.0).each number told.entry triad waits told.kind in
-        let sent : SentFor was.opening was.ids = past_asks port n from oo (OpenSent config number told.entry was.opening was.ids) (SentFor was.opening was.ids) turns asks.1 was.of
+        let sent : SentFor was.opening was.ids = past_asks port n from oo (OpenSent config number told.entry was.opening was.ids)
+        (SentFor was.opening was.ids) turns asks.1 was.of
         (λ earlier t asked sent. sent_for number told.entry was.opening was.ids earlier t asked sent own) in
         let given = up_given was.opening was.ids sent in
         let spelled : bytes ≡ open_reply_bytes (record done { ot_id = option_map_or (λ id. id) was.ids.up 0; to_id = oo.fields.to_id }) =
         bytes_are ∙ ap (λ (es : List Effect). succeeded (map.get (applied config s0 es).hops.held triad) came done) first
         ∙ ap (λ x. succeeded x came done) was.at ∙ up_bytes was.opening was.ids came done sent in
-        let id = success_back (record done { ot_id = option_map_or (λ id. id) was.ids.up 0; to_id = oo.fields.to_id }) success reply bytes spelled read success_is in
+        let id = success_back (record done {
+          ot_id = option_map_or
+              (λ id. id) was.ids.up 0;
+          to_id = oo.fields.to_id;
+        }) success reply bytes spelled read success_is in
         record {
           opening = was.opening;
           ids = was.ids;
@@ -347,7 +376,8 @@ module _ (config : ModuleSettings) (port n : ℕ) (from : List ℕ) (oo : Open) 
         → RepliesBy config s0 turn.event (applied config s0 g.before) g.effect up bytes → Below (turn ∷ turns) success
     by_way g (AtOnce k) = at_once k
     by_way g (Here asked effect_is k bytes_are) = absurd (here asked k)
-    by_way g (Opened number triad came done p effect_is at ups bytes_are) = opened_up g.before g.after g.effect number triad came done p g.is g.tells effect_is at ups bytes_are
+    by_way g (Opened number triad came done p effect_is at ups bytes_are) =
+        opened_up g.before g.after g.effect number triad came done p g.is g.tells effect_is at ups bytes_are
     by_way g (Taken number p effect_is at ups) = absurd (passed_up g.before g.after g.effect number p g.is g.tells effect_is at ups)
     by_way g (Late number p effect_is at ups is) = let one = late_general p.kind p.words reply bytes is read in absurd (omega (arith, one, general))
 
@@ -357,7 +387,8 @@ module _ (config : ModuleSettings) (port n : ℕ) (from : List ℕ) (oo : Open) 
         by_way g (reply_by port n from bytes config s0 turn.event (applied config s0 g.before) g.effect g.tells g.gives)
 
   -- the success that a module gave names the up id of a connection that it opened
-  pub below : (turns : List Turn) → IsHistory config turns → AllAsk port n from oo turns → (bytes : List ℕ) (reply : Reply) (success : OpenSuccess) → reply_at bytes ≡ Ok reply → reply.general ≡ 0
+  pub below : (turns : List Turn) → IsHistory config turns → AllAsk port n from oo turns → (bytes : List ℕ) (reply : Reply) (success : OpenSuccess)
+      → reply_at bytes ≡ Ok reply → reply.general ≡ 0
       → open_reply_at reply.data_ ≡ Ok success → Gave turns (outputs.Send port from (bodies.Reply n bytes)) → Below turns success
   below [] h asks bytes reply success read general is gave = absurd gave
   below (turn ∷ turns) h asks bytes reply success read general is (inl has) = below_now turns turn h asks bytes reply success read general is has

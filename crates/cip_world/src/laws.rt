@@ -118,3 +118,10 @@ pub fn chains_carry_data()
         → AreKept t j entry (last_of entry ks) (first ∷ rest)
         → IsTakenBy j (last_of entry ks) (last_of first rest) bytes }
 {}
+
+/// At any moment an op of a module has one chain at most.
+pub fn an_op_has_one_chain()
+    ensures { (t : Plan) (j : Journal) (op : ℕ) (first other : Member) (rest others : List Member)
+        → first.at ≡ other.at → IsChain t j op first rest → IsChain t j op other others
+        → (first ≡ other) × (rest ≡ others) }
+{}
