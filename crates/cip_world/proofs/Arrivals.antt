@@ -55,7 +55,7 @@ brought_older t e j m port from body h = record {
 frame_parts : (port : ℕ) (from : List ℕ) (body : Body) (p : ℕ) (f : List ℕ) (b : Body) → events.Frame port from body ≡ events.Frame p f b → (port ≡ p) × (from ≡ f) × (body ≡ b)
 frame_parts port from body p f b e = (cc, cc, cc)
 
-same_self : (f : FrameName) → same_name f f ≡ true
+pub same_self : (f : FrameName) → same_name f f ≡ true
 same_self f = and_from (eqb f.entry f.entry) (eqb f.output f.output) (eq-eqb f.entry f.entry refl) (eq-eqb f.output f.output refl)
 
 -- what an arrival brings

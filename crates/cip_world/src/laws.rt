@@ -1,21 +1,31 @@
 //! What holds of every run.
-ghost use Rattle.std.specs.Prelude.{◌≡◌, ℕ, ◌≤◌, true, List, Some};
+ghost use Rattle.std.specs.Prelude.{◌≡◌, ℕ, ◌≤◌, true, List, ◌∷◌, length, Some};
 ghost use Rattle.std.specs.FinMap as map;
 ghost use Rattle.std.specs.List.{list_any};
+ghost use Rattle.cip_base.specs.declared.triad.Triad.{Triad};
+ghost use Rattle.cip_hops.specs.declared.hop.Held.TheVariants.{Open};
+ghost use Rattle.cip_hops.specs.declared.hop.Hop.{Hop};
+ghost use Rattle.cip_hops.specs.declared.opening.HopDown.TheVariants.{Link as DownLink};
+ghost use Rattle.cip_open.specs.Open.{Open as OpenRequest};
 ghost use Rattle.cip_pending.specs.declared.entry.Entry.{Entry as Pending};
 ghost use Rattle.cip_pending.specs.declared.entry.UpSide.TheVariants.{Link};
 ghost use Rattle.cip_module.specs.declared.config.ModuleSettings.{ModuleSettings as Settings};
 ghost use Rattle.cip_module.specs.declared.event.Body.TheVariants.{Reply};
 ghost use Rattle.cip_module.specs.declared.event.Event.TheVariants as events;
+ghost use Rattle.cip_module.specs.declared.event.Output.TheVariants.{Arrived, Consumed};
 ghost use Rattle.cip_module.specs.Histories.{IsHistory};
 ghost use Rattle.cip_module.specs.Weights.{same_up, is_reply, is_asked_by, weight, came};
 ghost use Rattle.cip_topology.specs.Plan.{Plan, IsTopology};
+ghost use Rattle.cip_topology.specs.Nodes.{Way};
 ghost use Rattle.cip_world.specs.declared.journal.FrameName.{FrameName as Name};
 ghost use Rattle.cip_world.specs.Journals.{Journal, same_name, part};
 ghost use Rattle.cip_world.specs.Names.{AreRising};
 ghost use Rattle.cip_world.specs.Runs.{IsArrival, IsModule, IsRun, IsWaiting, state_in};
 ghost use Rattle.cip_world.specs.Waiting.{waiting};
 ghost use Rattle.cip_world.specs.Answers.{Answered};
+ghost use Rattle.cip_world.specs.Mirrors.{IsMirrored};
+ghost use Rattle.cip_world.specs.Chains.{Member, IsChain, last_of, AreDeliveries, AreKept, IsTakenBy};
+ghost use Rattle.cip_world.specs.Entering.{HasOutput, before_entry, IsEntered, IsOpened, ConsumedOf, ArrivedOf};
 
 /// A frame is in the list of those that wait exactly where it waits, and the list rises.
 pub fn what_waits_is_listed()
@@ -61,4 +71,57 @@ pub fn replies_answer_their_requests()
         (from bytes : List ℕ) → IsRun t j
         → IsArrival t j f m port from (events.Frame port from (Reply n bytes))
         → Answered t j f m port n from }
+{}
+
+/// Each connection that goes on by a link is mirrored below: at no moment of the run does the
+/// neighbor have a connection under the id that is named that does not mirror it.
+pub fn hops_are_mirrored()
+    ensures { (t : Plan) → IsTopology t → (j : Journal) (m : ℕ) (config : Settings) → IsRun t j
+        → IsModule t m config → (q : Triad) (h : Hop) (port : ℕ) (address : List ℕ)
+        → map.get (state_in config m j).hops.held q ≡ Some (Open h)
+        → h.opening.down ≡ DownLink port address
+        → IsMirrored t j (record { at = m; port = port; address = address }) h }
+{}
+
+/// Each datum that an end takes is one that was entered, unchanged and at most once: its root is an
+/// Enter of the same bytes, on an op whose open has the triad of the end's connection and a path
+/// that leads to this end and this assembly.
+pub fn what_is_consumed_was_entered()
+    ensures { (t : Plan) → IsTopology t → (j : Journal) (k e : ℕ) (triad : Triad) (instance : ℕ)
+        (bytes : List ℕ) → IsRun t j → HasOutput j k e (Consumed triad instance bytes)
+        → ConsumedOf t j k e triad instance bytes }
+{}
+
+/// Each datum that arrives at an op is one that was produced, unchanged and at most once: its root is
+/// a Produce, at the module to which the op's open leads and of the assembly there, in which the
+/// frame for the open's triad has the same bytes.
+pub fn what_arrives_was_produced()
+    ensures { (t : Plan) → IsTopology t → (j : Journal) (k m op : ℕ) (bytes : List ℕ) → IsRun t j
+        → HasOutput j k m (Arrived op bytes) → ArrivedOf t j k m op bytes }
+{}
+
+/// Of the Opens of one op at one module one at most is taken: what an op opens is one open.
+pub fn an_op_opens_once()
+    ensures { (t : Plan) (j : Journal) (m op : ℕ) (one other : OpenRequest) → IsRun t j
+        → (a : IsOpened t j m op one) → (b : IsOpened t j m op other)
+        → (a.entry ≡ b.entry) × (one ≡ other) }
+{}
+
+/// A datum that is entered on a chain, and followed through as many deliveries as the chain has
+/// links, is consumed at its end with the same bytes, where no connection of the chain is removed
+/// meanwhile.
+pub fn chains_carry_data()
+    ensures { (t : Plan) → IsTopology t → (j : Journal) (entry m op : ℕ) (bytes : List ℕ) → IsRun t j
+        → IsEntered j entry m op bytes → (first : Member) (rest : List Member) → first.at ≡ m
+        → IsChain t (before_entry j entry) op first rest
+        → (ks : List ℕ) → AreDeliveries j entry ks → length ks ≡ length rest
+        → AreKept t j entry (last_of entry ks) (first ∷ rest)
+        → IsTakenBy j (last_of entry ks) (last_of first rest) bytes }
+{}
+
+/// At any moment an op of a module has one chain at most.
+pub fn an_op_has_one_chain()
+    ensures { (t : Plan) (j : Journal) (op : ℕ) (first other : Member) (rest others : List Member)
+        → first.at ≡ other.at → IsChain t j op first rest → IsChain t j op other others
+        → (first ≡ other) × (rest ≡ others) }
 {}
