@@ -17,3 +17,4 @@ pub mod Delivered
 pub mod Freshness
 pub mod Ran
 pub mod Nexts
+pub mod TrailGrows

@@ -9,3 +9,5 @@ pub mod Nexts
 pub mod Worlds
 pub mod Answers
 pub mod Mirrors
+pub mod Roots
+pub mod Trails
