@@ -42,7 +42,7 @@ asks_for op (inputs.Frame port from name) = false
 -- an Open or a Send of this op at module m that is not refused
 abbrev pub is_command : ℕ → ℕ → Entry → Bool
 is_command m op (Step n input outs) =
-    n.0 == m && (asks_for op input && not (list_any is_refusal outs))
+    n.0 == m && asks_for op input && not (list_any is_refusal outs)
 is_command m op (Lost frame) = false
 
 -- ---- where it goes on
