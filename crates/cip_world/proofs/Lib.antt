@@ -3,6 +3,7 @@ pub mod Parts
 pub mod Frames
 pub mod Arrivals
 pub mod Replies
+pub mod Moments
 pub mod Answered
 pub mod Named
 pub mod StepAt
@@ -18,3 +19,5 @@ pub mod Freshness
 pub mod Ran
 pub mod Nexts
 pub mod TrailGrows
+pub mod Entries
+pub mod OneRequest

@@ -11,3 +11,4 @@ pub mod Answers
 pub mod Mirrors
 pub mod Roots
 pub mod Trails
+pub mod StepsIn
