@@ -21,3 +21,4 @@ pub mod Nexts
 pub mod TrailGrows
 pub mod Entries
 pub mod OneRequest
+pub mod OpsOnce
