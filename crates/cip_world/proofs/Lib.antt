@@ -22,3 +22,5 @@ pub mod TrailGrows
 pub mod Entries
 pub mod OneRequest
 pub mod OpsOnce
+pub mod PutIn
+pub mod WaysBack
