@@ -24,3 +24,4 @@ pub mod OneRequest
 pub mod OpsOnce
 pub mod PutIn
 pub mod WaysBack
+pub mod OpensGo

@@ -12,3 +12,4 @@ pub mod Mirrors
 pub mod Roots
 pub mod Trails
 pub mod StepsIn
+pub mod TrailTells
