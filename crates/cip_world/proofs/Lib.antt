@@ -25,3 +25,5 @@ pub mod OpsOnce
 pub mod PutIn
 pub mod WaysBack
 pub mod OpensGo
+pub mod TrailSteps
+pub mod HopsShorten

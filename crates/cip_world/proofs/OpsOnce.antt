@@ -1,10 +1,17 @@
--- An op is used in one entry of a run: one Open or Send of it, at one module, is not refused.
+-- An op is used in one entry of a run: a module takes one command of it, and refuses all others.
 use Rattle.std.proofs.Common.{◌≡◌, ℕ, ◌<◌, ◌≤◌, Bool, true, false, cond, not, ◌&&◌, List, [], ◌∷◌, Option, Some, None, refl, sym, ap, subst, ◌∙◌, ◌⊎◌, inl, inr, arith, eqb, length, nat_lt}
 use Rattle.std.specs.List.{list_any}
-use Rattle.std.specs.Prelude.{slice_index}
+use Rattle.std.specs.Prelude.{slice_index, is_some}
 use Rattle.std.proofs.lemmas.Bool.{and_parts, and_from, eqb-true, eq-eqb, cases_order}
 use Rattle.cip_base.specs.declared.numbers.ModuleId.{ModuleId}
 use Rattle.cip_pending.specs.declared.entry.UpSide.TheVariants.{Local}
+use Rattle.cip_base.specs.declared.timing.Timing.{Timing}
+use Rattle.cip_close.specs.Close.{Close}
+use Rattle.cip_hops.specs.declared.hop.Hop.{Hop}
+use Rattle.cip_hops.specs.Hops.{hop_by_op}
+use Rattle.cip_module.specs.CloseRows.{CloseRow, close_row}
+use Rattle.cip_module.specs.CloseRows as closes
+use Rattle.cip_module.specs.Tells.{command_asker}
 use Rattle.cip_unconnected.specs.Unconnected.{Unconnected, unconnected_bytes}
 use Rattle.cip_open.specs.Open.{Open}
 use Rattle.cip_module.specs.declared.command_rows.CommandRow.{CommandRow}
@@ -15,6 +22,8 @@ use Rattle.cip_module.specs.declared.event.Command.TheVariants as commands
 use Rattle.cip_module.specs.declared.event.Event.{Event}
 use Rattle.cip_module.specs.declared.event.Event.TheVariants as events
 use Rattle.cip_module.specs.declared.event.Output.{Output}
+use Rattle.cip_module.specs.declared.event.Output.TheVariants as outputs
+use Rattle.cip_module.specs.Words.{Has}
 use Rattle.cip_module.specs.declared.event.Refused.{Refused}
 use Rattle.cip_module.specs.CommandRows.{op_row, send_row}
 use Rattle.cip_module.specs.Effects.{Effect, Spends, RefusesCommand, apply, applied, outputs_of}
@@ -22,7 +31,7 @@ use Rattle.cip_module.specs.Histories.{Turn, state_after, IsHistory}
 use Rattle.cip_module.specs.OpenRows.{OpenRow, open_row}
 use Rattle.cip_module.specs.OpenRows as opens
 use Rattle.cip_module.specs.State.{State, is_spent, spent_with}
-use Rattle.cip_module.specs.Table.{decide, refused_effects, open_effects, unconnected_effects, open_of, sent}
+use Rattle.cip_module.specs.Table.{decide, refused_effects, open_effects, close_effects, closed_effects, close_of, unconnected_effects, open_of, sent}
 use Rattle.cip_module.specs.UnconnectedRows.{UnconnectedRow, unconnected_row}
 use Rattle.cip_module.specs.UnconnectedRows as unconnected
 use Rattle.cip_module.proofs.Kept.{spent_now, spent_still}
@@ -84,20 +93,53 @@ module _ (config : ModuleSettings) (s : State) (op : ℕ) where
   uses_of : (es fs : List Effect) → Some es ≡ Some fs → Uses config s op es → Uses config s op fs
   uses_of es fs e h = let same : es ≡ fs = cc in subst (Uses config s op) same h
 
-  pub uses : (c : Command) (es : List Effect) → opens_or_sends op c ≡ true → decide config s (events.Command c) ≡ Some es → Uses config s op es
+  close_none : (c : Close) (row : CloseRow) → list_any is_refusal (outputs_of config s (Spends op ∷ close_effects (Local op) c row)) ≡ false
+  close_none c (closes.Refuses refusal) = refl
+  close_none c (closes.Forwarded port address rest) = refl
+  close_none c closes.ClosedAtTheEnd = refl
+
+  close_unused : (a b : Bool) → cond a command.OpUsed (cond b command.NotOpen command.Taken) ≡ command.Taken → (a ≡ false) × (b ≡ false)
+  close_unused true b e = absurd (cc)
+  close_unused false true e = absurd (cc)
+  close_unused false false e = (refl, refl)
+
+  -- a Close of what is not open is refused
+  nothing_open : (row : CommandRow) → (row ≡ command.Taken → ⊥) → Uses config s op (refused_effects row [])
+  nothing_open command.OpUsed h = IsRefused _ refl
+  nothing_open command.NotOpen h = IsRefused _ refl
+  nothing_open command.ReservedService h = IsRefused _ refl
+  nothing_open command.WrongSize h = IsRefused _ refl
+  nothing_open command.NoInstance h = IsRefused _ refl
+  nothing_open command.Taken h = absurd (h refl)
+
+  uses_close : (of : ℕ) (timing : Timing) (x : Option Hop)
+      → Uses config s op (refused_effects (cond (is_spent op s.ops) command.OpUsed (cond (not (is_some x)) command.NotOpen command.Taken)) (closed_effects s op of timing x))
+  uses_close of timing None = nothing_open (cond (is_spent op s.ops) command.OpUsed command.NotOpen)
+      (λ e. let no = (close_unused (is_spent op s.ops) true e).1 in cc)
+  uses_close of timing (Some hop) =
+      uses_by (cond (is_spent op s.ops) command.OpUsed command.Taken) (close_effects (Local op) (close_of timing hop) (close_row s (Local of) (close_of timing hop)))
+      (taken_open (is_spent op s.ops)) (close_none (close_of timing hop) (close_row s (Local of) (close_of timing hop)))
+
+  local_is : (o : ℕ) → Some (Local o) ≡ Some (Local op) → o ≡ op
+  local_is o e = cc
+
+  pub uses : (c : Command) (es : List Effect) → command_asker c ≡ Some (Local op) → decide config s (events.Command c) ≡ Some es → Uses config s op es
   uses (commands.Open o timing path params) es is e =
-      let same = eqb-true o op is in
+      let same = local_is o is in
       let oo = open_of config.identity timing path params in
       uses_of _ es (ap (λ (k : ℕ). decide config s (events.Command (commands.Open k timing path params))) (sym same) ∙ e)
       (uses_by (op_row s op) (open_effects s (Local op) oo (open_row config s (UpLocal op) oo)) (taken_open (is_spent op s.ops))
       (open_none oo (open_row config s (UpLocal op) oo)))
   uses (commands.Send o timing path asked) es is e =
-      let same = eqb-true o op is in
+      let same = local_is o is in
       let u = sent timing path asked in
       uses_of _ es (ap (λ (k : ℕ). decide config s (events.Command (commands.Send k timing path asked))) (sym same) ∙ e)
       (uses_by (send_row s op u) (unconnected_effects (Local op) u (unconnected_row config s.pendings u)) (send_unused u)
       (send_none u (unconnected_row config s.pendings u)))
-  uses (commands.Close o of timing) es is e = absurd (cc)
+  uses (commands.Close o of timing) es is e =
+      let same = local_is o is in
+      uses_of _ es (ap (λ (k : ℕ). decide config s (events.Command (commands.Close k of timing))) (sym same) ∙ e)
+      (uses_close of timing (hop_by_op s.hops of))
   uses (commands.Enter of bytes) es is e = absurd (cc)
   uses (commands.Set instance bytes) es is e = absurd (cc)
   uses (commands.Produce instance) es is e = absurd (cc)
@@ -138,13 +180,13 @@ module _ (op : ℕ) where
 
 -- ---- entries
 
--- an Open or a Send of the op that module m did not refuse
+-- a command of the op that module m did not refuse
 pub record CommandIn (t : Plan) (j : Journal) (m op k : ℕ) : Type 0 where
   pub step : StepIn t j k
   pub here : step.at.0 ≡ m
   pub command : Command
   pub event_is : step.taken.event ≡ events.Command command
-  pub asks : opens_or_sends op command ≡ true
+  pub asks : command_asker command ≡ Some (Local op)
   pub unrefused : list_any is_refusal step.outputs ≡ false
 
 input_is : (t : Plan) (j : Journal) (m : ℕ) (input : Input) (event : Event) (c : Command) → IsGiven t j m input event → event ≡ events.Command c → input ≡ inputs.Command c
@@ -156,12 +198,13 @@ input_is t j m (inputs.Frame port from name) event c given e =
 not_false : (b : Bool) → b ≡ false → not b ≡ true
 not_false b e = ap not e
 
--- its entry is that of a command
-pub command_there : (t : Plan) (j : Journal) (m op k : ℕ) (c : CommandIn t j m op k) → is_command m op (Step c.step.at c.step.input c.step.outputs) ≡ true
-command_there t j m op k c =
+-- the entry of an Open or a Send is that of a command
+pub command_there : (t : Plan) (j : Journal) (m op k : ℕ) (c : CommandIn t j m op k) → opens_or_sends op c.command ≡ true
+    → is_command m op (Step c.step.at c.step.input c.step.outputs) ≡ true
+command_there t j m op k c asks =
     let input = input_is t c.step.before c.step.at.0 c.step.input c.step.taken.event c.command c.step.taken.given c.event_is in
     and_from (eqb c.step.at.0 m && asks_for op c.step.input) (not (list_any is_refusal c.step.outputs))
-    (and_from (eqb c.step.at.0 m) (asks_for op c.step.input) (eq-eqb c.step.at.0 m c.here) (ap (asks_for op) input ∙ c.asks))
+    (and_from (eqb c.step.at.0 m) (asks_for op c.step.input) (eq-eqb c.step.at.0 m c.here) (ap (asks_for op) input ∙ asks))
     (not_false (list_any is_refusal c.step.outputs) c.unrefused)
 
 true_not : (b : Bool) → not b ≡ true → b ≡ false
@@ -174,6 +217,14 @@ asked_command t j m op (inputs.Command c) event given e = (c, given, e)
 asked_command t j m op (inputs.Tick ms) event given e = absurd (cc)
 asked_command t j m op (inputs.Frame port from name) event given e = absurd (cc)
 
+asks_so : (op : ℕ) (c : Command) → opens_or_sends op c ≡ true → command_asker c ≡ Some (Local op)
+asks_so op (commands.Open o timing path params) e = ap (λ (k : ℕ). Some (Local k)) (eqb-true o op e)
+asks_so op (commands.Send o timing path asked) e = ap (λ (k : ℕ). Some (Local k)) (eqb-true o op e)
+asks_so op (commands.Close o of timing) e = absurd (cc)
+asks_so op (commands.Enter of bytes) e = absurd (cc)
+asks_so op (commands.Set instance bytes) e = absurd (cc)
+asks_so op (commands.Produce instance) e = absurd (cc)
+
 -- the entry of a command is such a step
 pub command_in : (t : Plan) (j : Journal) (m op k : ℕ) (s : StepIn t j k) → is_command m op (Step s.at s.input s.outputs) ≡ true → CommandIn t j m op k
 command_in t j m op k s h =
@@ -185,7 +236,7 @@ command_in t j m op k s h =
       here = eqb-true s.at.0 m both.0;
       command = c.0;
       event_is = c.1;
-      asks = c.2;
+      asks = asks_so op c.0 c.2;
       unrefused = true_not (list_any is_refusal s.outputs) all.1;
     }
 
@@ -246,3 +297,29 @@ one_command t j m op k l run c d =
         | inr above ↦ absurd (not_before t j m op l k run d c above)
       ]
     ]
+
+-- a step of a command that did anything but refuse it
+pub taken_in : (t : Plan) (j : Journal) (m op k : ℕ) → IsRun t j → (s : StepIn t j k) → s.at.0 ≡ m → (c : Command) → s.taken.event ≡ events.Command c
+    → command_asker c ≡ Some (Local op) → (x : Output) → Has s.outputs x → is_refusal x ≡ false → CommandIn t j m op k
+taken_in t j m op k run s here c event_is asks x has other = record {
+  step = s;
+  here = here;
+  command = c;
+  event_is = event_is;
+  asks = asks;
+  unrefused = by_use (uses s.taken.config (state_before s) op c turn.effects asks
+      (subst (λ (e : Event). decide s.taken.config (state_before s) e ≡ Some turn.effects) event_is turn.decided));
+}
+  where
+    turn : Turned s.taken.config (state_before s) s.taken.event (state_after s.taken.config (turn_of s.taken.event s.outputs ∷ part s.at.0 s.before)) s.outputs
+    turn = turned_in t j k run s
+
+    only : (fault : Refused) → Has (outputs.Refused fault ∷ []) x → ⊥
+    only fault (inl e) = let yes_ = ap is_refusal e in cc
+    only fault (inr h) = h
+
+    by_use : Uses s.taken.config (state_before s) op turn.effects → list_any is_refusal s.outputs ≡ false
+    by_use (IsRefused fault is) =
+        let outs : outputs_of s.taken.config (state_before s) (RefusesCommand fault ∷ []) ≡ s.outputs = ap (outputs_of s.taken.config (state_before s)) (sym is) ∙ turn.out in
+        absurd (only fault (subst (λ (os : List Output). Has os x) (sym outs) has))
+    by_use (IsTaken rest unused is none) = ap (list_any is_refusal) (sym turn.out) ∙ none

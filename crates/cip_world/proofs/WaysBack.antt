@@ -50,7 +50,7 @@ use Rattle.cip_world.specs.Journals.{Journal, Flight, flight_of, sent_by as fram
 use Rattle.cip_world.specs.Mirrors.{IsOlder}
 use Rattle.cip_world.specs.Runs.{IsModule, IsStepAt, IsRun}
 use Rattle.cip_world.specs.StepsIn.{StepIn, state_before}
-use Rattle.cip_world.specs.Trails.{named}
+use Rattle.cip_world.specs.Trails.{is_refusal, named}
 use Rattle.cip_world.proofs.Arrivals.{way_in, FrameGiven, frame_given, one_request}
 use Rattle.cip_world.proofs.Chassis.{Chassis}
 use Rattle.cip_world.proofs.Entries.{older_one, TurnIn, turn_in, SentBy, sent_by, step_older, turned_in, run_before, history_before}
@@ -164,7 +164,18 @@ pub record ReplyOf (t : Plan) (j : Journal) (m : ℕ) (up : UpSide) (bytes : Lis
   pub step : StepIn t j number
   pub here : step.at.0 ≡ m
   pub asks : asker step.taken.event ≡ Some up
+  -- it did something else than to refuse it
+  pub given : Output
+  pub gives : Has step.outputs given
+  pub taken : is_refusal given ≡ false
   pub replied : Replied t j number step bytes
+
+not_refused : (up : UpSide) (bytes : List ℕ) → is_refusal (reply_up up bytes) ≡ false
+not_refused (Link port address n) bytes = refl
+not_refused (Local op) bytes = refl
+
+request_taken : (sending : Sending) (n : ℕ) → is_refusal (outputs.Send sending.port sending.address (bodies.Request n sending.bytes)) ≡ false
+request_taken sending n = refl
 
 -- the request that waited for a reply that came, where it arrived, and how the reply came about there
 record FromBelow (t : Plan) (j : Journal) (m n : ℕ) (p : entries.Entry) (came : List ℕ) : Type 0 where
@@ -324,15 +335,19 @@ module _ (t : Chassis) (j : Journal) (run : IsRun t.plan j) (l : ℕ) (s : StepI
         sent_asker b.step.taken.config (state_before b.step) b.step.taken.event b.put.sending p.kind b.put.why ∙ ap (λ (u : UpSide). Some u) (sym b.put.up_is ∙ ups)
 
     by_way : (g : GaveBy config (state_before s) s.taken.event turn.effects (reply_up up bytes))
-        → RepliesBy config (state_before s) s.taken.event (applied config (state_before s) g.before) g.effect up bytes → ReplyOf t.plan j s.at.0 up bytes
-    by_way g (AtOnce k) = record {
+        → RepliesBy config (state_before s) s.taken.event (applied config (state_before s) g.before) g.effect up bytes → Has s.outputs (reply_up up bytes)
+        → ReplyOf t.plan j s.at.0 up bytes
+    by_way g (AtOnce k) h = record {
       number = l;
       step = s;
       here = refl;
       asks = replies_asker config (state_before s) s.taken.event up bytes k;
+      given = reply_up up bytes;
+      gives = h;
+      taken = not_refused up bytes;
       replied = ByRow l s up bytes k;
     }
-    by_way g (Here asked_ effect_is k bytes_are) =
+    by_way g (Here asked_ effect_is k bytes_are) h =
         let stands : Stands (state_before s) (applied config (state_before s) g.before) (Answers up asked_) =
         subst (Stands (state_before s) (applied config (state_before s) g.before)) effect_is
         (all_stand config (state_before s) s.taken.event turn.effects turn.decided g.before g.after g.effect g.is) in
@@ -343,9 +358,12 @@ module _ (t : Chassis) (j : Journal) (run : IsRun t.plan j) (l : ℕ) (s : StepI
           step = s;
           here = refl;
           asks = answers_asker config (state_before s) s.taken.event up asked_ k;
+          given = reply_up up bytes;
+          gives = h;
+          taken = not_refused up bytes;
           replied = ByTarget l s up asked_ bytes k (bytes_are ∙ ap (λ (o : Objects). reply_bytes (target_answer o asked_)) objects);
         }
-    by_way g (Taken n p effect_is at ups) =
+    by_way g (Taken n p effect_is at ups) h =
         let told : TakesAs (state_before s) s.taken.event n bytes = subst (Tells config (state_before s) s.taken.event) effect_is g.tells in
         let stands : Stands (state_before s) (applied config (state_before s) g.before) (Takes n bytes) =
         subst (Stands (state_before s) (applied config (state_before s) g.before)) effect_is
@@ -356,9 +374,12 @@ module _ (t : Chassis) (j : Journal) (run : IsRun t.plan j) (l : ℕ) (s : StepI
           step = b.step;
           here = b.here;
           asks = asks_by n p bytes b ups;
+          given = outputs.Send b.put.sending.port b.put.sending.address (bodies.Request n b.put.sending.bytes);
+          gives = b.put.sent;
+          taken = request_taken b.put.sending n;
           replied = AsItCame b.number b.step n p b.put b.below b.arrival b.arrives bytes b.replied;
         }
-    by_way g (Opened n triad came success p effect_is at ups bytes_are) =
+    by_way g (Opened n triad came success p effect_is at ups bytes_are) h =
         let told : FinishesAs (state_before s) s.taken.event n triad came success = subst (Tells config (state_before s) s.taken.event) effect_is g.tells in
         let stands : Stands (state_before s) (applied config (state_before s) g.before) (Finishes n triad came success) =
         subst (Stands (state_before s) (applied config (state_before s) g.before)) effect_is
@@ -372,10 +393,13 @@ module _ (t : Chassis) (j : Journal) (run : IsRun t.plan j) (l : ℕ) (s : StepI
           step = b.step;
           here = b.here;
           asks = asks_by n p came b ups;
+          given = outputs.Send b.put.sending.port b.put.sending.address (bodies.Request n b.put.sending.bytes);
+          gives = b.put.sent;
+          taken = request_taken b.put.sending n;
           replied = AsSuccess b.number b.step n p b.put b.below b.arrival b.arrives triad (ap (λ (x : entries.Entry). x.kind) same ∙ told.kind) came told.reply told.came.read told.general
               (map.get (applied config (state_before s) g.before).hops.held triad) success bytes bytes_are b.replied;
         }
-    by_way g (Late n p effect_is at ups bytes_are) =
+    by_way g (Late n p effect_is at ups bytes_are) h =
         let told : PendingTimesOutAs (state_before s) s.taken.event n = subst (Tells config (state_before s) s.taken.event) effect_is g.tells in
         let now_at : map.get (state_before s).pendings.entries n ≡ Some p =
         waits_before config (state_before s) (state_before s) s.taken.event g.before (g.effect ∷ g.after) n p (ap asker told.event_is)
@@ -385,13 +409,16 @@ module _ (t : Chassis) (j : Journal) (run : IsRun t.plan j) (l : ℕ) (s : StepI
           step = asking n p now_at;
           here = (put n p now_at).here;
           asks = put_asks n p now_at ∙ ap (λ (u : UpSide). Some u) ups;
+          given = outputs.Send (put_at n p now_at).sending.port (put_at n p now_at).sending.address (bodies.Request n (put_at n p now_at).sending.bytes);
+          gives = (put_at n p now_at).sent;
+          taken = request_taken (put_at n p now_at).sending n;
           replied = ByTick (put n p now_at).number (asking n p now_at) n p (put_at n p now_at) l s (sym (put n p now_at).here) told now_at (put_first n p now_at) bytes bytes_are;
         }
 
     reply_now : Has s.outputs (reply_up up bytes) → ReplyOf t.plan j s.at.0 up bytes
     reply_now h =
         let g = gave_by config (state_before s) s.taken.event (state_after config (turn_of s.taken.event s.outputs ∷ part s.at.0 s.before)) s.outputs (reply_up up bytes) turn h in
-        by_way g (answered_by up bytes config (state_before s) s.taken.event (applied config (state_before s) g.before) g.effect g.tells g.gives)
+        by_way g (answered_by up bytes config (state_before s) s.taken.event (applied config (state_before s) g.before) g.effect g.tells g.gives) h
 
 replies_within : (t : Chassis) (j : Journal) → IsRun t.plan j → (n l : ℕ) → l < n → (s : StepIn t.plan j l) (up : UpSide) (bytes : List ℕ) → Has s.outputs (reply_up up bytes)
     → ReplyOf t.plan j s.at.0 up bytes
