@@ -27,3 +27,4 @@ pub mod WaysBack
 pub mod OpensGo
 pub mod TrailSteps
 pub mod HopsShorten
+pub mod OpenTrails

@@ -97,7 +97,7 @@ pub data Replied (t : Plan) (j : Journal) : (k : ℕ) → StepIn t j k → List 
 
 -- ---- frames of an entry
 
-older_frame : (k j : Journal) (f : FrameName) (x : Flight) → IsOlder k j → frame_at k f ≡ Some x → frame_at j f ≡ Some x
+pub older_frame : (k j : Journal) (f : FrameName) (x : Flight) → IsOlder k j → frame_at k f ≡ Some x → frame_at j f ≡ Some x
 older_frame k [] f x older h = ap (λ (y : Journal). frame_at y f) (sym older) ∙ h
 older_frame k (e ∷ j) f x (inl same) h = ap (λ (y : Journal). frame_at y f) (sym same) ∙ h
 older_frame k (e ∷ j) f x (inr older) h = frame_older e j f x (older_frame k j f x older h)
