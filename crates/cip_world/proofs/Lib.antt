@@ -28,3 +28,4 @@ pub mod OpensGo
 pub mod TrailSteps
 pub mod HopsShorten
 pub mod OpenTrails
+pub mod WordsFall

@@ -82,7 +82,7 @@ use Rattle.cip_world.proofs.WaysBack.{Arrives, PutAt, Replied, ByRow, ByTarget, 
 
 -- ---- words as received
 
-event_older : (k j : Journal) (input : Input) (event : Event) → IsOlder k j → event_of k input ≡ Some event → event_of j input ≡ Some event
+pub event_older : (k j : Journal) (input : Input) (event : Event) → IsOlder k j → event_of k input ≡ Some event → event_of j input ≡ Some event
 event_older k j (inputs.Command c) event older h = h
 event_older k j (inputs.Tick ms) event older h = h
 event_older k j (inputs.Frame port from name) event older h = by_frame (frame_at k name) refl h
@@ -137,7 +137,7 @@ pub record NextOpen (t : Plan) (j : Journal) (a b : ℕ) (s : StepIn t j a) (r :
   pub shorter : words_of next.path < words_of o.path
   pub walks : walk t s.at.0 o.path ≡ walk t r.at.0 next.path
 
-next_open : (t : Plan) (j : Journal) (a b n : ℕ) (s : StepIn t j a) (r : StepIn t j b) (o : Open) (sending : Sending) (kind : Kind) (there : Way)
+pub next_open : (t : Plan) (j : Journal) (a b n : ℕ) (s : StepIn t j a) (r : StepIn t j b) (o : Open) (sending : Sending) (kind : Kind) (there : Way)
     → OpenGoes s.taken.config (state_before s) s.taken.event o sending kind → goes t (way_in s.at.0 sending.port sending.address) ≡ Some there → r.at.0 ≡ there.at
     → r.taken.event ≡ events.Frame there.port there.address (bodies.Request n sending.bytes) → NextOpen t j a b s r o
 next_open t j a b n s r o sending kind there g leads here event_is = record {

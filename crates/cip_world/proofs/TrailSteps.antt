@@ -38,13 +38,13 @@ pub record TrailTo (t : Plan) (j : Journal) (m op k : ℕ) (s : StepIn t j k) : 
   pub front : List ℕ
   pub is : trail_of (with_entry s) m op ≡ front ++ (k ∷ [])
 
-tip_end : (ks : List ℕ) (k : ℕ) → tip (ks ++ (k ∷ [])) ≡ Some k
+pub tip_end : (ks : List ℕ) (k : ℕ) → tip (ks ++ (k ∷ [])) ≡ Some k
 tip_end [] k = refl
 tip_end (i ∷ []) k = refl
 tip_end (i ∷ l ∷ ks) k = tip_end (l ∷ ks) k
 
 -- the next entry, where the trail ends so
-grows_from : (e : Entry) (j : Journal) (m op k : ℕ) (ks : List ℕ) (b : Bool) → trail_of j m op ≡ ks → tip ks ≡ Some k → arrived (request_of j k) e ≡ b
+pub grows_from : (e : Entry) (j : Journal) (m op k : ℕ) (ks : List ℕ) (b : Bool) → trail_of j m op ≡ ks → tip ks ≡ Some k → arrived (request_of j k) e ≡ b
     → trail_of (e ∷ j) m op ≡ ks ++ if_so b (length j)
 grows_from e j m op k ks b is ends so =
     grows e j m op ∙ ap (λ (xs : List ℕ). xs ++ if_so (goes_on j m op (tip xs) e) (length j)) is
@@ -61,7 +61,7 @@ not_there f (Step m input outs) h = h
 not_there f (Lost g) h = refl
 
 -- the request of an entry is the same in each later journal
-request_in : (t : Plan) (j : Journal) (k : ℕ) (s : StepIn t j k) (y : Journal) → IsOlder (with_entry s) y → request_of y k ≡ request_by k (Step s.at s.input s.outputs)
+pub request_in : (t : Plan) (j : Journal) (k : ℕ) (s : StepIn t j k) (y : Journal) → IsOlder (with_entry s) y → request_of y k ≡ request_by k (Step s.at s.input s.outputs)
 request_in t j k s y older =
     ap (option_and_then (request_by k)) (ap (entry_at y) (sym s.number) ∙ number_at (Step s.at s.input s.outputs) s.before y older)
 
@@ -167,8 +167,13 @@ trail_none t (e ∷ j) m op run none =
     grows e j m op ∙ ap (λ (xs : List ℕ). xs ++ if_so (goes_on j m op (tip xs) e) (length j)) old
     ∙ ap (λ b. if_so b (length j)) (by_test (is_command m op e) (no_command t e j m op run none))
 
+-- the trail ends at its first entry
+pub record BeginsAt (t : Plan) (j : Journal) (m op k : ℕ) (s : StepIn t j k) : Type 0 where
+  pub to : TrailTo t j m op k s
+  pub first : to.front ≡ []
+
 -- the trail begins at the one command
-pub trail_begins : (t : Plan) (j : Journal) (m op k : ℕ) → IsRun t j → (c : CommandIn t j m op k) → opens_or_sends op c.command ≡ true → TrailTo t j m op k c.step
+pub trail_begins : (t : Plan) (j : Journal) (m op k : ℕ) → IsRun t j → (c : CommandIn t j m op k) → opens_or_sends op c.command ≡ true → BeginsAt t j m op k c.step
 trail_begins t j m op k run c asks =
     let s = c.step in
     let older = before_that (Step s.at s.input s.outputs) s.before j s.is in
@@ -180,9 +185,12 @@ trail_begins t j m op k run c asks =
     let is_ = d.step.number in let at_ = s.number in
     omega (arith, same, less, is_, at_)) in
     record {
+      to = record {
       front = [];
       is = grows (Step s.at s.input s.outputs) s.before m op
           ∙ ap (λ (xs : List ℕ). xs ++ if_so (goes_on s.before m op (tip xs) (Step s.at s.input s.outputs)) (length s.before)) before
           ∙ ap (λ b. if_so b (length s.before)) (command_there t j m op k c asks)
           ∙ ap (λ (i : ℕ). i ∷ []) s.number;
+      };
+      first = refl;
     }
