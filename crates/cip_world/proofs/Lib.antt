@@ -29,3 +29,4 @@ pub mod TrailSteps
 pub mod HopsShorten
 pub mod OpenTrails
 pub mod WordsFall
+pub mod SendsGo
