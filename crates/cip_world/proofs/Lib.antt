@@ -30,3 +30,5 @@ pub mod HopsShorten
 pub mod OpenTrails
 pub mod WordsFall
 pub mod SendsGo
+pub mod SendTrails
+pub mod DonesTell

@@ -298,18 +298,12 @@ one_command t j m op k l run c d =
       ]
     ]
 
--- a step of a command that did anything but refuse it
-pub taken_in : (t : Plan) (j : Journal) (m op k : ℕ) → IsRun t j → (s : StepIn t j k) → s.at.0 ≡ m → (c : Command) → s.taken.event ≡ events.Command c
-    → command_asker c ≡ Some (Local op) → (x : Output) → Has s.outputs x → is_refusal x ≡ false → CommandIn t j m op k
-taken_in t j m op k run s here c event_is asks x has other = record {
-  step = s;
-  here = here;
-  command = c;
-  event_is = event_is;
-  asks = asks;
-  unrefused = by_use (uses s.taken.config (state_before s) op c turn.effects asks
-      (subst (λ (e : Event). decide s.taken.config (state_before s) e ≡ Some turn.effects) event_is turn.decided));
-}
+-- a step of a command that did anything but refuse it did not refuse it
+pub unrefused_in : (t : Plan) (j : Journal) (op k : ℕ) → IsRun t j → (s : StepIn t j k) → (c : Command) → s.taken.event ≡ events.Command c
+    → command_asker c ≡ Some (Local op) → (x : Output) → Has s.outputs x → is_refusal x ≡ false → list_any is_refusal s.outputs ≡ false
+unrefused_in t j op k run s c event_is asks x has other =
+    by_use (uses s.taken.config (state_before s) op c turn.effects asks
+    (subst (λ (e : Event). decide s.taken.config (state_before s) e ≡ Some turn.effects) event_is turn.decided))
   where
     turn : Turned s.taken.config (state_before s) s.taken.event (state_after s.taken.config (turn_of s.taken.event s.outputs ∷ part s.at.0 s.before)) s.outputs
     turn = turned_in t j k run s

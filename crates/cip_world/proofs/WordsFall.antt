@@ -105,14 +105,14 @@ pub record OpenTip (t : Plan) (j : Journal) (m op : ℕ) : Type 0 where
   pub trail : trail_of j m op ≡ front ++ (number ∷ [])
   pub falls : WordsFall j (front ++ (number ∷ []))
 
-record RequestOut (o : Output) : Type 0 where
-  port : ℕ
-  to : List ℕ
-  n : ℕ
-  bytes : List ℕ
-  is : o ≡ outputs.Send port to (bodies.Request n bytes)
+pub record RequestOut (o : Output) : Type 0 where
+  pub port : ℕ
+  pub to : List ℕ
+  pub n : ℕ
+  pub bytes : List ℕ
+  pub is : o ≡ outputs.Send port to (bodies.Request n bytes)
 
-request_out : (o : Output) → is_request_sent o ≡ true → RequestOut o
+pub request_out : (o : Output) → is_request_sent o ≡ true → RequestOut o
 request_out (outputs.Send port to (bodies.Request n bytes)) h = record { port = port; to = to; n = n; bytes = bytes; is = refl }
 request_out (outputs.Send port to (bodies.Reply n bytes)) h = absurd (cc)
 request_out (outputs.Send port to (bodies.Data n bytes)) h = absurd (cc)
@@ -124,15 +124,15 @@ request_out (outputs.Expired triad) h = absurd (cc)
 request_out (outputs.Dropped reason) h = absurd (cc)
 
 -- what was sent, and why
-record WasSent (t : Plan) (j : Journal) (k : ℕ) (s : StepIn t j k) (port : ℕ) (to bytes : List ℕ) : Type 0 where
-  sending : Sending
-  kind : Kind
-  why : SentFor s.taken.config (state_before s) s.taken.event sending kind
-  port_is : sending.port ≡ port
-  to_is : sending.address ≡ to
-  bytes_are : sending.bytes ≡ bytes
+pub record WasSent (t : Plan) (j : Journal) (k : ℕ) (s : StepIn t j k) (port : ℕ) (to bytes : List ℕ) : Type 0 where
+  pub sending : Sending
+  pub kind : Kind
+  pub why : SentFor s.taken.config (state_before s) s.taken.event sending kind
+  pub port_is : sending.port ≡ port
+  pub to_is : sending.address ≡ to
+  pub bytes_are : sending.bytes ≡ bytes
 
-was_sent : (t : Plan) (j : Journal) (k : ℕ) → IsRun t j → (s : StepIn t j k) (port n : ℕ) (to bytes : List ℕ) → Has s.outputs (outputs.Send port to (bodies.Request n bytes))
+pub was_sent : (t : Plan) (j : Journal) (k : ℕ) → IsRun t j → (s : StepIn t j k) (port n : ℕ) (to bytes : List ℕ) → Has s.outputs (outputs.Send port to (bodies.Request n bytes))
     → WasSent t j k s port to bytes
 was_sent t j k run s port n to bytes has =
     by_effect (request_by port n to bytes s.taken.config (state_before s) s.taken.event (applied s.taken.config (state_before s) g.before) g.effect g.tells g.gives)
