@@ -1,6 +1,10 @@
 //! Where the request of a command went.
 ghost use Rattle.std.specs.Prelude.{◌≡◌, reverse, IfOk};
 ghost use Rattle.std.specs.List.{list_any};
+ghost use Rattle.cip_topology.specs.Plan.{Plan, IsTopology};
+ghost use Rattle.cip_world.specs.RepliesTell.{RepliesTell};
+ghost use Rattle.cip_world.specs.Runs.{IsRun};
+ghost use Rattle.cip_world.specs.TrailTells.{TrailTells};
 ghost use Rattle.cip_world.specs.Trails.{is_refusal, opens_or_sends, asks_for, is_command, is_request_sent, request_from, request_by, arrived_in, trail_of};
 ghost use Rattle.cip_chain.specs.Seeking.{is_next, seeks};
 
@@ -143,13 +147,22 @@ fn behind(entry: &Entry, k: usize) -> Sought
 /// module that was not refused, then that in which the request arrived that it sent, then that in
 /// which the one arrived that was sent there, and so on. It is empty without such a command.
 /// NoMemory where an allocation is refused.
+///
+/// In a run of a topology the words of the path fall strictly along the trail of an Open. Its Done
+/// tells the words received at the one entry of the trail where it failed, or the trail ends where
+/// the path ends and the open was accepted there. The Done of a Send is a failure on the way, whose
+/// service byte is D2, or the answer of the target at the last entry of the trail.
 pub fn trail(
     alloc: Global,
     journal: &[Entry],
     at: ModuleId,
     op: u32,
 ) -> Result<Vec<usize>, NoMemory>
-    ensures { IfOk result (λ ks. ks.items ≡ trail_of (reverse journal.now) at.0 op) }
+    ensures trail { IfOk result (λ ks. ks.items ≡ trail_of (reverse journal.now) at.0 op) }
+    ensures tells { (t : Plan) → IsTopology t → IsRun t (reverse journal.now)
+        → IfOk result (λ ks. TrailTells t (reverse journal.now) at.0 op ks.items) }
+    ensures replies { (t : Plan) → IsTopology t → IsRun t (reverse journal.now)
+        → RepliesTell t (reverse journal.now) }
 {
     let mut trail = Vec::new(alloc);
     let mut sought = Sought::Command;

@@ -32,3 +32,4 @@ pub mod WordsFall
 pub mod SendsGo
 pub mod SendTrails
 pub mod DonesTell
+pub mod RepliesTell

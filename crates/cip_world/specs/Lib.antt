@@ -13,3 +13,4 @@ pub mod Roots
 pub mod Trails
 pub mod StepsIn
 pub mod TrailTells
+pub mod RepliesTell
