@@ -1,50 +1,41 @@
 -- What the Dones of an op tell of the trail of its command.
-use Rattle.std.proofs.Common.{◌≡◌, ℕ, ◌+◌, Bool, true, false, List, [], ◌∷◌, Ok, Option, Some, None, refl, sym, ap, subst, ◌∙◌, ◌⊎◌, inl, inr, arith, eqb}
+use Rattle.std.proofs.Common.{◌≡◌, ℕ, false, List, [], ◌∷◌, Ok, Some, None, refl, sym, ap, subst, ◌∙◌, inl, inr}
 use Rattle.std.specs.List.{list_any}
 use Rattle.std.specs.Prelude.{slice_index, option_and_then, ◌≢◌}
 use Rattle.std.proofs.lemmas.Bool.{eq-eqb}
 use Rattle.cip_base.proofs.MapCases.{some_same}
-use Rattle.cip_base.specs.declared.timing.Timing.{Timing}
-use Rattle.cip_segment.specs.Reading.{HopAt, hop_of}
 use Rattle.cip_message.specs.Failure.{failure_at}
-use Rattle.cip_message.specs.Reply.{Reply, reply_with}
+use Rattle.cip_message.specs.Reply.{Reply}
 use Rattle.cip_message.specs.ReplyAt.{reply_at}
 use Rattle.cip_message.proofs.Failures.{failure_back}
 use Rattle.cip_open.specs.Open.{Open}
 use Rattle.cip_pending.specs.declared.entry.UpSide.TheVariants.{Local}
-use Rattle.cip_pending.specs.declared.entry.Kind.{Kind}
-use Rattle.cip_module.specs.declared.event.Body.{Body}
 use Rattle.cip_module.specs.declared.event.Body.TheVariants as bodies
 use Rattle.cip_module.specs.declared.event.Command.{Command}
 use Rattle.cip_module.specs.declared.event.Command.TheVariants as commands
 use Rattle.cip_module.specs.declared.event.Event.{Event}
 use Rattle.cip_module.specs.declared.event.Event.TheVariants as events
-use Rattle.cip_module.specs.declared.event.OpenParams.{OpenParams}
-use Rattle.cip_module.specs.declared.event.Output.{Output}
 use Rattle.cip_module.specs.declared.event.Output.TheVariants as outputs
 use Rattle.cip_module.specs.Births.{Past}
-use Rattle.cip_module.specs.Effects.{Sending}
 use Rattle.cip_module.specs.Histories.{Turn}
 use Rattle.cip_module.specs.Table.{open_of, sent, words_of}
 use Rattle.cip_module.specs.Tells.{asker, command_asker}
 use Rattle.cip_module.specs.Words.{Has, Some_turn, Gave}
 use Rattle.cip_topology.specs.Plan.{Plan}
-use Rattle.cip_topology.specs.Walk.{walk}
 use Rattle.cip_topology.proofs.Walks.{walk_ends}
 use Rattle.cip_world.specs.Journals.{Journal, entry_at, part}
 use Rattle.cip_world.specs.Runs.{IsRun}
 use Rattle.cip_world.specs.StepsIn.{StepIn, state_before}
-use Rattle.cip_world.specs.Trails.{is_refusal, opens_or_sends, trail_of}
-use Rattle.cip_world.specs.TrailTells.{event_in, words_at, WordsFall, OpenedIn, SentIn, TellsWhere, EndsThere, AnsweredThere, TrailTells}
+use Rattle.cip_world.specs.Trails.{is_refusal, trail_of}
+use Rattle.cip_world.specs.TrailTells.{event_in, WordsFall, OpenedIn, SentIn, TellsWhere, EndsThere, AnsweredThere, TrailTells}
 use Rattle.cip_world.proofs.Chassis.{Chassis}
 use Rattle.cip_world.proofs.Entries.{TurnIn, turn_in}
-use Rattle.cip_world.proofs.OpensGo.{AsksThat, Spelled, OpenAccepted, open_goes}
+use Rattle.cip_world.proofs.OpensGo.{AsksThat, Spelled, open_goes}
 use Rattle.cip_world.proofs.OpenTrails.{event_there, words_there, Outcome, Failed, Ended, open_outcome}
 use Rattle.cip_world.proofs.OpsOnce.{CommandIn, one_command, unrefused_in}
-use Rattle.cip_world.proofs.PutIn.{SentFor}
-use Rattle.cip_world.proofs.SendsGo.{AsksSendThat, Spelled as SendSpelled}
+use Rattle.cip_world.proofs.SendsGo.{Spelled as SendSpelled}
 use Rattle.cip_world.proofs.SendTrails.{none_sent, SendOutcome, Failed as SendFailed, Answered, send_outcome}
-use Rattle.cip_world.proofs.TrailSteps.{TrailTo, BeginsAt, trail_begins, is_on, is_last}
+use Rattle.cip_world.proofs.TrailSteps.{BeginsAt, trail_begins, is_on, is_last}
 use Rattle.cip_world.proofs.WaysBack.{ReplyOf, reply_of}
 use Rattle.cip_world.proofs.WordsFall.{trail_falls, only_one}
 

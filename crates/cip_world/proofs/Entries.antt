@@ -1,9 +1,7 @@
 -- Entries of a run by their numbers: which of them is a turn of a module, and which sent a frame.
-use Rattle.std.proofs.Common.{◌≡◌, ℕ, ◌<◌, ◌≤◌, List, [], ◌∷◌, Option, Some, refl, sym, ap, subst, ◌∙◌, ◌⊎◌, inl, inr, arith, length}
+use Rattle.std.proofs.Common.{◌≡◌, ℕ, ◌≤◌, List, [], ◌∷◌, Some, refl, sym, ap, subst, ◌∙◌, ◌⊎◌, inl, inr, arith, length}
 use Rattle.std.specs.Prelude.{slice_get}
 use Rattle.cip_base.specs.declared.numbers.ModuleId.{ModuleId}
-use Rattle.cip_module.specs.declared.config.ModuleSettings.{ModuleSettings}
-use Rattle.cip_module.specs.declared.event.Event.{Event}
 use Rattle.cip_module.specs.declared.event.Output.{Output}
 use Rattle.cip_module.specs.Births.{Past}
 use Rattle.cip_module.specs.Histories.{Turn, state_after, IsHistory}
@@ -15,11 +13,11 @@ use Rattle.cip_world.specs.declared.journal.FrameName.{FrameName}
 use Rattle.cip_world.specs.declared.journal.Input.{Input}
 use Rattle.cip_world.specs.Journals.{Journal, Flight, frame_at, part}
 use Rattle.cip_world.specs.Mirrors.{IsOlder}
-use Rattle.cip_world.specs.Runs.{IsModule, state_in, IsStepAt, IsRun}
+use Rattle.cip_world.specs.Runs.{IsStepAt, IsRun}
 use Rattle.cip_world.specs.StepsIn.{StepIn, state_before}
 use Rattle.cip_world.proofs.Frames.{out_of}
-use Rattle.cip_world.proofs.Moments.{run_older, older_trans, older_length, number_at, before_that, SentAt, sent_at}
-use Rattle.cip_world.proofs.Parts.{turn_of, part_step, same_module, step_here, run_history}
+use Rattle.cip_world.proofs.Moments.{run_older, older_trans, older_length, sent_at}
+use Rattle.cip_world.proofs.Parts.{turn_of, part_step, step_here, run_history}
 
 -- ---- an entry is one
 

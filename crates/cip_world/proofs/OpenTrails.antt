@@ -1,38 +1,27 @@
 -- The trail of an Open: its path shortens from entry to entry, and the Done tells where it failed or that it was accepted at the end.
-use Rattle.std.proofs.Common.{◌≡◌, ℕ, zero, suc, ◌+◌, ◌/◌, ◌<◌, ◌≤◌, Bool, true, false, cond, List, [], ◌∷◌, ◌++◌, Ok, Err, Option, Some, None, refl, sym, ap, subst, ◌∙◌, ◌⊎◌, inl, inr, arith, append_assoc, append-nil, length, eqb}
-use Rattle.std.specs.Prelude.{slice_get, option_map, option_and_then, ◌≢◌}
+use Rattle.std.proofs.Common.{◌≡◌, ℕ, ◌/◌, ◌<◌, List, [], Ok, Option, Some, None, refl, sym, ap, subst, ◌∙◌, ◌⊎◌, inl, inr, arith, length}
+use Rattle.std.specs.Prelude.{option_map, option_and_then}
 use Rattle.std.specs.FinMap as map
 use Rattle.std.specs.Option.{option_map_or}
-use Rattle.std.proofs.lemmas.Bool.{eqb-true, and_parts}
-use Rattle.cip_base.specs.declared.numbers.ModuleId.{ModuleId}
 use Rattle.cip_base.specs.declared.timing.Status.{Status}
-use Rattle.cip_base.specs.declared.timing.Timing.{Timing}
-use Rattle.cip_base.specs.declared.triad.Triad.{Triad}
 use Rattle.cip_segment.specs.Reading.{HopAt, hop_of}
 use Rattle.cip_message.specs.Failure.{failure_data, HasTriadForWords}
-use Rattle.cip_message.specs.Manager.{manager_request}
 use Rattle.cip_message.specs.Reply.{Reply, reply_with, done_with}
 use Rattle.cip_message.specs.ReplyAt.{reply_at}
-use Rattle.cip_message.specs.Request.{Request}
-use Rattle.cip_message.specs.RequestAt.{request_at}
 use Rattle.cip_message.specs.declared.failure.ConnectionFailure.{ConnectionFailure}
-use Rattle.cip_message.specs.declared.fault.RequestFault.{RequestFault}
 use Rattle.cip_message.proofs.Managers.{manager_is_read}
 use Rattle.cip_message.proofs.ReadAgain.{ok_reply, reply_is}
-use Rattle.cip_open.specs.Open.{Open, open_data, open_bytes}
-use Rattle.cip_open.specs.GoesOn.{lowered, success_with, with_ids}
+use Rattle.cip_open.specs.Open.{Open, open_data}
+use Rattle.cip_open.specs.GoesOn.{lowered, with_ids}
 use Rattle.cip_open.specs.Success.{OpenSuccess, open_reply_data, open_reply_bytes}
 use Rattle.cip_pending.specs.declared.entry.Entry as entries
 use Rattle.cip_pending.specs.declared.entry.Kind.{Kind}
-use Rattle.cip_pending.specs.declared.entry.Kind.TheVariants.{Opening as OpeningKind}
 use Rattle.cip_hops.specs.declared.hop.Held.{Held}
 use Rattle.cip_hops.specs.declared.opening.HopUp.{HopUp}
 use Rattle.cip_hops.specs.declared.opening.HopUp.TheVariants.{Link as UpLink, Local as UpLocal}
-use Rattle.cip_hops.specs.declared.opening.OwnIds.{OwnIds}
 use Rattle.cip_hops.specs.Hops.{opening_of, ids_of}
 use Rattle.cip_module.specs.declared.config.ModuleSettings.{ModuleSettings}
 use Rattle.cip_module.specs.declared.config.PortConfig.{PortConfig}
-use Rattle.cip_module.specs.declared.event.Body.{Body}
 use Rattle.cip_module.specs.declared.event.Body.TheVariants as bodies
 use Rattle.cip_module.specs.declared.event.Event.{Event}
 use Rattle.cip_module.specs.declared.event.Event.TheVariants as events
@@ -40,45 +29,31 @@ use Rattle.cip_module.specs.declared.event.Output.{Output}
 use Rattle.cip_module.specs.declared.event.Output.TheVariants as outputs
 use Rattle.cip_module.specs.declared.refusals.LinkRefusal.TheVariants.{TicksSpent}
 use Rattle.cip_module.specs.Answers.{failed_at}
-use Rattle.cip_module.specs.Effects.{Sending, late_bytes, succeeded, success_up, applied}
-use Rattle.cip_module.specs.Histories.{state_after}
-use Rattle.cip_module.specs.Outputs.{GaveBy, RequestBy, ByForward, ByBegin}
+use Rattle.cip_module.specs.Effects.{Sending, late_bytes, succeeded, success_up}
 use Rattle.cip_module.specs.Statuses.{link_status, open_status}
-use Rattle.cip_module.specs.State.{State}
 use Rattle.cip_module.specs.Table.{words_of, accepted_bytes}
-use Rattle.cip_module.specs.Tells.{LeadsOn, PendingTimesOutAs}
+use Rattle.cip_module.specs.Tells.{PendingTimesOutAs}
 use Rattle.cip_module.specs.Words.{Has}
 use Rattle.cip_module.proofs.Failures.{open_fails, link_fails}
-use Rattle.cip_module.proofs.GaveBy.{gave_by}
-use Rattle.cip_module.proofs.RequestBy.{request_by}
 use Rattle.cip_topology.specs.Plan.{Plan}
 use Rattle.cip_topology.specs.Nodes.{Node, Way, own_port, node_on, node_from, comes_in, leaves_by, node, across as goes}
-use Rattle.cip_topology.specs.Walk.{Stop, walk}
-use Rattle.cip_topology.proofs.Walks.{walk_ends, walk_goes}
-use Rattle.cip_world.specs.declared.journal.Entry.{Entry}
-use Rattle.cip_world.specs.declared.journal.Entry.TheVariants.{Step, Lost}
-use Rattle.cip_world.specs.declared.journal.FrameName.{FrameName}
+use Rattle.cip_topology.specs.Walk.{walk}
+use Rattle.cip_topology.proofs.Walks.{walk_goes}
+use Rattle.cip_world.specs.declared.journal.Entry.TheVariants.{Step}
 use Rattle.cip_world.specs.declared.journal.Input.{Input}
 use Rattle.cip_world.specs.declared.journal.Input.TheVariants as inputs
-use Rattle.cip_world.specs.Journals.{Journal, Flight, arrival, entry_at, event_of, frame_at, same_name, is_that, brought_by, part}
+use Rattle.cip_world.specs.Journals.{Journal, Flight, arrival, entry_at, event_of, frame_at}
 use Rattle.cip_world.specs.Mirrors.{IsOlder}
-use Rattle.cip_world.specs.Runs.{IsStepAt, IsRun}
+use Rattle.cip_world.specs.Runs.{IsRun}
 use Rattle.cip_world.specs.StepsIn.{StepIn, state_before}
-use Rattle.cip_world.specs.Trails.{is_request_sent, named, request_by as request_in_entry, request_of, request_from, arrived_in, trail_of}
-use Rattle.cip_world.specs.TrailTells.{request_words, open_words, event_in, words_at, FallBelow, WordsFall, FailedAt, ByRow as FailedByRow, ByTick as FailedByTick, TimedOut}
-use Rattle.cip_world.proofs.Arrivals.{way_in, name_eq}
-use Rattle.cip_world.proofs.Chassis.{Chassis}
-use Rattle.cip_world.proofs.Entries.{turned_in}
-use Rattle.cip_world.proofs.Frames.{out_of, has_at}
+use Rattle.cip_world.specs.TrailTells.{request_words, open_words, event_in, words_at, FailedAt, ByRow as FailedByRow, ByTick as FailedByTick}
+use Rattle.cip_world.proofs.Arrivals.{way_in}
 use Rattle.cip_world.proofs.HopsShorten.{words_fall}
 use Rattle.cip_world.proofs.Moments.{number_at, before_that}
-use Rattle.cip_world.proofs.OneRequest.{FirstSent, first_is}
 use Rattle.cip_world.proofs.OpensGo.{AsksThat, Spelled, CameSo, OpenRefused, OpenAccepted, OpenGoes, open_goes, no_answer, open_replied}
-use Rattle.cip_world.proofs.Parts.{turn_of, given_event}
-use Rattle.cip_world.proofs.PutIn.{SentFor, Forwarded, Begun}
-use Rattle.cip_world.proofs.TrailGrows.{tip, arrived, goes_on, if_so, grows}
-use Rattle.cip_world.proofs.TrailSteps.{with_entry, TrailTo, trail_on}
-use Rattle.cip_world.proofs.WaysBack.{Arrives, PutAt, Replied, ByRow, ByTarget, ByTick, AsItCame, AsSuccess, older_frame, step_frame}
+use Rattle.cip_world.proofs.Parts.{given_event}
+use Rattle.cip_world.proofs.TrailSteps.{TrailTo, trail_on}
+use Rattle.cip_world.proofs.WaysBack.{Arrives, PutAt, Replied, ByRow, ByTarget, ByTick, AsItCame, AsSuccess, older_frame}
 
 -- ---- words as received
 

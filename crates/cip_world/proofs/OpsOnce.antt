@@ -1,9 +1,8 @@
 -- An op is used in one entry of a run: a module takes one command of it, and refuses all others.
-use Rattle.std.proofs.Common.{◌≡◌, ℕ, ◌<◌, ◌≤◌, Bool, true, false, cond, not, ◌&&◌, List, [], ◌∷◌, Option, Some, None, refl, sym, ap, subst, ◌∙◌, ◌⊎◌, inl, inr, arith, eqb, length, nat_lt}
+use Rattle.std.proofs.Common.{◌≡◌, ℕ, ◌<◌, Bool, true, false, cond, not, ◌&&◌, List, [], ◌∷◌, Option, Some, None, refl, sym, ap, subst, ◌∙◌, inl, inr, arith, eqb, length, nat_lt}
 use Rattle.std.specs.List.{list_any}
 use Rattle.std.specs.Prelude.{slice_index, is_some}
 use Rattle.std.proofs.lemmas.Bool.{and_parts, and_from, eqb-true, eq-eqb, cases_order}
-use Rattle.cip_base.specs.declared.numbers.ModuleId.{ModuleId}
 use Rattle.cip_pending.specs.declared.entry.UpSide.TheVariants.{Local}
 use Rattle.cip_base.specs.declared.timing.Timing.{Timing}
 use Rattle.cip_close.specs.Close.{Close}
@@ -30,7 +29,7 @@ use Rattle.cip_module.specs.Effects.{Effect, Spends, RefusesCommand, apply, appl
 use Rattle.cip_module.specs.Histories.{Turn, state_after, IsHistory}
 use Rattle.cip_module.specs.OpenRows.{OpenRow, open_row}
 use Rattle.cip_module.specs.OpenRows as opens
-use Rattle.cip_module.specs.State.{State, is_spent, spent_with}
+use Rattle.cip_module.specs.State.{State, is_spent}
 use Rattle.cip_module.specs.Table.{decide, refused_effects, open_effects, close_effects, closed_effects, close_of, unconnected_effects, open_of, sent}
 use Rattle.cip_module.specs.UnconnectedRows.{UnconnectedRow, unconnected_row}
 use Rattle.cip_module.specs.UnconnectedRows as unconnected
@@ -44,11 +43,11 @@ use Rattle.cip_world.specs.declared.journal.Input.{Input}
 use Rattle.cip_world.specs.declared.journal.Input.TheVariants as inputs
 use Rattle.cip_world.specs.Journals.{Journal, part}
 use Rattle.cip_world.specs.Mirrors.{IsOlder}
-use Rattle.cip_world.specs.Runs.{IsModule, state_in, IsGiven, IsStepAt, IsRun}
+use Rattle.cip_world.specs.Runs.{IsModule, state_in, IsGiven, IsRun}
 use Rattle.cip_world.specs.StepsIn.{StepIn, state_before}
 use Rattle.cip_world.specs.Trails.{is_refusal, opens_or_sends, asks_for, is_command}
 use Rattle.cip_world.proofs.Entries.{older_one, turned_in}
-use Rattle.cip_world.proofs.Moments.{run_older, older_length, before_that}
+use Rattle.cip_world.proofs.Moments.{run_older, before_that}
 use Rattle.cip_world.proofs.Parts.{turn_of, part_here, part_step, step_here, same_module, run_history}
 
 -- ---- one command

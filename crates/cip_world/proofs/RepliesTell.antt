@@ -2,8 +2,6 @@
 use Rattle.std.proofs.Common.{◌≡◌, ℕ, List, [], ◌∷◌, Option, Some, None, refl, sym, ap, subst, ◌∙◌, ◌++◌, inl, inr, arith}
 use Rattle.std.specs.FinMap as map
 use Rattle.cip_base.proofs.MapCases.{some_same}
-use Rattle.cip_open.specs.Success.{OpenSuccess}
-use Rattle.cip_base.specs.declared.triad.Triad.{Triad}
 use Rattle.cip_pending.specs.declared.entry.Entry as entries
 use Rattle.cip_pending.specs.declared.entry.UpSide.{UpSide}
 use Rattle.cip_pending.specs.declared.entry.UpSide.TheVariants.{Link, Local}
@@ -25,11 +23,10 @@ use Rattle.cip_topology.specs.Plan.{Plan}
 use Rattle.cip_world.specs.declared.journal.FrameName.{FrameName}
 use Rattle.cip_world.specs.declared.journal.Input.{Input}
 use Rattle.cip_world.specs.declared.journal.Input.TheVariants as inputs
-use Rattle.cip_world.specs.Answers.{Answered}
 use Rattle.cip_world.specs.Journals.{Journal, part}
 use Rattle.cip_world.specs.RepliesTell.{RepliesTell}
 use Rattle.cip_world.specs.Runs.{IsGiven, IsArrival, IsRun}
-use Rattle.cip_world.specs.StepsIn.{StepIn, state_before}
+use Rattle.cip_world.specs.StepsIn.{state_before}
 use Rattle.cip_world.proofs.Answered.{answers}
 use Rattle.cip_world.proofs.Chassis.{Chassis}
 use Rattle.cip_world.proofs.Entries.{run_before}

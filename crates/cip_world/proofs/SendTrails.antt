@@ -1,5 +1,5 @@
 -- The trail of a Send: its Done tells a failure on the way, or it is the answer of the target at the last entry.
-use Rattle.std.proofs.Common.{◌≡◌, ℕ, zero, suc, ◌+◌, ◌≤◌, Bool, true, false, cond, List, [], ◌∷◌, Ok, Option, Some, None, refl, sym, ap, subst, ◌∙◌, inl, inr, arith, length, eqb}
+use Rattle.std.proofs.Common.{◌≡◌, ℕ, Bool, true, false, cond, List, [], ◌∷◌, Ok, Option, Some, None, refl, sym, ap, subst, ◌∙◌, arith, length, eqb}
 use Rattle.std.specs.Prelude.{slice_index}
 use Rattle.std.proofs.lemmas.Bool.{eqb-true}
 use Rattle.cip_segment.specs.Reading.{HopAt, hop_of}
@@ -7,29 +7,25 @@ use Rattle.cip_message.specs.Reply.{reply_bytes}
 use Rattle.cip_message.specs.Request.{Request}
 use Rattle.cip_message.specs.RequestAt.{request_at}
 use Rattle.cip_unconnected.specs.Unconnected.{Unconnected, unconnected_bytes}
-use Rattle.cip_unconnected.specs.GoesOn.{lowered, message_on}
+use Rattle.cip_unconnected.specs.GoesOn.{lowered}
 use Rattle.cip_pending.specs.declared.entry.Entry as entries
 use Rattle.cip_pending.specs.declared.entry.Kind.{Kind}
 use Rattle.cip_pending.specs.declared.entry.Kind.TheVariants.{Unconnected as UnconnectedKind, Opening as OpeningKind}
 use Rattle.cip_target.specs.Objects.{target_answer, answer_bytes}
 use Rattle.cip_module.specs.declared.event.Body.TheVariants as bodies
-use Rattle.cip_module.specs.declared.event.Event.{Event}
 use Rattle.cip_module.specs.declared.event.Event.TheVariants as events
 use Rattle.cip_module.specs.declared.event.Output.{Output}
-use Rattle.cip_module.specs.declared.event.Output.TheVariants as outputs
 use Rattle.cip_module.specs.declared.refusals.LinkRefusal.TheVariants.{TicksSpent}
 use Rattle.cip_module.specs.Effects.{Sending, objects_of, late_bytes}
 use Rattle.cip_module.specs.Statuses.{link_status}
 use Rattle.cip_module.specs.Words.{Has}
 use Rattle.cip_topology.specs.Plan.{Plan}
-use Rattle.cip_topology.specs.Nodes.{Way, across as goes}
 use Rattle.cip_topology.specs.Walk.{walk}
 use Rattle.cip_topology.proofs.Walks.{walk_ends}
 use Rattle.cip_world.specs.Journals.{Journal}
 use Rattle.cip_world.specs.Runs.{IsRun}
 use Rattle.cip_world.specs.StepsIn.{StepIn, state_before}
-use Rattle.cip_world.specs.Trails.{is_request_sent, request_from}
-use Rattle.cip_world.proofs.Arrivals.{way_in}
+use Rattle.cip_world.specs.Trails.{request_from}
 use Rattle.cip_world.proofs.HopsShorten.{hop_takes_two}
 use Rattle.cip_world.proofs.OneRequest.{none_first}
 use Rattle.cip_world.proofs.OpenTrails.{walk_on}

@@ -1,5 +1,5 @@
 -- What a step whose event asks an Unconnected_Send did for it, and what one did for the request that was embedded in it.
-use Rattle.std.proofs.Common.{◌≡◌, ℕ, ◌+◌, ◌<◌, ◌≤◌, Bool, true, false, cond, List, [], ◌∷◌, ◌++◌, Ok, Err, Option, Some, None, refl, sym, ap, subst, ◌∙◌, ◌⊎◌, inl, inr, arith, length, eqb, leb, ltb, take, drop, ◌*◌, Result}
+use Rattle.std.proofs.Common.{◌≡◌, ℕ, ◌+◌, Bool, true, false, cond, List, [], ◌∷◌, Ok, Err, Option, Some, None, refl, sym, ap, subst, ◌∙◌, ◌⊎◌, inl, inr, arith, length, eqb, leb, ltb, take, drop, ◌*◌, Result}
 use Rattle.std.specs.Prelude.{slice_index, nat_lt}
 use Rattle.std.proofs.lemmas.Bool.Decides.{nat_tests}
 use Rattle.cip_segment.specs.declared.fault.PathFault.{PathFault}
@@ -11,7 +11,7 @@ use Rattle.cip_base.specs.declared.timing.Status.{Status}
 use Rattle.cip_base.specs.declared.timing.Timing.{Timing}
 use Rattle.cip_segment.specs.declared.segment.Segment.{Segment}
 use Rattle.cip_segment.specs.declared.segment.Segment.TheVariants.{Class, Instance}
-use Rattle.cip_segment.specs.Reading.{HopAt, hop_of, segments_of}
+use Rattle.cip_segment.specs.Reading.{segments_of}
 use Rattle.cip_message.specs.Request.{Request}
 use Rattle.cip_message.specs.RequestAt.{request_at}
 use Rattle.cip_unconnected.specs.Unconnected.{Unconnected, unconnected_data, unconnected_bytes}
@@ -35,8 +35,7 @@ use Rattle.cip_module.specs.declared.event.Event.{Event}
 use Rattle.cip_module.specs.declared.event.Event.TheVariants as events
 use Rattle.cip_module.specs.declared.refusals.RequestRefusal.{RequestRefusal}
 use Rattle.cip_module.specs.declared.refusals.RequestRefusal.TheVariants.{PathFormNotSupported}
-use Rattle.cip_module.specs.declared.refusals.UnconnectedRefusal.{UnconnectedRefusal}
-use Rattle.cip_module.specs.Answers.{failure_bytes, route_words_data, unconnected_failed, unconnected_failure}
+use Rattle.cip_module.specs.Answers.{failure_bytes, unconnected_failed}
 use Rattle.cip_module.specs.Effects.{Sending}
 use Rattle.cip_module.specs.Object.{begins_with_manager}
 use Rattle.cip_module.specs.RequestRows.{RequestRow, is_malformed, object_row, manager_row, read_row, request_row}

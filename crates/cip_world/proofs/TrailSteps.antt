@@ -1,27 +1,23 @@
 -- The trail of a command in a run: it begins at the command's entry, goes on at the arrival of the request that its last entry sent, and nowhere else.
-use Rattle.std.proofs.Common.{◌≡◌, ℕ, ◌+◌, ◌<◌, ◌≤◌, Bool, true, false, ◌||◌, List, [], ◌∷◌, ◌++◌, Option, Some, None, refl, sym, ap, subst, ◌∙◌, ◌⊎◌, inl, inr, arith, append_assoc, append-nil, length, eqb}
-use Rattle.std.specs.Prelude.{slice_get, option_map, option_and_then}
+use Rattle.std.proofs.Common.{◌≡◌, ℕ, Bool, true, false, ◌||◌, List, [], ◌∷◌, ◌++◌, Option, Some, None, refl, sym, ap, ◌∙◌, inl, inr, arith, append_assoc, append-nil, length, eqb}
+use Rattle.std.specs.Prelude.{option_map, option_and_then}
 use Rattle.std.proofs.lemmas.Bool.{and_from, eq-eqb}
-use Rattle.cip_base.specs.declared.numbers.ModuleId.{ModuleId}
 use Rattle.cip_module.specs.declared.event.Body.TheVariants as bodies
-use Rattle.cip_module.specs.declared.event.Output.{Output}
 use Rattle.cip_module.specs.declared.event.Output.TheVariants as outputs
 use Rattle.cip_module.specs.Effects.{Sending}
 use Rattle.cip_module.specs.Histories.{state_after}
-use Rattle.cip_module.specs.Words.{Has}
 use Rattle.cip_topology.specs.Plan.{Plan}
 use Rattle.cip_world.specs.declared.journal.Entry.{Entry}
 use Rattle.cip_world.specs.declared.journal.Entry.TheVariants.{Step, Lost}
 use Rattle.cip_world.specs.declared.journal.FrameName.{FrameName}
 use Rattle.cip_world.specs.declared.journal.Input.{Input}
-use Rattle.cip_world.specs.declared.journal.Input.TheVariants as inputs
 use Rattle.cip_world.specs.Journals.{Journal, entry_at, same_name, is_that, brought_by, names, is_named, part}
 use Rattle.cip_world.specs.Mirrors.{IsOlder}
 use Rattle.cip_world.specs.Runs.{IsRun}
 use Rattle.cip_world.specs.StepsIn.{StepIn, state_before}
-use Rattle.cip_world.specs.Trails.{is_request_sent, request_from, named, request_by, request_of, arrived_in, opens_or_sends, is_command, trail_of}
+use Rattle.cip_world.specs.Trails.{request_from, named, request_by, request_of, arrived_in, opens_or_sends, is_command, trail_of}
 use Rattle.cip_world.specs.TrailTells.{IsOn, IsLast}
-use Rattle.cip_world.proofs.Entries.{step_older, turned_in, older_one}
+use Rattle.cip_world.proofs.Entries.{step_older, turned_in}
 use Rattle.cip_world.proofs.Moments.{older_length, number_at, before_that, run_older, itself}
 use Rattle.cip_world.proofs.OneRequest.{first_sent}
 use Rattle.cip_world.proofs.OpsOnce.{CommandIn, command_in, command_there, one_command}

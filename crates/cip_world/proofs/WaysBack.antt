@@ -1,5 +1,5 @@
 -- The way of a reply: how it came about, step by step, down to the step that made it.
-use Rattle.std.proofs.Common.{◌≡◌, ℕ, zero, suc, ◌<◌, ◌≤◌, ◌*◌, ◌+◌, false, true, List, [], ◌∷◌, ◌++◌, Ok, Option, Some, None, refl, sym, ap, subst, ◌∙◌, ◌⊎◌, inl, inr, arith, length}
+use Rattle.std.proofs.Common.{◌≡◌, ℕ, zero, suc, ◌<◌, false, List, [], ◌∷◌, ◌++◌, Ok, Option, Some, None, refl, sym, ap, subst, ◌∙◌, inl, inr, arith}
 use Rattle.std.specs.FinMap as map
 use Rattle.std.specs.Prelude.{slice_get}
 use Rattle.cip_base.specs.declared.triad.Triad.{Triad}
@@ -12,7 +12,6 @@ use Rattle.cip_pending.specs.declared.entry.Entry as entries
 use Rattle.cip_pending.specs.declared.entry.Kind.TheVariants.{Opening as OpeningKind}
 use Rattle.cip_pending.specs.declared.entry.UpSide.{UpSide}
 use Rattle.cip_pending.specs.declared.entry.UpSide.TheVariants.{Link, Local}
-use Rattle.cip_pending.specs.Pendings.{waiting_at}
 use Rattle.cip_hops.specs.declared.hop.Held.{Held}
 use Rattle.cip_target.specs.Objects.{Objects, target_answer}
 use Rattle.cip_module.specs.declared.config.ModuleSettings.{ModuleSettings}
@@ -25,13 +24,12 @@ use Rattle.cip_module.specs.declared.event.Event.TheVariants as events
 use Rattle.cip_module.specs.declared.event.Output.{Output}
 use Rattle.cip_module.specs.declared.event.Output.TheVariants as outputs
 use Rattle.cip_module.specs.EffectLists.{Stands}
-use Rattle.cip_module.specs.Effects.{Sending, Effect, Answers, Finishes, Takes, PendingTimesOut, objects_of, late_bytes, succeeded, reply_up, apply, applied, Forwards, Begins}
-use Rattle.cip_module.specs.Histories.{Turn, state_after, IsHistory}
+use Rattle.cip_module.specs.Effects.{Sending, Effect, Answers, Finishes, Takes, objects_of, late_bytes, succeeded, reply_up, apply, applied, Forwards, Begins}
+use Rattle.cip_module.specs.Histories.{state_after}
 use Rattle.cip_module.specs.Outputs.{GaveBy, RepliesBy, AtOnce, Here, Opened, Taken, Late}
 use Rattle.cip_module.specs.State.{State}
-use Rattle.cip_module.specs.Tells.{asker, Tells, AllTell, ReplyCame, RepliesAs, AnswersAs, FinishesAs, TakesAs, PendingTimesOutAs}
+use Rattle.cip_module.specs.Tells.{asker, Tells, AllTell, RepliesAs, AnswersAs, FinishesAs, TakesAs, PendingTimesOutAs}
 use Rattle.cip_module.specs.Words.{Has}
-use Rattle.cip_module.proofs.AskedBy.{asked_there}
 use Rattle.cip_module.proofs.GaveBy.{gave_by}
 use Rattle.cip_module.proofs.GivenBy.{answered_by}
 use Rattle.cip_module.proofs.Puts.{puts, pending_cases}
@@ -42,22 +40,21 @@ use Rattle.cip_module.proofs.Waiting.{waits_at}
 use Rattle.cip_topology.specs.Plan.{Plan}
 use Rattle.cip_topology.specs.Nodes.{Way, across as goes}
 use Rattle.cip_world.specs.declared.journal.Entry.{Entry}
-use Rattle.cip_world.specs.declared.journal.Entry.TheVariants.{Step, Lost}
+use Rattle.cip_world.specs.declared.journal.Entry.TheVariants.{Step}
 use Rattle.cip_world.specs.declared.journal.FrameName.{FrameName}
-use Rattle.cip_world.specs.declared.journal.Input.{Input}
 use Rattle.cip_world.specs.declared.journal.Input.TheVariants as inputs
 use Rattle.cip_world.specs.Journals.{Journal, Flight, flight_of, sent_by as frame_of, entry_at, frame_at, is_named, part}
 use Rattle.cip_world.specs.Mirrors.{IsOlder}
-use Rattle.cip_world.specs.Runs.{IsModule, IsStepAt, IsRun}
+use Rattle.cip_world.specs.Runs.{IsRun}
 use Rattle.cip_world.specs.StepsIn.{StepIn, state_before}
 use Rattle.cip_world.specs.Trails.{is_refusal, named}
 use Rattle.cip_world.proofs.Arrivals.{way_in, FrameGiven, frame_given, one_request}
 use Rattle.cip_world.proofs.Chassis.{Chassis}
 use Rattle.cip_world.proofs.Entries.{older_one, TurnIn, turn_in, SentBy, sent_by, step_older, turned_in, run_before, history_before}
 use Rattle.cip_world.proofs.Frames.{out_of, frame_older, has_at}
-use Rattle.cip_world.proofs.Moments.{run_older, older_trans, older_length, number_at, before_that, itself}
+use Rattle.cip_world.proofs.Moments.{older_length, number_at, before_that}
 use Rattle.cip_world.proofs.Parts.{turn_of, same_module}
-use Rattle.cip_world.proofs.PutIn.{SentFor, PutIn, put_in, sent_asker}
+use Rattle.cip_world.proofs.PutIn.{PutIn, put_in, sent_asker}
 
 -- ---- words
 

@@ -1,5 +1,5 @@
 -- Words fall strictly along the trail of an Open: each entry sent on what is left of the path behind its hop.
-use Rattle.std.proofs.Common.{◌≡◌, ℕ, ◌+◌, ◌<◌, ◌≤◌, Bool, true, false, cond, List, [], ◌∷◌, ◌++◌, Option, Some, None, refl, sym, ap, subst, ◌∙◌, ◌⊎◌, inl, inr, arith, append-nil, length, eqb}
+use Rattle.std.proofs.Common.{◌≡◌, ℕ, ◌+◌, ◌<◌, Bool, true, false, cond, List, [], ◌∷◌, ◌++◌, Option, Some, None, refl, sym, ap, subst, ◌∙◌, ◌⊎◌, inl, inr, arith, append-nil, length, eqb}
 use Rattle.std.specs.Prelude.{slice_get, option_map, option_and_then}
 use Rattle.std.proofs.lemmas.Bool.{eqb-true, and_parts}
 use Rattle.cip_base.specs.declared.numbers.ModuleId.{ModuleId}
@@ -7,7 +7,6 @@ use Rattle.cip_base.proofs.MapCases.{some_same}
 use Rattle.cip_open.specs.Open.{Open}
 use Rattle.cip_pending.specs.declared.entry.Kind.{Kind}
 use Rattle.cip_pending.specs.declared.entry.Kind.TheVariants.{Opening as OpeningKind}
-use Rattle.cip_module.specs.declared.event.Body.{Body}
 use Rattle.cip_module.specs.declared.event.Body.TheVariants as bodies
 use Rattle.cip_module.specs.declared.event.Event.{Event}
 use Rattle.cip_module.specs.declared.event.Event.TheVariants as events
@@ -28,11 +27,11 @@ use Rattle.cip_world.specs.declared.journal.Entry.TheVariants.{Step, Lost}
 use Rattle.cip_world.specs.declared.journal.FrameName.{FrameName}
 use Rattle.cip_world.specs.declared.journal.Input.{Input}
 use Rattle.cip_world.specs.declared.journal.Input.TheVariants as inputs
-use Rattle.cip_world.specs.Journals.{Journal, Flight, entry_at, event_of, frame_at, same_name, is_that, brought_by, part}
+use Rattle.cip_world.specs.Journals.{Journal, Flight, entry_at, event_of, frame_at, same_name, part}
 use Rattle.cip_world.specs.Mirrors.{IsOlder}
-use Rattle.cip_world.specs.Runs.{IsStepAt, IsRun}
+use Rattle.cip_world.specs.Runs.{IsRun}
 use Rattle.cip_world.specs.StepsIn.{StepIn, state_before}
-use Rattle.cip_world.specs.Trails.{is_request_body, is_request_sent, named, request_by as request_in_entry, request_of, request_from, arrived_in, trail_of}
+use Rattle.cip_world.specs.Trails.{is_request_sent, named, request_of, request_from, arrived_in, trail_of}
 use Rattle.cip_world.specs.TrailTells.{open_words, event_in, words_at, FallBelow, WordsFall, IsOn}
 use Rattle.cip_world.proofs.Arrivals.{way_in, name_eq}
 use Rattle.cip_world.proofs.Entries.{step_older, turned_in}
@@ -43,7 +42,7 @@ use Rattle.cip_world.proofs.OpensGo.{AsksThat, open_goes}
 use Rattle.cip_world.proofs.OpenTrails.{event_older, words_there, NextOpen, next_open}
 use Rattle.cip_world.proofs.Parts.{turn_of}
 use Rattle.cip_world.proofs.PutIn.{SentFor, Forwarded, Begun}
-use Rattle.cip_world.proofs.TrailGrows.{arrived, entry_older, if_so}
+use Rattle.cip_world.proofs.TrailGrows.{arrived, entry_older}
 use Rattle.cip_world.proofs.TrailSteps.{with_entry, TrailTo, grows_from, request_in, tip_end}
 use Rattle.cip_world.proofs.WaysBack.{step_frame}
 

@@ -1,5 +1,5 @@
 -- What holds of the replies of a run.
-use Rattle.std.specs.Prelude.{◌≡◌, ℕ, ◌≤◌, List}
+use Rattle.std.specs.Prelude.{◌≡◌, ℕ, ◌≤◌}
 use Rattle.cip_base.specs.Words.{LinkAddress, Octets, OpNumber, PortIdentifier, RequestNumber}
 use Rattle.cip_pending.specs.declared.entry.UpSide.TheVariants.{Link, Local}
 use Rattle.cip_module.specs.declared.config.ModuleSettings.{ModuleSettings}
