@@ -22,13 +22,6 @@ taken_more (y ∷ ys) (suc n) x e = ap (λ zs. y ∷ zs) (taken_more ys n x e)
 pub one_more : (es : List Entry) (n : ℕ) (e : Entry) → slice_get es n ≡ Some e → reverse (take (suc n) es) ≡ e ∷ reverse (take n es)
 one_more es n e at = ap (λ xs. reverse xs) (taken_more es n e at) ∙ reverse-append (take n es) (e ∷ [])
 
--- all of them
-pub whole : {A : Type 0} (xs : List A) (n : ℕ) → length xs ≤ n → take n xs ≡ xs
-whole [] zero l = refl
-whole [] (suc n) l = refl
-whole (x ∷ xs) zero l = absurd (omega (arith, l))
-whole (x ∷ xs) (suc n) l = ap (λ ys. x ∷ ys) (whole xs n (omega (arith, l)))
-
 pub got_within : {A : Type 0} (xs : List A) (i : ℕ) (x : A) → slice_get xs i ≡ Some x → i < length xs
 got_within [] i x e = absurd (cc)
 got_within (y ∷ ys) zero x e = omega arith

@@ -82,7 +82,7 @@ ends_key config s up o None link e = ends_row config s up o (hop_of o.path) link
 pub accepted_ends : (config : ModuleSettings) (s : State) (up : HopUp) (o : Open) (link : EndLink) → open_row config s up o ≡ Accepted link → hop_of o.path ≡ None
 unfolding open_row
 accepted_ends config s up o link e =
-    ends_key config s up o (leading_mismatch config (segments_of o.path)) link 
+    ends_key config s up o (leading_mismatch config (segments_of o.path)) link
     (past_three (not (is_supported o)) (eqb o.fields.ot_rpi 0 || eqb o.fields.to_rpi 0) (is_some (map.get s.hops.held o.fields.triad)) ConnectionTypeNotSupported RpiOfZero TriadInUse
     (key_row config s up o (leading_mismatch config (segments_of o.path))) link e)
 

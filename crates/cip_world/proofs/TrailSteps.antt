@@ -182,11 +182,11 @@ trail_begins t j m op k run c asks =
     omega (arith, same, less, is_, at_)) in
     record {
       to = record {
-      front = [];
-      is = grows (Step s.at s.input s.outputs) s.before m op
-          ∙ ap (λ (xs : List ℕ). xs ++ if_so (goes_on s.before m op (tip xs) (Step s.at s.input s.outputs)) (length s.before)) before
-          ∙ ap (λ b. if_so b (length s.before)) (command_there t j m op k c asks)
-          ∙ ap (λ (i : ℕ). i ∷ []) s.number;
+        front = [];
+        is = grows (Step s.at s.input s.outputs) s.before m op
+            ∙ ap (λ (xs : List ℕ). xs ++ if_so (goes_on s.before m op (tip xs) (Step s.at s.input s.outputs)) (length s.before)) before
+            ∙ ap (λ b. if_so b (length s.before)) (command_there t j m op k c asks)
+            ∙ ap (λ (i : ℕ). i ∷ []) s.number;
       };
       first = refl;
     }

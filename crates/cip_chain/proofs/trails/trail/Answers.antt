@@ -1,4 +1,5 @@
 use Rattle.std.proofs.Common.{ℕ, [], List, sym, ap, ◌∙◌, ◌++◌, ◌∷◌, Vec, Global, subst, reverse}
+use Rattle.std.proofs.lemmas.List.{take_all}
 use Rattle.cip_world.specs.declared.journal.Entry.{Entry}
 use Rattle.cip_world.specs.TrailTells.{TrailTells}
 use Rattle.cip_world.specs.Trails.{trail_of}
@@ -9,7 +10,7 @@ use Rattle.cip_world.proofs.StepAt.{at_place}
 use Rattle.cip_world.proofs.TrailGrows.{tip, no_trail}
 use Rattle.cip_chain.specs.declared.trails.Sought.{Sought}
 use Rattle.cip_chain.specs.Seeking.{is_next, sought_behind}
-use Rattle.cip_chain.proofs.Walked.{whole, walks_on, walks_past}
+use Rattle.cip_chain.proofs.Walked.{walks_on, walks_past}
 use Rattle.cip_chain.proofs.trails.trail.Goals as goal
 use Rattle.cip_chain.proofs.trails.trail.Goals.{then-is_next+in_ok-push, else-is_next}
 
@@ -35,7 +36,7 @@ loop-k-preserved c =
 
 pub returns-clause-tells : goal.returns-clause-tells
 returns-clause-tells c =
-    let all = whole c.args.journal.now c.loop-k.k c.loop-k-test.false in
+    let all = take_all c.loop-k.k c.args.journal.now c.loop-k-test.false in
     λ t is run. subst (λ (ks : List ℕ). TrailTells t (reverse c.args.journal.now) c.args.at.0 c.args.op ks)
     (sym (c.loop-k.invariant.0 ∙ ap (λ (es : List Entry). trail_of (reverse es) c.args.at.0 c.args.op) all))
     (tells (chassis t is) (reverse c.args.journal.now) run c.args.at.0 c.args.op)
