@@ -12,3 +12,7 @@ pub mod Mirrors
 pub mod Roots
 pub mod Entering
 pub mod Chains
+pub mod Trails
+pub mod StepsIn
+pub mod TrailTells
+pub mod RepliesTell

@@ -1,0 +1,222 @@
+-- The trail of an Open: its path shortens from entry to entry, and the Done tells where it failed or that it was accepted at the end.
+use Rattle.std.proofs.Common.{◌≡◌, ℕ, ◌/◌, ◌<◌, List, [], Ok, Option, Some, None, refl, sym, ap, subst, ◌∙◌, ◌⊎◌, inl, inr, arith, length}
+use Rattle.std.specs.Prelude.{option_map, option_and_then}
+use Rattle.std.specs.FinMap as map
+use Rattle.std.specs.Option.{option_map_or}
+use Rattle.cip_base.specs.declared.timing.Status.{Status}
+use Rattle.cip_segment.specs.Reading.{HopAt, hop_of}
+use Rattle.cip_message.specs.Failure.{failure_data, HasTriadForWords}
+use Rattle.cip_message.specs.Reply.{Reply, reply_with, done_with}
+use Rattle.cip_message.specs.ReplyAt.{reply_at}
+use Rattle.cip_message.specs.declared.failure.ConnectionFailure.{ConnectionFailure}
+use Rattle.cip_message.proofs.Managers.{manager_is_read}
+use Rattle.cip_message.proofs.ReadAgain.{ok_reply, reply_is}
+use Rattle.cip_open.specs.Open.{Open, open_data}
+use Rattle.cip_open.specs.GoesOn.{lowered, with_ids}
+use Rattle.cip_open.specs.Success.{OpenSuccess, open_reply_data, open_reply_bytes}
+use Rattle.cip_pending.specs.declared.entry.Entry as entries
+use Rattle.cip_pending.specs.declared.entry.Kind.{Kind}
+use Rattle.cip_hops.specs.declared.hop.Held.{Held}
+use Rattle.cip_hops.specs.declared.opening.HopUp.{HopUp}
+use Rattle.cip_hops.specs.declared.opening.HopUp.TheVariants.{Link as UpLink, Local as UpLocal}
+use Rattle.cip_hops.specs.Hops.{opening_of, ids_of}
+use Rattle.cip_module.specs.declared.config.ModuleSettings.{ModuleSettings}
+use Rattle.cip_module.specs.declared.config.PortConfig.{PortConfig}
+use Rattle.cip_module.specs.declared.event.Body.TheVariants as bodies
+use Rattle.cip_module.specs.declared.event.Event.{Event}
+use Rattle.cip_module.specs.declared.event.Event.TheVariants as events
+use Rattle.cip_module.specs.declared.event.Output.{Output}
+use Rattle.cip_module.specs.declared.event.Output.TheVariants as outputs
+use Rattle.cip_module.specs.declared.refusals.LinkRefusal.TheVariants.{TicksSpent}
+use Rattle.cip_module.specs.Answers.{failed_at}
+use Rattle.cip_module.specs.Effects.{Sending, late_bytes, succeeded, success_up}
+use Rattle.cip_module.specs.Statuses.{link_status, open_status}
+use Rattle.cip_module.specs.Table.{words_of, accepted_bytes}
+use Rattle.cip_module.specs.Tells.{PendingTimesOutAs}
+use Rattle.cip_module.specs.Words.{Has}
+use Rattle.cip_module.proofs.Failures.{open_fails, link_fails}
+use Rattle.cip_topology.specs.Plan.{Plan}
+use Rattle.cip_topology.specs.Nodes.{Node, Way, own_port, node_on, node_from, comes_in, leaves_by, node, across as goes}
+use Rattle.cip_topology.specs.Walk.{walk}
+use Rattle.cip_topology.proofs.Walks.{walk_goes}
+use Rattle.cip_world.specs.declared.journal.Entry.TheVariants.{Step}
+use Rattle.cip_world.specs.declared.journal.Input.{Input}
+use Rattle.cip_world.specs.declared.journal.Input.TheVariants as inputs
+use Rattle.cip_world.specs.Journals.{Journal, Flight, arrival, entry_at, event_of, frame_at}
+use Rattle.cip_world.specs.Mirrors.{IsOlder}
+use Rattle.cip_world.specs.Runs.{IsRun}
+use Rattle.cip_world.specs.StepsIn.{StepIn, state_before}
+use Rattle.cip_world.specs.TrailTells.{request_words, open_words, event_in, words_at, FailedAt, ByRow as FailedByRow, ByTick as FailedByTick}
+use Rattle.cip_world.proofs.Arrivals.{way_in}
+use Rattle.cip_world.proofs.HopsShorten.{words_fall}
+use Rattle.cip_world.proofs.Moments.{number_at, before_that}
+use Rattle.cip_world.proofs.OpensGo.{AsksThat, Spelled, CameSo, OpenRefused, OpenAccepted, OpenGoes, open_goes, no_answer, open_replied}
+use Rattle.cip_world.proofs.Parts.{given_event}
+use Rattle.cip_world.proofs.TrailSteps.{TrailTo, trail_on}
+use Rattle.cip_world.proofs.WaysBack.{Arrives, PutAt, Replied, ByRow, ByTarget, ByTick, AsItCame, AsSuccess, older_frame}
+
+-- ---- words as received
+
+pub event_older : (k j : Journal) (input : Input) (event : Event) → IsOlder k j → event_of k input ≡ Some event → event_of j input ≡ Some event
+event_older k j (inputs.Command c) event older h = h
+event_older k j (inputs.Tick ms) event older h = h
+event_older k j (inputs.Frame port from name) event older h = by_frame (frame_at k name) refl h
+  where
+    by_frame : (x : Option Flight) → frame_at k name ≡ x → arrival port from x ≡ Some event → arrival port from (frame_at j name) ≡ Some event
+    by_frame None e s = absurd (cc)
+    by_frame (Some x) e s = ap (arrival port from) (older_frame k j name x older e) ∙ s
+
+-- the event of an entry
+pub event_there : (t : Plan) (j : Journal) (k : ℕ) (s : StepIn t j k) → option_and_then (event_in j) (entry_at j k) ≡ Some s.taken.event
+event_there t j k s =
+    ap (option_and_then (event_in j)) (ap (entry_at j) (sym s.number) ∙ number_at (Step s.at s.input s.outputs) s.before j s.is)
+    ∙ event_older s.before j s.input s.taken.event (before_that (Step s.at s.input s.outputs) s.before j s.is) (given_event t s.before s.at.0 s.input s.taken.event s.taken.given)
+
+asked_words : (config : ModuleSettings) (event : Event) (o : Open) → AsksThat config event o → open_words event ≡ Some (words_of o.path)
+asked_words config event o (Spelled op timing path params event_is spells) = ap open_words event_is ∙ ap (λ (x : Open). Some (words_of x.path)) (sym spells)
+asked_words config event o (CameSo port n from event_is) = ap open_words event_is ∙ ap request_words (manager_is_read 0x54 (open_data o) (omega arith))
+
+pub words_there : (t : Plan) (j : Journal) (k : ℕ) (s : StepIn t j k) (o : Open) → AsksThat s.taken.config s.taken.event o → words_at j k ≡ Some (words_of o.path)
+words_there t j k s o asks = ap (option_and_then open_words) (event_there t j k s) ∙ asked_words s.taken.config s.taken.event o asks
+
+-- ---- where a path leads
+
+node_at : (o : Option Node) (from : List ℕ) (there : Way) → comes_in from o ≡ Some there → option_map (λ (n : Node). n.at) o ≡ Some there.at
+node_at None from there e = absurd (cc)
+node_at (Some n) from there e = let same : record { at = n.at; port = n.port.number; address = from } ≡ there = cc in ap (λ (w : Way). Some w.at) same
+
+-- the node of a way is the module where frames come by it
+across_node : (t : Plan) (way there : Way) → goes t way ≡ Some there → node t way.at way.port way.address ≡ Some there.at
+across_node t way there e =
+    elim (own_port t way.at way.port) as (λ (o : Option PortConfig). leaves_by t.modules way.address o ≡ Some there
+    → option_map (λ (n : Node). n.at) (node_on t way.address o) ≡ Some there.at) [
+      | None ↦ λ s. absurd (cc)
+      | Some p ↦ λ s. node_at (node_from 0 t.modules p.link way.address) p.address there s
+    ] e
+
+-- the walk of a path goes on where its first hop leads
+pub walk_on : (t : Plan) (m port : ℕ) (address path rest : List ℕ) (hop : HopAt) (there : Way) → hop_of path ≡ Some hop → port ≡ hop.port → address ≡ hop.address → rest ≡ hop.rest
+    → goes t (way_in m port address) ≡ Some there → walk t m path ≡ walk t there.at rest
+walk_on t m port address path rest hop there first port_is address_is rest_is leads =
+    walk_goes t m path hop first
+    ∙ (λ i. option_and_then (λ (n : ℕ). walk t n hop.rest) (node t m (sym port_is i) (sym address_is i)))
+    ∙ ap (option_and_then (λ (n : ℕ). walk t n hop.rest)) (across_node t (way_in m port address) there leads)
+    ∙ ap (walk t there.at) (sym rest_is)
+
+-- ---- the next entry of an open's trail
+
+-- it asks the open that was sent on
+pub record NextOpen (t : Plan) (j : Journal) (a b : ℕ) (s : StepIn t j a) (r : StepIn t j b) (o : Open) : Type 0 where
+  pub next : Open
+  pub asks : AsksThat r.taken.config r.taken.event next
+  pub shorter : words_of next.path < words_of o.path
+  pub walks : walk t s.at.0 o.path ≡ walk t r.at.0 next.path
+
+pub next_open : (t : Plan) (j : Journal) (a b n : ℕ) (s : StepIn t j a) (r : StepIn t j b) (o : Open) (sending : Sending) (kind : Kind) (there : Way)
+    → OpenGoes s.taken.config (state_before s) s.taken.event o sending kind → goes t (way_in s.at.0 sending.port sending.address) ≡ Some there → r.at.0 ≡ there.at
+    → r.taken.event ≡ events.Frame there.port there.address (bodies.Request n sending.bytes) → NextOpen t j a b s r o
+next_open t j a b n s r o sending kind there g leads here event_is = record {
+  next = lowered o g.own g.rest;
+  asks = CameSo there.port n there.address (event_is ∙ ap (λ (x : List ℕ). events.Frame there.port there.address (bodies.Request n x)) g.bytes_are);
+  shorter =
+      let fall = words_fall o.path g.leads.hop g.leads.first in
+      let same = ap (λ (x : List ℕ). length x / 2) g.leads.rest_is in
+      omega (arith, fall, same);
+  walks = walk_on t s.at.0 sending.port sending.address o.path g.rest g.leads.hop there g.leads.first g.leads.port_is g.leads.address_is g.leads.rest_is leads
+      ∙ ap (λ (m : ℕ). walk t m g.rest) (sym here);
+}
+
+-- ---- how an open ended
+
+success_general : (x : OpenSuccess) (r : Reply) (bytes : List ℕ) → bytes ≡ open_reply_bytes x → reply_at bytes ≡ Ok r → r.general ≡ 0
+success_general x r bytes is read = ap (λ (y : Reply). y.general) (reply_is (done_with 0xD4 (open_reply_data x)) r bytes (omega arith) is read)
+
+accepted_general : (o : Open) (id : ℕ) (r : Reply) (bytes : List ℕ) → bytes ≡ accepted_bytes o id → reply_at bytes ≡ Ok r → r.general ≡ 0
+accepted_general o id r bytes is read =
+    success_general (record { ot_id = id; to_id = o.fields.to_id; triad = o.fields.triad; ot_api = o.fields.ot_rpi; to_api = o.fields.to_rpi; reply = [] }) r bytes is read
+
+-- a success that is passed on stays one
+passed_general : (held : Option Held) (came : List ℕ) (success : OpenSuccess) (bytes : List ℕ) (reply r : Reply) → bytes ≡ succeeded held came success → reply_at came ≡ Ok reply
+    → reply.general ≡ 0 → reply_at bytes ≡ Ok r → r.general ≡ 0
+passed_general None came success bytes reply r is read general read_too =
+    ap (λ (y : Reply). y.general) (ok_reply r reply (sym read_too ∙ ap reply_at is ∙ read)) ∙ general
+passed_general (Some x) came success bytes reply r is read general read_too = by_up (opening_of x).up is
+  where
+    by_up : (up : HopUp) → bytes ≡ success_up up (ids_of x) came success → r.general ≡ 0
+    by_up (UpLink port address id) e = success_general (with_ids success (option_map_or (λ own. own) (ids_of x).up 0) id) r bytes e read_too
+    by_up (UpLocal op) e = ap (λ (y : Reply). y.general) (ok_reply r reply (sym read_too ∙ ap reply_at e ∙ read)) ∙ general
+
+-- the reply to an open whose trail came to entry k
+pub data Outcome (t : Plan) (j : Journal) (m op at : ℕ) (path : List ℕ) (r : Reply) : Type 0 where
+  Failed : (place : ℕ) (step : StepIn t j place) (o : Open) → TrailTo t j m op place step → AsksThat step.taken.config step.taken.event o → (status : Status) (failure : ConnectionFailure)
+      → r ≡ reply_with 0xD4 status (failure_data failure) → failure.words ≡ Some (words_of o.path) → HasTriadForWords failure → (status.general ≡ 0 → ⊥)
+      → FailedAt t j place step status → Outcome t j m op at path r
+  Ended : (place : ℕ) (step : StepIn t j place) (o : Open) (bytes : List ℕ) → TrailTo t j m op place step → AsksThat step.taken.config step.taken.event o
+      → OpenAccepted step.taken.config (state_before step) step.taken.event o bytes → r.general ≡ 0 → walk t at path ≡ walk t step.at.0 o.path → Outcome t j m op at path r
+
+further : (t : Plan) (j : Journal) (m op at to : ℕ) (path rest : List ℕ) (r : Reply) → walk t at path ≡ walk t to rest → Outcome t j m op to rest r → Outcome t j m op at path r
+further t j m op at to path rest r walks (Failed place step o trail asks status failure r_is words_is triad_there fails why) =
+    Failed place step o trail asks status failure r_is words_is triad_there fails why
+further t j m op at to path rest r walks (Ended place step o bytes trail asks accepted general there) = Ended place step o bytes trail asks accepted general (walks ∙ there)
+
+-- a success in place of a success
+renamed : (t : Plan) (j : Journal) (m op at : ℕ) (path : List ℕ) (reply r : Reply) → reply.general ≡ 0 → r.general ≡ 0 → Outcome t j m op at path reply → Outcome t j m op at path r
+renamed t j m op at path reply r general too (Failed place step o trail asks status failure r_is words_is triad_there fails why) =
+    absurd (fails (ap (λ (y : Reply). y.general) (sym r_is) ∙ general))
+renamed t j m op at path reply r general too (Ended place step o bytes trail asks accepted was there) = Ended place step o bytes trail asks accepted too there
+
+module _ (t : Plan) (j : Journal) (run : IsRun t j) (m op : ℕ) where
+  by_row : (k : ℕ) (s : StepIn t j k) (bytes : List ℕ) (o : Open) → AsksThat s.taken.config s.taken.event o → TrailTo t j m op k s → (r : Reply) → reply_at bytes ≡ Ok r
+      → OpenRefused s.taken.config (state_before s) s.taken.event o bytes ⊎ OpenAccepted s.taken.config (state_before s) s.taken.event o bytes → Outcome t j m op s.at.0 o.path r
+  by_row k s bytes o asks to r read (inl refused) =
+      Failed k s o to asks (open_status refused.refusal) refused.failure
+      (reply_is (reply_with 0xD4 (open_status refused.refusal) (failure_data refused.failure)) r bytes (omega arith) refused.bytes_are read)
+      refused.words_is refused.triad_there (open_fails refused.refusal) (FailedByRow refused.refusal refused.why refl)
+  by_row k s bytes o asks to r read (inr accepted) = Ended k s o bytes to asks accepted (accepted_general o (state_before s).hops.next r bytes accepted.bytes_are read) refl
+
+  by_tick : (k : ℕ) (s : StepIn t j k) (n : ℕ) (p : entries.Entry) (put : PutAt s n p) (l : ℕ) (tick : StepIn t j l) → tick.at.0 ≡ s.at.0
+      → PendingTimesOutAs (state_before tick) tick.taken.event n → map.get (state_before tick).pendings.entries n ≡ Some p → k < l → (bytes : List ℕ) → bytes ≡ late_bytes p.kind p.words
+      → (o : Open) → AsksThat s.taken.config s.taken.event o → TrailTo t j m op k s → (r : Reply) → reply_at bytes ≡ Ok r
+      → OpenGoes s.taken.config (state_before s) s.taken.event o put.sending p.kind → Outcome t j m op s.at.0 o.path r
+  by_tick k s n p put l tick here ends waits later bytes bytes_are o asks to r read g =
+      let words_is : p.words ≡ words_of o.path = put.words_is ∙ g.words_are in
+      Failed k s o to asks (link_status TicksSpent) (failed_at g.triad p.words)
+      (reply_is (reply_with 0xD4 (link_status TicksSpent) (failure_data (failed_at g.triad p.words))) r bytes (omega arith)
+      (bytes_are ∙ ap (λ (x : Kind). late_bytes x p.words) g.kind_is) read)
+      (ap (λ (w : ℕ). Some w) words_is) (λ none. absurd (cc)) (link_fails TicksSpent)
+      (FailedByTick (record {
+        number = n;
+        waiting = p;
+        bytes = put.sending.bytes;
+        sent = subst (λ (x : Output). Has s.outputs x) (λ i. outputs.Send (sym put.port_is i) (sym put.address_is i) (bodies.Request n put.sending.bytes)) put.sent;
+        place = l;
+        tick = tick;
+        here = here;
+        later = later;
+        waits = waits;
+        ends = ends;
+      }) refl)
+
+  goes_there : (k : ℕ) (s : StepIn t j k) (n : ℕ) (p : entries.Entry) (put : PutAt s n p) (o : Open) → AsksThat s.taken.config s.taken.event o
+      → OpenGoes s.taken.config (state_before s) s.taken.event o put.sending p.kind
+  goes_there k s n p put o asks = open_goes s.taken.config (state_before s) s.taken.event o asks put.sending p.kind put.why
+
+  there : (k : ℕ) (s : StepIn t j k) (n : ℕ) (p : entries.Entry) (put : PutAt s n p) (l : ℕ) (next : StepIn t j l) → Arrives t j k l s next n put.sending → (o : Open)
+      → AsksThat s.taken.config s.taken.event o → NextOpen t j k l s next o
+  there k s n p put l next arrives o asks = next_open t j k l n s next o put.sending p.kind arrives.there (goes_there k s n p put o asks) arrives.leads arrives.here arrives.event_is
+
+  pub open_outcome : (k : ℕ) (s : StepIn t j k) (bytes : List ℕ) → Replied t j k s bytes → (o : Open) → AsksThat s.taken.config s.taken.event o → TrailTo t j m op k s → (r : Reply)
+      → reply_at bytes ≡ Ok r → Outcome t j m op s.at.0 o.path r
+  open_outcome k s bytes (ByRow _ _ up _ told) o asks to r read = by_row k s bytes o asks to r read (open_replied s.taken.config (state_before s) s.taken.event o asks up bytes told)
+  open_outcome k s bytes (ByTarget _ _ up asked _ told bytes_are) o asks to r read = absurd (no_answer s.taken.config (state_before s) s.taken.event o asks up asked told)
+  open_outcome k s bytes (ByTick _ _ n p put l tick here ends waits later _ bytes_are) o asks to r read =
+      by_tick k s n p put l tick here ends waits later bytes bytes_are o asks to r read (goes_there k s n p put o asks)
+  open_outcome k s bytes (AsItCame _ _ n p put l next arrives _ below) o asks to r read =
+      let on = there k s n p put l next arrives o asks in
+      further t j m op s.at.0 next.at.0 o.path on.next.path r on.walks
+      (open_outcome l next bytes below on.next on.asks (trail_on t j run m op k l s next n put.sending arrives to) r read)
+  open_outcome k s bytes (AsSuccess _ _ n p put l next arrives triad kind_is came reply read_below general held success _ bytes_are below) o asks to r read =
+      let on = there k s n p put l next arrives o asks in
+      further t j m op s.at.0 next.at.0 o.path on.next.path r on.walks
+      (renamed t j m op next.at.0 on.next.path reply r general (passed_general held came success bytes reply r bytes_are read_below general read)
+      (open_outcome l next came below on.next on.asks (trail_on t j run m op k l s next n put.sending arrives to) reply read_below))

@@ -1,0 +1,267 @@
+-- What a step whose event asks an open did for it: sent it on, refused it or accepted it, and nothing else.
+use Rattle.std.proofs.Common.{◌≡◌, ℕ, ◌≤◌, Bool, true, false, cond, List, Option, Some, None, refl, sym, ap, subst, ◌∙◌, ◌⊎◌, inl, inr, arith, length}
+use Rattle.std.specs.FinMap as map
+use Rattle.std.specs.Prelude.{nat_lt, not, ◌||◌, eqb, is_some}
+use Rattle.std.proofs.lemmas.Bool.Decides.{nat_tests}
+use Rattle.cip_base.specs.declared.timing.Timing.{Timing}
+use Rattle.cip_base.specs.declared.triad.Triad.{Triad}
+use Rattle.cip_message.specs.Failure.{HasTriadForWords}
+use Rattle.cip_message.specs.Numbers.{triad_in}
+use Rattle.cip_message.specs.Request.{Request}
+use Rattle.cip_message.specs.declared.failure.ConnectionFailure.{ConnectionFailure}
+use Rattle.cip_message.specs.declared.fault.DataFault.{DataFault}
+use Rattle.cip_open.specs.Open.{Open, open_data, open_bytes}
+use Rattle.cip_open.specs.OpenAt.{open_at, open_triad_of, open_words_of}
+use Rattle.cip_open.specs.Failed.{open_failure_bytes}
+use Rattle.cip_open.specs.GoesOn.{lowered}
+use Rattle.cip_open.proofs.ReadAgain.{open_data_read}
+use Rattle.cip_unconnected.specs.Unconnected.{Unconnected}
+use Rattle.cip_close.specs.Close.{Close}
+use Rattle.cip_segment.specs.Reading.{HopAt, hop_of, segments_of}
+use Rattle.cip_pending.specs.declared.entry.UpSide.{UpSide}
+use Rattle.cip_pending.specs.declared.entry.Kind.{Kind}
+use Rattle.cip_pending.specs.declared.entry.Kind.TheVariants.{Unconnected as UnconnectedKind, Opening as OpeningKind, Closing as ClosingKind}
+use Rattle.cip_hops.specs.declared.opening.HopUp.{HopUp}
+use Rattle.cip_hops.specs.Hops.{refusal}
+use Rattle.cip_target.specs.declared.link.EndLink.{EndLink}
+use Rattle.cip_module.specs.declared.config.ModuleSettings.{ModuleSettings}
+use Rattle.cip_module.specs.declared.event.Body.TheVariants as bodies
+use Rattle.cip_module.specs.declared.event.Command.TheVariants as commands
+use Rattle.cip_module.specs.declared.event.Event.{Event}
+use Rattle.cip_module.specs.declared.event.Event.TheVariants as events
+use Rattle.cip_module.specs.declared.event.OpenParams.{OpenParams}
+use Rattle.cip_module.specs.declared.refusals.KeyPart.{KeyPart}
+use Rattle.cip_module.specs.declared.refusals.LinkRefusal.{LinkRefusal}
+use Rattle.cip_module.specs.declared.refusals.OpenRefusal.{OpenRefusal}
+use Rattle.cip_module.specs.declared.refusals.OpenRefusal.TheVariants.{ConnectionTypeNotSupported, RpiOfZero, TriadInUse, NoRoomToPassOn}
+use Rattle.cip_module.specs.Answers.{failed_at}
+use Rattle.cip_module.specs.Effects.{Sending}
+use Rattle.cip_module.specs.Keys.{leading_mismatch}
+use Rattle.cip_module.specs.Links.{link_refusal}
+use Rattle.cip_module.specs.OpenRows.{OpenRow, Refuses, Forwarded, Accepted, on_row, hop_row, key_row, is_supported, open_row, unread_row}
+use Rattle.cip_module.specs.RequestRows.{RequestRow, request_row}
+use Rattle.cip_module.specs.RequestRows as request
+use Rattle.cip_module.specs.State.{State}
+use Rattle.cip_module.specs.Statuses.{open_status}
+use Rattle.cip_module.specs.Table.{opener, open_of, open_on, words_of, unread_open_bytes, accepted_bytes}
+use Rattle.cip_module.specs.Tells.{Came, AsksSend, AsksOpen, AsksClose, RepliesAs, RequestFails, SendUnread, SendFails, OpenUnread, OpenFails, OpenEnds, CloseUnread, CloseFails, CloseEnds, AnswersAs, Itself, Embedded, ForwardsAs, LeadsOn}
+use Rattle.cip_module.proofs.NextRows.{open_row_is}
+use Rattle.cip_world.specs.TrailTells.{RefusedBy, Unread, Read}
+use Rattle.cip_world.proofs.PutIn.{SentFor, Forwarded as SentForward, Begun}
+
+-- the event asks this open: a command spells it, or it came as it is written
+pub data AsksThat (config : ModuleSettings) (event : Event) (o : Open) : Type 0 where
+  Spelled : (op : ℕ) (timing : Timing) (path : List ℕ) (params : OpenParams) → event ≡ events.Command (commands.Open op timing path params)
+      → o ≡ open_of config.identity timing path params → AsksThat config event o
+  CameSo : (port n : ℕ) (from : List ℕ) → event ≡ events.Frame port from (bodies.Request n (open_bytes o)) → AsksThat config event o
+
+-- ---- an open that is accepted names no hop
+
+past_three : (a b c : Bool) (x y z : OpenRefusal) (r : OpenRow) (link : EndLink) → cond a (Refuses x) (cond b (Refuses y) (cond c (Refuses z) r)) ≡ Accepted link → r ≡ Accepted link
+past_three true b c x y z r link e = absurd (cc)
+past_three false true c x y z r link e = absurd (cc)
+past_three false false true x y z r link e = absurd (cc)
+past_three false false false x y z r link e = e
+
+not_on : (config : ModuleSettings) (s : State) (up : HopUp) (o : Open) (hop : HopAt) (x : Option LinkRefusal) (link : EndLink) → on_row s up o hop x ≡ Accepted link → ⊥
+not_on config s up o hop (Some fault) link e = cc
+not_on config s up o hop None link e = by_room _ e
+  where
+    by_room : (b : Bool) → cond b (Refuses NoRoomToPassOn) (Forwarded hop.port hop.address hop.rest) ≡ Accepted link → ⊥
+    by_room true e = cc
+    by_room false e = cc
+
+ends_row : (config : ModuleSettings) (s : State) (up : HopUp) (o : Open) (x : Option HopAt) (link : EndLink) → hop_row config s up o x ≡ Accepted link → x ≡ None
+ends_row config s up o None link e = refl
+ends_row config s up o (Some hop) link e = absurd (not_on config s up o hop (link_refusal config s.pendings o.fields.timing hop.port hop.address) link e)
+
+ends_key : (config : ModuleSettings) (s : State) (up : HopUp) (o : Open) (x : Option KeyPart) (link : EndLink) → key_row config s up o x ≡ Accepted link → hop_of o.path ≡ None
+ends_key config s up o (Some part) link e = absurd (cc)
+ends_key config s up o None link e = ends_row config s up o (hop_of o.path) link e
+
+pub accepted_ends : (config : ModuleSettings) (s : State) (up : HopUp) (o : Open) (link : EndLink) → open_row config s up o ≡ Accepted link → hop_of o.path ≡ None
+unfolding open_row
+accepted_ends config s up o link e =
+    ends_key config s up o (leading_mismatch config (segments_of o.path)) link
+    (past_three (not (is_supported o)) (eqb o.fields.ot_rpi 0 || eqb o.fields.to_rpi 0) (is_some (map.get s.hops.held o.fields.triad)) ConnectionTypeNotSupported RpiOfZero TriadInUse
+    (key_row config s up o (leading_mismatch config (segments_of o.path))) link e)
+
+-- ---- what is read of an open that cannot be read
+
+long_enough : (o : Open) → nat_lt (length (open_data o)) 36 ≡ false
+long_enough o = let l : 36 ≤ length (open_data o) = omega arith in grind (arith, nat_tests, l)
+
+unread_is : (o : Open) (fault : DataFault) → unread_open_bytes (open_data o) fault
+    ≡ open_failure_bytes (open_status (unread_row (open_data o) fault)) (record { triad = open_triad_of (open_data o); words = Some (words_of o.path) })
+unread_is o fault =
+    ap (λ b. cond b (open_failure_bytes (open_status (unread_row (open_data o) fault)) (record { triad = None; words = None }))
+    (open_failure_bytes (open_status (unread_row (open_data o) fault)) (record { triad = open_triad_of (open_data o); words = open_words_of (open_data o) }))) (long_enough o)
+
+has_triad : (o : Open) → HasTriadForWords (record { triad = open_triad_of (open_data o); words = Some (words_of o.path) })
+has_triad o none =
+    let l : 18 ≤ length (open_data o) = omega arith in
+    let long : nat_lt (length (open_data o)) 18 ≡ false = grind (arith, nat_tests, l) in
+    let some = ap (λ b. cond b None (Some (triad_there o))) long in
+    let no : None ≡ Some (triad_there o) = sym none ∙ some in
+    absurd (cc)
+  where
+    triad_there : Open → Triad
+    triad_there o = triad_in (open_data o) 10
+
+-- ---- a step whose event asks this open
+
+-- it was refused, with the words of its path
+pub record OpenRefused (config : ModuleSettings) (s : State) (event : Event) (o : Open) (bytes : List ℕ) : Type 0 where
+  pub refusal : OpenRefusal
+  pub why : RefusedBy config s event refusal
+  pub failure : ConnectionFailure
+  pub words_is : failure.words ≡ Some (words_of o.path)
+  pub triad_there : HasTriadForWords failure
+  pub bytes_are : bytes ≡ open_failure_bytes (open_status refusal) failure
+
+-- it was accepted, at the end of its path
+pub record OpenAccepted (config : ModuleSettings) (s : State) (event : Event) (o : Open) (bytes : List ℕ) : Type 0 where
+  pub up : UpSide
+  pub link : EndLink
+  pub asks : AsksOpen config s event up o
+  pub meets : open_row config s (opener up o.fields.to_id) o ≡ Accepted link
+  pub ends : hop_of o.path ≡ None
+  pub bytes_are : bytes ≡ accepted_bytes o s.hops.next
+
+-- it went on
+pub record OpenGoes (config : ModuleSettings) (s : State) (event : Event) (o : Open) (sending : Sending) (kind : Kind) : Type 0 where
+  pub up : UpSide
+  pub triad : Triad
+  pub kind_is : kind ≡ OpeningKind triad
+  pub own : ℕ
+  pub rest : List ℕ
+  pub leads : LeadsOn config s o.fields.timing o.path sending.port sending.address rest
+  pub bytes_are : sending.bytes ≡ open_bytes (lowered o own rest)
+  pub words_are : sending.words ≡ words_of o.path
+  pub meets : open_row config s (opener up o.fields.to_id) o ≡ Forwarded sending.port sending.address rest
+  pub asks : AsksOpen config s event up o
+
+frame_is : (p q : ℕ) (a b : List ℕ) (k n : ℕ) (c d : List ℕ) → events.Frame p a (bodies.Request k c) ≡ events.Frame q b (bodies.Request n d) → (p ≡ q) × (a ≡ b) × (k ≡ n) × (c ≡ d)
+frame_is p q a b k n c d e = (cc, cc, cc, cc)
+
+module _ (config : ModuleSettings) (s : State) (event : Event) (o : Open) (is : AsksThat config event o) where
+  -- a request that came is this open, or dropped
+  came_row : (up : UpSide) (row : RequestRow) → Came config event up row → (row ≡ request.UnknownPortOrTooLong) ⊎ (row ≡ request.ForwardOpen (open_data o))
+  came_row up row came = by_form is
+    where
+      by_form : AsksThat config event o → (row ≡ request.UnknownPortOrTooLong) ⊎ (row ≡ request.ForwardOpen (open_data o))
+      by_form (Spelled op timing path params event_is spells) =
+          let no : events.Command (commands.Open op timing path params) ≡ events.Frame came.port came.from (bodies.Request came.number came.bytes) = sym event_is ∙ came.event_is in absurd (cc)
+      by_form (CameSo port n from event_is) =
+          let parts = frame_is came.port port came.from from came.number n came.bytes (open_bytes o) (sym came.event_is ∙ event_is) in
+          let row_is : request_row config came.port (open_bytes o) ≡ row = ap (request_row config came.port) (sym parts.3) ∙ came.meets in
+          elim (open_row_is config came.port o) [ inl dropped ↦ inl (sym row_is ∙ dropped) | inr met ↦ inr (sym row_is ∙ met) ]
+
+  not_came : (up : UpSide) (row : RequestRow) → (row ≡ request.UnknownPortOrTooLong → ⊥) → (row ≡ request.ForwardOpen (open_data o) → ⊥) → Came config event up row → ⊥
+  not_came up row a b came = elim (came_row up row came) [ inl dropped ↦ a dropped | inr met ↦ b met ]
+
+  no_send : (up : UpSide) (u : Unconnected) → AsksSend config s event up u → ⊥
+  no_send up u (inl h) = not_came up (request.UnconnectedSend h.asked) (λ e. cc) (λ e. cc) h.came
+  no_send up u (inr h) = by_form is
+    where
+      by_form : AsksThat config event o → ⊥
+      by_form (Spelled op timing path params event_is spells) =
+          let no : events.Command (commands.Open op timing path params) ≡ events.Command (commands.Send h.op h.timing h.path h.asked) = sym event_is ∙ h.event_is in cc
+      by_form (CameSo port n from event_is) =
+          let no : events.Frame port from (bodies.Request n (open_bytes o)) ≡ events.Command (commands.Send h.op h.timing h.path h.asked) = sym event_is ∙ h.event_is in cc
+
+  no_close : (up sender : UpSide) (c : Close) → AsksClose config s event up sender c → ⊥
+  no_close up sender c (inl h) = not_came up (request.ForwardClose h.asked) (λ e. cc) (λ e. cc) h.came
+  no_close up sender c (inr h) = by_form is
+    where
+      by_form : AsksThat config event o → ⊥
+      by_form (Spelled op timing path params event_is spells) =
+          let no : events.Command (commands.Open op timing path params) ≡ events.Command (commands.Close h.op h.of h.timing) = sym event_is ∙ h.event_is in cc
+      by_form (CameSo port n from event_is) =
+          let no : events.Frame port from (bodies.Request n (open_bytes o)) ≡ events.Command (commands.Close h.op h.of h.timing) = sym event_is ∙ h.event_is in cc
+
+  asked_data : (up : UpSide) (asked : List ℕ) → Came config event up (request.ForwardOpen asked) → asked ≡ open_data o
+  asked_data up asked came = elim (came_row up (request.ForwardOpen asked) came) [ inl dropped ↦ absurd (cc) | inr met ↦ cc ]
+
+  -- it asks no other open
+  pub same_open : (up : UpSide) (p : Open) → AsksOpen config s event up p → p ≡ o
+  same_open up p (inl h) = open_data_read o p (ap open_at (sym (asked_data up h.asked h.came)) ∙ h.read)
+  same_open up p (inr h) = by_form is
+    where
+      by_form : AsksThat config event o → p ≡ o
+      by_form (Spelled op timing path params event_is spells) =
+          let both : events.Command (commands.Open h.op h.timing h.path h.params) ≡ events.Command (commands.Open op timing path params) = sym h.event_is ∙ event_is in
+          let timings : h.timing ≡ timing = cc in
+          let paths : h.path ≡ path = cc in
+          let all : h.params ≡ params = cc in
+          h.spells ∙ (λ i. open_of config.identity (timings i) (paths i) (all i)) ∙ sym spells
+      by_form (CameSo port n from event_is) =
+          let no : events.Frame port from (bodies.Request n (open_bytes o)) ≡ events.Command (commands.Open h.op h.timing h.path h.params) = sym event_is ∙ h.event_is in absurd (cc)
+
+  -- ---- what it did
+
+  pub open_goes : (sending : Sending) (kind : Kind) → SentFor config s event sending kind → OpenGoes config s event o sending kind
+  open_goes sending kind (SentForward h) = absurd (by_kind kind h)
+    where
+      by_kind : (kind : Kind) → ForwardsAs config s event sending kind → ⊥
+      by_kind UnconnectedKind h = no_send sending.up h.u h.asks
+      by_kind (OpeningKind triad) h = h
+      by_kind (ClosingKind triad) h = no_close sending.up h.closes.sender h.c h.closes.asks
+  open_goes sending kind (Begun opening kind_is h) =
+      let same = same_open sending.up h.o h.asks in
+      record {
+        up = sending.up;
+        triad = opening.triad;
+        kind_is = kind_is;
+        own = s.hops.next;
+        rest = h.rest;
+        leads = subst (λ (x : Open). LeadsOn config s x.fields.timing x.path sending.port sending.address h.rest) same h.leads;
+        bytes_are = h.bytes_are ∙ ap (λ (x : Open). open_on x s.hops.next h.rest) same;
+        words_are = h.words_are ∙ ap (λ (x : Open). words_of x.path) same;
+        meets = subst (λ (x : Open). open_row config s (opener sending.up x.fields.to_id) x ≡ Forwarded sending.port sending.address h.rest) same h.meets;
+        asks = subst (AsksOpen config s event sending.up) same h.asks;
+      }
+
+  pub no_answer : (up : UpSide) (asked : Request) → AnswersAs config s event up asked → ⊥
+  no_answer up asked (Itself came) = not_came up (request.Target asked) (λ e. cc) (λ e. cc) came
+  no_answer up asked (Embedded u asks whole read) = no_send up u asks
+
+  pub open_replied : (up : UpSide) (bytes : List ℕ) → RepliesAs config s event up bytes → OpenRefused config s event o bytes ⊎ OpenAccepted config s event o bytes
+  open_replied up bytes (RequestFails service refusal came e) = absurd (not_came up (request.Refuses service refusal) (λ e. cc) (λ e. cc) came)
+  open_replied up bytes (SendUnread asked fault came read e) = absurd (not_came up (request.UnconnectedSend asked) (λ e. cc) (λ e. cc) came)
+  open_replied up bytes (SendFails u refusal asks meets e) = absurd (no_send up u asks)
+  open_replied up bytes (CloseUnread asked fault came read e) = absurd (not_came up (request.ForwardClose asked) (λ e. cc) (λ e. cc) came)
+  open_replied up bytes (CloseFails sender c refusal asks meets e) = absurd (no_close up sender c asks)
+  open_replied up bytes (CloseEnds sender c asks meets e) = absurd (no_close up sender c asks)
+  open_replied up bytes (OpenUnread asked fault came read e) =
+      let same = asked_data up asked came in
+      inl (record {
+        refusal = unread_row asked fault;
+        why = Unread up asked fault came read refl;
+        failure = record { triad = open_triad_of (open_data o); words = Some (words_of o.path) };
+        words_is = refl;
+        triad_there = has_triad o;
+        bytes_are = e ∙ ap (λ (d : List ℕ). unread_open_bytes d fault) same ∙ unread_is o fault
+            ∙ ap (λ (d : List ℕ). open_failure_bytes (open_status (unread_row d fault)) (record { triad = open_triad_of (open_data o); words = Some (words_of o.path) })) (sym same);
+      })
+  open_replied up bytes (OpenFails p refusal asks meets e) =
+      let same = same_open up p asks in
+      inl (record {
+        refusal = refusal;
+        why = Read up p asks meets;
+        failure = failed_at p.fields.triad (words_of p.path);
+        words_is = ap (λ (x : Open). Some (words_of x.path)) same;
+        triad_there = λ none. absurd (cc);
+        bytes_are = e;
+      })
+  open_replied up bytes (OpenEnds p link asks meets e) =
+      let same = same_open up p asks in
+      inr (record {
+        up = up;
+        link = link;
+        asks = subst (AsksOpen config s event up) same asks;
+        meets = subst (λ (x : Open). open_row config s (opener up x.fields.to_id) x ≡ Accepted link) same meets;
+        ends = accepted_ends config s (opener up o.fields.to_id) o link
+            (subst (λ (x : Open). open_row config s (opener up x.fields.to_id) x ≡ Accepted link) same meets);
+        bytes_are = e ∙ ap (λ (x : Open). accepted_bytes x s.hops.next) same;
+      })
