@@ -101,6 +101,15 @@ name_of names m = unwrap_or (slice_get names m) []
 abbrev pub head_text : ℕ → List ℕ → List ℕ → List ℕ
 head_text k name what = decimal k ++ codes " " ++ name ++ codes " " ++ what ++ codes "\n"
 
+-- numbers of entries, each behind a space
+abbrev pub numbers_text : List ℕ → List ℕ
+numbers_text [] = []
+numbers_text (n ∷ more) = codes " " ++ decimal n ++ numbers_text more
+
+-- `trail` and the entries of one
+abbrev pub trail_text : List ℕ → List ℕ
+trail_text entries = codes "trail" ++ numbers_text entries ++ codes "\n"
+
 abbrev pub lost_text : ℕ → FrameName → List ℕ
 lost_text k frame = decimal k ++ codes " lost " ++ frame_text frame ++ codes "\n"
 

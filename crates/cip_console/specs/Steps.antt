@@ -14,7 +14,7 @@ use Rattle.cip_segment.specs.declared.segment.Segment.{Segment}
 use Rattle.cip_segment.specs.declared.fault.PathFault.{PathFault}
 use Rattle.cip_segment.specs.Reading.{path_at}
 use Rattle.cip_console.specs.declared.steps.Step.{Step}
-use Rattle.cip_console.specs.declared.steps.Step.TheVariants.{Feed, Tick, Deliver, Lose, Run, Tables}
+use Rattle.cip_console.specs.declared.steps.Step.TheVariants.{Feed, Tick, Deliver, Lose, Run, Tables, Trail}
 use Rattle.cip_console.specs.declared.steps.Numbered.{Numbered}
 use Rattle.cip_console.specs.declared.steps.ScriptFault.{ScriptFault}
 use Rattle.cip_console.specs.declared.steps.ScriptFault.TheVariants.{UnknownWord, Count, BadNumber, BadBytes, BadPath, NoModule, NotText}
@@ -191,6 +191,13 @@ run_words args = bounded (2 ^ 64) (nth args 0) >>= λ limit. Ok (Run limit)
 abbrev pub tables_words : List (List ℕ) → List (List ℕ) → Result Step ScriptFault
 tables_words names args = module_of names (nth args 0) >>= λ m. Ok (Tables m)
 
+-- `trail M OP`
+abbrev pub trail_words : List (List ℕ) → List (List ℕ) → Result Step ScriptFault
+trail_words names args = do
+  m ← module_of names (nth args 0)
+  op ← bounded (2 ^ 32) (nth args 1)
+  Ok (Trail m op)
+
 -- the words that give a module nothing
 abbrev pub other_step : List (List ℕ) → List ℕ → List (List ℕ) → Result Step ScriptFault
 other_step names word args =
@@ -198,6 +205,7 @@ other_step names word args =
     else if bytes_eq word (codes "lose") then of_words 1 args (lose_words args)
     else if bytes_eq word (codes "run") then of_words 1 args (run_words args)
     else if bytes_eq word (codes "tables") then of_words 1 args (tables_words names args)
+    else if bytes_eq word (codes "trail") then of_words 2 args (trail_words names args)
     else Err UnknownWord
 
 -- the first word says what the others are

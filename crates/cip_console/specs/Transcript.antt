@@ -16,13 +16,14 @@ use Rattle.cip_world.specs.declared.journal.Input.TheVariants as inputs
 use Rattle.cip_world.specs.Journals.{Journal, frame_at, is_named}
 use Rattle.cip_world.specs.Nexts.{next, delivered}
 use Rattle.cip_world.specs.Runs.{state_in}
+use Rattle.cip_world.specs.Trails.{trail_of}
 use Rattle.cip_world.specs.Waiting.{arrives, waiting}
 use Rattle.cip_console.specs.declared.steps.Step.{Step}
 use Rattle.cip_console.specs.declared.steps.Step.TheVariants as steps
 use Rattle.cip_console.specs.declared.steps.Numbered.{Numbered}
 use Rattle.cip_console.specs.declared.steps.ScriptFault.{ScriptFault}
 use Rattle.cip_console.specs.declared.steps.ScriptFault.TheVariants.{NoFrame, ClockFull}
-use Rattle.cip_console.specs.Show.{entry_text, name_of}
+use Rattle.cip_console.specs.Show.{entry_text, name_of, trail_text}
 use Rattle.cip_console.specs.TablesText.{tables_text}
 
 abbrev pub names_of : Plan → List (List ℕ)
@@ -117,6 +118,10 @@ tables_in t j m (Some config) =
 abbrev pub tabled : Plan → Journal → ModuleId → Part
 tabled t j m = record { text = tables_in t j m (slice_get t.modules m.0); after = Ok j }
 
+-- `trail M OP`
+abbrev pub trailed : Journal → ModuleId → ℕ → Part
+trailed j m op = record { text = trail_text (trail_of j m.0 op); after = Ok j }
+
 -- one step of a script
 abbrev pub played : Plan → Journal → Step → Part
 played t j (steps.Feed m command) = given t j m (inputs.Command command)
@@ -125,6 +130,7 @@ played t j (steps.Deliver frame) = brought t j frame
 played t j (steps.Lose frame) = lost t j frame
 played t j (steps.Run limit) = ran t limit j
 played t j (steps.Tables m) = tabled t j m
+played t j (steps.Trail m op) = trailed j m op
 
 abbrev pub played_all : Plan → Journal → List Numbered → Part
 played_all t j [] = record { text = []; after = Ok j }

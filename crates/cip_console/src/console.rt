@@ -79,7 +79,7 @@ fn run_steps<W: Sink>(
     let mut text = Vec::new(alloc);
     while let Some(numbered) = left.pop_front() {
         let line = numbered.line;
-        match play(world, names, numbered.step, writer, &mut text) {
+        match play(alloc, world, names, numbered.step, writer, &mut text) {
             Ok(()) => {}
             Err(PlayFault::Stopped(fault)) => match flush(writer, &mut text, 0) {
                 Ok(()) => return Err(ConsoleFault::Script(line, fault)),

@@ -6,16 +6,18 @@ ghost use Rattle.cip_world.specs.Waiting.{waiting};
 ghost use Rattle.cip_world.specs.Worlds.{Stand};
 ghost use Rattle.cip_console.specs.Known.{AppendsFront};
 ghost use Rattle.cip_console.specs.Playing.{Prints, Plays};
-ghost use Rattle.cip_console.specs.Transcript.{brought, deliveries, end_text, given, lost, newest, ran, played, tabled, names_of};
+ghost use Rattle.cip_console.specs.Transcript.{brought, deliveries, end_text, given, lost, newest, ran, played, tabled, trailed, names_of};
 
 use crate::put::put;
-use crate::show::{name_in, put_entry};
+use crate::show::{name_in, put_entry, put_trail};
 use crate::show_tables::put_tables;
 use crate::source::{Sink, WriteFault, write_text};
 use crate::steps::{ScriptFault, Step};
 use cip_base::{Bytes, ModuleId, Ms, NoMemory};
+use cip_chain::trail;
 use cip_module::Command;
 use cip_world::{End, Entry, FrameName, World, WorldFault};
+use std::alloc::Global;
 
 /// Why a step of a script was not played to its end.
 #[derive(Clone, Copy, Debug, PartialEq, Eq)]
@@ -316,8 +318,35 @@ fn show_tables<W: Sink>(
     }
 }
 
+// `trail M OP`
+fn show_trail<W: Sink>(
+    alloc: Global,
+    world: &World,
+    at: ModuleId,
+    op: u32,
+    writer: &mut W,
+    text: &mut Vec<u8>,
+) -> Result<(), PlayFault>
+    ensures plays { Plays (trailed world.now.ledger.journal at op)
+        (W.contents writer.old) (W.contents writer.new) text.old.items text.new.items
+        world.now.ledger.journal result }
+    ensures write { result ≡ Err PlayFault.Write → W.has_refused writer.new }
+{
+    match trail(alloc, world.journal(), at, op) {
+        Ok(entries) => match put_trail(text, entries.as_slice()) {
+            Ok(()) => match flush(writer, text, FULL) {
+                Ok(()) => Ok(()),
+                Err(WriteFault) => Err(PlayFault::Write),
+            },
+            Err(NoMemory) => Err(PlayFault::NoMemory),
+        },
+        Err(NoMemory) => Err(PlayFault::NoMemory),
+    }
+}
+
 /// One step of a script: its text is gathered, and written once there is enough of it.
 pub(crate) fn play<W: Sink>(
+    alloc: Global,
     world: &mut World,
     names: &[Bytes],
     step: Step,
@@ -344,5 +373,6 @@ pub(crate) fn play<W: Sink>(
         Step::Lose { frame } => lose(world, names, frame, writer, text),
         Step::Run { limit } => run_line(world, names, limit, writer, text),
         Step::Tables { module_ } => show_tables(world, names, module_, writer, text),
+        Step::Trail { module_, op } => show_trail(alloc, world, module_, op, writer, text),
     }
 }

@@ -1,6 +1,6 @@
 //! The lines of a transcript.
 ghost use Rattle.std.specs.Prelude.{◌≡◌, ◌++◌, OnOk, codes, decimal};
-ghost use Rattle.cip_console.specs.Show.{bytes_text, body_text, triad_text, refusal_text, drop_text, output_text, output_line, outputs_text, frame_text, arrived_text, command_text, input_text, name_of, head_text, lost_text, entry_text};
+ghost use Rattle.cip_console.specs.Show.{bytes_text, body_text, triad_text, refusal_text, drop_text, output_text, output_line, outputs_text, frame_text, arrived_text, command_text, input_text, name_of, numbers_text, trail_text, head_text, lost_text, entry_text};
 
 use crate::put::{put, put_bytes, put_number};
 use cip_base::{Address, Bytes, NoMemory, PortNumber, Triad};
@@ -241,4 +241,24 @@ pub(crate) fn put_entry(
         }
         Entry::Lost { frame } => put_lost(text, number, *frame),
     }
+}
+
+// Numbers, each behind a space.
+fn put_numbers(text: &mut Vec<u8>, numbers: &[usize]) -> Result<(), NoMemory>
+    ensures { OnOk result (text.new.items ≡ text.old.items ++ numbers_text numbers.now) }
+{
+    for number in numbers {
+        put(text, b" ")?;
+        put_number(text, *number as u64)?;
+    }
+    Ok(())
+}
+
+/// The entries that the request of an op went through.
+pub(crate) fn put_trail(text: &mut Vec<u8>, entries: &[usize]) -> Result<(), NoMemory>
+    ensures { OnOk result (text.new.items ≡ text.old.items ++ trail_text entries.now) }
+{
+    put(text, b"trail")?;
+    put_numbers(text, entries)?;
+    put(text, b"\n")
 }

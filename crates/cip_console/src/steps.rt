@@ -1,6 +1,6 @@
 //! The steps of a script, or its first faulty line.
 ghost use Rattle.std.specs.Prelude.{◌≡◌, ◌++◌, ◌∷◌, [], length, OnOk};
-ghost use Rattle.cip_console.specs.Steps.{Gives, Reads, of_words, send_words, params_of, open_words, close_words, enter_words, set_words, produce_words, tick_words, deliver_words, lose_words, run_words, tables_words, other_step, step_by, line_step, steps, texts};
+ghost use Rattle.cip_console.specs.Steps.{Gives, Reads, of_words, send_words, params_of, open_words, close_words, enter_words, set_words, produce_words, tick_words, deliver_words, lose_words, run_words, tables_words, trail_words, other_step, step_by, line_step, steps, texts};
 ghost use Rattle.cip_console.specs.declared.steps.StepFault.TheVariants.{NoMemory as NoStepMemory};
 ghost use Rattle.cip_console.specs.declared.steps.StepsFault.TheVariants.{NoMemory as NoStepsMemory};
 
@@ -30,6 +30,8 @@ pub enum Step {
     Run { limit: usize },
     /// The tables of a module are shown.
     Tables { module_: ModuleId },
+    /// The entries that the request of an op went through are shown.
+    Trail { module_: ModuleId, op: u32 },
 }
 
 /// A step, and the line that it stands in, from 1.
@@ -279,6 +281,18 @@ fn tables_step(names: &[Bytes], args: &[&str]) -> Result<Step, StepFault>
     Ok(Step::Tables { module_ })
 }
 
+// `trail M OP`
+fn trail_step(names: &[Bytes], args: &[&str]) -> Result<Step, StepFault>
+    ensures { Gives result (of_words 2 (texts args.now) (trail_words names.now (texts args.now))) }
+{
+    if args.len() != 2 {
+        return Err(StepFault::Fault(ScriptFault::Count));
+    }
+    let module_ = module_of(names, nth(args, 0))?;
+    let op = number_u32(nth(args, 1))?;
+    Ok(Step::Trail { module_, op })
+}
+
 // The words that give a module nothing.
 fn other_step(alloc: Global, names: &[Bytes], word: &str, args: &[&str]) -> Result<Step, StepFault>
     ensures { Gives result (other_step names.now word.now (texts args.now)) }
@@ -291,6 +305,8 @@ fn other_step(alloc: Global, names: &[Bytes], word: &str, args: &[&str]) -> Resu
         run_step(args)
     } else if word == "tables" {
         tables_step(names, args)
+    } else if word == "trail" {
+        trail_step(names, args)
     } else {
         Err(StepFault::Fault(ScriptFault::UnknownWord))
     }
