@@ -103,7 +103,8 @@ tip_below [] m op k h = let none : None ≡ Some k = sym (ap tip (no_trail m op)
 tip_below (e ∷ j) m op k h = by_next (goes_on j m op (tip (trail_of j m op)) e) (sym (ap tip (grows e j m op)) ∙ h) (tip_below j m op k)
   where
     by_next : (b : Bool) → tip (trail_of j m op ++ if_so b (length j)) ≡ Some k → (tip (trail_of j m op) ≡ Some k → k < length j) → k < length (e ∷ j)
-    by_next true t old = let both : Some (length j) ≡ Some k = sym (tip_end (trail_of j m op) (length j)) ∙ t in let same : length j ≡ k = cc in omega (arith, same)
+    by_next true t old =
+        let both : Some (length j) ≡ Some k = sym (tip_end (trail_of j m op) (length j)) ∙ t in let same : length j ≡ k = cc in omega (arith, same)
     by_next false t old = let l = old (ap tip (sym (append-nil (trail_of j m op))) ∙ t) in omega (arith, l)
 
 -- the newest entry goes on

@@ -1,5 +1,5 @@
-//! What the entries of a journal have to do with one another: which command or tick an entry came from, and where
-//! the request of a command went.
+//! What the entries of a journal have to do with one another: which command or tick an entry came
+//! from, and where the request of a command went.
 #![tactic(auto)]
 
 mod roots;

@@ -70,7 +70,17 @@ module _ (t : Chassis) (j : Journal) (run : IsRun t.plan j) (m op : ℕ) where
       let turn : TurnIn (λ before x. Has x.outputs (outputs.Done op bytes)) t.plan j m =
       turn_in (λ before x. Has x.outputs (outputs.Done op bytes)) t.plan j m run (some_past (λ x. Has x.outputs (outputs.Done op bytes)) (part m j) gave) in
       let r = reply_of t j turn.number run turn.step (Local op) bytes turn.has in
-      record { number = r.number; step = r.step; here = r.here ∙ turn.here; asks = r.asks; given = r.given; gives = r.gives; taken = r.taken; replied = r.replied }
+      record {
+        number = r.number;
+        step = r.step;
+        here = r.here
+            ∙ turn.here;
+        asks = r.asks;
+        given = r.given;
+        gives = r.gives;
+        taken = r.taken;
+        replied = r.replied;
+      }
 
   asked : (bytes : List ℕ) (r : ReplyOf t.plan j m (Local op) bytes) → LocalAsked r.step.taken.event op
   asked bytes r = local_asked r.step.taken.event op r.asks
@@ -111,28 +121,33 @@ module _ (t : Chassis) (j : Journal) (run : IsRun t.plan j) (m op : ℕ) where
       trail_falls t.plan j m op k run c.step (opened k path c) (opened_asks k path c) begins.to begins.first
 
   -- the Open is what asked for the Done
-  abbrev again : (k : ℕ) (path bytes : List ℕ) → OpenedIn t.plan j m op k path → (r : ReplyOf t.plan j m (Local op) bytes) → OpenedIn t.plan j m op r.number path
+  abbrev again : (k : ℕ) (path bytes : List ℕ) → OpenedIn t.plan j m op k path → (r : ReplyOf t.plan j m (Local op) bytes)
+      → OpenedIn t.plan j m op r.number path
   again k path bytes c r = record {
     step = r.step;
     here = r.here;
     timing = c.timing;
     params = c.params;
-    event_is = sym (same_event t.plan j k r.number (one_command t.plan j m op k r.number run (opened_command k path c) (asked_in bytes r)) c.step r.step) ∙ c.event_is;
+    event_is =
+        sym (same_event t.plan j k r.number (one_command t.plan j m op k r.number run (opened_command k path c) (asked_in bytes r)) c.step r.step) ∙ c.event_is;
     unrefused = unrefused bytes r;
   }
 
-  outcome : (k : ℕ) (path bytes : List ℕ) → OpenedIn t.plan j m op k path → (reply : Reply) → Gave (part m j) (outputs.Done op bytes) → reply_at bytes ≡ Ok reply
+  outcome : (k : ℕ) (path bytes : List ℕ) → OpenedIn t.plan j m op k path → (reply : Reply) → Gave (part m j) (outputs.Done op bytes)
+      → reply_at bytes ≡ Ok reply
       → Outcome t.plan j m op m path reply
   outcome k path bytes c reply gave read =
       let r = done_by bytes gave in
       let own = again k path bytes c r in
       subst (λ (n : ℕ). Outcome t.plan j m op n path reply) r.here
-      (open_outcome t.plan j run m op r.number r.step bytes r.replied (opened r.number path own) (opened_asks r.number path own) (opened_begins r.number path own).to reply read)
+      (open_outcome t.plan j run m op r.number r.step bytes r.replied (opened r.number path own) (opened_asks r.number path own)
+      (opened_begins r.number path own).to reply read)
 
   no_general : (reply : Reply) → reply.general ≢ 0 → reply.general ≡ 0 → ⊥
   no_general reply other is = other is
 
-  pub fails : (k : ℕ) (path : List ℕ) → OpenedIn t.plan j m op k path → (bytes : List ℕ) (reply : Reply) → Gave (part m j) (outputs.Done op bytes) → reply_at bytes ≡ Ok reply
+  pub fails : (k : ℕ) (path : List ℕ) → OpenedIn t.plan j m op k path → (bytes : List ℕ) (reply : Reply) → Gave (part m j) (outputs.Done op bytes)
+      → reply_at bytes ≡ Ok reply
       → reply.general ≢ 0 → TellsWhere t.plan j (trail_of j m op) reply
   fails k path c bytes reply gave read other = by_outcome (outcome k path bytes c reply gave read)
     where
@@ -155,12 +170,14 @@ module _ (t : Chassis) (j : Journal) (run : IsRun t.plan j) (m op : ℕ) where
       }
       by_outcome (Ended place step o came trail asks accepted general there) = absurd (other general)
 
-  pub succeeds : (k : ℕ) (path : List ℕ) → OpenedIn t.plan j m op k path → (bytes : List ℕ) (reply : Reply) → Gave (part m j) (outputs.Done op bytes) → reply_at bytes ≡ Ok reply
+  pub succeeds : (k : ℕ) (path : List ℕ) → OpenedIn t.plan j m op k path → (bytes : List ℕ) (reply : Reply) → Gave (part m j) (outputs.Done op bytes)
+      → reply_at bytes ≡ Ok reply
       → reply.general ≡ 0 → EndsThere t.plan j (trail_of j m op) m path
   succeeds k path c bytes reply gave read general = by_outcome (outcome k path bytes c reply gave read)
     where
       by_outcome : Outcome t.plan j m op m path reply → EndsThere t.plan j (trail_of j m op) m path
-      by_outcome (Failed place step o trail asks status failure r_is words_is triad_there failed why) = absurd (failed (ap (λ (x : Reply). x.general) (sym r_is) ∙ general))
+      by_outcome (Failed place step o trail asks status failure r_is words_is triad_there failed why) =
+          absurd (failed (ap (λ (x : Reply). x.general) (sym r_is) ∙ general))
       by_outcome (Ended place step o came trail asks accepted was there) = record {
         place = place;
         last = is_last t.plan j m op place step trail
@@ -189,19 +206,23 @@ module _ (t : Chassis) (j : Journal) (run : IsRun t.plan j) (m op : ℕ) where
   }
 
   -- the Send is what asked for the Done
-  abbrev again_sent : (k : ℕ) (path request bytes : List ℕ) → SentIn t.plan j m op k path request → (r : ReplyOf t.plan j m (Local op) bytes) → SentIn t.plan j m op r.number path request
+  abbrev again_sent : (k : ℕ) (path request bytes : List ℕ) → SentIn t.plan j m op k path request → (r : ReplyOf t.plan j m (Local op) bytes)
+      → SentIn t.plan j m op r.number path request
   again_sent k path request bytes c r = record {
     step = r.step;
     here = r.here;
     timing = c.timing;
-    event_is = sym (same_event t.plan j k r.number (one_command t.plan j m op k r.number run (sent_command k path request c) (asked_in bytes r)) c.step r.step) ∙ c.event_is;
+    event_is =
+        sym (same_event t.plan j k r.number (one_command t.plan j m op k r.number run (sent_command k path request c) (asked_in bytes r)) c.step r.step)
+        ∙ c.event_is;
     unrefused = unrefused bytes r;
   }
 
   sent_begins : (k : ℕ) (path request : List ℕ) (c : SentIn t.plan j m op k path request) → BeginsAt t.plan j m op k c.step
   sent_begins k path request c = trail_begins t.plan j m op k run (sent_command k path request c) (eq-eqb op op refl)
 
-  sent_outcome : (k : ℕ) (path request bytes : List ℕ) → SentIn t.plan j m op k path request → Gave (part m j) (outputs.Done op bytes) → SendOutcome t.plan j m op m path request bytes
+  sent_outcome : (k : ℕ) (path request bytes : List ℕ) → SentIn t.plan j m op k path request → Gave (part m j) (outputs.Done op bytes)
+      → SendOutcome t.plan j m op m path request bytes
   sent_outcome k path request bytes c gave =
       let r = done_by bytes gave in
       let own = again_sent k path request bytes c r in
@@ -209,7 +230,8 @@ module _ (t : Chassis) (j : Journal) (run : IsRun t.plan j) (m op : ℕ) where
       (send_outcome t.plan j run m op r.number r.step bytes r.replied (sent c.timing path request)
       (SendSpelled op c.timing path request own.event_is refl) (sent_begins r.number path request own).to)
 
-  pub answers : (k : ℕ) (path request : List ℕ) → SentIn t.plan j m op k path request → (bytes : List ℕ) → Gave (part m j) (outputs.Done op bytes) → slice_index bytes 0 ≢ 0xD2
+  pub answers : (k : ℕ) (path request : List ℕ) → SentIn t.plan j m op k path request → (bytes : List ℕ) → Gave (part m j) (outputs.Done op bytes)
+      → slice_index bytes 0 ≢ 0xD2
       → AnsweredThere t.plan j (trail_of j m op) m path request bytes
   answers k path request c bytes gave other = by_outcome (sent_outcome k path request bytes c gave)
     where

@@ -48,15 +48,18 @@ step_older t x j k older s = record {
 pub one_moment : (k l j : Journal) → IsOlder k j → IsOlder l j → length k ≡ length l → k ≡ l
 one_moment k l [] a b same = a ∙ sym b
 one_moment k l (e ∷ j) (inl a) (inl b) same = a ∙ sym b
-one_moment k l (e ∷ j) (inl a) (inr b) same = let less = older_length l j b in let long = ap (λ (x : Journal). length x) a in absurd (omega (arith, less, long, same))
-one_moment k l (e ∷ j) (inr a) (inl b) same = let less = older_length k j a in let long = ap (λ (x : Journal). length x) b in absurd (omega (arith, less, long, same))
+one_moment k l (e ∷ j) (inl a) (inr b) same =
+    let less = older_length l j b in let long = ap (λ (x : Journal). length x) a in absurd (omega (arith, less, long, same))
+one_moment k l (e ∷ j) (inr a) (inl b) same =
+    let less = older_length k j a in let long = ap (λ (x : Journal). length x) b in absurd (omega (arith, less, long, same))
 one_moment k l (e ∷ j) (inr a) (inr b) same = one_moment k l j a b same
 
 -- of two moments one is older than the other
 pub older_one : (k l j : Journal) → IsOlder k j → IsOlder l j → length k ≤ length l → IsOlder k l
 older_one k l [] a b less = subst (λ (x : Journal). IsOlder k x) (sym b) a
 older_one k l (e ∷ j) a (inl b) less = subst (λ (x : Journal). IsOlder k x) (sym b) a
-older_one k l (e ∷ j) (inl a) (inr b) less = let more = older_length l j b in let long = ap (λ (x : Journal). length x) a in absurd (omega (arith, less, long, more))
+older_one k l (e ∷ j) (inl a) (inr b) less =
+    let more = older_length l j b in let long = ap (λ (x : Journal). length x) a in absurd (omega (arith, less, long, more))
 older_one k l (e ∷ j) (inr a) (inr b) less = older_one k l j a b less
 
 -- ---- the turn of an entry
@@ -68,7 +71,8 @@ pub record TurnIn (P : List Turn → Turn → Type 0) (t : Plan) (j : Journal) (
   pub here : step.at.0 ≡ m
   pub has : P (part m step.before) (turn_of step.taken.event step.outputs)
 
-past_here : (P : List Turn → Turn → Type 0) (t : Plan) (m : ℕ) (n : ModuleId) (input : Input) (outs : List Output) (j : Journal) (s : IsStepAt t j n.0 input outs)
+past_here : (P : List Turn → Turn → Type 0) (t : Plan) (m : ℕ) (n : ModuleId) (input : Input) (outs : List Output) (j : Journal)
+    (s : IsStepAt t j n.0 input outs)
     → Past P (part m (Step n input outs ∷ j)) → ((n.0 ≡ m) × P (part m j) (turn_of s.event outs)) ⊎ Past P (part m j)
 past_here P t m n input outs j s =
     part_step (λ turns. Past P turns → ((n.0 ≡ m) × P (part m j) (turn_of s.event outs)) ⊎ Past P (part m j)) t m n input outs j s
@@ -133,5 +137,6 @@ module _ (t : Plan) (j : Journal) (k : ℕ) (run : IsRun t j) (s : StepIn t j k)
   pub history_with : IsHistory s.taken.config (turn_of s.taken.event s.outputs ∷ part s.at.0 s.before)
   history_with = (history_before, step_here t s.before s.at.0 s.at.0 s.taken.config s.input s.outputs refl s.taken.is_module s.taken)
 
-  pub turned_in : Turned s.taken.config (state_before s) s.taken.event (state_after s.taken.config (turn_of s.taken.event s.outputs ∷ part s.at.0 s.before)) s.outputs
+  pub turned_in : Turned s.taken.config (state_before s) s.taken.event
+      (state_after s.taken.config (turn_of s.taken.event s.outputs ∷ part s.at.0 s.before)) s.outputs
   turned_in = newest s.taken.config (turn_of s.taken.event s.outputs) (part s.at.0 s.before) history_with

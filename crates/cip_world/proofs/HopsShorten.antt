@@ -218,7 +218,9 @@ no_segments (Err fault) f h = refl
 -- one byte is no segment
 one_is_none : (v : ℕ) → segments_of (v ∷ []) ≡ []
 unfolding segments_of path_at segments_within segment_at
-one_is_none v = no_segments (cond (ltb v 32) (port_at v []) (logical_at v [])) _ (or_takes (ltb v 32) [] (port_at v []) (logical_at v []) (port_takes v []) (logical_takes v []))
+one_is_none v =
+    no_segments (cond (ltb v 32) (port_at v []) (logical_at v [])) _
+    (or_takes (ltb v 32) [] (port_at v []) (logical_at v []) (port_takes v []) (logical_takes v []))
 
 none_left : (r : At Segment) → Takes [] r → length (rest_or_none r) ≤ 1
 none_left (Ok x) h = omega (arith, h)
@@ -226,7 +228,9 @@ none_left (Err fault) h = omega arith
 
 one_left : (v : ℕ) → length (behind (v ∷ [])) ≤ 1
 unfolding behind segment_at
-one_left v = none_left (cond (ltb v 32) (port_at v []) (logical_at v [])) (or_takes (ltb v 32) [] (port_at v []) (logical_at v []) (port_takes v []) (logical_takes v []))
+one_left v =
+    none_left (cond (ltb v 32) (port_at v []) (logical_at v []))
+    (or_takes (ltb v 32) [] (port_at v []) (logical_at v []) (port_takes v []) (logical_takes v []))
 
 behind_falls : (b : List ℕ) → length (behind b) ≤ length b
 behind_falls [] = behind_nothing

@@ -122,7 +122,8 @@ given_all config s (e ∷ es) =
 
 -- ---- the first request
 
-first_by : (os : List Output) (k i : ℕ) (o : Output) → weight_in any_request os ≤ 1 → slice_get os i ≡ Some o → is_request_sent o ≡ true → request_from k os ≡ Some (k + i)
+first_by : (os : List Output) (k i : ℕ) (o : Output) → weight_in any_request os ≤ 1 → slice_get os i ≡ Some o → is_request_sent o ≡ true
+    → request_from k os ≡ Some (k + i)
 first_by [] k i o most at is = absurd (cc)
 first_by (x ∷ os) k zero o most at is =
     let same : x ≡ o = cc in
@@ -146,7 +147,8 @@ first_by (x ∷ os) k (suc i) o most at is =
     no_mark false h = refl
 
 -- the first of the requests that a turn sent, of which there is one
-pub first_sent : (config : ModuleSettings) (s new : State) (event : Event) (outs : List Output) (i : ℕ) (o : Output) → Turned config s event new outs → slice_get outs i ≡ Some o
+pub first_sent : (config : ModuleSettings) (s new : State) (event : Event) (outs : List Output) (i : ℕ) (o : Output) → Turned config s event new outs
+    → slice_get outs i ≡ Some o
     → is_request_sent o ≡ true → request_from 0 outs ≡ Some i
 first_sent config s new event outs i o turn at is =
     let most = sends_once config s event turn.effects turn.decided in

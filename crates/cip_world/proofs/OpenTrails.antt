@@ -70,13 +70,15 @@ event_older k j (inputs.Frame port from name) event older h = by_frame (frame_at
 pub event_there : (t : Plan) (j : Journal) (k : ℕ) (s : StepIn t j k) → option_and_then (event_in j) (entry_at j k) ≡ Some s.taken.event
 event_there t j k s =
     ap (option_and_then (event_in j)) (ap (entry_at j) (sym s.number) ∙ number_at (Step s.at s.input s.outputs) s.before j s.is)
-    ∙ event_older s.before j s.input s.taken.event (before_that (Step s.at s.input s.outputs) s.before j s.is) (given_event t s.before s.at.0 s.input s.taken.event s.taken.given)
+    ∙ event_older s.before j s.input s.taken.event (before_that (Step s.at s.input s.outputs) s.before j s.is)
+    (given_event t s.before s.at.0 s.input s.taken.event s.taken.given)
 
 asked_words : (config : ModuleSettings) (event : Event) (o : Open) → AsksThat config event o → open_words event ≡ Some (words_of o.path)
 asked_words config event o (Spelled op timing path params event_is spells) = ap open_words event_is ∙ ap (λ (x : Open). Some (words_of x.path)) (sym spells)
 asked_words config event o (CameSo port n from event_is) = ap open_words event_is ∙ ap request_words (manager_is_read 0x54 (open_data o) (omega arith))
 
-pub words_there : (t : Plan) (j : Journal) (k : ℕ) (s : StepIn t j k) (o : Open) → AsksThat s.taken.config s.taken.event o → words_at j k ≡ Some (words_of o.path)
+pub words_there : (t : Plan) (j : Journal) (k : ℕ) (s : StepIn t j k) (o : Open) → AsksThat s.taken.config s.taken.event o
+    → words_at j k ≡ Some (words_of o.path)
 words_there t j k s o asks = ap (option_and_then open_words) (event_there t j k s) ∙ asked_words s.taken.config s.taken.event o asks
 
 -- ---- where a path leads
@@ -95,7 +97,8 @@ across_node t way there e =
     ] e
 
 -- the walk of a path goes on where its first hop leads
-pub walk_on : (t : Plan) (m port : ℕ) (address path rest : List ℕ) (hop : HopAt) (there : Way) → hop_of path ≡ Some hop → port ≡ hop.port → address ≡ hop.address → rest ≡ hop.rest
+pub walk_on : (t : Plan) (m port : ℕ) (address path rest : List ℕ) (hop : HopAt) (there : Way) → hop_of path ≡ Some hop → port ≡ hop.port
+    → address ≡ hop.address → rest ≡ hop.rest
     → goes t (way_in m port address) ≡ Some there → walk t m path ≡ walk t there.at rest
 walk_on t m port address path rest hop there first port_is address_is rest_is leads =
     walk_goes t m path hop first
@@ -113,7 +116,8 @@ pub record NextOpen (t : Plan) (j : Journal) (a b : ℕ) (s : StepIn t j a) (r :
   pub walks : walk t s.at.0 o.path ≡ walk t r.at.0 next.path
 
 pub next_open : (t : Plan) (j : Journal) (a b n : ℕ) (s : StepIn t j a) (r : StepIn t j b) (o : Open) (sending : Sending) (kind : Kind) (there : Way)
-    → OpenGoes s.taken.config (state_before s) s.taken.event o sending kind → goes t (way_in s.at.0 sending.port sending.address) ≡ Some there → r.at.0 ≡ there.at
+    → OpenGoes s.taken.config (state_before s) s.taken.event o sending kind → goes t (way_in s.at.0 sending.port sending.address) ≡ Some there
+    → r.at.0 ≡ there.at
     → r.taken.event ≡ events.Frame there.port there.address (bodies.Request n sending.bytes) → NextOpen t j a b s r o
 next_open t j a b n s r o sending kind there g leads here event_is = record {
   next = lowered o g.own g.rest;
@@ -133,10 +137,12 @@ success_general x r bytes is read = ap (λ (y : Reply). y.general) (reply_is (do
 
 accepted_general : (o : Open) (id : ℕ) (r : Reply) (bytes : List ℕ) → bytes ≡ accepted_bytes o id → reply_at bytes ≡ Ok r → r.general ≡ 0
 accepted_general o id r bytes is read =
-    success_general (record { ot_id = id; to_id = o.fields.to_id; triad = o.fields.triad; ot_api = o.fields.ot_rpi; to_api = o.fields.to_rpi; reply = [] }) r bytes is read
+    success_general
+    (record { ot_id = id; to_id = o.fields.to_id; triad = o.fields.triad; ot_api = o.fields.ot_rpi; to_api = o.fields.to_rpi; reply = [] }) r bytes is read
 
 -- a success that is passed on stays one
-passed_general : (held : Option Held) (came : List ℕ) (success : OpenSuccess) (bytes : List ℕ) (reply r : Reply) → bytes ≡ succeeded held came success → reply_at came ≡ Ok reply
+passed_general : (held : Option Held) (came : List ℕ) (success : OpenSuccess) (bytes : List ℕ) (reply r : Reply) → bytes ≡ succeeded held came success
+    → reply_at came ≡ Ok reply
     → reply.general ≡ 0 → reply_at bytes ≡ Ok r → r.general ≡ 0
 passed_general None came success bytes reply r is read general read_too =
     ap (λ (y : Reply). y.general) (ok_reply r reply (sym read_too ∙ ap reply_at is ∙ read)) ∙ general
@@ -148,34 +154,43 @@ passed_general (Some x) came success bytes reply r is read general read_too = by
 
 -- the reply to an open whose trail came to entry k
 pub data Outcome (t : Plan) (j : Journal) (m op at : ℕ) (path : List ℕ) (r : Reply) : Type 0 where
-  Failed : (place : ℕ) (step : StepIn t j place) (o : Open) → TrailTo t j m op place step → AsksThat step.taken.config step.taken.event o → (status : Status) (failure : ConnectionFailure)
+  Failed : (place : ℕ) (step : StepIn t j place) (o : Open) → TrailTo t j m op place step → AsksThat step.taken.config step.taken.event o
+      → (status : Status) (failure : ConnectionFailure)
       → r ≡ reply_with 0xD4 status (failure_data failure) → failure.words ≡ Some (words_of o.path) → HasTriadForWords failure → (status.general ≡ 0 → ⊥)
       → FailedAt t j place step status → Outcome t j m op at path r
   Ended : (place : ℕ) (step : StepIn t j place) (o : Open) (bytes : List ℕ) → TrailTo t j m op place step → AsksThat step.taken.config step.taken.event o
-      → OpenAccepted step.taken.config (state_before step) step.taken.event o bytes → r.general ≡ 0 → walk t at path ≡ walk t step.at.0 o.path → Outcome t j m op at path r
+      → OpenAccepted step.taken.config (state_before step) step.taken.event o bytes → r.general ≡ 0 → walk t at path ≡ walk t step.at.0 o.path
+      → Outcome t j m op at path r
 
-further : (t : Plan) (j : Journal) (m op at to : ℕ) (path rest : List ℕ) (r : Reply) → walk t at path ≡ walk t to rest → Outcome t j m op to rest r → Outcome t j m op at path r
+further : (t : Plan) (j : Journal) (m op at to : ℕ) (path rest : List ℕ) (r : Reply) → walk t at path ≡ walk t to rest → Outcome t j m op to rest r
+    → Outcome t j m op at path r
 further t j m op at to path rest r walks (Failed place step o trail asks status failure r_is words_is triad_there fails why) =
     Failed place step o trail asks status failure r_is words_is triad_there fails why
-further t j m op at to path rest r walks (Ended place step o bytes trail asks accepted general there) = Ended place step o bytes trail asks accepted general (walks ∙ there)
+further t j m op at to path rest r walks (Ended place step o bytes trail asks accepted general there) =
+    Ended place step o bytes trail asks accepted general (walks ∙ there)
 
 -- a success in place of a success
-renamed : (t : Plan) (j : Journal) (m op at : ℕ) (path : List ℕ) (reply r : Reply) → reply.general ≡ 0 → r.general ≡ 0 → Outcome t j m op at path reply → Outcome t j m op at path r
+renamed : (t : Plan) (j : Journal) (m op at : ℕ) (path : List ℕ) (reply r : Reply) → reply.general ≡ 0 → r.general ≡ 0 → Outcome t j m op at path reply
+    → Outcome t j m op at path r
 renamed t j m op at path reply r general too (Failed place step o trail asks status failure r_is words_is triad_there fails why) =
     absurd (fails (ap (λ (y : Reply). y.general) (sym r_is) ∙ general))
 renamed t j m op at path reply r general too (Ended place step o bytes trail asks accepted was there) = Ended place step o bytes trail asks accepted too there
 
 module _ (t : Plan) (j : Journal) (run : IsRun t j) (m op : ℕ) where
-  by_row : (k : ℕ) (s : StepIn t j k) (bytes : List ℕ) (o : Open) → AsksThat s.taken.config s.taken.event o → TrailTo t j m op k s → (r : Reply) → reply_at bytes ≡ Ok r
-      → OpenRefused s.taken.config (state_before s) s.taken.event o bytes ⊎ OpenAccepted s.taken.config (state_before s) s.taken.event o bytes → Outcome t j m op s.at.0 o.path r
+  by_row : (k : ℕ) (s : StepIn t j k) (bytes : List ℕ) (o : Open) → AsksThat s.taken.config s.taken.event o → TrailTo t j m op k s → (r : Reply)
+      → reply_at bytes ≡ Ok r
+      → OpenRefused s.taken.config (state_before s) s.taken.event o bytes ⊎ OpenAccepted s.taken.config (state_before s) s.taken.event o bytes
+      → Outcome t j m op s.at.0 o.path r
   by_row k s bytes o asks to r read (inl refused) =
       Failed k s o to asks (open_status refused.refusal) refused.failure
       (reply_is (reply_with 0xD4 (open_status refused.refusal) (failure_data refused.failure)) r bytes (omega arith) refused.bytes_are read)
       refused.words_is refused.triad_there (open_fails refused.refusal) (FailedByRow refused.refusal refused.why refl)
-  by_row k s bytes o asks to r read (inr accepted) = Ended k s o bytes to asks accepted (accepted_general o (state_before s).hops.next r bytes accepted.bytes_are read) refl
+  by_row k s bytes o asks to r read (inr accepted) =
+      Ended k s o bytes to asks accepted (accepted_general o (state_before s).hops.next r bytes accepted.bytes_are read) refl
 
   by_tick : (k : ℕ) (s : StepIn t j k) (n : ℕ) (p : entries.Entry) (put : PutAt s n p) (l : ℕ) (tick : StepIn t j l) → tick.at.0 ≡ s.at.0
-      → PendingTimesOutAs (state_before tick) tick.taken.event n → map.get (state_before tick).pendings.entries n ≡ Some p → k < l → (bytes : List ℕ) → bytes ≡ late_bytes p.kind p.words
+      → PendingTimesOutAs (state_before tick) tick.taken.event n → map.get (state_before tick).pendings.entries n ≡ Some p → k < l → (bytes : List ℕ)
+      → bytes ≡ late_bytes p.kind p.words
       → (o : Open) → AsksThat s.taken.config s.taken.event o → TrailTo t j m op k s → (r : Reply) → reply_at bytes ≡ Ok r
       → OpenGoes s.taken.config (state_before s) s.taken.event o put.sending p.kind → Outcome t j m op s.at.0 o.path r
   by_tick k s n p put l tick here ends waits later bytes bytes_are o asks to r read g =
@@ -188,7 +203,9 @@ module _ (t : Plan) (j : Journal) (run : IsRun t j) (m op : ℕ) where
         number = n;
         waiting = p;
         bytes = put.sending.bytes;
-        sent = subst (λ (x : Output). Has s.outputs x) (λ i. outputs.Send (sym put.port_is i) (sym put.address_is i) (bodies.Request n put.sending.bytes)) put.sent;
+        sent =
+            subst (λ (x : Output). Has s.outputs x)
+            (λ i. outputs.Send (sym put.port_is i) (sym put.address_is i) (bodies.Request n put.sending.bytes)) put.sent;
         place = l;
         tick = tick;
         here = here;
@@ -201,14 +218,19 @@ module _ (t : Plan) (j : Journal) (run : IsRun t j) (m op : ℕ) where
       → OpenGoes s.taken.config (state_before s) s.taken.event o put.sending p.kind
   goes_there k s n p put o asks = open_goes s.taken.config (state_before s) s.taken.event o asks put.sending p.kind put.why
 
-  there : (k : ℕ) (s : StepIn t j k) (n : ℕ) (p : entries.Entry) (put : PutAt s n p) (l : ℕ) (next : StepIn t j l) → Arrives t j k l s next n put.sending → (o : Open)
+  there : (k : ℕ) (s : StepIn t j k) (n : ℕ) (p : entries.Entry) (put : PutAt s n p) (l : ℕ) (next : StepIn t j l) → Arrives t j k l s next n put.sending
+      → (o : Open)
       → AsksThat s.taken.config s.taken.event o → NextOpen t j k l s next o
-  there k s n p put l next arrives o asks = next_open t j k l n s next o put.sending p.kind arrives.there (goes_there k s n p put o asks) arrives.leads arrives.here arrives.event_is
+  there k s n p put l next arrives o asks =
+      next_open t j k l n s next o put.sending p.kind arrives.there (goes_there k s n p put o asks) arrives.leads arrives.here arrives.event_is
 
-  pub open_outcome : (k : ℕ) (s : StepIn t j k) (bytes : List ℕ) → Replied t j k s bytes → (o : Open) → AsksThat s.taken.config s.taken.event o → TrailTo t j m op k s → (r : Reply)
+  pub open_outcome : (k : ℕ) (s : StepIn t j k) (bytes : List ℕ) → Replied t j k s bytes → (o : Open) → AsksThat s.taken.config s.taken.event o
+      → TrailTo t j m op k s → (r : Reply)
       → reply_at bytes ≡ Ok r → Outcome t j m op s.at.0 o.path r
-  open_outcome k s bytes (ByRow _ _ up _ told) o asks to r read = by_row k s bytes o asks to r read (open_replied s.taken.config (state_before s) s.taken.event o asks up bytes told)
-  open_outcome k s bytes (ByTarget _ _ up asked _ told bytes_are) o asks to r read = absurd (no_answer s.taken.config (state_before s) s.taken.event o asks up asked told)
+  open_outcome k s bytes (ByRow _ _ up _ told) o asks to r read =
+      by_row k s bytes o asks to r read (open_replied s.taken.config (state_before s) s.taken.event o asks up bytes told)
+  open_outcome k s bytes (ByTarget _ _ up asked _ told bytes_are) o asks to r read =
+      absurd (no_answer s.taken.config (state_before s) s.taken.event o asks up asked told)
   open_outcome k s bytes (ByTick _ _ n p put l tick here ends waits later _ bytes_are) o asks to r read =
       by_tick k s n p put l tick here ends waits later bytes bytes_are o asks to r read (goes_there k s n p put o asks)
   open_outcome k s bytes (AsItCame _ _ n p put l next arrives _ below) o asks to r read =

@@ -57,13 +57,15 @@ pub data AsksThat (config : ModuleSettings) (event : Event) (o : Open) : Type 0 
 
 -- ---- an open that is accepted names no hop
 
-past_three : (a b c : Bool) (x y z : OpenRefusal) (r : OpenRow) (link : EndLink) → cond a (Refuses x) (cond b (Refuses y) (cond c (Refuses z) r)) ≡ Accepted link → r ≡ Accepted link
+past_three : (a b c : Bool) (x y z : OpenRefusal) (r : OpenRow) (link : EndLink)
+    → cond a (Refuses x) (cond b (Refuses y) (cond c (Refuses z) r)) ≡ Accepted link → r ≡ Accepted link
 past_three true b c x y z r link e = absurd (cc)
 past_three false true c x y z r link e = absurd (cc)
 past_three false false true x y z r link e = absurd (cc)
 past_three false false false x y z r link e = e
 
-not_on : (config : ModuleSettings) (s : State) (up : HopUp) (o : Open) (hop : HopAt) (x : Option LinkRefusal) (link : EndLink) → on_row s up o hop x ≡ Accepted link → ⊥
+not_on : (config : ModuleSettings) (s : State) (up : HopUp) (o : Open) (hop : HopAt) (x : Option LinkRefusal) (link : EndLink)
+    → on_row s up o hop x ≡ Accepted link → ⊥
 not_on config s up o hop (Some fault) link e = cc
 not_on config s up o hop None link e = by_room _ e
   where
@@ -71,19 +73,23 @@ not_on config s up o hop None link e = by_room _ e
     by_room true e = cc
     by_room false e = cc
 
-ends_row : (config : ModuleSettings) (s : State) (up : HopUp) (o : Open) (x : Option HopAt) (link : EndLink) → hop_row config s up o x ≡ Accepted link → x ≡ None
+ends_row : (config : ModuleSettings) (s : State) (up : HopUp) (o : Open) (x : Option HopAt) (link : EndLink) → hop_row config s up o x ≡ Accepted link
+    → x ≡ None
 ends_row config s up o None link e = refl
 ends_row config s up o (Some hop) link e = absurd (not_on config s up o hop (link_refusal config s.pendings o.fields.timing hop.port hop.address) link e)
 
-ends_key : (config : ModuleSettings) (s : State) (up : HopUp) (o : Open) (x : Option KeyPart) (link : EndLink) → key_row config s up o x ≡ Accepted link → hop_of o.path ≡ None
+ends_key : (config : ModuleSettings) (s : State) (up : HopUp) (o : Open) (x : Option KeyPart) (link : EndLink) → key_row config s up o x ≡ Accepted link
+    → hop_of o.path ≡ None
 ends_key config s up o (Some part) link e = absurd (cc)
 ends_key config s up o None link e = ends_row config s up o (hop_of o.path) link e
 
-pub accepted_ends : (config : ModuleSettings) (s : State) (up : HopUp) (o : Open) (link : EndLink) → open_row config s up o ≡ Accepted link → hop_of o.path ≡ None
+pub accepted_ends : (config : ModuleSettings) (s : State) (up : HopUp) (o : Open) (link : EndLink) → open_row config s up o ≡ Accepted link
+    → hop_of o.path ≡ None
 unfolding open_row
 accepted_ends config s up o link e =
     ends_key config s up o (leading_mismatch config (segments_of o.path)) link
-    (past_three (not (is_supported o)) (eqb o.fields.ot_rpi 0 || eqb o.fields.to_rpi 0) (is_some (map.get s.hops.held o.fields.triad)) ConnectionTypeNotSupported RpiOfZero TriadInUse
+    (past_three (not (is_supported o)) (eqb o.fields.ot_rpi 0 || eqb o.fields.to_rpi 0) (is_some
+    (map.get s.hops.held o.fields.triad)) ConnectionTypeNotSupported RpiOfZero TriadInUse
     (key_row config s up o (leading_mismatch config (segments_of o.path))) link e)
 
 -- ---- what is read of an open that cannot be read
@@ -95,7 +101,8 @@ unread_is : (o : Open) (fault : DataFault) → unread_open_bytes (open_data o) f
     ≡ open_failure_bytes (open_status (unread_row (open_data o) fault)) (record { triad = open_triad_of (open_data o); words = Some (words_of o.path) })
 unread_is o fault =
     ap (λ b. cond b (open_failure_bytes (open_status (unread_row (open_data o) fault)) (record { triad = None; words = None }))
-    (open_failure_bytes (open_status (unread_row (open_data o) fault)) (record { triad = open_triad_of (open_data o); words = open_words_of (open_data o) }))) (long_enough o)
+    (open_failure_bytes (open_status (unread_row (open_data o) fault)) (record { triad = open_triad_of (open_data o); words = open_words_of (open_data o) })))
+    (long_enough o)
 
 has_triad : (o : Open) → HasTriadForWords (record { triad = open_triad_of (open_data o); words = Some (words_of o.path) })
 has_triad o none =
@@ -141,7 +148,8 @@ pub record OpenGoes (config : ModuleSettings) (s : State) (event : Event) (o : O
   pub meets : open_row config s (opener up o.fields.to_id) o ≡ Forwarded sending.port sending.address rest
   pub asks : AsksOpen config s event up o
 
-frame_is : (p q : ℕ) (a b : List ℕ) (k n : ℕ) (c d : List ℕ) → events.Frame p a (bodies.Request k c) ≡ events.Frame q b (bodies.Request n d) → (p ≡ q) × (a ≡ b) × (k ≡ n) × (c ≡ d)
+frame_is : (p q : ℕ) (a b : List ℕ) (k n : ℕ) (c d : List ℕ) → events.Frame p a (bodies.Request k c) ≡ events.Frame q b (bodies.Request n d)
+    → (p ≡ q) × (a ≡ b) × (k ≡ n) × (c ≡ d)
 frame_is p q a b k n c d e = (cc, cc, cc, cc)
 
 module _ (config : ModuleSettings) (s : State) (event : Event) (o : Open) (is : AsksThat config event o) where
@@ -151,13 +159,15 @@ module _ (config : ModuleSettings) (s : State) (event : Event) (o : Open) (is : 
     where
       by_form : AsksThat config event o → (row ≡ request.UnknownPortOrTooLong) ⊎ (row ≡ request.ForwardOpen (open_data o))
       by_form (Spelled op timing path params event_is spells) =
-          let no : events.Command (commands.Open op timing path params) ≡ events.Frame came.port came.from (bodies.Request came.number came.bytes) = sym event_is ∙ came.event_is in absurd (cc)
+          let no : events.Command (commands.Open op timing path params) ≡ events.Frame came.port came.from (bodies.Request came.number came.bytes) =
+          sym event_is ∙ came.event_is in absurd (cc)
       by_form (CameSo port n from event_is) =
           let parts = frame_is came.port port came.from from came.number n came.bytes (open_bytes o) (sym came.event_is ∙ event_is) in
           let row_is : request_row config came.port (open_bytes o) ≡ row = ap (request_row config came.port) (sym parts.3) ∙ came.meets in
           elim (open_row_is config came.port o) [ inl dropped ↦ inl (sym row_is ∙ dropped) | inr met ↦ inr (sym row_is ∙ met) ]
 
-  not_came : (up : UpSide) (row : RequestRow) → (row ≡ request.UnknownPortOrTooLong → ⊥) → (row ≡ request.ForwardOpen (open_data o) → ⊥) → Came config event up row → ⊥
+  not_came : (up : UpSide) (row : RequestRow) → (row ≡ request.UnknownPortOrTooLong → ⊥) → (row ≡ request.ForwardOpen (open_data o) → ⊥)
+      → Came config event up row → ⊥
   not_came up row a b came = elim (came_row up row came) [ inl dropped ↦ a dropped | inr met ↦ b met ]
 
   no_send : (up : UpSide) (u : Unconnected) → AsksSend config s event up u → ⊥
@@ -166,9 +176,11 @@ module _ (config : ModuleSettings) (s : State) (event : Event) (o : Open) (is : 
     where
       by_form : AsksThat config event o → ⊥
       by_form (Spelled op timing path params event_is spells) =
-          let no : events.Command (commands.Open op timing path params) ≡ events.Command (commands.Send h.op h.timing h.path h.asked) = sym event_is ∙ h.event_is in cc
+          let no : events.Command (commands.Open op timing path params) ≡ events.Command (commands.Send h.op h.timing h.path h.asked) =
+          sym event_is ∙ h.event_is in cc
       by_form (CameSo port n from event_is) =
-          let no : events.Frame port from (bodies.Request n (open_bytes o)) ≡ events.Command (commands.Send h.op h.timing h.path h.asked) = sym event_is ∙ h.event_is in cc
+          let no : events.Frame port from (bodies.Request n (open_bytes o)) ≡ events.Command (commands.Send h.op h.timing h.path h.asked) =
+          sym event_is ∙ h.event_is in cc
 
   no_close : (up sender : UpSide) (c : Close) → AsksClose config s event up sender c → ⊥
   no_close up sender c (inl h) = not_came up (request.ForwardClose h.asked) (λ e. cc) (λ e. cc) h.came
@@ -178,7 +190,8 @@ module _ (config : ModuleSettings) (s : State) (event : Event) (o : Open) (is : 
       by_form (Spelled op timing path params event_is spells) =
           let no : events.Command (commands.Open op timing path params) ≡ events.Command (commands.Close h.op h.of h.timing) = sym event_is ∙ h.event_is in cc
       by_form (CameSo port n from event_is) =
-          let no : events.Frame port from (bodies.Request n (open_bytes o)) ≡ events.Command (commands.Close h.op h.of h.timing) = sym event_is ∙ h.event_is in cc
+          let no : events.Frame port from (bodies.Request n (open_bytes o)) ≡ events.Command (commands.Close h.op h.of h.timing) =
+          sym event_is ∙ h.event_is in cc
 
   asked_data : (up : UpSide) (asked : List ℕ) → Came config event up (request.ForwardOpen asked) → asked ≡ open_data o
   asked_data up asked came = elim (came_row up (request.ForwardOpen asked) came) [ inl dropped ↦ absurd (cc) | inr met ↦ cc ]
@@ -190,13 +203,15 @@ module _ (config : ModuleSettings) (s : State) (event : Event) (o : Open) (is : 
     where
       by_form : AsksThat config event o → p ≡ o
       by_form (Spelled op timing path params event_is spells) =
-          let both : events.Command (commands.Open h.op h.timing h.path h.params) ≡ events.Command (commands.Open op timing path params) = sym h.event_is ∙ event_is in
+          let both : events.Command (commands.Open h.op h.timing h.path h.params) ≡ events.Command (commands.Open op timing path params) =
+          sym h.event_is ∙ event_is in
           let timings : h.timing ≡ timing = cc in
           let paths : h.path ≡ path = cc in
           let all : h.params ≡ params = cc in
           h.spells ∙ (λ i. open_of config.identity (timings i) (paths i) (all i)) ∙ sym spells
       by_form (CameSo port n from event_is) =
-          let no : events.Frame port from (bodies.Request n (open_bytes o)) ≡ events.Command (commands.Open h.op h.timing h.path h.params) = sym event_is ∙ h.event_is in absurd (cc)
+          let no : events.Frame port from (bodies.Request n (open_bytes o)) ≡ events.Command (commands.Open h.op h.timing h.path h.params) =
+          sym event_is ∙ h.event_is in absurd (cc)
 
   -- ---- what it did
 
@@ -226,7 +241,8 @@ module _ (config : ModuleSettings) (s : State) (event : Event) (o : Open) (is : 
   no_answer up asked (Itself came) = not_came up (request.Target asked) (λ e. cc) (λ e. cc) came
   no_answer up asked (Embedded u asks whole read) = no_send up u asks
 
-  pub open_replied : (up : UpSide) (bytes : List ℕ) → RepliesAs config s event up bytes → OpenRefused config s event o bytes ⊎ OpenAccepted config s event o bytes
+  pub open_replied : (up : UpSide) (bytes : List ℕ) → RepliesAs config s event up bytes
+      → OpenRefused config s event o bytes ⊎ OpenAccepted config s event o bytes
   open_replied up bytes (RequestFails service refusal came e) = absurd (not_came up (request.Refuses service refusal) (λ e. cc) (λ e. cc) came)
   open_replied up bytes (SendUnread asked fault came read e) = absurd (not_came up (request.UnconnectedSend asked) (λ e. cc) (λ e. cc) came)
   open_replied up bytes (SendFails u refusal asks meets e) = absurd (no_send up u asks)
@@ -242,7 +258,11 @@ module _ (config : ModuleSettings) (s : State) (event : Event) (o : Open) (is : 
         words_is = refl;
         triad_there = has_triad o;
         bytes_are = e ∙ ap (λ (d : List ℕ). unread_open_bytes d fault) same ∙ unread_is o fault
-            ∙ ap (λ (d : List ℕ). open_failure_bytes (open_status (unread_row d fault)) (record { triad = open_triad_of (open_data o); words = Some (words_of o.path) })) (sym same);
+            ∙ ap (λ (d : List ℕ). open_failure_bytes (open_status (unread_row d fault)) (record {
+              triad = open_triad_of (open_data o);
+              words = Some
+                  (words_of o.path);
+            })) (sym same);
       })
   open_replied up bytes (OpenFails p refusal asks meets e) =
       let same = same_open up p asks in

@@ -55,10 +55,12 @@ use Rattle.cip_world.proofs.Parts.{turn_of, part_here, part_step, step_here, sam
 -- a command of an op is refused, or uses the op, which was unused, before anything else
 pub data Uses (config : ModuleSettings) (s : State) (op : ℕ) (es : List Effect) : Type 0 where
   IsRefused : (fault : Refused) → es ≡ RefusesCommand fault ∷ [] → Uses config s op es
-  IsTaken : (rest : List Effect) → is_spent op s.ops ≡ false → es ≡ Spends op ∷ rest → list_any is_refusal (outputs_of config s es) ≡ false → Uses config s op es
+  IsTaken : (rest : List Effect) → is_spent op s.ops ≡ false → es ≡ Spends op ∷ rest → list_any is_refusal (outputs_of config s es) ≡ false
+      → Uses config s op es
 
 module _ (config : ModuleSettings) (s : State) (op : ℕ) where
-  uses_by : (row : CommandRow) (rest : List Effect) → (row ≡ command.Taken → is_spent op s.ops ≡ false) → list_any is_refusal (outputs_of config s (Spends op ∷ rest)) ≡ false
+  uses_by : (row : CommandRow) (rest : List Effect) → (row ≡ command.Taken → is_spent op s.ops ≡ false)
+      → list_any is_refusal (outputs_of config s (Spends op ∷ rest)) ≡ false
       → Uses config s op (refused_effects row (Spends op ∷ rest))
   uses_by command.OpUsed rest unused none = IsRefused _ refl
   uses_by command.NotOpen rest unused none = IsRefused _ refl
@@ -112,11 +114,13 @@ module _ (config : ModuleSettings) (s : State) (op : ℕ) where
   nothing_open command.Taken h = absurd (h refl)
 
   uses_close : (of : ℕ) (timing : Timing) (x : Option Hop)
-      → Uses config s op (refused_effects (cond (is_spent op s.ops) command.OpUsed (cond (not (is_some x)) command.NotOpen command.Taken)) (closed_effects s op of timing x))
+      → Uses config s op
+      (refused_effects (cond (is_spent op s.ops) command.OpUsed (cond (not (is_some x)) command.NotOpen command.Taken)) (closed_effects s op of timing x))
   uses_close of timing None = nothing_open (cond (is_spent op s.ops) command.OpUsed command.NotOpen)
       (λ e. let no = (close_unused (is_spent op s.ops) true e).1 in cc)
   uses_close of timing (Some hop) =
-      uses_by (cond (is_spent op s.ops) command.OpUsed command.Taken) (close_effects (Local op) (close_of timing hop) (close_row s (Local of) (close_of timing hop)))
+      uses_by (cond (is_spent op s.ops) command.OpUsed command.Taken)
+      (close_effects (Local op) (close_of timing hop) (close_row s (Local of) (close_of timing hop)))
       (taken_open (is_spent op s.ops)) (close_none (close_of timing hop) (close_row s (Local of) (close_of timing hop)))
 
   local_is : (o : ℕ) → Some (Local o) ≡ Some (Local op) → o ≡ op
@@ -158,7 +162,8 @@ module _ (op : ℕ) where
       → is_spent op new.ops ≡ true
   stays_turn config s new event outs turn h = ap (λ (x : State). is_spent op x.ops) (sym turn.state) ∙ stays_all config s turn.effects h
 
-  stays_newest : (t : Plan) (m : ℕ) (config : ModuleSettings) (e : Entry) (j : Journal) → IsRun t (e ∷ j) → IsModule t m config → is_spent op (state_in config m j).ops ≡ true
+  stays_newest : (t : Plan) (m : ℕ) (config : ModuleSettings) (e : Entry) (j : Journal) → IsRun t (e ∷ j) → IsModule t m config
+      → is_spent op (state_in config m j).ops ≡ true
       → is_spent op (state_in config m (e ∷ j)).ops ≡ true
   stays_newest t m config (Step n input outs) j run is h =
       part_step (λ turns. is_spent op (state_after config turns).ops ≡ true) t m n input outs j run.1
@@ -188,7 +193,8 @@ pub record CommandIn (t : Plan) (j : Journal) (m op k : ℕ) : Type 0 where
   pub asks : command_asker command ≡ Some (Local op)
   pub unrefused : list_any is_refusal step.outputs ≡ false
 
-input_is : (t : Plan) (j : Journal) (m : ℕ) (input : Input) (event : Event) (c : Command) → IsGiven t j m input event → event ≡ events.Command c → input ≡ inputs.Command c
+input_is : (t : Plan) (j : Journal) (m : ℕ) (input : Input) (event : Event) (c : Command) → IsGiven t j m input event → event ≡ events.Command c
+    → input ≡ inputs.Command c
 input_is t j m (inputs.Command x) event c given e = let both : events.Command x ≡ events.Command c = sym given ∙ e in cc
 input_is t j m (inputs.Tick ms) event c given e = let both : events.Tick ms ≡ events.Command c = sym given ∙ e in absurd (cc)
 input_is t j m (inputs.Frame port from name) event c given e =
@@ -252,7 +258,8 @@ module _ (t : Plan) (j : Journal) (m op k : ℕ) (run : IsRun t j) (c : CommandI
 
   used_by : Uses own (state_before c.step) op now.effects → (is_spent op (state_before c.step).ops ≡ false) × (is_spent op after.ops ≡ true)
   used_by (IsRefused fault is) =
-      let outs : outputs_of own (state_before c.step) (RefusesCommand fault ∷ []) ≡ c.step.outputs = ap (outputs_of own (state_before c.step)) (sym is) ∙ now.out in
+      let outs : outputs_of own (state_before c.step) (RefusesCommand fault ∷ []) ≡ c.step.outputs =
+      ap (outputs_of own (state_before c.step)) (sym is) ∙ now.out in
       let yes_ : true ≡ list_any is_refusal c.step.outputs = ap (list_any is_refusal) outs in
       let no_ = c.unrefused in absurd (cc)
   used_by (IsTaken rest unused is none) = (
@@ -280,7 +287,8 @@ not_before t j m op k l run c d less =
     subst (λ (turns : List Turn). is_spent op (state_after c.step.taken.config turns).ops ≡ true)
     (sym (part_here t c.step.at.0 c.step.at c.step.input c.step.outputs c.step.before c.step.taken refl)) (used t j m op k run c).1 in
     let later : is_spent op (state_in c.step.taken.config c.step.at.0 d.step.before).ops ≡ true =
-    stays_older op t c.step.at.0 c.step.taken.config (Step c.step.at c.step.input c.step.outputs ∷ c.step.before) d.step.before run_then c.step.taken.is_module older there in
+    stays_older op t c.step.at.0 c.step.taken.config
+    (Step c.step.at c.step.input c.step.outputs ∷ c.step.before) d.step.before run_then c.step.taken.is_module older there in
     let moved : is_spent op (state_in d.step.taken.config d.step.at.0 d.step.before).ops ≡ true =
     subst (λ (x : ModuleSettings). is_spent op (state_in x d.step.at.0 d.step.before).ops ≡ true) (sym same)
     (subst (λ (i : ℕ). is_spent op (state_in c.step.taken.config i d.step.before).ops ≡ true) (c.here ∙ sym d.here) later) in
@@ -313,6 +321,7 @@ unrefused_in t j op k run s c event_is asks x has other =
 
     by_use : Uses s.taken.config (state_before s) op turn.effects → list_any is_refusal s.outputs ≡ false
     by_use (IsRefused fault is) =
-        let outs : outputs_of s.taken.config (state_before s) (RefusesCommand fault ∷ []) ≡ s.outputs = ap (outputs_of s.taken.config (state_before s)) (sym is) ∙ turn.out in
+        let outs : outputs_of s.taken.config (state_before s) (RefusesCommand fault ∷ []) ≡ s.outputs =
+        ap (outputs_of s.taken.config (state_before s)) (sym is) ∙ turn.out in
         absurd (only fault (subst (λ (os : List Output). Has os x) (sym outs) has))
     by_use (IsTaken rest unused is none) = ap (list_any is_refusal) (sym turn.out) ∙ none

@@ -37,7 +37,8 @@ pub record PutIn (config : ModuleSettings) (n : ℕ) (p : Entry) (before : List 
   pub address_is : p.address ≡ sending.address
   pub words_is : p.words ≡ sending.words
 
-pub sent_asker : (config : ModuleSettings) (s : State) (event : Event) (sending : Sending) (kind : Kind) → SentFor config s event sending kind → asker event ≡ Some sending.up
+pub sent_asker : (config : ModuleSettings) (s : State) (event : Event) (sending : Sending) (kind : Kind) → SentFor config s event sending kind
+    → asker event ≡ Some sending.up
 sent_asker config s event sending kind (Forwarded h) = forwards_asker config s event sending kind h
 sent_asker config s event sending kind (Begun o is h) = begins_asker config s event sending o h
 
@@ -53,7 +54,8 @@ record PutSent (config : ModuleSettings) (s0 : State) (event : Event) (s : State
   address_is : p.address ≡ sending.address
   words_is : p.words ≡ sending.words
 
-put_sent : (config : ModuleSettings) (s0 s : State) (event : Event) (e : Effect) (p : Entry) → Tells config s0 event e → puts s e ≡ Some p → PutSent config s0 event s e p
+put_sent : (config : ModuleSettings) (s0 s : State) (event : Event) (e : Effect) (p : Entry) → Tells config s0 event e → puts s e ≡ Some p
+    → PutSent config s0 event s e p
 put_sent config s0 s event (Forwards sending kind) p tells h =
     let same : entry_for s sending kind ≡ p = cc in
     subst (PutSent config s0 event s (Forwards sending kind)) same
@@ -87,7 +89,8 @@ module _ (config : ModuleSettings) (turns : List Turn) (event : Event) where
     words_is = h.words_is;
   })
 
-  put_each : (s : State) (outs : List Output) (e : Effect) → Tells config (state_after config turns) event e → Put s outs → Put (apply config s e) (outs ++ output_of config s e)
+  put_each : (s : State) (outs : List Output) (e : Effect) → Tells config (state_after config turns) event e → Put s outs
+      → Put (apply config s e) (outs ++ output_of config s e)
   put_each s outs e tells h n p at =
       elim (pending_cases config s e n p at) [
         | inl old ↦ more n p outs (output_of config s e) (h n p old)
@@ -109,7 +112,8 @@ module _ (config : ModuleSettings) (turns : List Turn) (event : Event) where
 
 -- ---- a history
 
-pub put_in : (config : ModuleSettings) (turns : List Turn) → IsHistory config turns → (n : ℕ) (p : Entry) → map.get (state_after config turns).pendings.entries n ≡ Some p
+pub put_in : (config : ModuleSettings) (turns : List Turn) → IsHistory config turns → (n : ℕ) (p : Entry)
+    → map.get (state_after config turns).pendings.entries n ≡ Some p
     → Past (PutIn config n p) turns
 put_in config [] h n p at = let none : None ≡ Some p = sym (map.get-empty {X = Entry} nat_cmp n) ∙ at in absurd (cc)
 put_in config (turn ∷ turns) h n p at =

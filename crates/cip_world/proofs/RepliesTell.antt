@@ -50,7 +50,8 @@ has_first [] o h = h
 has_first (x ∷ xs) o (inl e) = inl e
 has_first (x ∷ xs) o (inr h) = inr (has_first xs o h)
 
-row_late : (config : ModuleSettings) (s : State) (n : ℕ) (bytes : List ℕ) (row : ReplyRow) → Has (outputs_of config s (reply_effects n bytes row)) (outputs.Dropped dropped.Late)
+row_late : (config : ModuleSettings) (s : State) (n : ℕ) (bytes : List ℕ) (row : ReplyRow)
+    → Has (outputs_of config s (reply_effects n bytes row)) (outputs.Dropped dropped.Late)
     → applied config s (reply_effects n bytes row) ≡ s
 row_late config s n bytes reply.UnknownPortOrTooLong h = refl
 row_late config s n bytes reply.Late h = refl
@@ -62,7 +63,8 @@ row_late config s n bytes reply.PassedUp h =
     absurd (not_dropped (map.get s.pendings.entries n) bytes (has_first (replied (map.get s.pendings.entries n) bytes) (outputs.Dropped dropped.Late) h))
 
 step_late : (config : ModuleSettings) (s new : State) (port n : ℕ) (from bytes : List ℕ) (outs : List Output)
-    → table_step config s (events.Frame port from (bodies.Reply n bytes)) ≡ Some (record { state = new; outputs = outs }) → Has outs (outputs.Dropped dropped.Late) → new ≡ s
+    → table_step config s (events.Frame port from (bodies.Reply n bytes)) ≡ Some (record { state = new; outputs = outs })
+    → Has outs (outputs.Dropped dropped.Late) → new ≡ s
 step_late config s new port n from bytes outs e h =
     let es = reply_effects n bytes (reply_row config s port from n bytes) in
     let same = some_same (record { state = applied config s es; outputs = outputs_of config s es }) (record { state = new; outputs = outs }) e in
@@ -72,7 +74,8 @@ step_late config s new port n from bytes outs e h =
 
 -- ---- each entry
 
-given_arrival : (t : Plan) (j : Journal) (m : ℕ) (input : Input) (event : Event) (f : FrameName) (port : ℕ) (from : List ℕ) → IsGiven t j m input event → input ≡ inputs.Frame port from f
+given_arrival : (t : Plan) (j : Journal) (m : ℕ) (input : Input) (event : Event) (f : FrameName) (port : ℕ) (from : List ℕ) → IsGiven t j m input event
+    → input ≡ inputs.Frame port from f
     → IsArrival t j f m port from event
 given_arrival t j m input event f port from given is = subst (λ (i : Input). IsGiven t j m i event) is given
 

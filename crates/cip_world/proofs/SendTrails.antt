@@ -49,7 +49,8 @@ pub none_sent : (t : Plan) (j : Journal) (k : ℕ) → IsRun t j → (s : StepIn
 none_sent t j k run s none =
     none_first s.outputs 0 (λ o h is.
     let out : RequestOut o = request_out o is in
-    let was : WasSent t j k s out.port out.to out.bytes = was_sent t j k run s out.port out.n out.to out.bytes (subst (λ (x : Output). Has s.outputs x) out.is h) in
+    let was : WasSent t j k s out.port out.to out.bytes =
+    was_sent t j k run s out.port out.n out.to out.bytes (subst (λ (x : Output). Has s.outputs x) out.is h) in
     none was.sending was.kind was.why)
 
 -- the reply to an Unconnected_Send whose trail came to an entry: it failed, or its target answered
@@ -59,10 +60,12 @@ pub data SendOutcome (t : Plan) (j : Journal) (m op at : ℕ) (route asked bytes
       → walk t at route ≡ Some (record { at = step.at.0; path = [] }) → bytes ≡ answer_bytes (objects_of step.taken.config (state_before step)) r
       → SendOutcome t j m op at route asked bytes
 
-further : (t : Plan) (j : Journal) (m op at to : ℕ) (route rest asked bytes : List ℕ) → walk t at route ≡ walk t to rest → SendOutcome t j m op to rest asked bytes
+further : (t : Plan) (j : Journal) (m op at to : ℕ) (route rest asked bytes : List ℕ) → walk t at route ≡ walk t to rest
+    → SendOutcome t j m op to rest asked bytes
     → SendOutcome t j m op at route asked bytes
 further t j m op at to route rest asked bytes walks (Failed e) = Failed e
-further t j m op at to route rest asked bytes walks (Answered place step r trail none read there answer) = Answered place step r trail none read (walks ∙ there) answer
+further t j m op at to route rest asked bytes walks (Answered place step r trail none read there answer) =
+    Answered place step r trail none read (walks ∙ there) answer
 
 module _ (t : Plan) (j : Journal) (run : IsRun t j) (m op : ℕ) where
   -- what the embedded request is answered where it came by itself
@@ -88,11 +91,21 @@ module _ (t : Plan) (j : Journal) (run : IsRun t j) (m op : ℕ) where
   no_length [] e = refl
   no_length (x ∷ b) e = absurd (omega (arith, e))
 
+  -- the walk of the route goes on with it
+  goes_by : (k : ℕ) (s : StepIn t j k) (u : Unconnected) (n : ℕ) (sending : Sending) (kind : Kind) (l : ℕ) (next : StepIn t j l) → Arrives t j k l s next n sending
+      → (g : SendGoes s.taken.config (state_before s) s.taken.event u sending kind) → walk t s.at.0 u.route ≡ walk t next.at.0 g.rest
+  goes_by k s u n sending kind l next arrives g =
+      let leads = g.leads in
+      walk_on t s.at.0 sending.port sending.address u.route g.rest leads.hop arrives.there leads.first leads.port_is leads.address_is leads.rest_is arrives.leads
+      ∙ ap (λ (x : ℕ). walk t x g.rest) (sym arrives.here)
+
   -- what goes on is the embedded request where no route is left, else an Unconnected_Send
-  by_rest : (k : ℕ) (s : StepIn t j k) (bytes : List ℕ) (u : Unconnected) (n : ℕ) (sending : Sending) (kind : Kind) (l : ℕ) (next : StepIn t j l) → Arrives t j k l s next n sending
+  by_rest : (k : ℕ) (s : StepIn t j k) (bytes : List ℕ) (u : Unconnected) (n : ℕ) (sending : Sending) (kind : Kind) (l : ℕ) (next : StepIn t j l)
+      → Arrives t j k l s next n sending
       → Replied t j l next bytes → TrailTo t j m op l next → (g : SendGoes s.taken.config (state_before s) s.taken.event u sending kind)
       → ((v : Unconnected) → AsksSendThat next.taken.event v → SendOutcome t j m op next.at.0 v.route v.request bytes)
-      → (b : Bool) → eqb (length g.rest) 0 ≡ b → sending.bytes ≡ cond b u.request (unconnected_bytes (lowered u g.rest)) → SendOutcome t j m op s.at.0 u.route u.request bytes
+      → (b : Bool) → eqb (length g.rest) 0 ≡ b → sending.bytes ≡ cond b u.request (unconnected_bytes (lowered u g.rest))
+      → SendOutcome t j m op s.at.0 u.route u.request bytes
   by_rest k s bytes u n sending kind l next arrives below to g ih true none sends =
       let is : AsksItself next.taken.event u.request g.embedded = record {
         port = arrives.there.port;
@@ -106,18 +119,17 @@ module _ (t : Plan) (j : Journal) (run : IsRun t j) (m op : ℕ) where
       Answered l next g.embedded to
       (none_sent t j l run next (λ more kind why. itself_stays next.taken.config (state_before next) next.taken.event u.request g.embedded is more kind why))
       g.read
-      (walk_on t s.at.0 sending.port sending.address u.route g.rest g.leads.hop arrives.there g.leads.first g.leads.port_is g.leads.address_is g.leads.rest_is arrives.leads
-      ∙ ap (λ (x : ℕ). walk t x g.rest) (sym arrives.here) ∙ ap (walk t next.at.0) empty ∙ walk_ends t next.at.0 [] no_hop)
+      (goes_by k s u n sending kind l next arrives g ∙ ap (walk t next.at.0) empty ∙ walk_ends t next.at.0 [] no_hop)
       (itself_outcome l next bytes u.request g.embedded below is)
   by_rest k s bytes u n sending kind l next arrives below to g ih false some sends =
       further t j m op s.at.0 next.at.0 u.route g.rest u.request bytes
-      (walk_on t s.at.0 sending.port sending.address u.route g.rest g.leads.hop arrives.there g.leads.first g.leads.port_is g.leads.address_is g.leads.rest_is arrives.leads
-      ∙ ap (λ (x : ℕ). walk t x g.rest) (sym arrives.here))
+      (goes_by k s u n sending kind l next arrives g)
       (ih (lowered u g.rest)
       (CameSo arrives.there.port n arrives.there.address
       (arrives.event_is ∙ ap (λ (x : List ℕ). events.Frame arrives.there.port arrives.there.address (bodies.Request n x)) sends)))
 
-  pub send_outcome : (k : ℕ) (s : StepIn t j k) (bytes : List ℕ) → Replied t j k s bytes → (u : Unconnected) → AsksSendThat s.taken.event u → TrailTo t j m op k s
+  pub send_outcome : (k : ℕ) (s : StepIn t j k) (bytes : List ℕ) → Replied t j k s bytes → (u : Unconnected) → AsksSendThat s.taken.event u
+      → TrailTo t j m op k s
       → SendOutcome t j m op s.at.0 u.route u.request bytes
   send_outcome k s bytes (ByRow _ _ up _ told) u asks to = Failed (send_replied s.taken.config (state_before s) s.taken.event u asks up bytes told)
   send_outcome k s bytes (ByTarget _ _ up x _ told bytes_are) u asks to =
@@ -130,11 +142,13 @@ module _ (t : Plan) (j : Journal) (run : IsRun t j) (m op : ℕ) where
       omega (arith, two, empty)))
       is.1 (ap (walk t s.at.0) is.0 ∙ walk_ends t s.at.0 [] no_hop) bytes_are
   send_outcome k s bytes (ByTick _ _ n p put l tick here ends waits later _ bytes_are) u asks to =
-      Failed (is_failed (link_status TicksSpent) (Some p.words) bytes (bytes_are ∙ ap (λ (x : Kind). late_bytes x p.words) (goes_there k s n p put u asks).kind_is))
+      Failed (is_failed (link_status TicksSpent) (Some p.words) bytes (bytes_are
+      ∙ ap (λ (x : Kind). late_bytes x p.words) (goes_there k s n p put u asks).kind_is))
   send_outcome k s bytes (AsItCame _ _ n p put l next arrives _ below) u asks to =
       let g = goes_there k s n p put u asks in
       let on = trail_on t j run m op k l s next n put.sending arrives to in
-      by_rest k s bytes u n put.sending p.kind l next arrives below on g (λ v is. send_outcome l next bytes below v is on) (eqb (length g.rest) 0) refl g.bytes_are
+      by_rest k s bytes u n put.sending p.kind l next arrives below on g
+      (λ v is. send_outcome l next bytes below v is on) (eqb (length g.rest) 0) refl g.bytes_are
   send_outcome k s bytes (AsSuccess _ _ n p put l next arrives triad kind_is came reply read_below general held success _ bytes_are below) u asks to =
       let g = goes_there k s n p put u asks in
       let no : OpeningKind triad ≡ UnconnectedKind = sym kind_is ∙ g.kind_is in absurd (cc)

@@ -49,7 +49,8 @@ use Rattle.cip_module.proofs.GoesOn.{allowed}
 use Rattle.cip_module.proofs.NextRows.{send_row_is}
 use Rattle.cip_world.proofs.PutIn.{SentFor, Forwarded, Begun}
 
-frame_is : (p q : ℕ) (a b : List ℕ) (k n : ℕ) (c d : List ℕ) → events.Frame p a (bodies.Request k c) ≡ events.Frame q b (bodies.Request n d) → (p ≡ q) × (a ≡ b) × (k ≡ n) × (c ≡ d)
+frame_is : (p q : ℕ) (a b : List ℕ) (k n : ℕ) (c d : List ℕ) → events.Frame p a (bodies.Request k c) ≡ events.Frame q b (bodies.Request n d)
+    → (p ≡ q) × (a ≡ b) × (k ≡ n) × (c ≡ d)
 frame_is p q a b k n c d e = (cc, cc, cc, cc)
 
 -- the reply of a failed Unconnected_Send begins so
@@ -60,7 +61,8 @@ is_failed status words bytes e = ap (λ (b : List ℕ). slice_index b 0) e
 
 -- the event asks it: a command spells it, or it came as it is written
 pub data AsksSendThat (event : Event) (u : Unconnected) : Type 0 where
-  Spelled : (op : ℕ) (timing : Timing) (path request : List ℕ) → event ≡ events.Command (commands.Send op timing path request) → u ≡ sent timing path request → AsksSendThat event u
+  Spelled : (op : ℕ) (timing : Timing) (path request : List ℕ) → event ≡ events.Command (commands.Send op timing path request) → u ≡ sent timing path request
+      → AsksSendThat event u
   CameSo : (port n : ℕ) (from : List ℕ) → event ≡ events.Frame port from (bodies.Request n (unconnected_bytes u)) → AsksSendThat event u
 
 -- it went on
@@ -74,18 +76,21 @@ pub record SendGoes (config : ModuleSettings) (s : State) (event : Event) (u : U
   pub allowed_ : begins_with_manager (segments_of embedded.path) ≡ false
 
 module _ (config : ModuleSettings) (s : State) (event : Event) (u : Unconnected) (is : AsksSendThat event u) where
-  came_row : (up : UpSide) (row : RequestRow) → Came config event up row → (row ≡ request.UnknownPortOrTooLong) ⊎ (row ≡ request.UnconnectedSend (unconnected_data u))
+  came_row : (up : UpSide) (row : RequestRow) → Came config event up row
+      → (row ≡ request.UnknownPortOrTooLong) ⊎ (row ≡ request.UnconnectedSend (unconnected_data u))
   came_row up row came = by_form is
     where
       by_form : AsksSendThat event u → (row ≡ request.UnknownPortOrTooLong) ⊎ (row ≡ request.UnconnectedSend (unconnected_data u))
       by_form (Spelled op timing path asked event_is spells) =
-          let no : events.Command (commands.Send op timing path asked) ≡ events.Frame came.port came.from (bodies.Request came.number came.bytes) = sym event_is ∙ came.event_is in absurd (cc)
+          let no : events.Command (commands.Send op timing path asked) ≡ events.Frame came.port came.from (bodies.Request came.number came.bytes) =
+          sym event_is ∙ came.event_is in absurd (cc)
       by_form (CameSo port n from event_is) =
           let parts = frame_is came.port port came.from from came.number n came.bytes (unconnected_bytes u) (sym came.event_is ∙ event_is) in
           let row_is : request_row config came.port (unconnected_bytes u) ≡ row = ap (request_row config came.port) (sym parts.3) ∙ came.meets in
           elim (send_row_is config came.port u) [ inl dropped ↦ inl (sym row_is ∙ dropped) | inr met ↦ inr (sym row_is ∙ met) ]
 
-  not_came : (up : UpSide) (row : RequestRow) → (row ≡ request.UnknownPortOrTooLong → ⊥) → (row ≡ request.UnconnectedSend (unconnected_data u) → ⊥) → Came config event up row → ⊥
+  not_came : (up : UpSide) (row : RequestRow) → (row ≡ request.UnknownPortOrTooLong → ⊥) → (row ≡ request.UnconnectedSend (unconnected_data u) → ⊥)
+      → Came config event up row → ⊥
   not_came up row a b came = elim (came_row up row came) [ inl dropped ↦ a dropped | inr met ↦ b met ]
 
   no_open : (up : UpSide) (o : Open) → AsksOpen config s event up o → ⊥
@@ -94,9 +99,11 @@ module _ (config : ModuleSettings) (s : State) (event : Event) (u : Unconnected)
     where
       by_form : AsksSendThat event u → ⊥
       by_form (Spelled op timing path asked event_is spells) =
-          let no : events.Command (commands.Send op timing path asked) ≡ events.Command (commands.Open h.op h.timing h.path h.params) = sym event_is ∙ h.event_is in cc
+          let no : events.Command (commands.Send op timing path asked) ≡ events.Command (commands.Open h.op h.timing h.path h.params) =
+          sym event_is ∙ h.event_is in cc
       by_form (CameSo port n from event_is) =
-          let no : events.Frame port from (bodies.Request n (unconnected_bytes u)) ≡ events.Command (commands.Open h.op h.timing h.path h.params) = sym event_is ∙ h.event_is in cc
+          let no : events.Frame port from (bodies.Request n (unconnected_bytes u)) ≡ events.Command (commands.Open h.op h.timing h.path h.params) =
+          sym event_is ∙ h.event_is in cc
 
   no_close : (up sender : UpSide) (c : Close) → AsksClose config s event up sender c → ⊥
   no_close up sender c (inl h) = not_came up (request.ForwardClose h.asked) (λ e. cc) (λ e. cc) h.came
@@ -106,7 +113,8 @@ module _ (config : ModuleSettings) (s : State) (event : Event) (u : Unconnected)
       by_form (Spelled op timing path asked event_is spells) =
           let no : events.Command (commands.Send op timing path asked) ≡ events.Command (commands.Close h.op h.of h.timing) = sym event_is ∙ h.event_is in cc
       by_form (CameSo port n from event_is) =
-          let no : events.Frame port from (bodies.Request n (unconnected_bytes u)) ≡ events.Command (commands.Close h.op h.of h.timing) = sym event_is ∙ h.event_is in cc
+          let no : events.Frame port from (bodies.Request n (unconnected_bytes u)) ≡ events.Command (commands.Close h.op h.of h.timing) =
+          sym event_is ∙ h.event_is in cc
 
   asked_data : (up : UpSide) (asked : List ℕ) → Came config event up (request.UnconnectedSend asked) → asked ≡ unconnected_data u
   asked_data up asked came = elim (came_row up (request.UnconnectedSend asked) came) [ inl dropped ↦ absurd (cc) | inr met ↦ cc ]
@@ -118,13 +126,15 @@ module _ (config : ModuleSettings) (s : State) (event : Event) (u : Unconnected)
     where
       by_form : AsksSendThat event u → v ≡ u
       by_form (Spelled op timing path asked event_is spells) =
-          let both : events.Command (commands.Send h.op h.timing h.path h.asked) ≡ events.Command (commands.Send op timing path asked) = sym h.event_is ∙ event_is in
+          let both : events.Command (commands.Send h.op h.timing h.path h.asked) ≡ events.Command (commands.Send op timing path asked) =
+          sym h.event_is ∙ event_is in
           let timings : h.timing ≡ timing = cc in
           let paths : h.path ≡ path = cc in
           let all : h.asked ≡ asked = cc in
           h.spells ∙ (λ i. sent (timings i) (paths i) (all i)) ∙ sym spells
       by_form (CameSo port n from event_is) =
-          let no : events.Frame port from (bodies.Request n (unconnected_bytes u)) ≡ events.Command (commands.Send h.op h.timing h.path h.asked) = sym event_is ∙ h.event_is in absurd (cc)
+          let no : events.Frame port from (bodies.Request n (unconnected_bytes u)) ≡ events.Command (commands.Send h.op h.timing h.path h.asked) =
+          sym event_is ∙ h.event_is in absurd (cc)
 
   pub send_goes : (sending : Sending) (kind : Kind) → SentFor config s event sending kind → SendGoes config s event u sending kind
   send_goes sending kind (Begun o kind_is h) = absurd (no_open sending.up h.o h.asks)
@@ -148,7 +158,8 @@ module _ (config : ModuleSettings) (s : State) (event : Event) (u : Unconnected)
   -- it failed, if it was replied to at once
   pub send_replied : (up : UpSide) (bytes : List ℕ) → RepliesAs config s event up bytes → slice_index bytes 0 ≡ 0xD2
   send_replied up bytes (RequestFails service refusal came e) = absurd (not_came up (request.Refuses service refusal) (λ e. cc) (λ e. cc) came)
-  send_replied up bytes (SendUnread asked fault came read e) = is_failed (unconnected_status (unconnected.unread_row asked fault)) (route_words_of asked) bytes e
+  send_replied up bytes (SendUnread asked fault came read e) =
+      is_failed (unconnected_status (unconnected.unread_row asked fault)) (route_words_of asked) bytes e
   send_replied up bytes (SendFails v refusal asks meets e) = is_failed (unconnected_status refusal) (Some (words_of v.route)) bytes e
   send_replied up bytes (OpenUnread asked fault came read e) = absurd (not_came up (request.ForwardOpen asked) (λ e. cc) (λ e. cc) came)
   send_replied up bytes (OpenFails o refusal asks meets e) = absurd (no_open up o asks)
@@ -182,12 +193,14 @@ pub data TargetRow (r : Request) (row : RequestRow) : Type 0 where
   IsTarget : row ≡ request.Target r → TargetRow r row
 
 attribute_row : (r : Request) (c i : ℕ) (x : Option (Option ℕ)) → eqb c 6 ≡ false
-    → ((with_attribute c i x ≡ None) × (object_row r (with_attribute c i x) ≡ request.Refuses r.service PathFormNotSupported)) ⊎ (object_row r (with_attribute c i x) ≡ request.Target r)
+    → ((with_attribute c i x ≡ None) × (object_row r (with_attribute c i x) ≡ request.Refuses r.service PathFormNotSupported)) ⊎
+    (object_row r (with_attribute c i x) ≡ request.Target r)
 attribute_row r c i None other = inl (refl, refl)
 attribute_row r c i (Some a) other = inr (ap (λ b. cond b (manager_row r (record { class_ = c; instance = i; attribute = a })) (request.Target r)) other)
 
 class_row : (r : Request) (c : ℕ) (others : List Segment) → eqb c 6 ≡ false
-    → ((instance_in c others ≡ None) × (object_row r (instance_in c others) ≡ request.Refuses r.service PathFormNotSupported)) ⊎ (object_row r (instance_in c others) ≡ request.Target r)
+    → ((instance_in c others ≡ None) × (object_row r (instance_in c others) ≡ request.Refuses r.service PathFormNotSupported)) ⊎
+    (object_row r (instance_in c others) ≡ request.Target r)
 class_row r c (Instance i ∷ others) other = attribute_row r c i (attribute_in others) other
 class_row r c s other = inl (refl, refl)
 
@@ -196,7 +209,8 @@ named_row : (r : Request) (s : List Segment) → begins_with_manager s ≡ false
 named_row r (Class c ∷ others) other = class_row r c others other
 named_row r s other = inl (refl, refl)
 
-row_is : (config : ModuleSettings) (port : ℕ) (asked : List ℕ) (r : Request) (row : RequestRow) → request_at asked ≡ Ok r → begins_with_manager (segments_of r.path) ≡ false
+row_is : (config : ModuleSettings) (port : ℕ) (asked : List ℕ) (r : Request) (row : RequestRow) → request_at asked ≡ Ok r
+    → begins_with_manager (segments_of r.path) ≡ false
     → request_row config port asked ≡ row → TargetRow r row
 unfolding request_row
 row_is config port asked r row read other meets =
@@ -222,13 +236,15 @@ small_service (n ∷ []) r e = absurd (cc)
 small_service (n ∷ w ∷ rest) r e = by_big (leb 128 n) refl e
   where
     by_size : (c : Bool) → leb 128 n ≡ false
-        → cond c (Err PathSize) (with_path (path_at (take (2 * w) rest)) (request_with n (take (2 * w) rest) (drop (2 * w) rest))) ≡ Ok r → leb 128 r.service ≡ false
+        → cond c (Err PathSize) (with_path (path_at (take (2 * w) rest)) (request_with n (take (2 * w) rest) (drop (2 * w) rest))) ≡ Ok r
+        → leb 128 r.service ≡ false
     by_size true small h = absurd (cc)
     by_size false small h =
         ap (leb 128) (path_service (path_at (take (2 * w) rest)) (request_with n (take (2 * w) rest) (drop (2 * w) rest)) r h) ∙ small
 
     by_big : (c : Bool) → leb 128 n ≡ c
-        → cond c (Err NotRequest) (cond (nat_lt (length rest) (2 * w)) (Err PathSize) (with_path (path_at (take (2 * w) rest)) (request_with n (take (2 * w) rest) (drop (2 * w) rest))))
+        → cond c (Err NotRequest)
+        (cond (nat_lt (length rest) (2 * w)) (Err PathSize) (with_path (path_at (take (2 * w) rest)) (request_with n (take (2 * w) rest) (drop (2 * w) rest))))
         ≡ Ok r → leb 128 r.service ≡ false
     by_big true t h = absurd (cc)
     by_big false t h = by_size (nat_lt (length rest) (2 * w)) t h
@@ -268,17 +284,20 @@ module _ (config : ModuleSettings) (s : State) (event : Event) (asked : List ℕ
   itself_no_send : (up : UpSide) (u : Unconnected) → AsksSend config s event up u → ⊥
   itself_no_send up u (inl h) = no_send_row h.asked (target_came up (request.UnconnectedSend h.asked) h.came)
   itself_no_send up u (inr h) =
-      let no : events.Frame is.port is.from (bodies.Request is.n asked) ≡ events.Command (commands.Send h.op h.timing h.path h.asked) = sym is.event_is ∙ h.event_is in cc
+      let no : events.Frame is.port is.from (bodies.Request is.n asked) ≡ events.Command (commands.Send h.op h.timing h.path h.asked) =
+      sym is.event_is ∙ h.event_is in cc
 
   itself_no_open : (up : UpSide) (o : Open) → AsksOpen config s event up o → ⊥
   itself_no_open up o (inl h) = no_open_row h.asked (target_came up (request.ForwardOpen h.asked) h.came)
   itself_no_open up o (inr h) =
-      let no : events.Frame is.port is.from (bodies.Request is.n asked) ≡ events.Command (commands.Open h.op h.timing h.path h.params) = sym is.event_is ∙ h.event_is in cc
+      let no : events.Frame is.port is.from (bodies.Request is.n asked) ≡ events.Command (commands.Open h.op h.timing h.path h.params) =
+      sym is.event_is ∙ h.event_is in cc
 
   itself_no_close : (up sender : UpSide) (c : Close) → AsksClose config s event up sender c → ⊥
   itself_no_close up sender c (inl h) = no_close_row h.asked (target_came up (request.ForwardClose h.asked) h.came)
   itself_no_close up sender c (inr h) =
-      let no : events.Frame is.port is.from (bodies.Request is.n asked) ≡ events.Command (commands.Close h.op h.of h.timing) = sym is.event_is ∙ h.event_is in cc
+      let no : events.Frame is.port is.from (bodies.Request is.n asked) ≡ events.Command (commands.Close h.op h.of h.timing) =
+      sym is.event_is ∙ h.event_is in cc
 
   -- it goes nowhere
   pub itself_stays : (sending : Sending) (kind : Kind) → SentFor config s event sending kind → ⊥
@@ -301,7 +320,8 @@ module _ (config : ModuleSettings) (s : State) (event : Event) (asked : List ℕ
 
   -- what is replied at once is what the target answers
   pub itself_replied : (objects : Objects) (up : UpSide) (bytes : List ℕ) → RepliesAs config s event up bytes → bytes ≡ answer_bytes objects r
-  itself_replied objects up bytes (RequestFails service refusal came e) = failed_so objects service refusal bytes (target_came up (request.Refuses service refusal) came) e
+  itself_replied objects up bytes (RequestFails service refusal came e) =
+      failed_so objects service refusal bytes (target_came up (request.Refuses service refusal) came) e
   itself_replied objects up bytes (SendUnread asked_ fault came read e) = absurd (no_send_row asked_ (target_came up (request.UnconnectedSend asked_) came))
   itself_replied objects up bytes (SendFails u refusal asks meets e) = absurd (itself_no_send up u asks)
   itself_replied objects up bytes (OpenUnread asked_ fault came read e) = absurd (no_open_row asked_ (target_came up (request.ForwardOpen asked_) came))

@@ -30,7 +30,8 @@ if_so false k = []
 
 -- ---- the first entry
 
-first_here : (test : Entry → Bool) (n : ℕ) (x : Entry) (j : Journal) (k : ℕ) (b : Bool) → (nat_le n (length j) && test x) ≡ b → cond b (Some (length j)) None ≡ Some k
+first_here : (test : Entry → Bool) (n : ℕ) (x : Entry) (j : Journal) (k : ℕ) (b : Bool) → (nat_le n (length j) && test x) ≡ b
+    → cond b (Some (length j)) None ≡ Some k
     → (k < length (x ∷ j)) × (n ≤ k)
 first_here test n x j k false t h = absurd (cc)
 first_here test n x j k true t h =
@@ -121,7 +122,8 @@ from_request n e j k None l most is ih =
 from_request n e j k (Some f) l most is ih =
     from_next n e j k f (first_from (arrived_in f) (k + 1) j) l most is (first_within (arrived_in f) (k + 1) j) ih
 
-from_on : (n : ℕ) (e : Entry) (j : Journal) (k : ℕ) → k < length j → length j ≤ n + k → and_so_on (suc n) (e ∷ j) (Some k) ≡ more_of e j (and_so_on n j (Some k))
+from_on : (n : ℕ) (e : Entry) (j : Journal) (k : ℕ) → k < length j → length j ≤ n + k
+    → and_so_on (suc n) (e ∷ j) (Some k) ≡ more_of e j (and_so_on n j (Some k))
 from_on zero e j k l most = absurd (omega (arith, l, most))
 from_on (suc n) e j k l most =
     ap (λ o. k ∷ and_so_on (suc n) (e ∷ j) (option_and_then (λ f. first_from (arrived_in f) (k + 1) (e ∷ j)) o)) (request_older e j k l)
@@ -136,12 +138,14 @@ some_tip e j m op [] i = refl
 some_tip e j m op (x ∷ ks) i = some_tip e j m op ks x
 
 tip_there : (n : ℕ) (e : Entry) (j : Journal) (m op k : ℕ) → length j ≤ n + k → k < length j
-    → if_so (arrived (option_and_then (request_of j) (tip (and_so_on n j (Some k)))) e) (length j) ≡ if_so (goes_on j m op (tip (and_so_on n j (Some k))) e) (length j)
+    → if_so (arrived (option_and_then (request_of j) (tip (and_so_on n j (Some k)))) e) (length j) ≡ if_so (goes_on j m op (tip (and_so_on n j (Some k))) e)
+    (length j)
 tip_there zero e j m op k most l = absurd (omega (arith, l, most))
 tip_there (suc n) e j m op k most l = by_tip (next_of j k)
   where
     by_tip : (o : Option ℕ)
-        → if_so (arrived (option_and_then (request_of j) (tip (k ∷ and_so_on n j o))) e) (length j) ≡ if_so (goes_on j m op (tip (k ∷ and_so_on n j o)) e) (length j)
+        → if_so (arrived (option_and_then (request_of j) (tip (k ∷ and_so_on n j o))) e) (length j) ≡ if_so (goes_on j m op (tip (k ∷ and_so_on n j o)) e)
+        (length j)
     by_tip o = some_tip e j m op (and_so_on n j o) k
 
 by_first : (e : Entry) (j : Journal) (m op : ℕ) (o : Option ℕ) → ((k : ℕ) → o ≡ Some k → k < length j)

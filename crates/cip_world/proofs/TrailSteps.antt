@@ -57,7 +57,8 @@ not_there f (Step m input outs) h = h
 not_there f (Lost g) h = refl
 
 -- the request of an entry is the same in each later journal
-pub request_in : (t : Plan) (j : Journal) (k : ℕ) (s : StepIn t j k) (y : Journal) → IsOlder (with_entry s) y → request_of y k ≡ request_by k (Step s.at s.input s.outputs)
+pub request_in : (t : Plan) (j : Journal) (k : ℕ) (s : StepIn t j k) (y : Journal) → IsOlder (with_entry s) y
+    → request_of y k ≡ request_by k (Step s.at s.input s.outputs)
 request_in t j k s y older =
     ap (option_and_then (request_by k)) (ap (entry_at y) (sym s.number) ∙ number_at (Step s.at s.input s.outputs) s.before y older)
 
@@ -65,7 +66,8 @@ no_more : (ks : List ℕ) (n : ℕ) → ks ++ if_so false n ≡ ks
 no_more ks n = append-nil ks
 
 -- until its request arrives a trail stays as it is
-still : (t : Plan) (j : Journal) (m op k : ℕ) (s : StepIn t j k) (to : TrailTo t j m op k s) (f : FrameName) → request_by k (Step s.at s.input s.outputs) ≡ Some f
+still : (t : Plan) (j : Journal) (m op k : ℕ) (s : StepIn t j k) (to : TrailTo t j m op k s) (f : FrameName)
+    → request_by k (Step s.at s.input s.outputs) ≡ Some f
     → (x : Journal) → IsOlder (with_entry s) x → is_named x f ≡ false → trail_of x m op ≡ to.front ++ (k ∷ [])
 still t j m op k s to f sent [] older fresh = absurd (cc)
 still t j m op k s to f sent (e ∷ y) (inl same) fresh = ap (λ (z : Journal). trail_of z m op) (sym same) ∙ to.is
@@ -90,10 +92,12 @@ still_end t j m op k s to sent (e ∷ y) (inr older) =
 same_self : (f : FrameName) → same_name f f ≡ true
 same_self f = and_from (eqb f.entry f.entry) (eqb f.output f.output) (eq-eqb f.entry f.entry refl) (eq-eqb f.output f.output refl)
 
-module _ (t : Plan) (j : Journal) (run : IsRun t j) (m op a b : ℕ) (s : StepIn t j a) (r : StepIn t j b) (n : ℕ) (sending : Sending) (next : Arrives t j a b s r n sending) where
+module _ (t : Plan) (j : Journal) (run : IsRun t j) (m op a b : ℕ) (s : StepIn t j a) (r : StepIn t j b) (n : ℕ) (sending : Sending)
+    (next : Arrives t j a b s r n sending) where
   sent_it : request_by a (Step s.at s.input s.outputs) ≡ Some (named a next.output)
   sent_it = ap (option_map (named a))
-      (first_sent s.taken.config (state_before s) (state_after s.taken.config (turn_of s.taken.event s.outputs ∷ part s.at.0 s.before)) s.taken.event s.outputs next.output
+      (first_sent s.taken.config (state_before s) (state_after s.taken.config
+      (turn_of s.taken.event s.outputs ∷ part s.at.0 s.before)) s.taken.event s.outputs next.output
       (outputs.Send sending.port sending.address (bodies.Request n sending.bytes)) (turned_in t j a run s) next.out refl)
 
   came_it : arrived_in (named a next.output) (Step r.at r.input r.outputs) ≡ true
@@ -148,7 +152,8 @@ command_older t x j m op k older c = record {
 no_command : (t : Plan) (e : Entry) (j : Journal) (m op : ℕ) → IsRun t (e ∷ j) → ((k : ℕ) → CommandIn t (e ∷ j) m op k → ⊥) → is_command m op e ≡ true → ⊥
 no_command t (Step n input outs) j m op run none h =
     none (length j)
-    (command_in t (Step n input outs ∷ j) m op (length j) (record { at = n; input = input; outputs = outs; before = j; is = inl refl; number = refl; taken = run.1 }) h)
+    (command_in t (Step n input outs ∷ j) m op (length j)
+    (record { at = n; input = input; outputs = outs; before = j; is = inl refl; number = refl; taken = run.1 }) h)
 no_command t (Lost frame) j m op run none h = cc
 
 by_test : (b : Bool) → (b ≡ true → ⊥) → b ≡ false
@@ -169,7 +174,8 @@ pub record BeginsAt (t : Plan) (j : Journal) (m op k : ℕ) (s : StepIn t j k) :
   pub first : to.front ≡ []
 
 -- the trail begins at the one command
-pub trail_begins : (t : Plan) (j : Journal) (m op k : ℕ) → IsRun t j → (c : CommandIn t j m op k) → opens_or_sends op c.command ≡ true → BeginsAt t j m op k c.step
+pub trail_begins : (t : Plan) (j : Journal) (m op k : ℕ) → IsRun t j → (c : CommandIn t j m op k) → opens_or_sends op c.command ≡ true
+    → BeginsAt t j m op k c.step
 trail_begins t j m op k run c asks =
     let s = c.step in
     let older = before_that (Step s.at s.input s.outputs) s.before j s.is in

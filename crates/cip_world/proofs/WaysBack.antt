@@ -99,10 +99,12 @@ older_frame k [] f x older h = ap (λ (y : Journal). frame_at y f) (sym older) �
 older_frame k (e ∷ j) f x (inl same) h = ap (λ (y : Journal). frame_at y f) (sym same) ∙ h
 older_frame k (e ∷ j) f x (inr older) h = frame_older e j f x (older_frame k j f x older h)
 
-pub step_frame : (t : Plan) (j : Journal) (k i port : ℕ) (to : List ℕ) (body : Body) (s : StepIn t j k) → slice_get s.outputs i ≡ Some (outputs.Send port to body)
+pub step_frame : (t : Plan) (j : Journal) (k i port : ℕ) (to : List ℕ) (body : Body) (s : StepIn t j k)
+    → slice_get s.outputs i ≡ Some (outputs.Send port to body)
     → frame_at j (named k i) ≡ Some (record { way = way_in s.at.0 port to; body = body })
 step_frame t j k i port to body s at =
-    ap (λ (o : Option Entry). frame_of o i) (ap (entry_at j) (sym s.number) ∙ number_at (Step s.at s.input s.outputs) s.before j s.is) ∙ ap (flight_of s.at.0) at
+    ap (λ (o : Option Entry). frame_of o i) (ap (entry_at j) (sym s.number) ∙ number_at (Step s.at s.input s.outputs) s.before j s.is)
+    ∙ ap (flight_of s.at.0) at
 
 pub place_of : (os : List Output) (o : Output) → Has os o → (i : ℕ) × (slice_get os i ≡ Some o)
 place_of [] o h = absurd h
@@ -135,7 +137,8 @@ came_by (events.Frame p a (bodies.Data k b)) port n from e = absurd (cc)
 
 -- ---- what waits while a tick passes
 
-none_put : (config : ModuleSettings) (s0 mid : State) (event : Event) (e : Effect) (p : entries.Entry) → asker event ≡ None → Tells config s0 event e → puts mid e ≡ Some p → ⊥
+none_put : (config : ModuleSettings) (s0 mid : State) (event : Event) (e : Effect) (p : entries.Entry) → asker event ≡ None → Tells config s0 event e
+    → puts mid e ≡ Some p → ⊥
 none_put config s0 mid event e p none tells put = by_effect e tells put
   where
     by_effect : (e : Effect) → Tells config s0 event e → puts mid e ≡ Some p → ⊥
@@ -198,7 +201,9 @@ module _ (t : Chassis) (j : Journal) (run : IsRun t.plan j) (l : ℕ) (s : StepI
   -- who put a request that waits
   module _ (n : ℕ) (p : entries.Entry) (at : map.get (state_before s).pendings.entries n ≡ Some p) where
     abbrev put : TurnIn (PutIn config n p) t.plan s.before s.at.0
-    put = turn_in (PutIn config n p) t.plan s.before s.at.0 (run_before t.plan j l run s) (put_in config (part s.at.0 s.before) (history_before t.plan j l run s) n p at)
+    put =
+        turn_in (PutIn config n p) t.plan s.before s.at.0 (run_before t.plan j l run s)
+        (put_in config (part s.at.0 s.before) (history_before t.plan j l run s) n p at)
 
     abbrev asking : StepIn t.plan j put.number
     asking = step_older t.plan s.before j put.number older put.step
@@ -217,10 +222,13 @@ module _ (t : Chassis) (j : Journal) (run : IsRun t.plan j) (l : ℕ) (s : StepI
         let is = put.step.number in let at_ = s.number in omega (arith, less, is, at_)
 
     put_asks : asker asking.taken.event ≡ Some p.up
-    put_asks = sent_asker asking.taken.config (state_before asking) asking.taken.event put_at.sending p.kind put_at.why ∙ ap (λ (u : UpSide). Some u) (sym put_at.up_is)
+    put_asks =
+        sent_asker asking.taken.config (state_before asking) asking.taken.event put_at.sending p.kind put_at.why
+        ∙ ap (λ (u : UpSide). Some u) (sym put_at.up_is)
 
     -- and how the reply came about that came for it
-    module _ (ih : (k : ℕ) (r : StepIn t.plan j k) → k < l → (up : UpSide) (bytes : List ℕ) → Has r.outputs (reply_up up bytes) → ReplyOf t.plan j r.at.0 up bytes)
+    module _
+        (ih : (k : ℕ) (r : StepIn t.plan j k) → k < l → (up : UpSide) (bytes : List ℕ) → Has r.outputs (reply_up up bytes) → ReplyOf t.plan j r.at.0 up bytes)
         (port : ℕ) (from came : List ℕ) (event_is : s.taken.event ≡ events.Frame port from (bodies.Reply n came)) where
       given : FrameGiven t s.before s.at.0 port from (bodies.Reply n came) s.input
       given = frame_given t s.before s.at.0 s.input s.taken.event port from (bodies.Reply n came) s.taken.given event_is
@@ -260,7 +268,8 @@ module _ (t : Chassis) (j : Journal) (run : IsRun t.plan j) (l : ℕ) (s : StepI
       from_here : asked.flight.way ≡ way_in s.at.0 port from
       from_here =
           some_same asked.flight.way (way_in s.at.0 port from)
-          (sym (t.back asked.flight.way (way_in deeper.step.at.0 given.flight.way.port given.flight.way.address) asked.leads) ∙ ap (goes t.plan) there_is ∙ given.leads)
+          (sym (t.back asked.flight.way (way_in deeper.step.at.0 given.flight.way.port given.flight.way.address) asked.leads) ∙ ap (goes t.plan) there_is
+          ∙ given.leads)
 
       place : (i : ℕ) × (slice_get asking.outputs i ≡ Some (outputs.Send put_at.sending.port put_at.sending.address (bodies.Request n put_at.sending.bytes)))
       place = place_of asking.outputs (outputs.Send put_at.sending.port put_at.sending.address (bodies.Request n put_at.sending.bytes)) put_at.sent
@@ -283,7 +292,8 @@ module _ (t : Chassis) (j : Journal) (run : IsRun t.plan j) (l : ℕ) (s : StepI
       flights = some_same asked.flight sent (sym arrived_there ∙ ap (frame_at j) names ∙ sent_there)
 
       same_bytes : came_is.bytes ≡ put_at.sending.bytes
-      same_bytes = let both : bodies.Request n came_is.bytes ≡ bodies.Request n put_at.sending.bytes = sym asked.body_is ∙ ap (λ (x : Flight). x.body) flights in cc
+      same_bytes =
+          let both : bodies.Request n came_is.bytes ≡ bodies.Request n put_at.sending.bytes = sym asked.body_is ∙ ap (λ (x : Flight). x.body) flights in cc
 
       asked_later : IsOlder (Step asking.at asking.input asking.outputs ∷ asking.before) deeper.step.before
       asked_later =
@@ -318,7 +328,8 @@ module _ (t : Chassis) (j : Journal) (run : IsRun t.plan j) (l : ℕ) (s : StepI
       }
 
   -- the ways to a reply of this step
-  module _ (ih : (k : ℕ) (r : StepIn t.plan j k) → k < l → (up : UpSide) (bytes : List ℕ) → Has r.outputs (reply_up up bytes) → ReplyOf t.plan j r.at.0 up bytes)
+  module _
+      (ih : (k : ℕ) (r : StepIn t.plan j k) → k < l → (up : UpSide) (bytes : List ℕ) → Has r.outputs (reply_up up bytes) → ReplyOf t.plan j r.at.0 up bytes)
       (up : UpSide) (bytes : List ℕ) where
     turn : Turned config (state_before s) s.taken.event (state_after config (turn_of s.taken.event s.outputs ∷ part s.at.0 s.before)) s.outputs
     turn = turned_in t.plan j l run s
@@ -329,7 +340,8 @@ module _ (t : Chassis) (j : Journal) (run : IsRun t.plan j) (l : ℕ) (s : StepI
 
     asks_by : (n : ℕ) (p : entries.Entry) (came : List ℕ) (b : FromBelow t.plan j s.at.0 n p came) → p.up ≡ up → asker b.step.taken.event ≡ Some up
     asks_by n p came b ups =
-        sent_asker b.step.taken.config (state_before b.step) b.step.taken.event b.put.sending p.kind b.put.why ∙ ap (λ (u : UpSide). Some u) (sym b.put.up_is ∙ ups)
+        sent_asker b.step.taken.config (state_before b.step) b.step.taken.event b.put.sending p.kind b.put.why
+        ∙ ap (λ (u : UpSide). Some u) (sym b.put.up_is ∙ ups)
 
     by_way : (g : GaveBy config (state_before s) s.taken.event turn.effects (reply_up up bytes))
         → RepliesBy config (state_before s) s.taken.event (applied config (state_before s) g.before) g.effect up bytes → Has s.outputs (reply_up up bytes)
@@ -393,7 +405,9 @@ module _ (t : Chassis) (j : Journal) (run : IsRun t.plan j) (l : ℕ) (s : StepI
           given = outputs.Send b.put.sending.port b.put.sending.address (bodies.Request n b.put.sending.bytes);
           gives = b.put.sent;
           taken = request_taken b.put.sending n;
-          replied = AsSuccess b.number b.step n p b.put b.below b.arrival b.arrives triad (ap (λ (x : entries.Entry). x.kind) same ∙ told.kind) came told.reply told.came.read told.general
+          replied =
+              AsSuccess b.number b.step n p b.put b.below b.arrival b.arrives triad
+              (ap (λ (x : entries.Entry). x.kind) same ∙ told.kind) came told.reply told.came.read told.general
               (map.get (applied config (state_before s) g.before).hops.held triad) success bytes bytes_are b.replied;
         }
     by_way g (Late n p effect_is at ups bytes_are) h =
@@ -409,15 +423,20 @@ module _ (t : Chassis) (j : Journal) (run : IsRun t.plan j) (l : ℕ) (s : StepI
           given = outputs.Send (put_at n p now_at).sending.port (put_at n p now_at).sending.address (bodies.Request n (put_at n p now_at).sending.bytes);
           gives = (put_at n p now_at).sent;
           taken = request_taken (put_at n p now_at).sending n;
-          replied = ByTick (put n p now_at).number (asking n p now_at) n p (put_at n p now_at) l s (sym (put n p now_at).here) told now_at (put_first n p now_at) bytes bytes_are;
+          replied =
+              ByTick (put n p now_at).number (asking n p now_at) n p (put_at n p now_at) l s (sym (put n p now_at).here) told now_at
+              (put_first n p now_at) bytes bytes_are;
         }
 
     reply_now : Has s.outputs (reply_up up bytes) → ReplyOf t.plan j s.at.0 up bytes
     reply_now h =
-        let g = gave_by config (state_before s) s.taken.event (state_after config (turn_of s.taken.event s.outputs ∷ part s.at.0 s.before)) s.outputs (reply_up up bytes) turn h in
+        let g =
+        gave_by config (state_before s) s.taken.event (state_after config (turn_of s.taken.event s.outputs ∷ part s.at.0 s.before)) s.outputs
+        (reply_up up bytes) turn h in
         by_way g (answered_by up bytes config (state_before s) s.taken.event (applied config (state_before s) g.before) g.effect g.tells g.gives) h
 
-replies_within : (t : Chassis) (j : Journal) → IsRun t.plan j → (n l : ℕ) → l < n → (s : StepIn t.plan j l) (up : UpSide) (bytes : List ℕ) → Has s.outputs (reply_up up bytes)
+replies_within : (t : Chassis) (j : Journal) → IsRun t.plan j → (n l : ℕ) → l < n → (s : StepIn t.plan j l) (up : UpSide) (bytes : List ℕ)
+    → Has s.outputs (reply_up up bytes)
     → ReplyOf t.plan j s.at.0 up bytes
 replies_within t j run zero l less s up bytes h = absurd (omega (arith, less))
 replies_within t j run (suc n) l less s up bytes h =

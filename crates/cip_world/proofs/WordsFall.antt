@@ -63,7 +63,8 @@ words_newer e j k w h = by_entry (entry_at j k) refl h
         → option_and_then open_words o ≡ Some w → words_at (e ∷ j) k ≡ Some w
     by_event m input outs None at is s = absurd (cc)
     by_event m input outs (Some event) at is s =
-        ap (λ (x : Option Entry). option_and_then open_words (option_and_then (event_in (e ∷ j)) x)) (entry_older e j k (entry_within j k (Step m input outs) at) ∙ at)
+        ap (λ (x : Option Entry). option_and_then open_words (option_and_then (event_in (e ∷ j)) x))
+        (entry_older e j k (entry_within j k (Step m input outs) at) ∙ at)
         ∙ ap (option_and_then open_words) (event_older j (e ∷ j) input event (inr (itself j)) is) ∙ s
 
     by_entry : (x : Option Entry) → entry_at j k ≡ x → option_and_then open_words (option_and_then (event_in j) x) ≡ Some w → words_at (e ∷ j) k ≡ Some w
@@ -131,10 +132,12 @@ pub record WasSent (t : Plan) (j : Journal) (k : ℕ) (s : StepIn t j k) (port :
   pub to_is : sending.address ≡ to
   pub bytes_are : sending.bytes ≡ bytes
 
-pub was_sent : (t : Plan) (j : Journal) (k : ℕ) → IsRun t j → (s : StepIn t j k) (port n : ℕ) (to bytes : List ℕ) → Has s.outputs (outputs.Send port to (bodies.Request n bytes))
+pub was_sent : (t : Plan) (j : Journal) (k : ℕ) → IsRun t j → (s : StepIn t j k) (port n : ℕ) (to bytes : List ℕ)
+    → Has s.outputs (outputs.Send port to (bodies.Request n bytes))
     → WasSent t j k s port to bytes
 was_sent t j k run s port n to bytes has =
-    by_effect (request_by port n to bytes s.taken.config (state_before s) s.taken.event (applied s.taken.config (state_before s) g.before) g.effect g.tells g.gives)
+    by_effect
+    (request_by port n to bytes s.taken.config (state_before s) s.taken.event (applied s.taken.config (state_before s) g.before) g.effect g.tells g.gives)
   where
     turn : Turned s.taken.config (state_before s) s.taken.event (state_after s.taken.config (turn_of s.taken.event s.outputs ∷ part s.at.0 s.before)) s.outputs
     turn = turned_in t j k run s
@@ -145,7 +148,8 @@ was_sent t j k run s port n to bytes has =
 
     by_effect : RequestBy s.taken.config (state_before s) s.taken.event g.effect port to bytes → WasSent t j k s port to bytes
     by_effect (ByForward sending kind is h p a b) = record { sending = sending; kind = kind; why = Forwarded h; port_is = p; to_is = a; bytes_are = b }
-    by_effect (ByBegin sending o is h p a b) = record { sending = sending; kind = OpeningKind o.triad; why = Begun o refl h; port_is = p; to_is = a; bytes_are = b }
+    by_effect (ByBegin sending o is h p a b) =
+        record { sending = sending; kind = OpeningKind o.triad; why = Begun o refl h; port_is = p; to_is = a; bytes_are = b }
 
 -- ---- the next entry of the journal
 
@@ -163,13 +167,16 @@ module _ (t : Plan) (j : Journal) (m op : ℕ) where
   }
 
   -- what arrives is the request that the last entry sent
-  module _ (n : ModuleId) (port : ℕ) (from : List ℕ) (g : FrameName) (outs : List Output) (run : IsRun t (Step n (inputs.Frame port from g) outs ∷ j)) (tip : OpenTip t j m op) (f : FrameName)
+  module _ (n : ModuleId) (port : ℕ) (from : List ℕ) (g : FrameName) (outs : List Output) (run : IsRun t (Step n (inputs.Frame port from g) outs ∷ j))
+      (tip : OpenTip t j m op) (f : FrameName)
       (sent : request_of j tip.number ≡ Some f) (same : same_name f g ≡ true) where
     abbrev e : Entry
     e = Step n (inputs.Frame port from g) outs
 
     names : f ≡ g
-    names = let both = and_parts (eqb f.entry g.entry) (eqb f.output g.output) same in name_eq f g (eqb-true f.entry g.entry both.0) (eqb-true f.output g.output both.1)
+    names =
+        let both =
+        and_parts (eqb f.entry g.entry) (eqb f.output g.output) same in name_eq f g (eqb-true f.entry g.entry both.0) (eqb-true f.output g.output both.1)
 
     first : (i : ℕ) × (request_from 0 tip.step.outputs ≡ Some i) × (f ≡ named tip.number i)
     first = by_first (request_from 0 tip.step.outputs) refl (sym (request_in t j tip.number tip.step j tip.step.is) ∙ sent)
@@ -193,7 +200,8 @@ module _ (t : Plan) (j : Journal) (m op : ℕ) where
 
     flight_is : run.1.given.waits.flight ≡ record { way = way_in tip.step.at.0 out.port out.to; body = bodies.Request out.n out.bytes }
     flight_is = some_same run.1.given.waits.flight (record { way = way_in tip.step.at.0 out.port out.to; body = bodies.Request out.n out.bytes })
-        (sym run.1.given.waits.sent ∙ ap (frame_at j) name_is ∙ step_frame t j tip.number there.place out.port out.to (bodies.Request out.n out.bytes) tip.step at)
+        (sym run.1.given.waits.sent ∙ ap (frame_at j) name_is
+        ∙ step_frame t j tip.number there.place out.port out.to (bodies.Request out.n out.bytes) tip.step at)
 
     why : WasSent t j tip.number tip.step out.port out.to out.bytes
     why = was_sent t j tip.number run.0 tip.step out.port out.n out.to out.bytes (has_at tip.step.outputs there.place _ at)
@@ -231,13 +239,15 @@ module _ (t : Plan) (j : Journal) (m op : ℕ) where
           (words_there t (e ∷ j) (length j) newest_step next.next next.asks) next.shorter;
     }
 
-  by_input : (n : ModuleId) (input : Input) (outs : List Output) → IsRun t (Step n input outs ∷ j) → (tip : OpenTip t j m op) (f : FrameName) → request_of j tip.number ≡ Some f
+  by_input : (n : ModuleId) (input : Input) (outs : List Output) → IsRun t (Step n input outs ∷ j) → (tip : OpenTip t j m op) (f : FrameName)
+      → request_of j tip.number ≡ Some f
       → arrived_in f (Step n input outs) ≡ true → OpenTip t (Step n input outs ∷ j) m op
   by_input n (inputs.Frame port from g) outs run tip f sent same = goes_further n port from g outs run tip f sent same
   by_input n (inputs.Command c) outs run tip f sent same = absurd (cc)
   by_input n (inputs.Tick ms) outs run tip f sent same = absurd (cc)
 
-  by_arrival : (e : Entry) → IsRun t (e ∷ j) → (tip : OpenTip t j m op) (o : Option FrameName) → request_of j tip.number ≡ o → arrived o e ≡ true → OpenTip t (e ∷ j) m op
+  by_arrival : (e : Entry) → IsRun t (e ∷ j) → (tip : OpenTip t j m op) (o : Option FrameName) → request_of j tip.number ≡ o → arrived o e ≡ true
+      → OpenTip t (e ∷ j) m op
   by_arrival (Step n input outs) run tip (Some f) sent same = by_input n input outs run tip f sent same
   by_arrival (Lost frame) run tip (Some f) sent same = absurd (cc)
   by_arrival e run tip None sent same = absurd (cc)
@@ -260,7 +270,8 @@ open_tip t k [] m op run older tip = moved t k [] m op older tip
 open_tip t k (e ∷ j) m op run (inl same) tip = moved t k (e ∷ j) m op same tip
 open_tip t k (e ∷ j) m op run (inr older) tip = tip_next t j m op e run (open_tip t k j m op run.0 older tip)
 
-pub trail_falls : (t : Plan) (j : Journal) (m op k : ℕ) → IsRun t j → (s : StepIn t j k) (o : Open) → AsksThat s.taken.config s.taken.event o → (to : TrailTo t j m op k s) → to.front ≡ []
+pub trail_falls : (t : Plan) (j : Journal) (m op k : ℕ) → IsRun t j → (s : StepIn t j k) (o : Open) → AsksThat s.taken.config s.taken.event o
+    → (to : TrailTo t j m op k s) → to.front ≡ []
     → WordsFall j (trail_of j m op)
 trail_falls t j m op k run s o asks to first =
     let newest : StepIn t (with_entry s) k =
@@ -304,7 +315,8 @@ on_rest x k ks on = by_front on.front on.is
     by_front (y ∷ front) e = inr (record { front = front; behind = on.behind; is = cc })
 
 -- where words fall strictly, two entries of the same words are one
-only_below : (j : Journal) (most : ℕ) (ks : List ℕ) (k l w : ℕ) → FallBelow j most ks → IsOn k ks → IsOn l ks → words_at j k ≡ Some w → words_at j l ≡ Some w → k ≡ l
+only_below : (j : Journal) (most : ℕ) (ks : List ℕ) (k l w : ℕ) → FallBelow j most ks → IsOn k ks → IsOn l ks → words_at j k ≡ Some w → words_at j l ≡ Some w
+    → k ≡ l
 only_below j most [] k l w h a b p q = absurd (no_on a.front a.is)
   where
     no_on : (front : List ℕ) → [] ≡ front ++ (k ∷ a.behind) → ⊥

@@ -15,7 +15,8 @@ use Rattle.cip_chain.proofs.trails.trail.Goals as goal
 use Rattle.cip_chain.proofs.trails.trail.Goals.{then-is_next+in_ok-push, else-is_next}
 
 pub loop-k-init : goal.loop-k-init
-loop-k-init c = (c.new-trail.ensures.items ∙ sym (no_trail c.args.at.0 c.args.op), ap (λ (ks : List ℕ). sought_behind [] (tip ks)) (sym (no_trail c.args.at.0 c.args.op)))
+loop-k-init c =
+    (c.new-trail.ensures.items ∙ sym (no_trail c.args.at.0 c.args.op), ap (λ (ks : List ℕ). sought_behind [] (tip ks)) (sym (no_trail c.args.at.0 c.args.op)))
 
 pub loop-k-preserved : goal.loop-k-preserved
 loop-k-preserved c =
@@ -25,7 +26,8 @@ loop-k-preserved c =
       | then-is_next+in_ok-push w ↦
           let so = walks_on c.args.journal.now c.loop-k.k c.index-journal-k.result c.args.at.0 c.args.op at
           (ap (λ (x : Sought). is_next c.args.at.0 c.args.op x c.index-journal-k.result) (sym c.loop-k.invariant.1) ∙ test ∙ w.if-is_next.true) in (
-            ap (λ (v : Vec ℕ Global). v.items) w.trail-is ∙ w.in_ok-push.ensures.items ∙ ap (λ (ks : List ℕ). ks ++ c.loop-k.k ∷ []) c.loop-k.invariant.0 ∙ sym so.0,
+            ap (λ (v : Vec ℕ Global). v.items) w.trail-is ∙ w.in_ok-push.ensures.items ∙ ap (λ (ks : List ℕ). ks ++ c.loop-k.k ∷ []) c.loop-k.invariant.0
+                ∙ sym so.0,
             w.sought-is ∙ w.behind-sought.ensures ∙ sym so.1,
           )
       | else-is_next w ↦
