@@ -1,6 +1,6 @@
 //! What goes out of a frame that stays in the buffer in which it came.
 ghost use Rattle.std.specs.Prelude.{◌≡◌};
-ghost use Rattle.cip_module.specs.Reactions.{filled_body, filled};
+ghost use Rattle.cip_module.specs.Reactions.{bytes_in, filled_body, filled};
 
 use crate::event::{Body, Output};
 use cip_base::Bytes;
@@ -32,6 +32,17 @@ pub enum Reaction {
 }
 
 impl Body {
+    /// Its bytes.
+    pub fn into_bytes(self) -> Bytes
+        ensures { result ≡ bytes_in self }
+    {
+        match self {
+            Body::Request { number: _, bytes } => bytes,
+            Body::Reply { number: _, bytes } => bytes,
+            Body::Data { id: _, bytes } => bytes,
+        }
+    }
+
     /// The same body with these bytes.
     pub fn filled(self, bytes: Bytes) -> Body
         ensures { result ≡ filled_body self bytes }
