@@ -2,11 +2,11 @@
 ghost use Rattle.std.specs.Prelude.{◌≡◌};
 ghost use Rattle.cip_base.specs.Words.{Octets};
 ghost use Rattle.cip_module.specs.declared.event.Output.{Output as Outputs};
-ghost use Rattle.cip_module.specs.Reactions.{Becomes, bytes_in};
+ghost use Rattle.cip_module.specs.Reactions.{Becomes};
 ghost use Rattle.cip_indexed.specs.PutOut.{CanPutOut, IsPutOut};
 
 use cip_base::Bytes;
-use cip_module::{Body, Edit, Output, Reaction};
+use cip_module::{Edit, Output, Reaction};
 use cip_rewrite::{
     forward_close_bytes, forward_open_bytes, forward_unconnected_bytes, success_up_bytes,
     unwrap_bytes,
@@ -29,13 +29,13 @@ fn edited(came: Bytes, edit: Edit) -> Bytes
     Bytes::of(bytes)
 }
 
-/// What a reaction to this body puts out. It takes no memory.
-pub(crate) fn put_out(reaction: Reaction, body: Body) -> Output
-    requires { CanPutOut (bytes_in body) reaction }
-    ensures { (output : Outputs) → IsPutOut (bytes_in body) reaction output → result ≡ output }
+/// What a reaction to these bytes puts out. It takes no memory.
+pub(crate) fn put_out(reaction: Reaction, came: Bytes) -> Output
+    requires { CanPutOut came reaction }
+    ensures { (output : Outputs) → IsPutOut came reaction output → result ≡ output }
 {
     match reaction {
         Reaction::Whole(output) => output,
-        Reaction::Edited { output, edit } => output.filled(edited(body.into_bytes(), edit)),
+        Reaction::Edited { output, edit } => output.filled(edited(came, edit)),
     }
 }

@@ -2,14 +2,17 @@
 //! the buffer in which it came.
 ghost use Rattle.std.specs.Prelude.{◌≡◌, IfOk};
 ghost use Rattle.cip_module.specs.declared.config.ModuleKind.{ModuleKind as Kind};
-ghost use Rattle.cip_module.specs.declared.event.Event.TheVariants.{Frame};
+ghost use Rattle.cip_module.specs.declared.event.Event.TheVariants as events;
+ghost use Rattle.cip_module.specs.declared.event.Command.TheVariants.{Enter};
 ghost use Rattle.cip_module.specs.State.{initial_state};
 ghost use Rattle.cip_module.specs.Steps.{IsStep, IsStepFault};
 ghost use Rattle.cip_indexed.specs.Indexed.{config_of_indexed, state_of_indexed};
 
 use crate::edited::put_out;
-use cip_base::{Address, NoMemory, PortNumber};
-use cip_module::{Body, Event, Module, ModuleConfig, ModuleKind, Node, Output, StepFault, Tables};
+use cip_base::{Address, Bytes, NoMemory, PortNumber};
+use cip_module::{
+    Body, Command, Event, Module, ModuleConfig, ModuleKind, Node, Output, StepFault, Tables,
+};
 use std::alloc::Global;
 
 /// A module that originates, routes and answers. What goes on of a message, and what goes up, is
@@ -39,10 +42,10 @@ impl IndexedModule {
         body: Body,
     ) -> Result<Vec<Output>, StepFault>
         ensures ok { IfOk result (λ outputs. IsStep (config_of_indexed self.old)
-            (state_of_indexed self.old) (Frame port from body) (state_of_indexed self.new)
+            (state_of_indexed self.old) (events.Frame port from body) (state_of_indexed self.new)
             outputs.items) }
         ensures fault { IsStepFault (config_of_indexed self.old) (state_of_indexed self.old)
-            (Frame port from body) (state_of_indexed self.new) result }
+            (events.Frame port from body) (state_of_indexed self.new) result }
         ensures config { config_of_indexed self.new ≡ config_of_indexed self.old }
     {
         let Ok(mut outputs) = Vec::with_capacity(self.alloc, 1) else {
@@ -50,10 +53,44 @@ impl IndexedModule {
         };
         match self.node.react(port, &from, &body) {
             Ok(reaction) => {
-                outputs.push_reserved(put_out(reaction, body));
+                outputs.push_reserved(put_out(reaction, body.into_bytes()));
                 Ok(outputs)
             }
             Err(_) => Err(StepFault::NoMemory(Event::Frame { port, from, body })),
+        }
+    }
+}
+
+impl IndexedModule {
+    // An Enter: its bytes go on, or it comes back whole.
+    fn enter(&mut self, of: u32, bytes: Bytes) -> Result<Vec<Output>, StepFault>
+        ensures ok { IfOk result (λ outputs. IsStep (config_of_indexed self.old)
+            (state_of_indexed self.old) (events.Command (Enter of bytes))
+            (state_of_indexed self.new) outputs.items) }
+        ensures fault { IsStepFault (config_of_indexed self.old) (state_of_indexed self.old)
+            (events.Command (Enter of bytes)) (state_of_indexed self.new) result }
+        ensures config { config_of_indexed self.new ≡ config_of_indexed self.old }
+    {
+        let Ok(mut outputs) = Vec::with_capacity(self.alloc, 1) else {
+            return Err(StepFault::NoMemory(Event::Command(Command::Enter { of, bytes })));
+        };
+        let reaction = self.node.react_to_enter(of, bytes.as_slice());
+        outputs.push_reserved(put_out(reaction, bytes));
+        Ok(outputs)
+    }
+
+    // A command.
+    fn command(&mut self, command: Command) -> Result<Vec<Output>, StepFault>
+        ensures ok { IfOk result (λ outputs. IsStep (config_of_indexed self.old)
+            (state_of_indexed self.old) (events.Command command) (state_of_indexed self.new)
+            outputs.items) }
+        ensures fault { IsStepFault (config_of_indexed self.old) (state_of_indexed self.old)
+            (events.Command command) (state_of_indexed self.new) result }
+        ensures config { config_of_indexed self.new ≡ config_of_indexed self.old }
+    {
+        match command {
+            Command::Enter { of, bytes } => self.enter(of, bytes),
+            other => self.node.step(Event::Command(other)),
         }
     }
 }
@@ -77,7 +114,8 @@ impl Module for IndexedModule {
     fn step(&mut self, event: Event) -> Result<Vec<Output>, StepFault> {
         match event {
             Event::Frame { port, from, body } => self.frame(port, from, body),
-            other => self.node.step(other),
+            Event::Command(command) => self.command(command),
+            Event::Tick(by) => self.node.step(Event::Tick(by)),
         }
     }
 

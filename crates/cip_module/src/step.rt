@@ -8,12 +8,13 @@ ghost use Rattle.cip_module.specs.Code.Node.{state_of_node};
 ghost use Rattle.cip_module.specs.Code.Does.{Handles, HandlesAs};
 ghost use Rattle.cip_module.specs.Code.Reacts.{Reacts};
 ghost use Rattle.cip_module.specs.Reactions.{bytes_in, PutsOut};
-ghost use Rattle.cip_module.specs.declared.event.Event.TheVariants.{Frame};
+ghost use Rattle.cip_module.specs.declared.event.Event.TheVariants as events;
+ghost use Rattle.cip_module.specs.declared.event.Command.TheVariants.{Enter};
 
 use crate::contract::StepFault;
 use crate::event::{Body, Command, Event, Output};
 use crate::node::Node;
-use crate::reaction::Reaction;
+use crate::reaction::{Edit, Reaction};
 use crate::ticks::TickFault;
 use cip_base::{Address, NoMemory, PortNumber};
 use cip_unconnected::UnconnectedView;
@@ -122,12 +123,29 @@ impl Node {
         body: &Body,
     ) -> Result<Reaction, NoMemory>
         ensures done { IfOk result (λ reaction. PutsOut (bytes_in body.now) reaction (λ output.
-            IsStep self.old.config (state_of_node self.old) (Frame port from.now body.now)
+            IsStep self.old.config (state_of_node self.old) (events.Frame port from.now body.now)
             (state_of_node self.new) (output ∷ []))) }
         ensures same { OnErr result (state_of_node self.new ≡ state_of_node self.old) }
         ensures config { self.new.config ≡ self.old.config }
     {
         self.frame_in_place(port, from, body)
+    }
+
+    /// An Enter, its bytes left where they are: nothing changes, and the output is that of the
+    /// routing table, once the bytes of the command stand in it.
+    pub fn react_to_enter(&self, of: u32, bytes: &[u8]) -> Reaction
+        ensures { PutsOut bytes.now result (λ output. IsStep self.now.config
+            (state_of_node self.now) (events.Command
+            (Enter of bytes.now)) (state_of_node self.now)
+            (output ∷ [])) }
+    {
+        match self.entered(of, bytes) {
+            Ok(output) => Reaction::Edited {
+                output,
+                edit: Edit::AsTheyCame,
+            },
+            Err(fault) => Reaction::Whole(Output::Refused(fault)),
+        }
     }
 
     /// One event, as the contract of a module says.
