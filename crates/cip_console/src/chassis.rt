@@ -2,6 +2,7 @@
 use crate::console::{ConsoleFault, run};
 use crate::source::{Sink, Source};
 use cip_base::NoMemory;
+use cip_indexed::IndexedModule;
 use cip_module::{AdapterModule, Module, ModuleConfig, ModuleKind, PlainModule};
 use cip_topology::{CHASSIS, Topology, load};
 use std::alloc::Global;
@@ -44,6 +45,14 @@ pub fn run_chassis<R: Source, W: Sink>(
             }
             ModuleKind::Adapter => {
                 let Ok(boxed) = Box::new(alloc, AdapterModule::new(alloc, config)?) else {
+                    return Err(ConsoleFault::NoMemory);
+                };
+                if modules.push(boxed).is_err() {
+                    return Err(ConsoleFault::NoMemory);
+                }
+            }
+            ModuleKind::Indexed => {
+                let Ok(boxed) = Box::new(alloc, IndexedModule::new(alloc, config)?) else {
                     return Err(ConsoleFault::NoMemory);
                 };
                 if modules.push(boxed).is_err() {
