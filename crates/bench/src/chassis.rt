@@ -1,6 +1,7 @@
 //! The modules of the bench: a scanner S, the bridges A and B behind it, and behind these the
 //! adapter E.
 use cip_base::{Address, Bytes, NoMemory, PortNumber};
+use cip_indexed::IndexedModule;
 use cip_module::{
     AdapterModule, Assemblies, Event, LegalAddresses, Module, ModuleConfig, ModuleKind,
     ModuleSettings, Output, PlainModule, PortConfig, Ports, StepFault, Tables,
@@ -120,8 +121,29 @@ const ADAPTER: Device = Device {
     ..SCANNER
 };
 
-/// The device of this name, with the settings that a topology gives it where it says nothing.
-pub fn device_of(name: &str) -> Option<Device> {
+/// Of which kind the scanner and the bridges are. The adapter is one whatever they are.
+#[derive(Clone, Copy, Debug)]
+pub enum Kinds {
+    /// Each is plain.
+    Plain,
+    /// Each is indexed.
+    Indexed,
+    /// The bridge A is indexed, among plain ones.
+    OneIndexed,
+}
+
+impl Kinds {
+    // Whether this device is indexed.
+    fn is_indexed(self, device: &Device) -> bool {
+        match self {
+            Kinds::Plain => false,
+            Kinds::Indexed => device.kind == ModuleKind::Plain,
+            Kinds::OneIndexed => device.name == BRIDGE.name,
+        }
+    }
+}
+
+fn plain_device_of(name: &str) -> Option<Device> {
     match name {
         "S" => Some(SCANNER),
         "A" => Some(BRIDGE),
@@ -129,6 +151,15 @@ pub fn device_of(name: &str) -> Option<Device> {
         "E" => Some(ADAPTER),
         _ => None,
     }
+}
+
+/// The device of this name, with the settings that a topology gives it where it says nothing.
+pub fn device_of(name: &str, kinds: Kinds) -> Option<Device> {
+    let mut device = plain_device_of(name)?;
+    if kinds.is_indexed(&device) {
+        device.kind = ModuleKind::Indexed;
+    }
+    Some(device)
 }
 
 impl Device {
@@ -213,11 +244,12 @@ fn config(alloc: Global, device: &Device) -> Option<ModuleConfig> {
     config.copy(alloc).ok()
 }
 
-/// A module of either kind.
+/// A module of any kind.
 #[derive(Drop)]
 pub enum AnyModule {
     Plain(PlainModule),
     Adapter(AdapterModule),
+    Indexed(IndexedModule),
 }
 
 impl AnyModule {
@@ -226,6 +258,7 @@ impl AnyModule {
         match self {
             AnyModule::Plain(module_) => module_.step(event),
             AnyModule::Adapter(module_) => module_.step(event),
+            AnyModule::Indexed(module_) => module_.step(event),
         }
     }
 
@@ -234,6 +267,7 @@ impl AnyModule {
         match self {
             AnyModule::Plain(module_) => module_.tables(),
             AnyModule::Adapter(module_) => module_.tables(),
+            AnyModule::Indexed(module_) => module_.tables(),
         }
     }
 }
@@ -245,5 +279,6 @@ pub fn make(alloc: Global, device: &Device) -> Option<AnyModule> {
     match config.settings().kind {
         ModuleKind::Plain => Some(AnyModule::Plain(PlainModule::new(alloc, config).ok()?)),
         ModuleKind::Adapter => Some(AnyModule::Adapter(AdapterModule::new(alloc, config).ok()?)),
+        ModuleKind::Indexed => Some(AnyModule::Indexed(IndexedModule::new(alloc, config).ok()?)),
     }
 }

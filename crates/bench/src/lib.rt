@@ -9,5 +9,5 @@ mod player;
 mod told;
 mod words;
 
-pub use chassis::{AnyModule, Device, device_of, make};
+pub use chassis::{AnyModule, Device, Kinds, device_of, make};
 pub use player::{play, play_open};

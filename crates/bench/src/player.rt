@@ -20,7 +20,7 @@
 //! An output is written as in a transcript. A step that did not happen has `clock full` or `no
 //! memory` in its place.
 use crate::asked::event;
-use crate::chassis::{AnyModule, Device, NAMES, device_of, make};
+use crate::chassis::{AnyModule, Device, Kinds, NAMES, device_of, make};
 use crate::opened::OPENED;
 use crate::told::{Shown, Told, fault_text};
 use crate::words::Words;
@@ -28,6 +28,9 @@ use cip_module::{Event, Output};
 use std::alloc::Global;
 use std::fmt::Write;
 use std::test::Fail;
+
+/// The kinds of modules for which each script is played.
+const KINDS: [Kinds; 3] = [Kinds::Plain, Kinds::Indexed, Kinds::OneIndexed];
 
 /// A module under its name.
 #[derive(Drop)]
@@ -41,6 +44,7 @@ struct Named {
 #[derive(Drop)]
 struct Bench {
     alloc: Global,
+    kinds: Kinds,
     modules: Vec<Named>,
     given: String,
     told: String,
@@ -67,10 +71,10 @@ fn make_named(alloc: Global, device: &Device) -> Option<Named> {
     })
 }
 
-fn all_modules(alloc: Global) -> Option<Vec<Named>> {
+fn all_modules(alloc: Global, kinds: Kinds) -> Option<Vec<Named>> {
     let mut modules = Vec::new(alloc);
     for name in NAMES {
-        let device = device_of(name)?;
+        let device = device_of(name, kinds)?;
         modules.push(make_named(alloc, &device)?).ok()?;
     }
     Some(modules)
@@ -116,10 +120,11 @@ fn line_at(alloc: Global, line: &str, turn: u16) -> Option<String> {
 }
 
 impl Bench {
-    fn new(alloc: Global) -> Option<Bench> {
+    fn new(alloc: Global, kinds: Kinds) -> Option<Bench> {
         Some(Bench {
             alloc,
-            modules: all_modules(alloc)?,
+            kinds,
+            modules: all_modules(alloc, kinds)?,
             given: String::new(alloc),
             told: String::new(alloc),
             turns: 0,
@@ -128,7 +133,7 @@ impl Bench {
 
     // `M with SETTING NUMBER`
     fn make_anew(&mut self, name: &str, words: &mut Words) -> Option<()> {
-        let device = device_of(name)?.with(words.word()?, words.u64()?)?;
+        let device = device_of(name, self.kinds)?.with(words.word()?, words.u64()?)?;
         self.modules.push(make_named(self.alloc, &device)?).ok()
     }
 
@@ -185,7 +190,7 @@ impl Bench {
     // That the outputs are those that were told.
     fn check(&mut self) -> Result<(), Fail> {
         if self.given.as_str() != self.told.as_str() {
-            return Err(Fail::new(format_args!("gave {}", self.given)));
+            return Err(Fail::new(format_args!("{:?} gave {}", self.kinds, self.given)));
         }
         self.given.clear();
         self.told.clear();
@@ -216,15 +221,21 @@ impl Bench {
     }
 }
 
-/// Plays a script on fresh modules; the failure tells the outputs that differ.
+/// Plays a script on fresh modules of each kind; the failure tells the outputs that differ.
 pub fn play(alloc: Global, script: &str) -> Result<(), Fail> {
-    let mut bench = Bench::new(alloc).ok_or("no bench")?;
-    bench.play(script)
+    for kinds in KINDS {
+        let mut bench = Bench::new(alloc, kinds).ok_or("no bench")?;
+        bench.play(script)?;
+    }
+    Ok(())
 }
 
 /// Plays a script on modules along which the scanner opened a connection to the adapter.
 pub fn play_open(alloc: Global, script: &str) -> Result<(), Fail> {
-    let mut bench = Bench::new(alloc).ok_or("no bench")?;
-    bench.play(OPENED)?;
-    bench.play(script)
+    for kinds in KINDS {
+        let mut bench = Bench::new(alloc, kinds).ok_or("no bench")?;
+        bench.play(OPENED)?;
+        bench.play(script)?;
+    }
+    Ok(())
 }

@@ -5,6 +5,7 @@ ghost use Rattle.cip_console.specs.Outcome.{WroteOf};
 use crate::console::{ConsoleFault, run};
 use crate::source::{Sink, Source};
 use cip_base::NoMemory;
+use cip_indexed::IndexedModule;
 use cip_module::{AdapterModule, Module, ModuleConfig, ModuleKind, PlainModule};
 use cip_topology::{CHASSIS, Topology, load};
 use std::alloc::Global;
@@ -61,6 +62,17 @@ pub fn run_new<R: Source, W: Sink>(
             }
             ModuleKind::Adapter => {
                 let Ok(module_) = AdapterModule::new(alloc, config) else {
+                    return Err(ConsoleFault::NoMemory);
+                };
+                let Ok(boxed) = Box::new(alloc, module_) else {
+                    return Err(ConsoleFault::NoMemory);
+                };
+                if modules.push(boxed).is_err() {
+                    return Err(ConsoleFault::NoMemory);
+                }
+            }
+            ModuleKind::Indexed => {
+                let Ok(module_) = IndexedModule::new(alloc, config) else {
                     return Err(ConsoleFault::NoMemory);
                 };
                 let Ok(boxed) = Box::new(alloc, module_) else {

@@ -21,6 +21,7 @@ pub mod TellsEach
 pub mod TellsSends
 pub mod TellsOpens
 pub mod TellsCloses
+pub mod InPlace
 pub mod TellsRequests
 pub mod TellsReplies
 pub mod TellsData

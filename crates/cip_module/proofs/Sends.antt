@@ -4,6 +4,8 @@ use Rattle.std.proofs.lemmas.Bool.{eq-eqb}
 use Rattle.cip_open.specs.Open.{Open}
 use Rattle.cip_pending.specs.declared.entry.UpSide.TheVariants.{Local}
 use Rattle.cip_hops.specs.declared.opening.HopUp.TheVariants.{Local as UpLocal}
+use Rattle.cip_hops.specs.declared.opening.HopDown.{HopDown}
+use Rattle.cip_hops.specs.declared.opening.HopDown.TheVariants.{Link as DownLink, End}
 use Rattle.cip_hops.specs.declared.hop.Side.TheVariants.{Down}
 use Rattle.cip_hops.specs.declared.hop.Hop.{Hop}
 use Rattle.cip_hops.specs.Hops.{hop_at}
@@ -11,7 +13,8 @@ use Rattle.cip_module.specs.declared.config.ModuleSettings.{ModuleSettings}
 use Rattle.cip_module.specs.declared.event.Output.{Output}
 use Rattle.cip_module.specs.declared.command_rows.CommandRow.TheVariants.{OpUsed, WrongSize, Taken}
 use Rattle.cip_module.specs.OpenRows.{open_row}
-use Rattle.cip_module.specs.Effects.{Effect, Passes, datum_by, passed}
+use Rattle.cip_module.specs.Effects.{Effect, Passes, datum_by, datum_down, passed}
+use Rattle.cip_module.specs.Reactions.{filled}
 use Rattle.cip_module.specs.Table.{with_spending, refused_effects, open_effects, open_command_effects, enter_effects}
 use Rattle.cip_module.specs.Code.Does.{Does, DoesOrNot, one_output}
 use Rattle.cip_module.specs.State.{State, is_spent}
@@ -24,6 +27,11 @@ enters config s hop bytes out sized at e =
     subst (λ b. Does config s (refused_effects (cond b Taken WrongSize) (Passes hop.opening.triad Down bytes ∷ [])) s (out ∷ []))
     (sym (eq-eqb (length bytes) hop.opening.ot_size sized))
     (record { state = refl; out = ap (λ x. passed Down x bytes ++ []) at ∙ ap (λ (o : Output). o ∷ []) (sym e) })
+
+-- once it has its bytes
+pub down_filled : (hop : Hop) (down : HopDown) (old bytes : List ℕ) → filled (datum_down hop down old) bytes ≡ datum_down hop down bytes
+down_filled hop (DownLink port address) old bytes = refl
+down_filled hop (End config consume produce) old bytes = refl
 
 abbrev opened_effects : ModuleSettings → State → ℕ → Open → List Effect
 opened_effects config s op o = with_spending (Local op) (open_effects s (Local op) o (open_row config s (UpLocal op) o))

@@ -91,6 +91,14 @@ down_forwards p c (End config consume produce) port address rest e =
     let tested = past (is_some (hop_of c.path)) (Refuses PathDiffersFromTheHops) ClosedAtTheEnd (Forwarded port address rest) e (λ other. cc) in
     absurd (let other : ClosedAtTheEnd ≡ Forwarded port address rest = tested.1 in cc)
 
+-- what is left of its path
+pub close_forwards : (s : State) (sender : UpSide) (c : Close) (port : ℕ) (address rest : List ℕ) → close_row s sender c ≡ Forwarded port address rest
+    → (next : HopAt) × (hop_of c.path ≡ Some next) × (rest ≡ next.rest) × (2 ≤ c.fields.timing.ticks)
+close_forwards s sender c port address rest e =
+    let h = close_stands s sender c (Forwarded port address rest) e (λ other. cc) in
+    let g = down_forwards s.pendings c h.0.opening.down port address rest h.3 in
+    (g.0, g.2, g.5, g.6)
+
 -- ---- the group
 
 close_told : (config : ModuleSettings) (s : State) (event : Event) (up sender : UpSide) (c : Close) (row : CloseRow) → AsksClose config s event up sender c

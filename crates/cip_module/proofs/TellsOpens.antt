@@ -63,7 +63,7 @@ here_forwards s up o port address rest e =
     ends_forwards s.hops o row port address rest tested.1
 
 -- the link, and room for the connection
-abbrev GoesOn : ModuleSettings → State → HopUp → Open → ℕ → List ℕ → List ℕ → Type 0
+abbrev pub GoesOn : ModuleSettings → State → HopUp → Open → ℕ → List ℕ → List ℕ → Type 0
 GoesOn config s up o port address rest = LeadsOn config s o.fields.timing o.path port address rest × (refusal s.hops o.fields.triad (ids_on up) ≡ None)
 
 on_forwards : (config : ModuleSettings) (s : State) (up : HopUp) (o : Open) (hop : HopAt) (x : Option LinkRefusal) (port : ℕ) (address rest : List ℕ)
@@ -100,7 +100,7 @@ key_forwards : (config : ModuleSettings) (s : State) (up : HopUp) (o : Open) (x 
 key_forwards config s up o (Some part) port address rest e = absurd (cc)
 key_forwards config s up o None port address rest e = hop_forwards config s up o (hop_of o.path) port address rest refl e
 
-open_forwards : (config : ModuleSettings) (s : State) (up : HopUp) (o : Open) (port : ℕ) (address rest : List ℕ)
+pub open_forwards : (config : ModuleSettings) (s : State) (up : HopUp) (o : Open) (port : ℕ) (address rest : List ℕ)
     → open_row config s up o ≡ Forwarded port address rest
     → (map.get s.hops.held o.fields.triad ≡ None) × GoesOn config s up o port address rest
 open_forwards config s up o port address rest e =

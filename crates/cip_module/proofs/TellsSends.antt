@@ -94,7 +94,7 @@ embedded_sends config s u (Ok embedded) port address rest read e =
     (Forwarded port address rest) allowed.1 (λ other. cc) in
     (embedded, read, key_sends config s u (leading_mismatch config (segments_of u.route)) port address rest routed.1)
 
-sent_on : (config : ModuleSettings) (s : State) (u : Unconnected) (port : ℕ) (address rest : List ℕ)
+pub sent_on : (config : ModuleSettings) (s : State) (u : Unconnected) (port : ℕ) (address rest : List ℕ)
     → unconnected_row config s.pendings u ≡ Forwarded port address rest
     → (embedded : Request) × (request_at u.request ≡ Ok embedded) × LeadsOn config s u.timing u.route port address rest
 unfolding unconnected_row

@@ -3,7 +3,7 @@ use Rattle.std.specs.Prelude.{ℕ, ◌^◌, Bool, true, false, not, ◌&&◌, �
 use Rattle.std.specs.Prelude.{Option}
 use Rattle.std.specs.List.{list_all, list_any}
 use Rattle.cip_module.specs.declared.config.ModuleKind.{ModuleKind}
-use Rattle.cip_module.specs.declared.config.ModuleKind.TheVariants.{Plain, Adapter}
+use Rattle.cip_module.specs.declared.config.ModuleKind.TheVariants.{Plain, Adapter, Indexed}
 use Rattle.cip_module.specs.declared.config.LegalAddresses.{LegalAddresses}
 use Rattle.cip_module.specs.declared.config.LegalAddresses.TheVariants.{Byte, Text}
 use Rattle.cip_module.specs.declared.config.PortConfig.{PortConfig}
@@ -44,10 +44,11 @@ abbrev pub numbers_differ : List PortConfig → Bool
 numbers_differ [] = true
 numbers_differ (p ∷ ps) = not (list_any (has_number p.number) ps) && numbers_differ ps
 
--- a plain module has 1 to 8 ports, an adapter one
+-- a module that routes has 1 to 8 ports, an adapter one
 abbrev pub most_ports : ModuleKind → ℕ
 most_ports Plain = 8
 most_ports Adapter = 1
+most_ports Indexed = 8
 
 abbrev pub are_ports : ModuleKind → List PortConfig → Bool
 are_ports kind ps = nat_le 1 (length ps)
@@ -84,3 +85,4 @@ port_of config q = find (has_number q) config.ports
 abbrev pub is_adapter : ModuleKind → Bool
 is_adapter Plain = false
 is_adapter Adapter = true
+is_adapter Indexed = false

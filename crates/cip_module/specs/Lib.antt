@@ -21,6 +21,7 @@ pub mod Paired
 pub mod Rooms
 pub mod Rising
 pub mod Views
+pub mod Reactions
 pub mod Code
 pub mod Histories
 pub mod Births

@@ -6,9 +6,13 @@ ghost use Rattle.cip_close.specs.CloseAt.{close_at};
 ghost use Rattle.cip_pending.specs.Pendings.{refusal};
 ghost use Rattle.cip_module.specs.Answers.{close_failed};
 ghost use Rattle.cip_module.specs.CloseRows.{close_row, Forwarded, ClosedAtTheEnd};
-ghost use Rattle.cip_module.specs.Table.{close_on, close_effects, close_data_effects, unread_close_bytes, with_spending};
+ghost use Rattle.cip_pending.specs.declared.entry.Kind.TheVariants.{Closing};
+ghost use Rattle.cip_module.specs.Effects.{Removes, Forwards};
+ghost use Rattle.cip_module.specs.Table.{close_on, close_below, close_effects, close_data_effects, unread_close_bytes, with_spending};
+ghost use Rattle.cip_module.specs.Code.Decisions.{close_row_of, CloseLeads};
+ghost use Rattle.cip_module.specs.Code.Reacts.{with_bytes};
 ghost use Rattle.cip_module.specs.Code.Ready.{CanSpend, IsAsked};
-ghost use Rattle.cip_module.specs.Code.Does.{Handles};
+ghost use Rattle.cip_module.specs.Code.Does.{Handles, Handled};
 ghost use Rattle.cip_module.specs.Code.Node.{state_of_node};
 
 use crate::close_rows::{CloseDecision, unread_row};
@@ -43,7 +47,7 @@ pub(crate) fn close_failed(
 
 // The failure of a Forward_Close that cannot be read: nothing where its fixed part is cut, else its
 // triad and its path size.
-fn unread_close(alloc: Global, data_: &[u8], fault: DataFault) -> Result<Bytes, NoMemory>
+pub(crate) fn unread_close(alloc: Global, data_: &[u8], fault: DataFault) -> Result<Bytes, NoMemory>
     ensures { IfOk result (λ b. b ≡ unread_close_bytes data_.now fault) }
 {
     let status = unread_row(data_, fault).status();
@@ -72,7 +76,42 @@ fn close_on(alloc: Global, view: &CloseView<'_>, rest: PathView<'_>) -> Result<B
 }
 
 impl Node {
-    // The connection is removed, and the close goes on by a link.
+    /// The connection is removed, and its Forward_Close goes on by a link as these bytes.
+    pub(crate) fn close_below(
+        &mut self,
+        up: UpSide,
+        view: &CloseView<'_>,
+        port: PortNumber,
+        address: Address,
+        bytes: Bytes,
+    ) -> Output
+        requires spend { CanSpend self.old up }
+        requires pending { refusal self.old.pendings ≡ None }
+        ensures { Handled self.old self.new (with_spending up (Removes view.now.fields.triad
+            ∷ Forwards (with_bytes (close_below up (close_of view.now) port address []) bytes)
+            (Closing view.now.fields.triad) ∷ [])) (result ∷ []) }
+    {
+        let timing = view.fields.timing;
+        let deadline = self.clock.after_ticks(timing.tick % 16, timing.ticks);
+        self.spend_for(&up);
+        self.removes(&view.fields.triad);
+        let entry = Entry {
+            up,
+            port,
+            address: address.copy(),
+            deadline,
+            words: view.path.words(),
+            kind: Kind::Closing(view.fields.triad),
+        };
+        let number = self.forwards(entry);
+        Output::Send {
+            port,
+            to: address,
+            body: Body::Request { number, bytes },
+        }
+    }
+
+    // The close goes on by a link.
     fn close_by(
         &mut self,
         up: UpSide,
@@ -89,24 +128,7 @@ impl Node {
             (Forwarded port address rest.entry.bytes.now))) result }
     {
         let bytes = close_on(self.alloc, view, rest)?;
-        let timing = view.fields.timing;
-        let deadline = self.clock.after_ticks(timing.tick % 16, timing.ticks);
-        self.spend_for(&up);
-        self.removes(&view.fields.triad);
-        let entry = Entry {
-            up,
-            port,
-            address: address.copy(),
-            deadline,
-            words: view.path.words(),
-            kind: Kind::Closing(view.fields.triad),
-        };
-        let number = self.forwards(entry);
-        Ok(Output::Send {
-            port,
-            to: address,
-            body: Body::Request { number, bytes },
-        })
+        Ok(self.close_below(up, view, port, address, bytes))
     }
 
     // The connection ends here, and is removed.
@@ -123,20 +145,19 @@ impl Node {
         Ok(reply_to(up, bytes))
     }
 
-    /// A Forward_Close that was read. `sender` is whom it has to come from: a node, or the op of
-    /// the Open.
-    pub(crate) fn close(
+    /// A Forward_Close of which the row was found.
+    pub(crate) fn by_close_row(
         &mut self,
         up: UpSide,
-        sender: &UpSide,
         view: &CloseView<'_>,
+        decision: CloseDecision<'_>,
     ) -> Result<Output, NoMemory>
         requires spend { CanSpend self.old up }
+        requires leads { CloseLeads self.old.pendings view.now.fields.timing decision }
         ensures { Handles self.old self.new (with_spending up
-            (close_effects up (close_of view.now)
-            (close_row (state_of_node self.old) sender.now (close_of view.now)))) result }
+            (close_effects up (close_of view.now) (close_row_of decision.entry))) result }
     {
-        match self.close_row(sender, view) {
+        match decision {
             CloseDecision::Refuses(refusal) => {
                 let words = view.path.words();
                 let bytes = close_failed(self.alloc, refusal.status(), view.fields.triad, words)?;
@@ -150,6 +171,23 @@ impl Node {
             } => self.close_by(up, view, port, address, rest),
             CloseDecision::ClosedAtTheEnd => self.close_at_end(up, view.fields.triad),
         }
+    }
+
+    /// A Forward_Close that was read. `sender` is whom it has to come from: a node, or the op of
+    /// the Open.
+    pub(crate) fn close(
+        &mut self,
+        up: UpSide,
+        sender: &UpSide,
+        view: &CloseView<'_>,
+    ) -> Result<Output, NoMemory>
+        requires spend { CanSpend self.old up }
+        ensures { Handles self.old self.new (with_spending up
+            (close_effects up (close_of view.now)
+            (close_row (state_of_node self.old) sender.now (close_of view.now)))) result }
+    {
+        let decision = self.close_row(sender, view);
+        self.by_close_row(up, view, decision)
     }
 
     /// A Forward_Close, by its data.

@@ -1,5 +1,5 @@
 //! The command group: what a module's own application asks for.
-ghost use Rattle.std.specs.Prelude.{◌≡◌, ℕ, ◌≤◌, List, false, length};
+ghost use Rattle.std.specs.Prelude.{◌≡◌, ◌∷◌, [], ℕ, ◌≤◌, List, false, length};
 ghost use Rattle.std.specs.Option.{option_to_list};
 ghost use Rattle.cip_unconnected.specs.Unconnected.{unconnected_bytes};
 ghost use Rattle.cip_unconnected.specs.Reading.{unconnected_of};
@@ -11,10 +11,12 @@ ghost use Rattle.cip_module.specs.UnconnectedRows.{unconnected_row};
 ghost use Rattle.cip_module.specs.Table.{open_of, send_effects, open_command_effects, close_command_effects, enter_effects, set_effects, unconnected_effects, with_spending};
 ghost use Rattle.cip_module.specs.Code.Node.{state_of_node};
 ghost use Rattle.cip_module.specs.Code.Does.{Handled, Handles};
+ghost use Rattle.cip_module.specs.Code.Reacts.{entered_output};
 
 use crate::command_rows::CommandRow;
 use crate::datum_rows::datum_down;
 use crate::event::{OpenParams, Output, Refused};
+use crate::messages::no_bytes;
 use crate::node::Node;
 use cip_base::{Bytes, NoMemory, Timing, Triad};
 use cip_close::{CloseFields, CloseView};
@@ -136,20 +138,34 @@ impl Node {
         self.close(UpSide::Local { op }, &sender, &view)
     }
 
-    /// An Enter: a datum by the connection that the op opened.
+    /// What an Enter puts out, a datum by the connection that the op opened, which lacks its bytes;
+    /// or why it is refused.
+    pub(crate) fn entered(&self, of: u32, bytes: &[u8]) -> Result<Output, Refused>
+        ensures { Handled self.now self.now (enter_effects bytes.now (hop_by_op self.now.hops of))
+            (entered_output bytes.now result ∷ []) }
+    {
+        self.hops.is_within();
+        let Some(hop) = self.hops.by_op(of) else {
+            return Err(Refused::NotOpen);
+        };
+        if bytes.len() != usize::from(hop.opening.ot_size) {
+            return Err(Refused::WrongSize);
+        }
+        Ok(datum_down(hop, no_bytes(self.alloc)))
+    }
+
+    /// An Enter.
     pub(crate) fn enter(&self, of: u32, bytes: &Bytes) -> Result<Output, NoMemory>
         ensures { Handles self.now self.now (enter_effects bytes.now (hop_by_op self.now.hops of))
             result }
     {
-        self.hops.is_within();
-        let Some(hop) = self.hops.by_op(of) else {
-            return Ok(Output::Refused(Refused::NotOpen));
-        };
-        if bytes.as_slice().len() != usize::from(hop.opening.ot_size) {
-            return Ok(Output::Refused(Refused::WrongSize));
+        match self.entered(of, bytes.as_slice()) {
+            Ok(output) => {
+                let copied = Bytes::of(Vec::from_slice(self.alloc, bytes.as_slice())?);
+                Ok(output.filled(copied))
+            }
+            Err(fault) => Ok(Output::Refused(fault)),
         }
-        let copied = Bytes::of(Vec::from_slice(self.alloc, bytes.as_slice())?);
-        Ok(datum_down(hop, copied))
     }
 
     /// A Set of an assembly, which has no output where it is taken.

@@ -15,6 +15,8 @@ pub enum ModuleKind {
     Plain,
     /// Answers alone: it has one port and sends no request on.
     Adapter,
+    /// As a plain one, but what goes on stays in the buffer in which it came.
+    Indexed,
 }
 
 /// The link addresses that are legal on a link.

@@ -29,8 +29,14 @@ impl Node {
         }
     }
 
-    // The side by which a datum came is watched anew, and its end writes it.
-    fn note_datum(&mut self, triad: &Triad, side: Side, writing: Option<Writing>, bytes: &[u8])
+    /// The side by which a datum came is watched anew, and its end writes it.
+    pub(crate) fn note_datum(
+        &mut self,
+        triad: &Triad,
+        side: Side,
+        writing: Option<Writing>,
+        bytes: &[u8],
+    )
         ensures after { state_of_node self.new ≡ applied self.old.config (state_of_node self.old)
             (Renews triad.now side ∷ written_effects triad.now bytes.now writing) }
         ensures config { self.new.config ≡ self.old.config }
@@ -53,7 +59,7 @@ impl Node {
             (data_row self.old.config (state_of_node self.old) port from.now id bytes.now))
             result }
     {
-        match self.datum_plan(port, from, id, bytes)? {
+        match self.datum_plan(port, from, id, bytes.as_slice()) {
             DatumPlan::Drops(reason) => Ok(Output::Dropped(reason)),
             DatumPlan::Passes {
                 output,
@@ -61,8 +67,9 @@ impl Node {
                 side,
                 writing,
             } => {
+                let copied = Bytes::of(Vec::from_slice(self.alloc, bytes.as_slice())?);
                 self.note_datum(&triad, side, writing, bytes.as_slice());
-                Ok(output)
+                Ok(output.filled(copied))
             }
         }
     }

@@ -1,5 +1,5 @@
 //! Which row of the data group a datum meets, and what goes on.
-ghost use Rattle.std.specs.Prelude.{◌≡◌, ◌∷◌, [], IfOk, OnErr, Some, drop};
+ghost use Rattle.std.specs.Prelude.{◌≡◌, ◌∷◌, [], Some, drop};
 ghost use Rattle.cip_message.specs.Numbers.{word_in};
 ghost use Rattle.cip_hops.specs.declared.hop.Side.TheVariants.{Up, Down};
 ghost use Rattle.cip_hops.specs.Hops.{hop_by_up, hop_by_down};
@@ -10,9 +10,10 @@ ghost use Rattle.cip_module.specs.Code.Plans.{writing_row, written_effects, plan
 ghost use Rattle.cip_module.specs.Code.Node.{state_of_node};
 
 use crate::event::{Body, Dropped, Output};
+use crate::messages::no_bytes;
 use crate::node::Node;
 use crate::ports::port_of;
-use cip_base::{Address, Bytes, NoMemory, PortNumber, Triad};
+use cip_base::{Address, Bytes, PortNumber, Triad};
 use cip_hops::{Hop, HopDown, HopUp, Side};
 use std::alloc::Global;
 
@@ -70,7 +71,8 @@ pub(crate) struct Writing {
 #[derive(Drop)]
 pub(crate) enum DatumPlan {
     Drops(Dropped),
-    /// It goes on as this output, and the side by which it came is watched anew.
+    /// It goes on as this output, which lacks its bytes, and the side by which it came is watched
+    /// anew.
     Passes {
         output: Output,
         triad: Triad,
@@ -135,55 +137,47 @@ fn writing_below(hop: &Hop, bytes: &[u8]) -> Option<Writing>
 }
 
 // From the node above: on by the down side, or into an assembly here.
-fn from_above(alloc: Global, hop: &Hop, bytes: &Bytes) -> Result<DatumPlan, NoMemory>
-    ensures row { IfOk result (λ plan. plan_effects bytes.now plan
-        ≡ datum_effects bytes.now (from_up_row bytes.now hop.now)) }
-    ensures on { IfOk result (PassesBy hop.now bytes.now) }
+fn from_above(alloc: Global, hop: &Hop, bytes: &[u8]) -> DatumPlan
+    ensures row { plan_effects bytes.now result
+        ≡ datum_effects bytes.now (from_up_row bytes.now hop.now) }
+    ensures on { PassesBy hop.now bytes.now result }
 {
-    if bytes.as_slice().len() != usize::from(hop.opening.ot_size) {
-        return Ok(DatumPlan::Drops(Dropped::WrongSize));
+    if bytes.len() != usize::from(hop.opening.ot_size) {
+        return DatumPlan::Drops(Dropped::WrongSize);
     }
-    let copied = Bytes::of(Vec::from_slice(alloc, bytes.as_slice())?);
-    Ok(DatumPlan::Passes {
-        output: datum_down(hop, copied),
+    DatumPlan::Passes {
+        output: datum_down(hop, no_bytes(alloc)),
         triad: hop.opening.triad,
         side: Side::Up,
-        writing: writing_below(hop, bytes.as_slice()),
-    })
+        writing: writing_below(hop, bytes),
+    }
 }
 
 // From the node below: on by the up side, or to the command that opened.
-fn from_below(alloc: Global, hop: &Hop, bytes: &Bytes) -> Result<DatumPlan, NoMemory>
-    ensures row { IfOk result (λ plan. plan_effects bytes.now plan
-        ≡ datum_effects bytes.now (from_down_row bytes.now (Some hop.now))) }
-    ensures on { IfOk result (PassesBy hop.now bytes.now) }
+fn from_below(alloc: Global, hop: &Hop, bytes: &[u8]) -> DatumPlan
+    ensures row { plan_effects bytes.now result
+        ≡ datum_effects bytes.now (from_down_row bytes.now (Some hop.now)) }
+    ensures on { PassesBy hop.now bytes.now result }
 {
-    if bytes.as_slice().len() != usize::from(hop.opening.to_size) {
-        return Ok(DatumPlan::Drops(Dropped::WrongSize));
+    if bytes.len() != usize::from(hop.opening.to_size) {
+        return DatumPlan::Drops(Dropped::WrongSize);
     }
-    let copied = Bytes::of(Vec::from_slice(alloc, bytes.as_slice())?);
-    Ok(DatumPlan::Passes {
-        output: datum_up(hop, copied),
+    DatumPlan::Passes {
+        output: datum_up(hop, no_bytes(alloc)),
         triad: hop.opening.triad,
         side: Side::Down,
         writing: None,
-    })
+    }
 }
 
 impl Node {
     // What becomes of a datum under an id of a port that the module has.
-    fn plan_by_id(
-        &self,
-        port: PortNumber,
-        from: &Address,
-        id: u32,
-        bytes: &Bytes,
-    ) -> Result<DatumPlan, NoMemory>
-        ensures row { IfOk result (λ plan. plan_effects bytes.now plan
+    fn plan_by_id(&self, port: PortNumber, from: &Address, id: u32, bytes: &[u8]) -> DatumPlan
+        ensures row { plan_effects bytes.now result
             ≡ datum_effects bytes.now (id_row bytes.now
             (hop_by_up self.now.hops id port from.now)
-            (hop_by_down self.now.hops id port from.now))) }
-        ensures on { IfOk result (PassesOn self.now.hops bytes.now) }
+            (hop_by_down self.now.hops id port from.now)) }
+        ensures on { PassesOn self.now.hops bytes.now result }
     {
         self.hops.is_within();
         if let Some(hop) = self.hops.by_up(id, port, from) {
@@ -191,7 +185,7 @@ impl Node {
         }
         match self.hops.by_down(id, port, from) {
             Some(hop) => from_below(self.alloc, hop, bytes),
-            None => Ok(DatumPlan::Drops(Dropped::UnknownId)),
+            None => DatumPlan::Drops(Dropped::UnknownId),
         }
     }
 
@@ -202,15 +196,15 @@ impl Node {
         port: PortNumber,
         from: &Address,
         id: u32,
-        bytes: &Bytes,
-    ) -> Result<DatumPlan, NoMemory>
-        ensures row { IfOk result (λ plan. plan_effects bytes.now plan
+        bytes: &[u8],
+    ) -> DatumPlan
+        ensures row { plan_effects bytes.now result
             ≡ datum_effects bytes.now (data_row self.now.config (state_of_node self.now) port
-            from.now id bytes.now)) }
-        ensures on { IfOk result (PassesOn self.now.hops bytes.now) }
+            from.now id bytes.now) }
+        ensures on { PassesOn self.now.hops bytes.now result }
     {
         if port_of(self.config.settings(), port).is_none() {
-            return Ok(DatumPlan::Drops(Dropped::UnknownId));
+            return DatumPlan::Drops(Dropped::UnknownId);
         }
         self.plan_by_id(port, from, id, bytes)
     }

@@ -115,7 +115,7 @@ fn are_ports(kind: ModuleKind, ports: &[PortConfig]) -> bool
     ensures { result ≡ are_ports kind ports.now }
 {
     let most = match kind {
-        ModuleKind::Plain => MAX_PORTS,
+        ModuleKind::Plain | ModuleKind::Indexed => MAX_PORTS,
         ModuleKind::Adapter => 1,
     };
     ports.len() >= 1 && ports.len() <= most && are_each_port(ports) && numbers_differ(ports)

@@ -15,6 +15,7 @@ mod datum_rows;
 mod effects;
 mod event;
 mod first;
+mod in_place;
 mod keys;
 mod laws;
 mod legal;
@@ -27,6 +28,7 @@ mod opens;
 mod plain;
 mod ports;
 mod production;
+mod reaction;
 mod refusals;
 mod replies;
 mod reply_rows;
@@ -57,7 +59,9 @@ pub use laws::{
 };
 pub use legal::{is_legal, is_name};
 pub use lists::{Assemblies, Ports};
+pub use node::Node;
 pub use plain::PlainModule;
+pub use reaction::{Edit, Reaction};
 pub use refusals::{
     CloseRefusal, KeyPart, LinkRefusal, OpenRefusal, RequestRefusal, UnconnectedRefusal,
 };

@@ -1,5 +1,5 @@
 //! What goes on and what goes up.
-ghost use Rattle.std.specs.Prelude.{◌≡◌, ◌≤◌, length, IfOk};
+ghost use Rattle.std.specs.Prelude.{◌≡◌, ◌≤◌, [], length, IfOk};
 ghost use Rattle.cip_unconnected.specs.Reading.{unconnected_of};
 ghost use Rattle.cip_unconnected.specs.Unconnected.{unconnected_bytes};
 ghost use Rattle.cip_module.specs.Effects.{reply_up};
@@ -12,6 +12,13 @@ use cip_pending::UpSide;
 use cip_segment::PathView;
 use cip_unconnected::{UnconnectedView, write_unconnected};
 use std::alloc::Global;
+
+/// No bytes, in the place of those that an output gets later. It takes no memory.
+pub(crate) fn no_bytes(alloc: Global) -> Bytes
+    ensures { result ≡ [] }
+{
+    Bytes::of(Vec::new(alloc))
+}
 
 /// A reply to whom a request came from.
 pub(crate) fn reply_to(up: UpSide, bytes: Bytes) -> Output

@@ -12,16 +12,16 @@ use cip_pending::PendingTable;
 use cip_target::Target;
 use std::alloc::Global;
 
-/// A module that decodes each message and writes what goes on anew.
+/// What a module of each kind keeps, and what it does at each event. It follows the routing table.
 #[derive(Drop)]
-pub(crate) struct Node {
-    pub config: ModuleConfig,
-    pub alloc: Global,
-    pub clock: Clock,
-    pub pendings: PendingTable,
-    pub hops: HopTable,
-    pub target: Target,
-    pub ops: SpentOps,
+pub struct Node {
+    pub(crate) config: ModuleConfig,
+    pub(crate) alloc: Global,
+    pub(crate) clock: Clock,
+    pub(crate) pendings: PendingTable,
+    pub(crate) hops: HopTable,
+    pub(crate) target: Target,
+    pub(crate) ops: SpentOps,
     ghost fit: { Fit config pendings hops target ops.ops.items },
 }
 
@@ -29,8 +29,8 @@ impl Node {
     ghost use Rattle.cip_module.specs.State.{initial_state};
     ghost use Rattle.cip_module.specs.Code.Node.{config_of_node, state_of_node};
 
-    /// A module in the initial state of its config.
-    pub(crate) fn new(alloc: Global, config: ModuleConfig) -> Result<Node, NoMemory>
+    /// A module in the initial state of its config; NoMemory where an allocation is refused.
+    pub fn new(alloc: Global, config: ModuleConfig) -> Result<Node, NoMemory>
         ensures config { IfOk result (λ m. config_of_node m ≡ config) }
         ensures state { IfOk result (λ m. state_of_node m ≡ initial_state config) }
     {
@@ -50,5 +50,12 @@ impl Node {
             target,
             ops: SpentOps::new(alloc),
         })
+    }
+
+    /// Its config.
+    pub fn config(&self) -> &ModuleConfig
+        ensures { result.now ≡ self.now.config }
+    {
+        &self.config
     }
 }

@@ -9,7 +9,11 @@ ghost use Rattle.cip_hops.specs.Sides.{up_is_link};
 ghost use Rattle.cip_target.specs.Ends.{row_at};
 ghost use Rattle.cip_module.specs.Answers.{open_failed};
 ghost use Rattle.cip_module.specs.OpenRows.{open_row, opening_with, ids_on, end_down, Forwarded, Accepted};
-ghost use Rattle.cip_module.specs.Table.{opener, open_on, accepted_bytes, open_effects, open_data_effects, unread_open_bytes, with_spending};
+ghost use Rattle.cip_hops.specs.declared.opening.HopDown.TheVariants.{Link as DownLink};
+ghost use Rattle.cip_module.specs.Effects.{Begins};
+ghost use Rattle.cip_module.specs.Table.{opener, open_on, open_below, accepted_bytes, open_effects, open_data_effects, unread_open_bytes, with_spending};
+ghost use Rattle.cip_module.specs.Code.Decisions.{open_row_of, OpenLeads};
+ghost use Rattle.cip_module.specs.Code.Reacts.{with_bytes};
 ghost use Rattle.cip_module.specs.Code.Ready.{CanSpend, IsAsked};
 ghost use Rattle.cip_module.specs.Code.Does.{Handles};
 ghost use Rattle.cip_module.specs.Code.Node.{state_of_node};
@@ -30,8 +34,8 @@ use cip_segment::{Path, PathView};
 use cip_target::EndLink;
 use std::alloc::Global;
 
-// The up side of a connection that this side asked for.
-fn opener(up: &UpSide, to_id: u32) -> HopUp
+/// The up side of a connection that this side asked for.
+pub(crate) fn opener(up: &UpSide, to_id: u32) -> HopUp
     ensures { result ≡ opener up.now to_id }
 {
     match up {
@@ -80,7 +84,7 @@ pub(crate) fn open_failed(
 
 // The failure of a Forward_Open that cannot be read: nothing where its fixed part is cut, else its
 // triad and its path size.
-fn unread_open(alloc: Global, data_: &[u8], fault: DataFault) -> Result<Bytes, NoMemory>
+pub(crate) fn unread_open(alloc: Global, data_: &[u8], fault: DataFault) -> Result<Bytes, NoMemory>
     ensures { IfOk result (λ b. b ≡ unread_open_bytes data_.now fault) }
 {
     let status = unread_row(data_, fault).status();
@@ -131,26 +135,25 @@ fn accepted(alloc: Global, fields: &OpenFields, up_id: u32) -> Result<Bytes, NoM
 }
 
 impl Node {
-    // The connection goes on by a link.
-    fn open_by(
+    /// The connection goes on by a link, and its Forward_Open as these bytes.
+    pub(crate) fn begin_below(
         &mut self,
         up: UpSide,
         view: &OpenView<'_>,
         port: PortNumber,
         address: Address,
-        rest: PathView<'_>,
+        bytes: Bytes,
     ) -> Result<Output, NoMemory>
         requires spend { CanSpend self.old up }
         requires multiplier { view.now.fields.multiplier < 8 }
-        requires ticks { 2 ≤ view.now.fields.timing.ticks }
         requires pending { refusal self.old.pendings ≡ None }
         requires room { hops.refusal self.old.hops view.now.fields.triad
             (ids_on (opener up view.now.fields.to_id)) ≡ None }
-        ensures { Handles self.old self.new (with_spending up
-            (open_effects (state_of_node self.old) up (open_of view.now)
-            (Forwarded port address rest.entry.bytes.now))) result }
+        ensures { Handles self.old self.new (with_spending up (Begins (with_bytes
+            (open_below (state_of_node self.old) up (open_of view.now) port address []) bytes)
+            (opening_with (opener up view.now.fields.to_id) (DownLink port address)
+            (open_of view.now)) ∷ [])) result }
     {
-        let bytes = open_on(self.alloc, view, self.hops.last() + 1, rest)?;
         let path = view.path.to_path(self.alloc)?;
         let timing = view.fields.timing;
         let deadline = self.clock.after_ticks(timing.tick % 16, timing.ticks);
@@ -174,6 +177,29 @@ impl Node {
             to: address,
             body: Body::Request { number, bytes },
         })
+    }
+
+    // The connection goes on by a link.
+    fn open_by(
+        &mut self,
+        up: UpSide,
+        view: &OpenView<'_>,
+        port: PortNumber,
+        address: Address,
+        rest: PathView<'_>,
+    ) -> Result<Output, NoMemory>
+        requires spend { CanSpend self.old up }
+        requires multiplier { view.now.fields.multiplier < 8 }
+        requires ticks { 2 ≤ view.now.fields.timing.ticks }
+        requires pending { refusal self.old.pendings ≡ None }
+        requires room { hops.refusal self.old.hops view.now.fields.triad
+            (ids_on (opener up view.now.fields.to_id)) ≡ None }
+        ensures { Handles self.old self.new (with_spending up
+            (open_effects (state_of_node self.old) up (open_of view.now)
+            (Forwarded port address rest.entry.bytes.now))) result }
+    {
+        let bytes = open_on(self.alloc, view, self.hops.last() + 1, rest)?;
+        self.begin_below(up, view, port, address, bytes)
     }
 
     // The connection ends here.
@@ -204,16 +230,23 @@ impl Node {
         Ok(reply_to(up, bytes))
     }
 
-    /// A Forward_Open that was read.
-    pub(crate) fn open(&mut self, up: UpSide, view: &OpenView<'_>) -> Result<Output, NoMemory>
+    /// A Forward_Open of which the row was found.
+    pub(crate) fn by_open_row(
+        &mut self,
+        up: UpSide,
+        view: &OpenView<'_>,
+        decision: OpenDecision<'_>,
+    ) -> Result<Output, NoMemory>
         requires spend { CanSpend self.old up }
+        requires row { open_row_of decision ≡ open_row self.old.config (state_of_node self.old)
+            (opener up view.now.fields.to_id) (open_of view.now) }
+        requires leads { OpenLeads self.old (opener up view.now.fields.to_id) (open_of view.now)
+            decision }
         ensures { Handles self.old self.new (with_spending up
             (open_effects (state_of_node self.old) up (open_of view.now)
-            (open_row self.old.config (state_of_node self.old) (opener up view.now.fields.to_id)
-            (open_of view.now)))) result }
+            (open_row_of decision.entry))) result }
     {
-        let asker = opener(&up, view.fields.to_id);
-        match self.open_row(&asker, view) {
+        match decision {
             OpenDecision::Refuses(refusal) => {
                 let words = view.path.words();
                 let bytes = open_failed(self.alloc, refusal.status(), view.fields.triad, words)?;
@@ -227,6 +260,19 @@ impl Node {
             } => self.open_by(up, view, port, address, rest),
             OpenDecision::Accepted(link) => self.open_at_end(up, view, link),
         }
+    }
+
+    /// A Forward_Open that was read.
+    pub(crate) fn open(&mut self, up: UpSide, view: &OpenView<'_>) -> Result<Output, NoMemory>
+        requires spend { CanSpend self.old up }
+        ensures { Handles self.old self.new (with_spending up
+            (open_effects (state_of_node self.old) up (open_of view.now)
+            (open_row self.old.config (state_of_node self.old) (opener up view.now.fields.to_id)
+            (open_of view.now)))) result }
+    {
+        let asker = opener(&up, view.fields.to_id);
+        let decision = self.open_row(&asker, view);
+        self.by_open_row(up, view, decision)
     }
 
     /// A Forward_Open, by its data.

@@ -1,7 +1,10 @@
 //! The request group: a request that came in by a port.
 ghost use Rattle.std.specs.Prelude.{◌≡◌};
 ghost use Rattle.cip_pending.specs.declared.entry.UpSide.TheVariants.{Link};
+ghost use Rattle.cip_pending.specs.declared.entry.UpSide.{UpSide as UpSides};
 ghost use Rattle.cip_module.specs.RequestRows.{request_row};
+ghost use Rattle.cip_module.specs.Code.Decisions.{request_row_of, RequestLeads};
+ghost use Rattle.cip_module.specs.Code.Ready.{IsAsked};
 ghost use Rattle.cip_module.specs.Code.Node.{state_of_node};
 ghost use Rattle.cip_module.specs.Code.Does.{Handles};
 ghost use Rattle.cip_module.specs.Table.{request_effects};
@@ -15,6 +18,32 @@ use cip_base::{Address, NoMemory, PortNumber};
 use cip_pending::UpSide;
 
 impl Node {
+    /// A request of which the row was found.
+    pub(crate) fn by_request_row(
+        &mut self,
+        up: UpSide,
+        decision: RequestDecision<'_>,
+    ) -> Result<Output, NoMemory>
+        requires asked { IsAsked up }
+        requires leads { RequestLeads decision }
+        ensures { Handles self.old self.new (request_effects self.old.config
+            (state_of_node self.old) up (request_row_of decision.entry)) result }
+    {
+        match decision {
+            RequestDecision::UnknownPortOrTooLong | RequestDecision::NotARequest => {
+                Ok(Output::Dropped(Dropped::Malformed))
+            }
+            RequestDecision::Refuses { service, refusal } => {
+                let bytes = failure(self.alloc, service, refusal.status())?;
+                Ok(reply_to(up, bytes))
+            }
+            RequestDecision::UnconnectedSend(data_) => self.unconnected_send(up, data_),
+            RequestDecision::ForwardOpen(data_) => self.forward_open(up, data_),
+            RequestDecision::ForwardClose(data_) => self.forward_close(up, data_),
+            RequestDecision::Target(request) => self.answers(up, request),
+        }
+    }
+
     /// A request that came in by a port.
     pub(crate) fn request(
         &mut self,
@@ -32,18 +61,7 @@ impl Node {
             address: from.copy(),
             number,
         };
-        match request_row(self.config.settings(), port, bytes) {
-            RequestDecision::UnknownPortOrTooLong | RequestDecision::NotARequest => {
-                Ok(Output::Dropped(Dropped::Malformed))
-            }
-            RequestDecision::Refuses { service, refusal } => {
-                let bytes = failure(self.alloc, service, refusal.status())?;
-                Ok(reply_to(up, bytes))
-            }
-            RequestDecision::UnconnectedSend(data_) => self.unconnected_send(up, data_),
-            RequestDecision::ForwardOpen(data_) => self.forward_open(up, data_),
-            RequestDecision::ForwardClose(data_) => self.forward_close(up, data_),
-            RequestDecision::Target(request) => self.answers(up, request),
-        }
+        let decision = request_row(self.config.settings(), port, bytes);
+        self.by_request_row(up, decision)
     }
 }

@@ -82,7 +82,7 @@ pub(crate) fn assembly_rows(alloc: Global, target: &Target) -> Result<Vec<Assemb
 
 impl Node {
     /// The state, as lists in rising key.
-    pub(crate) fn tables(&self) -> Result<Tables, NoMemory>
+    pub fn tables(&self) -> Result<Tables, NoMemory>
         ensures { IfOk result (ShowsState (state_of_node self.now)) }
     {
         let pendings = PendingRows::of(pending_rows(self.alloc, &self.pendings)?);

@@ -1,15 +1,20 @@
 //! The step of a module of any kind.
-ghost use Rattle.std.specs.Prelude.{◌≡◌, IfOk, OnErr};
+ghost use Rattle.std.specs.Prelude.{◌≡◌, ◌∷◌, [], IfOk, OnErr};
 ghost use Rattle.std.specs.Option.{option_to_list};
 ghost use Rattle.cip_module.specs.Code.Ticks.{IsNoTick, IsSingle};
 ghost use Rattle.cip_module.specs.Steps.{IsStep, IsStepFault};
 ghost use Rattle.cip_module.specs.Table.{command_effects, frame_effects};
 ghost use Rattle.cip_module.specs.Code.Node.{state_of_node};
 ghost use Rattle.cip_module.specs.Code.Does.{Handles, HandlesAs};
+ghost use Rattle.cip_module.specs.Code.Reacts.{Reacts};
+ghost use Rattle.cip_module.specs.Reactions.{bytes_in, PutsOut};
+ghost use Rattle.cip_module.specs.declared.event.Event.TheVariants as events;
+ghost use Rattle.cip_module.specs.declared.event.Command.TheVariants.{Enter};
 
 use crate::contract::StepFault;
 use crate::event::{Body, Command, Event, Output};
 use crate::node::Node;
+use crate::reaction::{Edit, Reaction};
 use crate::ticks::TickFault;
 use cip_base::{Address, NoMemory, PortNumber};
 use cip_unconnected::UnconnectedView;
@@ -84,8 +89,67 @@ impl Node {
         Ok(outputs)
     }
 
+    // The same, its bytes left where they are.
+    fn frame_in_place(
+        &mut self,
+        port: PortNumber,
+        from: &Address,
+        body: &Body,
+    ) -> Result<Reaction, NoMemory>
+        ensures { Reacts (bytes_in body.now) self.old self.new
+            (frame_effects self.old.config (state_of_node self.old) port from.now body.now)
+            result }
+    {
+        match body {
+            Body::Request { number, bytes } => {
+                self.request_in_place(port, from, *number, bytes.as_slice())
+            }
+            Body::Reply { number, bytes } => {
+                Ok(self.reply_in_place(port, from, *number, bytes.as_slice()))
+            }
+            Body::Data { id, bytes } => {
+                Ok(self.datum_in_place(port, from, *id, bytes.as_slice()))
+            }
+        }
+    }
+
+    /// A frame, its bytes left where they are: the new state is that of the routing table, and so
+    /// is the output, once the bytes that came are edited as the reaction says and stand in it.
+    /// NoMemory where an allocation is refused: then nothing has changed.
+    pub fn react(
+        &mut self,
+        port: PortNumber,
+        from: &Address,
+        body: &Body,
+    ) -> Result<Reaction, NoMemory>
+        ensures done { IfOk result (λ reaction. PutsOut (bytes_in body.now) reaction (λ output.
+            IsStep self.old.config (state_of_node self.old) (events.Frame port from.now body.now)
+            (state_of_node self.new) (output ∷ []))) }
+        ensures same { OnErr result (state_of_node self.new ≡ state_of_node self.old) }
+        ensures config { self.new.config ≡ self.old.config }
+    {
+        self.frame_in_place(port, from, body)
+    }
+
+    /// An Enter, its bytes left where they are: nothing changes, and the output is that of the
+    /// routing table, once the bytes of the command stand in it.
+    pub fn react_to_enter(&self, of: u32, bytes: &[u8]) -> Reaction
+        ensures { PutsOut bytes.now result (λ output. IsStep self.now.config
+            (state_of_node self.now) (events.Command
+            (Enter of bytes.now)) (state_of_node self.now)
+            (output ∷ [])) }
+    {
+        match self.entered(of, bytes) {
+            Ok(output) => Reaction::Edited {
+                output,
+                edit: Edit::AsTheyCame,
+            },
+            Err(fault) => Reaction::Whole(Output::Refused(fault)),
+        }
+    }
+
     /// One event, as the contract of a module says.
-    pub(crate) fn step(&mut self, event: Event) -> Result<Vec<Output>, StepFault>
+    pub fn step(&mut self, event: Event) -> Result<Vec<Output>, StepFault>
         ensures ok { IfOk result (λ outputs. IsStep self.old.config (state_of_node self.old) event
             (state_of_node self.new) outputs.items) }
         ensures fault { IsStepFault self.old.config (state_of_node self.old) event

@@ -1,5 +1,5 @@
 //! The unconnected send group: an Unconnected_Send at a router and at its end.
-ghost use Rattle.std.specs.Prelude.{◌≡◌, ◌≤◌, ◌<◌, ◌∷◌, [], length, IfOk, OnErr, None};
+ghost use Rattle.std.specs.Prelude.{◌≡◌, ◌≤◌, ◌<◌, ◌∷◌, [], length, None};
 ghost use Rattle.cip_unconnected.specs.Reading.{unconnected_of};
 ghost use Rattle.cip_unconnected.specs.Unconnected.{unconnected_bytes};
 ghost use Rattle.cip_unconnected.specs.UnconnectedAt.{unconnected_at};
@@ -11,36 +11,31 @@ use crate::event::{Body, Output};
 use crate::messages::{message_on, reply_to};
 use crate::node::Node;
 use crate::unconnected_rows::{UnconnectedDecision, unconnected_row, unread_row};
-use cip_base::{Address, NoMemory, PortNumber};
+use cip_base::{Address, Bytes, NoMemory, PortNumber};
 use cip_pending::{Entry, Kind, UpSide};
-use cip_segment::PathView;
 use cip_unconnected::{UnconnectedView, read_unconnected, route_words};
 
 impl Node {
-    ghost use Rattle.cip_module.specs.Code.Node.{state_of_node};
-    ghost use Rattle.cip_module.specs.Code.Does.{Handles};
+    ghost use Rattle.cip_module.specs.Code.Does.{Handled};
+    ghost use Rattle.cip_module.specs.Code.Reacts.{with_bytes};
     ghost use Rattle.cip_module.specs.Effects.{Forwards};
     ghost use Rattle.cip_module.specs.Table.{send_below};
 
-    // Sends on an Unconnected_Send, under the next number.
-    fn forward(
+    /// An Unconnected_Send goes on as these bytes, under the next number.
+    pub(crate) fn send_on(
         &mut self,
         up: UpSide,
         view: UnconnectedView<'_>,
         port: PortNumber,
         address: Address,
-        rest: PathView<'_>,
-    ) -> Result<Output, NoMemory>
-        requires fits { length (unconnected_bytes (unconnected_of view)) ≤ 1400 }
-        requires shorter { length rest.bytes.now ≤ length view.route.bytes.now }
-        requires ticks { 2 ≤ view.timing.ticks }
+        bytes: Bytes,
+    ) -> Output
         requires room { refusal self.old.pendings ≡ None }
-        ensures handled { Handles self.old self.new (Forwards
-            (send_below up (unconnected_of view.entry) port address rest.entry.bytes.now)
-            Kinds.Unconnected ∷ []) result }
+        ensures handled { Handled self.old self.new (Forwards (with_bytes
+            (send_below up (unconnected_of view.entry) port address []) bytes)
+            Kinds.Unconnected ∷ []) (result ∷ []) }
         ensures ops { self.new.ops ≡ self.old.ops }
     {
-        let bytes = message_on(self.alloc, view, rest)?;
         let deadline = self
             .clock
             .after_ticks(view.timing.tick % 16, view.timing.ticks);
@@ -55,11 +50,11 @@ impl Node {
             kind: Kind::Unconnected,
         };
         let number = self.forwards(entry);
-        Ok(Output::Send {
+        Output::Send {
             port,
             to,
             body: Body::Request { number, bytes },
-        })
+        }
     }
 }
 
@@ -67,7 +62,39 @@ impl Node {
     ghost use Rattle.cip_module.specs.Code.Node.{state_of_node};
     ghost use Rattle.cip_module.specs.Code.Does.{Handles};
     ghost use Rattle.cip_module.specs.UnconnectedRows.{unconnected_row};
+    ghost use Rattle.cip_module.specs.Code.Decisions.{unconnected_row_of, Leads};
     ghost use Rattle.cip_module.specs.Table.{unconnected_effects, unconnected_data_effects};
+
+    /// An Unconnected_Send of which the row was found.
+    pub(crate) fn by_unconnected_row(
+        &mut self,
+        up: UpSide,
+        view: UnconnectedView<'_>,
+        decision: UnconnectedDecision<'_>,
+    ) -> Result<Output, NoMemory>
+        requires fits { length (unconnected_bytes (unconnected_of view)) ≤ 1400 }
+        requires leads { Leads self.old.pendings view.timing view.route.bytes.now decision }
+        ensures handled { Handles self.old self.new (unconnected_effects up
+            (unconnected_of view.entry) (unconnected_row_of decision.entry)) result }
+        ensures ops { self.new.ops ≡ self.old.ops }
+    {
+        match decision {
+            UnconnectedDecision::Refuses(refusal) => {
+                let words = Some(view.route.words());
+                let bytes = unconnected_failure(self.alloc, refusal, words)?;
+                Ok(reply_to(up, bytes))
+            }
+            UnconnectedDecision::AnsweredHere(request) => { self.answers(up, request) }
+            UnconnectedDecision::Forwarded {
+                port,
+                address,
+                rest,
+            } => {
+                let bytes = message_on(self.alloc, view, rest)?;
+                Ok(self.send_on(up, view, port, address, bytes))
+            }
+        }
+    }
 
     // An Unconnected_Send that was read.
     pub(crate) fn unconnected(
@@ -82,19 +109,8 @@ impl Node {
             result }
         ensures ops { self.new.ops ≡ self.old.ops }
     {
-        match unconnected_row(self.config.settings(), &self.pendings, view) {
-            UnconnectedDecision::Refuses(refusal) => {
-                let words = Some(view.route.words());
-                let bytes = unconnected_failure(self.alloc, refusal, words)?;
-                Ok(reply_to(up, bytes))
-            }
-            UnconnectedDecision::AnsweredHere(request) => { self.answers(up, request) }
-            UnconnectedDecision::Forwarded {
-                port,
-                address,
-                rest,
-            } => self.forward(up, view, port, address, rest),
-        }
+        let decision = unconnected_row(self.config.settings(), &self.pendings, view);
+        self.by_unconnected_row(up, view, decision)
     }
 
     /// An Unconnected_Send, by its data.

@@ -8,7 +8,7 @@ use Rattle.std.proofs.lemmas.Bool.Decides.{nat_tests}
 use Rattle.toml.specs.Data.{Data, Items, no_items, item, Members}
 use Rattle.cip_module.specs.declared.config.PortConfig.{PortConfig}
 use Rattle.cip_module.specs.declared.config.ModuleKind.{ModuleKind}
-use Rattle.cip_module.specs.declared.config.ModuleKind.TheVariants.{Plain, Adapter}
+use Rattle.cip_module.specs.declared.config.ModuleKind.TheVariants.{Plain, Adapter, Indexed}
 use Rattle.cip_module.specs.Config.{is_range, is_legal, is_port, has_number, numbers_differ, has_instance, instances_differ, are_ports, are_assemblies, most_ports, is_adapter}
 use Rattle.cip_target.specs.declared.config.AssemblyConfig.{AssemblyConfig}
 use Rattle.cip_target.specs.Assemblies.{is_assembly}
@@ -177,6 +177,7 @@ some_one n h = grind (arith, nat_tests)
 fits : (kind : ModuleKind) (n : ℕ) → nat_lt 8 n ≡ false → (is_adapter kind && nat_lt 1 n) ≡ false → nat_le n (most_ports kind) ≡ true
 fits Plain n few one = le_true n 8 (not_over 8 n few)
 fits Adapter n few one = le_true n 1 (not_over 1 n one)
+fits Indexed n few one = le_true n 8 (not_over 8 n few)
 
 right_fits : (place : Place) (kind : ModuleKind) (items es : Items) → right_ports place kind items ≡ Ok es
     → (items ≡ es) × (nat_le 1 (item_count items) ≡ true) × (nat_le (item_count items) (most_ports kind) ≡ true)

@@ -5,7 +5,7 @@ use Rattle.std.specs.Str.{bytes_eq}
 use Rattle.toml.specs.Data.{Data, Items, no_items, item, Members, as_str}
 use Rattle.cip_base.specs.Words.{Octets, LinkAddress}
 use Rattle.cip_module.specs.declared.config.ModuleKind.{ModuleKind}
-use Rattle.cip_module.specs.declared.config.ModuleKind.TheVariants.{Plain, Adapter}
+use Rattle.cip_module.specs.declared.config.ModuleKind.TheVariants.{Plain, Adapter, Indexed}
 use Rattle.cip_module.specs.declared.config.ModuleSettings.{ModuleSettings}
 use Rattle.cip_target.specs.Identity.{is_product_name}
 use Rattle.cip_target.specs.declared.identity.IdentityFields.{IdentityFields}
@@ -24,6 +24,7 @@ kind_of place d None = out_of_range place key.Kind d
 kind_of place d (Some kind) =
     if bytes_eq kind (codes "plain") then Ok Plain
     else if bytes_eq kind (codes "adapter") then Ok Adapter
+    else if bytes_eq kind (codes "indexed") then Ok Indexed
     else out_of_range place key.Kind d
 
 abbrev pub kind_at : Place → Members → Read ModuleKind

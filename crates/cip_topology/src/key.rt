@@ -91,7 +91,7 @@ impl Key {
             Key::Name => "1 to 16 ASCII letters, digits, `_` or `-`",
             Key::Kind => match place {
                 Place::Link { .. } => "\"byte\" or \"text\"",
-                _ => "\"plain\" or \"adapter\"",
+                _ => "\"plain\", \"adapter\" or \"indexed\"",
             },
             Key::First => "0 to 255",
             Key::Last => "`first` to 255",

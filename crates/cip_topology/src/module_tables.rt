@@ -41,6 +41,7 @@ fn kind(table: &Table, place: &Place) -> Result<ModuleKind, LoadFault>
     match kind.as_str() {
         Some("plain") => Ok(ModuleKind::Plain),
         Some("adapter") => Ok(ModuleKind::Adapter),
+        Some("indexed") => Ok(ModuleKind::Indexed),
         _ => Err(out_of_range(place, Key::Kind, kind)),
     }
 }

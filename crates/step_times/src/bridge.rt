@@ -3,9 +3,9 @@ ghost use Rattle.std.specs.Prelude.{◌<◌};
 
 use crate::fault::Fault;
 use crate::frames::{ANSWER, DATUM, SEND, close, closed, open, opened};
-use bench::{AnyModule, device_of, make};
+use bench::{AnyModule, Kinds, device_of, make};
 use cip_base::{Address, Bytes, PortNumber};
-use cip_module::{Body, Event, Module, Output, PlainModule};
+use cip_module::{Body, Event, Output};
 use std::alloc::Global;
 
 /// The first id that the bridge draws.
@@ -48,18 +48,15 @@ fn from_below(body: Body) -> Event {
 #[derive(Drop)]
 pub struct Bridge {
     alloc: Global,
-    module_: PlainModule,
+    module_: AnyModule,
 }
 
 impl Bridge {
     /// With room for 256 requests that wait, and for 256 connections.
-    pub fn new(alloc: Global) -> Result<Bridge, Fault> {
-        let bridge = device_of("A").ok_or(Fault::Unexpected)?;
-        match make(alloc, &bridge) {
-            Some(AnyModule::Plain(module_)) => Ok(Bridge { alloc, module_ }),
-            Some(AnyModule::Adapter(_)) => Err(Fault::Unexpected),
-            None => Err(Fault::NoMemory),
-        }
+    pub fn new(alloc: Global, kinds: Kinds) -> Result<Bridge, Fault> {
+        let bridge = device_of("A", kinds).ok_or(Fault::Unexpected)?;
+        let module_ = make(alloc, &bridge).ok_or(Fault::NoMemory)?;
+        Ok(Bridge { alloc, module_ })
     }
 
     fn bytes(&self, bytes: &[u8]) -> Result<Bytes, Fault> {

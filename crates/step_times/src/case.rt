@@ -2,6 +2,7 @@
 
 use crate::bridge::Bridge;
 use crate::fault::Fault;
+use bench::Kinds;
 use std::alloc::Global;
 
 /// What is done in a turn.
@@ -105,15 +106,20 @@ fn datum_turns(bridge: &mut Bridge, others: u16, times: u32) -> Result<(), Fault
 }
 
 impl Case {
-    /// So many turns at a bridge of their own.
-    pub fn run(&self, alloc: Global, times: u32) -> Result<(), Fault> {
-        let mut bridge = Bridge::new(alloc)?;
-        open_all(&mut bridge, self.others)?;
-        send_all(&mut bridge, self.others)?;
+    // So many turns, once the tables are filled.
+    fn turns(&self, bridge: &mut Bridge, times: u32) -> Result<(), Fault> {
+        open_all(bridge, self.others)?;
+        send_all(bridge, self.others)?;
         match self.turn {
-            Turn::Send => send_turns(&mut bridge, self.others, times),
-            Turn::Open => open_turns(&mut bridge, self.others, times),
-            Turn::Datum => datum_turns(&mut bridge, self.others, times),
+            Turn::Send => send_turns(bridge, self.others, times),
+            Turn::Open => open_turns(bridge, self.others, times),
+            Turn::Datum => datum_turns(bridge, self.others, times),
         }
+    }
+
+    /// So many turns at a bridge of their own, of this kind.
+    pub fn run(&self, alloc: Global, kinds: Kinds, times: u32) -> Result<(), Fault> {
+        let mut bridge = Bridge::new(alloc, kinds)?;
+        self.turns(&mut bridge, times)
     }
 }

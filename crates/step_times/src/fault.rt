@@ -10,7 +10,7 @@ use thiserror::Error;
 /// Why steps are not taken to their end.
 #[derive(Clone, Copy, Debug, PartialEq, Eq, Error)]
 pub enum Fault {
-    #[error("usage: step_times [send|open|datum|send-full|open-full|datum-full TIMES]")]
+    #[error("usage: step_times [send|open|datum|send-full|open-full|datum-full TIMES [indexed]]")]
     Usage,
     #[error("the system refused")]
     System,

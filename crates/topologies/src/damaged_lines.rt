@@ -77,7 +77,7 @@ const RULES: [Rule; 19] = [
         key: "kind",
         beyond: "\"Plain\"",
         found: "\"Plain\", a text of 5 bytes",
-        allowed: "\"plain\" or \"adapter\"",
+        allowed: "\"plain\", \"adapter\" or \"indexed\"",
         ..NAME
     },
     VENDOR,

@@ -309,8 +309,13 @@ fn from_the_ports_of_a_module_to_the_next_module(rt: HostRuntime) -> Result<(), 
         module3.vendor := vendor = 0x0102
         => loaded
 
+        module1.kind := kind = "indexed"
         module2.kind := kind = "indexed"
-        => [[module]] 2 (A): `kind` is "indexed", a text of 7 bytes; allowed: "plain" or "adapter"
+        => loaded
+
+        module2.kind := kind = "Indexed"
+        => [[module]] 2 (A): `kind` is "Indexed", a text of 7 bytes; allowed: "plain", "adapter" or
+        .. "indexed"
         "#,
     )
 }

@@ -1,4 +1,5 @@
 //! Topologies, and their modules in boxes.
+use cip_indexed::IndexedModule;
 use cip_module::{AdapterModule, Module, ModuleConfig, ModuleKind, PlainModule};
 use cip_topology::{CHASSIS, Topology, load};
 use std::alloc::Global;
@@ -28,6 +29,11 @@ pub fn boxed(alloc: Global, config: &ModuleConfig) -> Option<Box<dyn Module + Se
         }
         ModuleKind::Adapter => {
             let module_ = AdapterModule::new(alloc, config).ok()?;
+            let boxed: Box<dyn Module + Send> = Box::new(alloc, module_).ok()?;
+            Some(boxed)
+        }
+        ModuleKind::Indexed => {
+            let module_ = IndexedModule::new(alloc, config).ok()?;
             let boxed: Box<dyn Module + Send> = Box::new(alloc, module_).ok()?;
             Some(boxed)
         }

@@ -9,6 +9,7 @@ use Rattle.cip_module.specs.declared.datum_rows.DatumPlan.{DatumPlan}
 use Rattle.cip_module.specs.declared.datum_rows.DatumPlan.TheVariants as plans
 use Rattle.cip_module.specs.DataRows.{DataRow, Consumed, Repeated}
 use Rattle.cip_module.specs.Effects.{Effect, Drops, Passes, Renews, Writes, datum_by, passed}
+use Rattle.cip_module.specs.Reactions.{filled}
 use Rattle.cip_module.specs.Table.{other, counts}
 
 -- what stands behind the sequence count, if there is one
@@ -35,10 +36,10 @@ plan_effects bytes (plans.Passes output triad side writing) =
 abbrev pub PassesBy : Hop → Octets → DatumPlan → Type 0
 PassesBy hop bytes (plans.Drops reason) = Unit {0}
 PassesBy hop bytes (plans.Passes output triad side writing) =
-    (triad ≡ hop.opening.triad) × (output ≡ datum_by (other side) hop bytes)
+    (triad ≡ hop.opening.triad) × (filled output bytes ≡ datum_by (other side) hop bytes)
 
 -- the same of the connection that stands under the triad
 abbrev pub PassesOn : Hops → Octets → DatumPlan → Type 0
 PassesOn h bytes (plans.Drops reason) = Unit {0}
 PassesOn h bytes (plans.Passes output triad side writing) =
-    passed (other side) (hop_at h triad) bytes ≡ output ∷ []
+    passed (other side) (hop_at h triad) bytes ≡ filled output bytes ∷ []

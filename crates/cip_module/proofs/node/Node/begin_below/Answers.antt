@@ -1,7 +1,7 @@
 use Rattle.std.proofs.Common.{rules}
 use Rattle.cip_open.specs.Reading.{open_of}
 use Rattle.cip_module.proofs.Opened.{ready}
-use Rattle.cip_module.proofs.node.Node.open_by.Goals as goal
+use Rattle.cip_module.proofs.node.Node.begin_below.Goals as goal
 
 pub begins-number-requires-clause-ready : goal.begins-number-requires-clause-ready
 begins-number-requires-clause-ready c =

@@ -1,0 +1,2 @@
+mod Edits
+mod Reacted

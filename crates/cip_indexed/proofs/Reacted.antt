@@ -1,0 +1,12 @@
+-- What a reaction puts out is an output of the routing table.
+use Rattle.std.proofs.Common.{◌≡◌, List, ℕ, refl, sym, subst}
+use Rattle.cip_module.specs.declared.event.Output.{Output}
+use Rattle.cip_module.specs.declared.reaction.Reaction.{Reaction}
+use Rattle.cip_module.specs.declared.reaction.Reaction.TheVariants.{Whole, Edited}
+use Rattle.cip_module.specs.Reactions.{PutsOut, filled}
+use Rattle.cip_indexed.specs.PutOut.{IsPutOut}
+
+pub put : (came : List ℕ) (reaction : Reaction) (P : Output → Type 0) (out : Output) → PutsOut came reaction P
+    → ((output : Output) → IsPutOut came reaction output → out ≡ output) → P out
+put came (Whole output) P out holds is = subst P (sym (is output refl)) holds
+put came (Edited output edit) P out (b, becomes, holds) is = subst P (sym (is (filled output b) (b, becomes, refl))) holds

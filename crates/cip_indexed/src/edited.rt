@@ -1,0 +1,41 @@
+//! What goes on or goes up of a message, in the buffer in which it came.
+ghost use Rattle.std.specs.Prelude.{◌≡◌};
+ghost use Rattle.cip_base.specs.Words.{Octets};
+ghost use Rattle.cip_module.specs.declared.event.Output.{Output as Outputs};
+ghost use Rattle.cip_module.specs.Reactions.{Becomes};
+ghost use Rattle.cip_indexed.specs.PutOut.{CanPutOut, IsPutOut};
+
+use cip_base::Bytes;
+use cip_module::{Edit, Output, Reaction};
+use cip_rewrite::{
+    forward_close_bytes, forward_open_bytes, forward_unconnected_bytes, success_up_bytes,
+    unwrap_bytes,
+};
+
+// The bytes that came, edited so.
+fn edited(came: Bytes, edit: Edit) -> Bytes
+    requires { (b : Octets) × Becomes came edit b }
+    ensures { (b : Octets) → Becomes came edit b → result ≡ b }
+{
+    let mut bytes = came.into_vec();
+    match edit {
+        Edit::AsTheyCame => {}
+        Edit::Unwrapped => unwrap_bytes(&mut bytes),
+        Edit::SentOn => forward_unconnected_bytes(&mut bytes),
+        Edit::OpenedOn { down_id } => forward_open_bytes(&mut bytes, down_id),
+        Edit::ClosedOn => forward_close_bytes(&mut bytes),
+        Edit::SuccessUp { up_id, their_id } => success_up_bytes(&mut bytes, up_id, their_id),
+    }
+    Bytes::of(bytes)
+}
+
+/// What a reaction to these bytes puts out. It takes no memory.
+pub(crate) fn put_out(reaction: Reaction, came: Bytes) -> Output
+    requires { CanPutOut came reaction }
+    ensures { (output : Outputs) → IsPutOut came reaction output → result ≡ output }
+{
+    match reaction {
+        Reaction::Whole(output) => output,
+        Reaction::Edited { output, edit } => output.filled(edited(came, edit)),
+    }
+}

@@ -1,0 +1,125 @@
+//! A module that originates, routes and answers. What goes on of a message, and what goes up, is
+//! the buffer in which it came.
+ghost use Rattle.std.specs.Prelude.{◌≡◌, IfOk};
+ghost use Rattle.cip_module.specs.declared.config.ModuleKind.{ModuleKind as Kind};
+ghost use Rattle.cip_module.specs.declared.event.Event.TheVariants as events;
+ghost use Rattle.cip_module.specs.declared.event.Command.TheVariants.{Enter};
+ghost use Rattle.cip_module.specs.State.{initial_state};
+ghost use Rattle.cip_module.specs.Steps.{IsStep, IsStepFault};
+ghost use Rattle.cip_indexed.specs.Indexed.{config_of_indexed, state_of_indexed};
+
+use crate::edited::put_out;
+use cip_base::{Address, Bytes, NoMemory, PortNumber};
+use cip_module::{
+    Body, Command, Event, Module, ModuleConfig, ModuleKind, Node, Output, StepFault, Tables,
+};
+use std::alloc::Global;
+
+/// A module that originates, routes and answers. What goes on of a message, and what goes up, is
+/// the buffer in which it came, edited and handed on.
+#[derive(Drop)]
+pub struct IndexedModule {
+    node: Node,
+    alloc: Global,
+}
+
+impl IndexedModule {
+    /// Such a module in the initial state of its config; NoMemory where an allocation is refused.
+    pub fn new(alloc: Global, config: ModuleConfig) -> Result<IndexedModule, NoMemory>
+        requires { config.kind ≡ ModuleKind.Indexed }
+        ensures config { IfOk result (λ m. config_of_indexed m ≡ config) }
+        ensures state { IfOk result (λ m. state_of_indexed m ≡ initial_state config) }
+    {
+        let node = Node::new(alloc, config)?;
+        Ok(IndexedModule { node, alloc })
+    }
+
+    // A frame: its bytes go on, edited, or it comes back whole.
+    fn frame(
+        &mut self,
+        port: PortNumber,
+        from: Address,
+        body: Body,
+    ) -> Result<Vec<Output>, StepFault>
+        ensures ok { IfOk result (λ outputs. IsStep (config_of_indexed self.old)
+            (state_of_indexed self.old) (events.Frame port from body) (state_of_indexed self.new)
+            outputs.items) }
+        ensures fault { IsStepFault (config_of_indexed self.old) (state_of_indexed self.old)
+            (events.Frame port from body) (state_of_indexed self.new) result }
+        ensures config { config_of_indexed self.new ≡ config_of_indexed self.old }
+    {
+        let Ok(mut outputs) = Vec::with_capacity(self.alloc, 1) else {
+            return Err(StepFault::NoMemory(Event::Frame { port, from, body }));
+        };
+        match self.node.react(port, &from, &body) {
+            Ok(reaction) => {
+                outputs.push_reserved(put_out(reaction, body.into_bytes()));
+                Ok(outputs)
+            }
+            Err(_) => Err(StepFault::NoMemory(Event::Frame { port, from, body })),
+        }
+    }
+}
+
+impl IndexedModule {
+    // An Enter: its bytes go on, or it comes back whole.
+    fn enter(&mut self, of: u32, bytes: Bytes) -> Result<Vec<Output>, StepFault>
+        ensures ok { IfOk result (λ outputs. IsStep (config_of_indexed self.old)
+            (state_of_indexed self.old) (events.Command (Enter of bytes))
+            (state_of_indexed self.new) outputs.items) }
+        ensures fault { IsStepFault (config_of_indexed self.old) (state_of_indexed self.old)
+            (events.Command (Enter of bytes)) (state_of_indexed self.new) result }
+        ensures config { config_of_indexed self.new ≡ config_of_indexed self.old }
+    {
+        let Ok(mut outputs) = Vec::with_capacity(self.alloc, 1) else {
+            return Err(StepFault::NoMemory(Event::Command(Command::Enter { of, bytes })));
+        };
+        let reaction = self.node.react_to_enter(of, bytes.as_slice());
+        outputs.push_reserved(put_out(reaction, bytes));
+        Ok(outputs)
+    }
+
+    // A command.
+    fn command(&mut self, command: Command) -> Result<Vec<Output>, StepFault>
+        ensures ok { IfOk result (λ outputs. IsStep (config_of_indexed self.old)
+            (state_of_indexed self.old) (events.Command command) (state_of_indexed self.new)
+            outputs.items) }
+        ensures fault { IsStepFault (config_of_indexed self.old) (state_of_indexed self.old)
+            (events.Command command) (state_of_indexed self.new) result }
+        ensures config { config_of_indexed self.new ≡ config_of_indexed self.old }
+    {
+        match command {
+            Command::Enter { of, bytes } => self.enter(of, bytes),
+            other => self.node.step(Event::Command(other)),
+        }
+    }
+}
+
+impl Module for IndexedModule {
+    ghost use Rattle.cip_indexed.specs.Indexed.{config_of_indexed, state_of_indexed};
+
+    ghost config_of = { config_of_indexed };
+
+    ghost state_of = { state_of_indexed };
+
+    ghost paired = { λ m. m.node.fit.paired };
+
+    ghost rooms = { λ m. record
+        { pendings = m.node.fit.pending_room; hops = m.node.fit.hop_room } };
+
+    fn config(&self) -> &ModuleConfig {
+        self.node.config()
+    }
+
+    fn step(&mut self, event: Event) -> Result<Vec<Output>, StepFault> {
+        match event {
+            Event::Frame { port, from, body } => self.frame(port, from, body),
+            Event::Command(command) => self.command(command),
+            Event::Tick(by) => self.node.step(Event::Tick(by)),
+        }
+    }
+
+    fn tables(&self) -> Result<Tables, NoMemory> {
+        self.node.tables()
+    }
+}

@@ -1,0 +1,66 @@
+-- What a frame puts out that stays in the buffer in which it came.
+use Rattle.std.specs.Prelude.{◌≡◌, ◌≤◌, ◌<◌, length}
+use Rattle.cip_base.specs.Words.{Octets}
+use Rattle.cip_segment.specs.Reading.{HopAt}
+use Rattle.cip_unconnected.specs.Unconnected.{Unconnected, unconnected_bytes}
+use Rattle.cip_unconnected.specs.GoesOn.{lowered, IsSendGoingOn}
+use Rattle.cip_open.specs.Open.{Open}
+use Rattle.cip_open.specs.Success.{OpenSuccess}
+use Rattle.cip_open.specs.GoesOn.{open_on, IsOpenGoingOn, success_with, IsOpenSuccess}
+use Rattle.cip_close.specs.Close.{Close}
+use Rattle.cip_close.specs.GoesOn.{close_on, IsCloseGoingOn}
+use Rattle.cip_module.specs.declared.event.Body.{Body}
+use Rattle.cip_module.specs.declared.event.Body.TheVariants as bodies
+use Rattle.cip_module.specs.declared.event.Output.{Output}
+use Rattle.cip_module.specs.declared.event.Output.TheVariants as outputs
+use Rattle.cip_module.specs.declared.reaction.Edit.{Edit}
+use Rattle.cip_module.specs.declared.reaction.Edit.TheVariants as edits
+use Rattle.cip_module.specs.declared.reaction.Reaction.{Reaction}
+use Rattle.cip_module.specs.declared.reaction.Reaction.TheVariants as reactions
+
+-- ---- an output with these bytes, where it has bytes
+
+abbrev pub filled_body : Body → Octets → Body
+filled_body (bodies.Request number old) bytes = bodies.Request number bytes
+filled_body (bodies.Reply number old) bytes = bodies.Reply number bytes
+filled_body (bodies.Data id old) bytes = bodies.Data id bytes
+
+abbrev pub filled : Output → Octets → Output
+filled (outputs.Send port to body) bytes = outputs.Send port to (filled_body body bytes)
+filled (outputs.Done op old) bytes = outputs.Done op bytes
+filled (outputs.Consumed triad instance old) bytes = outputs.Consumed triad instance bytes
+filled (outputs.Arrived op old) bytes = outputs.Arrived op bytes
+filled (outputs.Refused fault) bytes = outputs.Refused fault
+filled (outputs.Expired triad) bytes = outputs.Expired triad
+filled (outputs.Dropped reason) bytes = outputs.Dropped reason
+
+-- ---- what an edit makes of the bytes that came
+
+abbrev pub Becomes : Octets → Edit → Octets → Type 0
+Becomes came edits.AsTheyCame b = b ≡ came
+Becomes came edits.Unwrapped b =
+    (u : Unconnected) × (hop : HopAt) × IsSendGoingOn came u hop × (length hop.rest ≡ 0)
+    × (b ≡ u.request)
+Becomes came edits.SentOn b =
+    (u : Unconnected) × (hop : HopAt) × IsSendGoingOn came u hop × (1 ≤ u.timing.ticks)
+    × (0 < length hop.rest) × (b ≡ unconnected_bytes (lowered u hop.rest))
+Becomes came (edits.OpenedOn down_id) b =
+    (o : Open) × (hop : HopAt) × IsOpenGoingOn came o hop × (1 ≤ o.fields.timing.ticks)
+    × (b ≡ open_on o down_id hop.rest)
+Becomes came edits.ClosedOn b =
+    (c : Close) × (hop : HopAt) × IsCloseGoingOn came c hop × (1 ≤ c.fields.timing.ticks)
+    × (b ≡ close_on c hop.rest)
+Becomes came (edits.SuccessUp up_id their_id) b =
+    (s : OpenSuccess) × IsOpenSuccess came s × (b ≡ success_with s up_id their_id)
+
+-- a reaction to these bytes puts out what P holds of
+abbrev pub PutsOut : Octets → Reaction → (Output → Type 0) → Type 0
+PutsOut came (reactions.Whole output) P = P output
+PutsOut came (reactions.Edited output edit) P =
+    (b : Octets) × Becomes came edit b × P (filled output b)
+
+-- the bytes of a body
+abbrev pub bytes_in : Body → Octets
+bytes_in (bodies.Request number bytes) = bytes
+bytes_in (bodies.Reply number bytes) = bytes
+bytes_in (bodies.Data id bytes) = bytes
