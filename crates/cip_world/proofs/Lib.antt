@@ -52,3 +52,5 @@ pub mod SendsGo
 pub mod SendTrails
 pub mod DonesTell
 pub mod RepliesTell
+pub mod StoredRun
+pub mod ConnectedRun

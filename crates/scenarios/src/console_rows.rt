@@ -10,7 +10,7 @@ struct Row {
     lines: &'static [&'static str],
 }
 
-const ROWS: [Row; 16] = [
+const ROWS: [Row; 19] = [
     Row {
         name: "a request of an odd length gets a pad behind it",
         script: "\
@@ -311,6 +311,52 @@ tables E
         ],
     },
     Row {
+        name: "the trail of an open that a bridge refuses",
+        script: "\
+open S 1 0x07 0xFA 02050903200424642C652C66 0x42 0 1 10000 0x4806 10000 0x4804
+run 100
+trail S 1
+trail S 7
+trail A 1
+",
+        lines: &["trail 0 1", "trail", "trail"],
+    },
+    Row {
+        name: "the trail of an open that comes back to the scanner",
+        script: "\
+open S 1 0x07 0xFA 020502010205200424642C652C66 0x42 0 1 10000 0x4806 10000 0x4804
+run 100
+trail S 1
+",
+        lines: &["trail 0 1 2"],
+    },
+    Row {
+        name: "the trails of an open, of a request, of a close and of a refused command",
+        script: "\
+trail S 1
+open S 1 0x07 0xFA 020501030207200424642C652C66 0x42 0 1 10000 0x4806 10000 0x4804
+trail S 1
+run 100
+trail S 1
+send S 1 0x07 0xFA 02050103 010220012401
+send S 2 0x07 0xFA 02050103 010220012401
+run 100
+trail S 2
+close S 3 1 0x07 0xFA
+run 100
+trail S 3
+trail S 1
+",
+        lines: &[
+            "trail",
+            "trail 0",
+            "trail 0 1 2 3",
+            "trail 8 9 10",
+            "trail",
+            "trail 0 1 2 3",
+        ],
+    },
+    Row {
         name: "limits of a run",
         script: "\
 send S 1 0x07 0xFA 02050103 010220012401
@@ -387,7 +433,7 @@ const FAULTY: [Faulty; 27] = [
     (b"deliver", 1, ScriptFault::Count),
     (b"lose 0 0", 1, ScriptFault::Count),
     (b"tables", 1, ScriptFault::Count),
-    (b"trail S 1", 1, ScriptFault::UnknownWord),
+    (b"trail S", 1, ScriptFault::Count),
     (b"chain S 1", 1, ScriptFault::UnknownWord),
     (b"tables C", 1, ScriptFault::NoModule),
     (b"tick C 0", 1, ScriptFault::NoModule),

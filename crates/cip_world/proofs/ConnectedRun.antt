@@ -1,0 +1,321 @@
+-- A run with an open, a datum that is lost, one that comes to its end, and a tick.
+use Rattle.std.proofs.Common.{◌≡◌, ℕ, List, [], ◌∷◌, Some, None, refl, sym, ◌∙◌}
+use Rattle.std.proofs.lemmas.List.{nil_from_length}
+use Rattle.std.specs.Prelude.{cond}
+use Rattle.std.specs.Ordering.{eq_by_cmp}
+use Rattle.cip_base.proofs.Triads.{triads_total}
+use Rattle.cip_target.specs.declared.identity.IdentityFields.{IdentityFields}
+use Rattle.cip_module.specs.declared.config.ModuleSettings.{ModuleSettings}
+use Rattle.cip_module.specs.declared.config.ModuleKind.TheVariants.{Plain, Adapter}
+use Rattle.cip_module.specs.declared.config.PortConfig.{PortConfig}
+use Rattle.cip_module.specs.declared.config.LegalAddresses.TheVariants.{Byte}
+use Rattle.cip_module.specs.declared.event.Command.TheVariants as commands
+use Rattle.cip_module.specs.declared.event.Event.TheVariants as events
+use Rattle.cip_module.specs.declared.event.Body.TheVariants as bodies
+use Rattle.cip_module.specs.declared.event.Output.TheVariants as outputs
+use Rattle.cip_module.specs.State.{initial_state}
+use Rattle.cip_module.specs.State.{State}
+use Rattle.cip_module.specs.Table.{table_step}
+use Rattle.std.specs.FinMap as map
+use Rattle.std.specs.Ordering.{nat_cmp}
+use Rattle.cip_pending.specs.declared.entry.Entry.{Entry}
+use Rattle.std.specs.Cmp.{nat_cmp_total}
+use Rattle.cip_base.specs.Triads.{triad_cmp}
+use Rattle.cip_base.specs.declared.triad.Triad.{Triad}
+use Rattle.cip_hops.specs.declared.hop.Held.{Held}
+use Rattle.cip_module.specs.declared.event.OpenParams.{OpenParams}
+use Rattle.cip_module.specs.declared.event.Event.{Event}
+use Rattle.cip_module.specs.declared.event.Output.{Output}
+use Rattle.cip_topology.specs.Plan.{Plan}
+use Rattle.cip_world.specs.declared.journal.FrameName.{FrameName}
+use Rattle.cip_world.specs.declared.journal.Input.TheVariants.{Command, Tick, Frame}
+use Rattle.cip_world.specs.declared.journal.Entry.TheVariants.{Step, Lost}
+use Rattle.cip_world.specs.Journals.{Journal}
+use Rattle.cip_world.specs.Runs.{IsRun, state_in}
+use Rattle.cip_message.specs.Counted.{counted_at, counted_path_at}
+use Rattle.cip_message.specs.ReplyAt.{reply_at}
+use Rattle.cip_message.specs.RequestAt.{request_at}
+use Rattle.cip_module.specs.DataRows.{data_row}
+use Rattle.cip_module.specs.Links.{link_refusal}
+use Rattle.cip_module.specs.OpenRows.{open_row}
+use Rattle.cip_module.specs.ReplyRows.{reply_row}
+use Rattle.cip_module.specs.RequestRows.{request_row}
+use Rattle.cip_open.specs.OpenAt.{open_at}
+use Rattle.cip_open.specs.SuccessAt.{open_reply_at}
+use Rattle.cip_segment.specs.Reading.{segments_within, path_at, segments_of, behind, hop_of}
+use Rattle.cip_segment.specs.Scan.{bytes_at, padded_at, narrow_at, double_at, point_at, words_at, number_at, size_at, plain_port_at, port_at, other_at, logical_at, segment_at}
+use Rattle.cip_target.specs.Ends.{end_row}
+
+abbrev identity : ℕ → ℕ → IdentityFields
+identity product serial = record { vendor = 257; device_type = 12; product = product; major = 1; minor = 3; status = 0; serial = serial; name = 65 ∷ [] }
+
+abbrev port : ℕ → PortConfig
+port address = record { number = 2; link = 0; legal = Byte 0 254; address = address ∷ [] }
+
+abbrev scanner : ModuleSettings
+scanner = record {
+  name = 83 ∷ [];
+  kind = Plain;
+  identity = identity 9 1;
+  clock = 0;
+  first_id = 17;
+  first_number = 1;
+  pending_room = 256;
+  hop_room = 256;
+  ports = port 1 ∷ [];
+  assemblies = [];
+}
+
+abbrev adapter : ModuleSettings
+adapter = record {
+  name = 69 ∷ [];
+  kind = Adapter;
+  identity = identity 3 2;
+  clock = 0;
+  first_id = 65;
+  first_number = 1;
+  pending_room = 256;
+  hop_room = 256;
+  ports = port 7 ∷ [];
+  assemblies = record { instance = 100; size = 0 } ∷ record { instance = 101; size = 4 } ∷ record { instance = 102; size = 2 } ∷ [];
+}
+
+abbrev cell : Plan
+cell = record { links = []; modules = scanner ∷ adapter ∷ [] }
+
+none_waits : map.len (map.empty {X = Entry} {R = nat_cmp}) ≡ 0
+none_waits = map.len-empty nat_cmp Entry
+
+none_held : map.len (map.empty {X = Held} {R = triad_cmp}) ≡ 0
+none_held = map.len-empty triad_cmp Held
+
+-- what the finite maps of this run answer
+held_get : (m : map.FinMap triad_cmp Held) (k : Triad) (v : Held) (q : Triad) → map.get (map.insert m k v) q ≡ cond (eq_by_cmp triad_cmp q k) (Some v) (map.get m q)
+held_get m k v q = map.get-insert triads_total m k v q
+
+held_first : (q : Triad) → map.get (map.empty {X = Held} {R = triad_cmp}) q ≡ None
+held_first q = map.get-empty triad_cmp q
+
+held_entries : (m : map.FinMap triad_cmp Held) (k : Triad) (v : Held) → map.entries (map.insert m k v) ≡ map.put triad_cmp k v (map.entries m)
+held_entries m k v = map.entries-insert triads_total m k v
+
+held_none : map.entries (map.empty {X = Held} {R = triad_cmp}) ≡ []
+held_none = nil_from_length _ (sym (map.len-entries map.empty) ∙ map.len-empty triad_cmp Held)
+
+pendings_none : map.entries (map.empty {X = Entry} {R = nat_cmp}) ≡ []
+pendings_none = nil_from_length _ (sym (map.len-entries map.empty) ∙ map.len-empty nat_cmp Entry)
+
+bytes_get : (m : map.FinMap nat_cmp (List ℕ)) (k : ℕ) (v : List ℕ) (q : ℕ) → map.get (map.insert m k v) q ≡ cond (eq_by_cmp nat_cmp q k) (Some v) (map.get m q)
+bytes_get m k v q = map.get-insert nat_cmp_total m k v q
+
+entry_get : (m : map.FinMap nat_cmp Entry) (k : ℕ) (v : Entry) (q : ℕ) → map.get (map.insert m k v) q ≡ cond (eq_by_cmp nat_cmp q k) (Some v) (map.get m q)
+entry_get m k v q = map.get-insert nat_cmp_total m k v q
+
+-- a module puts this out at an event, and is in some state then
+abbrev Gives : ModuleSettings → State → Event → List Output → Type 0
+Gives config s event outs = (new : State) × (table_step config s event ≡ Some (record { state = new; outputs = outs }))
+
+abbrev params : OpenParams
+params = record { serial = 66; multiplier = 0; transport = 1; ot_rpi = 10000; ot_params = 18438; to_rpi = 10000; to_params = 18436 }
+
+abbrev open_command : Event
+open_command = events.Command (commands.Open 1 (record { tick = 7; ticks = 250 }) (2 ∷ 7 ∷ 32 ∷ 4 ∷ 36 ∷ 100 ∷ 44 ∷ 101 ∷ 44 ∷ 102 ∷ []) params)
+
+abbrev open_sent : List ℕ
+open_sent = 84 ∷ 2 ∷ 32 ∷ 6 ∷ 36 ∷ 1 ∷ 7 ∷ 249 ∷ 0 ∷ 0 ∷ 0 ∷ 0 ∷ 17 ∷ 0 ∷ 0 ∷ 0 ∷ 66 ∷ 0 ∷ 1 ∷ 1 ∷ 1 ∷ 0 ∷ 0 ∷ 0 ∷ 0 ∷ 0 ∷ 0 ∷ 0
+    ∷ 16 ∷ 39 ∷ 0 ∷ 0 ∷ 6 ∷ 72 ∷ 16 ∷ 39 ∷ 0 ∷ 0 ∷ 4 ∷ 72 ∷ 1 ∷ 4 ∷ 32 ∷ 4 ∷ 36 ∷ 100 ∷ 44 ∷ 101 ∷ 44 ∷ 102 ∷ []
+
+opens : Gives scanner (initial_state scanner) open_command (outputs.Send 2 (7 ∷ []) (bodies.Request 1 open_sent) ∷ [])
+unfolding behind bytes_at counted_at counted_path_at data_row double_at end_row hop_of link_refusal logical_at narrow_at number_at open_at
+    open_reply_at open_row other_at padded_at path_at plain_port_at point_at port_at reply_at reply_row request_at request_row segment_at segments_of
+    segments_within size_at words_at
+opens = simp (none_waits, none_held, held_first) (_, refl)
+
+abbrev success : List ℕ
+success = 212 ∷ 0 ∷ 0 ∷ 0 ∷ 65 ∷ 0 ∷ 0 ∷ 0 ∷ 17 ∷ 0 ∷ 0 ∷ 0 ∷ 66 ∷ 0 ∷ 1 ∷ 1 ∷ 1 ∷ 0 ∷ 0 ∷ 0 ∷ 16 ∷ 39 ∷ 0 ∷ 0 ∷ 16 ∷ 39 ∷ 0 ∷ 0 ∷ 0 ∷ 0 ∷ []
+
+
+abbrev triad : Triad
+triad = record { serial = 66; vendor = 257; originator = 1 }
+
+abbrev frame : ℕ → FrameName
+frame k = record { entry = k; output = 0 }
+
+abbrev ticked : Journal
+ticked = Step (record { 0 = 1 }) (Tick 1) [] ∷ []
+
+abbrev begins : Journal
+begins = Step (record { 0 = 0 }) (Command (commands.Open 1 (record { tick = 7; ticks = 250 }) (2 ∷ 7 ∷ 32 ∷ 4 ∷ 36 ∷ 100 ∷ 44 ∷ 101 ∷ 44 ∷ 102 ∷ []) params))
+    (outputs.Send 2 (7 ∷ []) (bodies.Request 1 open_sent) ∷ []) ∷ ticked
+
+abbrev ends_there : Journal
+ends_there = Step (record { 0 = 1 }) (Frame 2 (1 ∷ []) (frame 1)) (outputs.Send 2 (1 ∷ []) (bodies.Reply 1 success) ∷ []) ∷ begins
+
+ticks : Gives adapter (initial_state adapter) (events.Tick 1) []
+unfolding behind bytes_at counted_at counted_path_at data_row double_at end_row hop_of link_refusal logical_at narrow_at number_at open_at
+    open_reply_at open_row other_at padded_at path_at plain_port_at point_at port_at reply_at reply_row request_at request_row segment_at segments_of
+    segments_within size_at words_at
+ticks = simp (held_none, pendings_none) (_, refl)
+
+accepts : Gives adapter (state_in adapter 1 begins) (events.Frame 2 (1 ∷ []) (bodies.Request 1 open_sent)) (outputs.Send 2 (1 ∷ []) (bodies.Reply 1 success) ∷ [])
+unfolding behind bytes_at counted_at counted_path_at data_row double_at end_row hop_of link_refusal logical_at narrow_at number_at open_at
+    open_reply_at open_row other_at padded_at path_at plain_port_at point_at port_at reply_at reply_row request_at request_row segment_at segments_of
+    segments_within size_at words_at
+accepts = simp (none_held, held_first, held_get, held_none, bytes_get, pendings_none) (_, refl)
+
+abbrev stands : Journal
+stands = Step (record { 0 = 0 }) (Frame 2 (7 ∷ []) (frame 2)) (outputs.Done 1 success ∷ []) ∷ ends_there
+
+finishes : Gives scanner (state_in scanner 0 ends_there) (events.Frame 2 (7 ∷ []) (bodies.Reply 1 success)) (outputs.Done 1 success ∷ [])
+unfolding behind bytes_at counted_at counted_path_at data_row double_at end_row hop_of link_refusal logical_at narrow_at number_at open_at
+    open_reply_at open_row other_at padded_at path_at plain_port_at point_at port_at reply_at reply_row request_at request_row segment_at segments_of
+    segments_within size_at words_at
+finishes = simp (none_waits, none_held, held_first, held_get, entry_get) (_, refl)
+
+abbrev first_datum : List ℕ
+first_datum = 1 ∷ 0 ∷ 170 ∷ 187 ∷ 204 ∷ 221 ∷ []
+
+abbrev second_datum : List ℕ
+second_datum = 2 ∷ 0 ∷ 17 ∷ 34 ∷ 51 ∷ 68 ∷ []
+
+abbrev entered : Journal
+entered = Step (record { 0 = 0 }) (Command (commands.Enter 1 first_datum)) (outputs.Send 2 (7 ∷ []) (bodies.Data 65 first_datum) ∷ []) ∷ stands
+
+abbrev lost : Journal
+lost = Lost (frame 4) ∷ entered
+
+abbrev entered_again : Journal
+entered_again = Step (record { 0 = 0 }) (Command (commands.Enter 1 second_datum)) (outputs.Send 2 (7 ∷ []) (bodies.Data 65 second_datum) ∷ []) ∷ lost
+
+abbrev taken : Journal
+taken = Step (record { 0 = 1 }) (Frame 2 (1 ∷ []) (frame 6)) (outputs.Consumed triad 101 second_datum ∷ []) ∷ entered_again
+
+enters : Gives scanner (state_in scanner 0 stands) (events.Command (commands.Enter 1 first_datum)) (outputs.Send 2 (7 ∷ []) (bodies.Data 65 first_datum) ∷ [])
+unfolding behind bytes_at counted_at counted_path_at data_row double_at end_row hop_of link_refusal logical_at narrow_at number_at open_at
+    open_reply_at open_row other_at padded_at path_at plain_port_at point_at port_at reply_at reply_row request_at request_row segment_at segments_of
+    segments_within size_at words_at
+enters = simp (none_waits, none_held, held_first, held_get, held_entries, held_none, entry_get) (_, refl)
+
+enters_again : Gives scanner (state_in scanner 0 lost) (events.Command (commands.Enter 1 second_datum)) (outputs.Send 2 (7 ∷ []) (bodies.Data 65 second_datum) ∷ [])
+unfolding behind bytes_at counted_at counted_path_at data_row double_at end_row hop_of link_refusal logical_at narrow_at number_at open_at
+    open_reply_at open_row other_at padded_at path_at plain_port_at point_at port_at reply_at reply_row request_at request_row segment_at segments_of
+    segments_within size_at words_at
+enters_again = simp (none_waits, none_held, held_first, held_get, held_entries, held_none, entry_get) (_, refl)
+
+takes : Gives adapter (state_in adapter 1 entered_again) (events.Frame 2 (1 ∷ []) (bodies.Data 65 second_datum)) (outputs.Consumed triad 101 second_datum ∷ [])
+unfolding behind bytes_at counted_at counted_path_at data_row double_at end_row hop_of link_refusal logical_at narrow_at number_at open_at
+    open_reply_at open_row other_at padded_at path_at plain_port_at point_at port_at reply_at reply_row request_at request_row segment_at segments_of
+    segments_within size_at words_at
+takes = simp (none_held, held_first, held_get, held_entries, held_none, bytes_get, pendings_none) (_, refl)
+
+-- ---- entry by entry
+
+run_ticked : IsRun cell ticked
+run_ticked = (tt, record {
+  event = events.Tick 1;
+  given = refl;
+  config = adapter;
+  is_module = refl;
+  new = ticks.0;
+  step = ticks.1;
+})
+
+run_begins : IsRun cell begins
+run_begins = (run_ticked, record {
+  event = open_command;
+  given = refl;
+  config = scanner;
+  is_module = refl;
+  new = opens.0;
+  step = opens.1;
+})
+
+run_ends_there : IsRun cell ends_there
+run_ends_there = (run_begins, record {
+  event = events.Frame 2 (1 ∷ []) (bodies.Request 1 open_sent);
+  given = record {
+    waits = record {
+      flight = record { way = record { at = 0; port = 2; address = 7 ∷ [] }; body = bodies.Request 1 open_sent };
+      there = record { at = 1; port = 2; address = 1 ∷ [] };
+      sent = refl;
+      leads = refl;
+      fresh = refl;
+    };
+    here = refl;
+    event_is = refl;
+  };
+  config = adapter;
+  is_module = refl;
+  new = accepts.0;
+  step = accepts.1;
+})
+
+run_stands : IsRun cell stands
+run_stands = (run_ends_there, record {
+  event = events.Frame 2 (7 ∷ []) (bodies.Reply 1 success);
+  given = record {
+    waits = record {
+      flight = record { way = record { at = 1; port = 2; address = 1 ∷ [] }; body = bodies.Reply 1 success };
+      there = record { at = 0; port = 2; address = 7 ∷ [] };
+      sent = refl;
+      leads = refl;
+      fresh = refl;
+    };
+    here = refl;
+    event_is = refl;
+  };
+  config = scanner;
+  is_module = refl;
+  new = finishes.0;
+  step = finishes.1;
+})
+
+run_entered : IsRun cell entered
+run_entered = (run_stands, record {
+  event = events.Command (commands.Enter 1 first_datum);
+  given = refl;
+  config = scanner;
+  is_module = refl;
+  new = enters.0;
+  step = enters.1;
+})
+
+run_lost : IsRun cell lost
+run_lost = (run_entered, record {
+  flight = record { way = record { at = 0; port = 2; address = 7 ∷ [] }; body = bodies.Data 65 first_datum };
+  there = record { at = 1; port = 2; address = 1 ∷ [] };
+  sent = refl;
+  leads = refl;
+  fresh = refl;
+})
+
+run_entered_again : IsRun cell entered_again
+run_entered_again = (run_lost, record {
+  event = events.Command (commands.Enter 1 second_datum);
+  given = refl;
+  config = scanner;
+  is_module = refl;
+  new = enters_again.0;
+  step = enters_again.1;
+})
+
+-- the whole run
+pub connected_run : IsRun cell taken
+connected_run = (run_entered_again, record {
+  event = events.Frame 2 (1 ∷ []) (bodies.Data 65 second_datum);
+  given = record {
+    waits = record {
+      flight = record { way = record { at = 0; port = 2; address = 7 ∷ [] }; body = bodies.Data 65 second_datum };
+      there = record { at = 1; port = 2; address = 1 ∷ [] };
+      sent = refl;
+      leads = refl;
+      fresh = refl;
+    };
+    here = refl;
+    event_is = refl;
+  };
+  config = adapter;
+  is_module = refl;
+  new = takes.0;
+  step = takes.1;
+})
