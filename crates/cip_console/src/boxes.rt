@@ -10,8 +10,8 @@ use cip_module::{AdapterModule, Module, ModuleConfig, ModuleKind, PlainModule};
 use cip_topology::{CHASSIS, Topology, load};
 use std::alloc::Global;
 
-/// The scanner S, the bridges A and B and the adapter E of `CHASSIS`. NoMemory where an allocation is
-/// refused.
+/// The scanner S, the bridges A and B and the adapter E of `CHASSIS`. NoMemory where an allocation
+/// is refused.
 // The text keeps every rule, which a test shows: only want of memory stops it from being loaded.
 pub fn chassis(alloc: Global) -> Result<Topology, NoMemory> {
     match load(alloc, CHASSIS) {

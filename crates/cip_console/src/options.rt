@@ -113,8 +113,8 @@ fn fault_of(error: &clap::Error) -> OptionsFault {
 }
 
 /// Reads the words after the program's name: `--topology FILE`, `--script FILE`, each at most once,
-/// and `--help` and `--version`. There are no workers yet, so `--threads` and `--turns` are Usage, as
-/// is every other word. NoMemory where an allocation is refused.
+/// and `--help` and `--version`. There are no workers yet, so `--threads` and `--turns` are Usage,
+/// as is every other word. NoMemory where an allocation is refused.
 pub fn read_options(alloc: Global, words: &[String]) -> Result<Options, OptionsFault>
     ensures { IfOk result (λ options. (1 ≤ options.turns) × (options.turns ≤ MOST_TURNS)) }
 {

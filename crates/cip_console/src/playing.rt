@@ -157,7 +157,8 @@ fn feed<W: Sink>(
         (map (λ b. config_of (b.vtable, b.value)) world.new.modules.items)
         (map (λ b. state_of (b.vtable, b.value)) world.new.modules.items) }
     ensures plan { world.new.ledger.plan ≡ world.old.ledger.plan }
-    ensures plays { Plays (given world.old.ledger.plan world.old.ledger.journal at (inputs.Command command))
+    ensures plays { Plays (given world.old.ledger.plan world.old.ledger.journal at
+        (inputs.Command command))
         (W.contents writer.old) (W.contents writer.new) text.old.items text.new.items
         world.new.ledger.journal result }
     ensures write { result ≡ Err PlayFault.Write → W.has_refused writer.new }

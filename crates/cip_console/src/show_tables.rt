@@ -198,7 +198,8 @@ fn put_assemblies(text: &mut Vec<u8>, rows: &[AssemblyRow]) -> Result<(), NoMemo
 }
 
 fn put_counts(text: &mut Vec<u8>, name: &[u8], tables: &Tables) -> Result<(), NoMemory>
-    ensures { OnOk result (text.new.items ≡ text.old.items ++ counts_text name.now tables.entry.now) }
+    ensures { OnOk result (text.new.items
+        ≡ text.old.items ++ counts_text name.now tables.entry.now) }
 {
     put(text, b"tables ")?;
     put(text, name)?;
@@ -214,7 +215,8 @@ fn put_counts(text: &mut Vec<u8>, name: &[u8], tables: &Tables) -> Result<(), No
 /// The tables of a module behind a text: its counts, and then a line for each request that waits,
 /// each connection that is open, and each assembly.
 pub(crate) fn put_tables(text: &mut Vec<u8>, name: &[u8], tables: &Tables) -> Result<(), NoMemory>
-    ensures { OnOk result (text.new.items ≡ text.old.items ++ tables_text name.now tables.entry.now) }
+    ensures { OnOk result (text.new.items
+        ≡ text.old.items ++ tables_text name.now tables.entry.now) }
 {
     put_counts(text, name, tables)?;
     put_pendings(text, tables.pendings.as_slice())?;

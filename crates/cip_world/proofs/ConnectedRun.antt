@@ -90,7 +90,8 @@ none_held : map.len (map.empty {X = Held} {R = triad_cmp}) ≡ 0
 none_held = map.len-empty triad_cmp Held
 
 -- what the finite maps of this run answer
-held_get : (m : map.FinMap triad_cmp Held) (k : Triad) (v : Held) (q : Triad) → map.get (map.insert m k v) q ≡ cond (eq_by_cmp triad_cmp q k) (Some v) (map.get m q)
+held_get : (m : map.FinMap triad_cmp Held) (k : Triad) (v : Held) (q : Triad)
+    → map.get (map.insert m k v) q ≡ cond (eq_by_cmp triad_cmp q k) (Some v) (map.get m q)
 held_get m k v q = map.get-insert triads_total m k v q
 
 held_first : (q : Triad) → map.get (map.empty {X = Held} {R = triad_cmp}) q ≡ None
@@ -134,7 +135,6 @@ opens = simp (none_waits, none_held, held_first) (_, refl)
 abbrev success : List ℕ
 success = 212 ∷ 0 ∷ 0 ∷ 0 ∷ 65 ∷ 0 ∷ 0 ∷ 0 ∷ 17 ∷ 0 ∷ 0 ∷ 0 ∷ 66 ∷ 0 ∷ 1 ∷ 1 ∷ 1 ∷ 0 ∷ 0 ∷ 0 ∷ 16 ∷ 39 ∷ 0 ∷ 0 ∷ 16 ∷ 39 ∷ 0 ∷ 0 ∷ 0 ∷ 0 ∷ []
 
-
 abbrev triad : Triad
 triad = record { serial = 66; vendor = 257; originator = 1 }
 
@@ -157,7 +157,8 @@ unfolding behind bytes_at counted_at counted_path_at data_row double_at end_row 
     segments_within size_at words_at
 ticks = simp (held_none, pendings_none) (_, refl)
 
-accepts : Gives adapter (state_in adapter 1 begins) (events.Frame 2 (1 ∷ []) (bodies.Request 1 open_sent)) (outputs.Send 2 (1 ∷ []) (bodies.Reply 1 success) ∷ [])
+accepts : Gives adapter (state_in adapter 1 begins) (events.Frame 2 (1 ∷ []) (bodies.Request 1 open_sent))
+    (outputs.Send 2 (1 ∷ []) (bodies.Reply 1 success) ∷ [])
 unfolding behind bytes_at counted_at counted_path_at data_row double_at end_row hop_of link_refusal logical_at narrow_at number_at open_at
     open_reply_at open_row other_at padded_at path_at plain_port_at point_at port_at reply_at reply_row request_at request_row segment_at segments_of
     segments_within size_at words_at
@@ -196,7 +197,8 @@ unfolding behind bytes_at counted_at counted_path_at data_row double_at end_row 
     segments_within size_at words_at
 enters = simp (none_waits, none_held, held_first, held_get, held_entries, held_none, entry_get) (_, refl)
 
-enters_again : Gives scanner (state_in scanner 0 lost) (events.Command (commands.Enter 1 second_datum)) (outputs.Send 2 (7 ∷ []) (bodies.Data 65 second_datum) ∷ [])
+enters_again : Gives scanner (state_in scanner 0 lost) (events.Command (commands.Enter 1 second_datum))
+    (outputs.Send 2 (7 ∷ []) (bodies.Data 65 second_datum) ∷ [])
 unfolding behind bytes_at counted_at counted_path_at data_row double_at end_row hop_of link_refusal logical_at narrow_at number_at open_at
     open_reply_at open_row other_at padded_at path_at plain_port_at point_at port_at reply_at reply_row request_at request_row segment_at segments_of
     segments_within size_at words_at
@@ -211,111 +213,135 @@ takes = simp (none_held, held_first, held_get, held_entries, held_none, bytes_ge
 -- ---- entry by entry
 
 run_ticked : IsRun cell ticked
-run_ticked = (tt, record {
-  event = events.Tick 1;
-  given = refl;
-  config = adapter;
-  is_module = refl;
-  new = ticks.0;
-  step = ticks.1;
-})
+run_ticked = (
+  tt,
+  record {
+    event = events.Tick 1;
+    given = refl;
+    config = adapter;
+    is_module = refl;
+    new = ticks.0;
+    step = ticks.1;
+  },
+)
 
 run_begins : IsRun cell begins
-run_begins = (run_ticked, record {
-  event = open_command;
-  given = refl;
-  config = scanner;
-  is_module = refl;
-  new = opens.0;
-  step = opens.1;
-})
+run_begins = (
+  run_ticked,
+  record {
+    event = open_command;
+    given = refl;
+    config = scanner;
+    is_module = refl;
+    new = opens.0;
+    step = opens.1;
+  },
+)
 
 run_ends_there : IsRun cell ends_there
-run_ends_there = (run_begins, record {
-  event = events.Frame 2 (1 ∷ []) (bodies.Request 1 open_sent);
-  given = record {
-    waits = record {
-      flight = record { way = record { at = 0; port = 2; address = 7 ∷ [] }; body = bodies.Request 1 open_sent };
-      there = record { at = 1; port = 2; address = 1 ∷ [] };
-      sent = refl;
-      leads = refl;
-      fresh = refl;
+run_ends_there = (
+  run_begins,
+  record {
+    event = events.Frame 2 (1 ∷ []) (bodies.Request 1 open_sent);
+    given = record {
+      waits = record {
+        flight = record { way = record { at = 0; port = 2; address = 7 ∷ [] }; body = bodies.Request 1 open_sent };
+        there = record { at = 1; port = 2; address = 1 ∷ [] };
+        sent = refl;
+        leads = refl;
+        fresh = refl;
+      };
+      here = refl;
+      event_is = refl;
     };
-    here = refl;
-    event_is = refl;
-  };
-  config = adapter;
-  is_module = refl;
-  new = accepts.0;
-  step = accepts.1;
-})
+    config = adapter;
+    is_module = refl;
+    new = accepts.0;
+    step = accepts.1;
+  },
+)
 
 run_stands : IsRun cell stands
-run_stands = (run_ends_there, record {
-  event = events.Frame 2 (7 ∷ []) (bodies.Reply 1 success);
-  given = record {
-    waits = record {
-      flight = record { way = record { at = 1; port = 2; address = 1 ∷ [] }; body = bodies.Reply 1 success };
-      there = record { at = 0; port = 2; address = 7 ∷ [] };
-      sent = refl;
-      leads = refl;
-      fresh = refl;
+run_stands = (
+  run_ends_there,
+  record {
+    event = events.Frame 2 (7 ∷ []) (bodies.Reply 1 success);
+    given = record {
+      waits = record {
+        flight = record { way = record { at = 1; port = 2; address = 1 ∷ [] }; body = bodies.Reply 1 success };
+        there = record { at = 0; port = 2; address = 7 ∷ [] };
+        sent = refl;
+        leads = refl;
+        fresh = refl;
+      };
+      here = refl;
+      event_is = refl;
     };
-    here = refl;
-    event_is = refl;
-  };
-  config = scanner;
-  is_module = refl;
-  new = finishes.0;
-  step = finishes.1;
-})
+    config = scanner;
+    is_module = refl;
+    new = finishes.0;
+    step = finishes.1;
+  },
+)
 
 run_entered : IsRun cell entered
-run_entered = (run_stands, record {
-  event = events.Command (commands.Enter 1 first_datum);
-  given = refl;
-  config = scanner;
-  is_module = refl;
-  new = enters.0;
-  step = enters.1;
-})
+run_entered = (
+  run_stands,
+  record {
+    event = events.Command (commands.Enter 1 first_datum);
+    given = refl;
+    config = scanner;
+    is_module = refl;
+    new = enters.0;
+    step = enters.1;
+  },
+)
 
 run_lost : IsRun cell lost
-run_lost = (run_entered, record {
-  flight = record { way = record { at = 0; port = 2; address = 7 ∷ [] }; body = bodies.Data 65 first_datum };
-  there = record { at = 1; port = 2; address = 1 ∷ [] };
-  sent = refl;
-  leads = refl;
-  fresh = refl;
-})
+run_lost = (
+  run_entered,
+  record {
+    flight = record { way = record { at = 0; port = 2; address = 7 ∷ [] }; body = bodies.Data 65 first_datum };
+    there = record { at = 1; port = 2; address = 1 ∷ [] };
+    sent = refl;
+    leads = refl;
+    fresh = refl;
+  },
+)
 
 run_entered_again : IsRun cell entered_again
-run_entered_again = (run_lost, record {
-  event = events.Command (commands.Enter 1 second_datum);
-  given = refl;
-  config = scanner;
-  is_module = refl;
-  new = enters_again.0;
-  step = enters_again.1;
-})
+run_entered_again = (
+  run_lost,
+  record {
+    event = events.Command (commands.Enter 1 second_datum);
+    given = refl;
+    config = scanner;
+    is_module = refl;
+    new = enters_again.0;
+    step = enters_again.1;
+  },
+)
 
 -- the whole run
 pub connected_run : IsRun cell taken
-connected_run = (run_entered_again, record {
-  event = events.Frame 2 (1 ∷ []) (bodies.Data 65 second_datum);
-  given = record {
-    waits = record {
-      flight = record { way = record { at = 0; port = 2; address = 7 ∷ [] }; body = bodies.Data 65 second_datum };
-      there = record { at = 1; port = 2; address = 1 ∷ [] };
-      sent = refl;
-      leads = refl;
-      fresh = refl;
+connected_run = (
+  run_entered_again,
+  record {
+    event = events.Frame 2 (1 ∷ []) (bodies.Data 65 second_datum);
+    given = record {
+      waits = record {
+        flight = record { way = record { at = 0; port = 2; address = 7 ∷ [] }; body = bodies.Data 65 second_datum };
+        there = record { at = 1; port = 2; address = 1 ∷ [] };
+        sent = refl;
+        leads = refl;
+        fresh = refl;
+      };
+      here = refl;
+      event_is = refl;
     };
-    here = refl;
-    event_is = refl;
-  };
-  config = adapter;
-  is_module = refl;
-  new = takes.0;
-  step = takes.1;
-})
+    config = adapter;
+    is_module = refl;
+    new = takes.0;
+    step = takes.1;
+  },
+)

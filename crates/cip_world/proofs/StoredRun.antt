@@ -134,19 +134,22 @@ unfolding behind bytes_at counted_at counted_path_at double_at hop_of link_refus
     unconnected_at unconnected_row
 sends = rw none_waits (_, refl)
 
-forwards : Gives first_bridge (state_in first_bridge 1 asks) (events.Frame 2 (1 ∷ []) (bodies.Request 1 sent_on)) (outputs.Send 1 (3 ∷ []) (bodies.Request 1 asked) ∷ [])
+forwards : Gives first_bridge (state_in first_bridge 1 asks) (events.Frame 2 (1 ∷ []) (bodies.Request 1 sent_on))
+    (outputs.Send 1 (3 ∷ []) (bodies.Request 1 asked) ∷ [])
 unfolding behind bytes_at counted_at counted_path_at double_at hop_of link_refusal logical_at narrow_at number_at other_at padded_at path_at
     plain_port_at point_at port_at reply_at reply_row request_at request_row segment_at segments_of segments_within send_row size_at target_row
     unconnected_at unconnected_row
 forwards = rw none_waits (_, refl)
 
-replies : Gives second_bridge (state_in second_bridge 2 goes_on) (events.Frame 1 (0 ∷ []) (bodies.Request 1 asked)) (outputs.Send 1 (0 ∷ []) (bodies.Reply 1 answer) ∷ [])
+replies : Gives second_bridge (state_in second_bridge 2 goes_on) (events.Frame 1 (0 ∷ []) (bodies.Request 1 asked))
+    (outputs.Send 1 (0 ∷ []) (bodies.Reply 1 answer) ∷ [])
 unfolding behind bytes_at counted_at counted_path_at double_at hop_of link_refusal logical_at narrow_at number_at other_at padded_at path_at
     plain_port_at point_at port_at reply_at reply_row request_at request_row segment_at segments_of segments_within send_row size_at target_row
     unconnected_at unconnected_row
 replies = (_, refl)
 
-passes : Gives first_bridge (state_in first_bridge 1 answers) (events.Frame 1 (3 ∷ []) (bodies.Reply 1 answer)) (outputs.Send 2 (1 ∷ []) (bodies.Reply 1 answer) ∷ [])
+passes : Gives first_bridge (state_in first_bridge 1 answers) (events.Frame 1 (3 ∷ []) (bodies.Reply 1 answer))
+    (outputs.Send 2 (1 ∷ []) (bodies.Reply 1 answer) ∷ [])
 unfolding behind bytes_at counted_at counted_path_at double_at hop_of link_refusal logical_at narrow_at number_at other_at padded_at path_at
     plain_port_at point_at port_at reply_at reply_row request_at request_row segment_at segments_of segments_within send_row size_at target_row
     unconnected_at unconnected_row
@@ -159,86 +162,107 @@ unfolding behind bytes_at counted_at counted_path_at double_at hop_of link_refus
 is_done = simp (none_waits, waits_there) (_, refl)
 
 run_asks : IsRun plant asks
-run_asks = (tt, record { event = events.Command (commands.Send 1 (record { tick = 7; ticks = 250 }) (2 ∷ 5 ∷ 1 ∷ 3 ∷ []) asked); given = refl; config = scanner;
-    is_module = refl; new = sends.0; step = sends.1 })
+run_asks = (
+  tt,
+  record {
+    event = events.Command (commands.Send 1 (record { tick = 7; ticks = 250 }) (2 ∷ 5 ∷ 1 ∷ 3 ∷ []) asked);
+    given = refl;
+    config = scanner;
+    is_module = refl;
+    new = sends.0;
+    step = sends.1;
+  },
+)
 
 run_goes_on : IsRun plant goes_on
-run_goes_on = (run_asks, record {
-  event = events.Frame 2 (1 ∷ []) (bodies.Request 1 sent_on);
-  given = record {
-    waits = record {
-      flight = record { way = record { at = 0; port = 2; address = 5 ∷ [] }; body = bodies.Request 1 sent_on };
-      there = record { at = 1; port = 2; address = 1 ∷ [] };
-      sent = refl;
-      leads = refl;
-      fresh = refl;
+run_goes_on = (
+  run_asks,
+  record {
+    event = events.Frame 2 (1 ∷ []) (bodies.Request 1 sent_on);
+    given = record {
+      waits = record {
+        flight = record { way = record { at = 0; port = 2; address = 5 ∷ [] }; body = bodies.Request 1 sent_on };
+        there = record { at = 1; port = 2; address = 1 ∷ [] };
+        sent = refl;
+        leads = refl;
+        fresh = refl;
+      };
+      here = refl;
+      event_is = refl;
     };
-    here = refl;
-    event_is = refl;
-  };
-  config = first_bridge;
-  is_module = refl;
-  new = forwards.0;
-  step = forwards.1;
-})
+    config = first_bridge;
+    is_module = refl;
+    new = forwards.0;
+    step = forwards.1;
+  },
+)
 
 run_answers : IsRun plant answers
-run_answers = (run_goes_on, record {
-  event = events.Frame 1 (0 ∷ []) (bodies.Request 1 asked);
-  given = record {
-    waits = record {
-      flight = record { way = record { at = 1; port = 1; address = 3 ∷ [] }; body = bodies.Request 1 asked };
-      there = record { at = 2; port = 1; address = 0 ∷ [] };
-      sent = refl;
-      leads = refl;
-      fresh = refl;
+run_answers = (
+  run_goes_on,
+  record {
+    event = events.Frame 1 (0 ∷ []) (bodies.Request 1 asked);
+    given = record {
+      waits = record {
+        flight = record { way = record { at = 1; port = 1; address = 3 ∷ [] }; body = bodies.Request 1 asked };
+        there = record { at = 2; port = 1; address = 0 ∷ [] };
+        sent = refl;
+        leads = refl;
+        fresh = refl;
+      };
+      here = refl;
+      event_is = refl;
     };
-    here = refl;
-    event_is = refl;
-  };
-  config = second_bridge;
-  is_module = refl;
-  new = replies.0;
-  step = replies.1;
-})
+    config = second_bridge;
+    is_module = refl;
+    new = replies.0;
+    step = replies.1;
+  },
+)
 
 run_goes_back : IsRun plant goes_back
-run_goes_back = (run_answers, record {
-  event = events.Frame 1 (3 ∷ []) (bodies.Reply 1 answer);
-  given = record {
-    waits = record {
-      flight = record { way = record { at = 2; port = 1; address = 0 ∷ [] }; body = bodies.Reply 1 answer };
-      there = record { at = 1; port = 1; address = 3 ∷ [] };
-      sent = refl;
-      leads = refl;
-      fresh = refl;
+run_goes_back = (
+  run_answers,
+  record {
+    event = events.Frame 1 (3 ∷ []) (bodies.Reply 1 answer);
+    given = record {
+      waits = record {
+        flight = record { way = record { at = 2; port = 1; address = 0 ∷ [] }; body = bodies.Reply 1 answer };
+        there = record { at = 1; port = 1; address = 3 ∷ [] };
+        sent = refl;
+        leads = refl;
+        fresh = refl;
+      };
+      here = refl;
+      event_is = refl;
     };
-    here = refl;
-    event_is = refl;
-  };
-  config = first_bridge;
-  is_module = refl;
-  new = passes.0;
-  step = passes.1;
-})
+    config = first_bridge;
+    is_module = refl;
+    new = passes.0;
+    step = passes.1;
+  },
+)
 
 -- the whole stored run
 pub stored_run : IsRun plant ends
-stored_run = (run_goes_back, record {
-  event = events.Frame 2 (5 ∷ []) (bodies.Reply 1 answer);
-  given = record {
-    waits = record {
-      flight = record { way = record { at = 1; port = 2; address = 1 ∷ [] }; body = bodies.Reply 1 answer };
-      there = record { at = 0; port = 2; address = 5 ∷ [] };
-      sent = refl;
-      leads = refl;
-      fresh = refl;
+stored_run = (
+  run_goes_back,
+  record {
+    event = events.Frame 2 (5 ∷ []) (bodies.Reply 1 answer);
+    given = record {
+      waits = record {
+        flight = record { way = record { at = 1; port = 2; address = 1 ∷ [] }; body = bodies.Reply 1 answer };
+        there = record { at = 0; port = 2; address = 5 ∷ [] };
+        sent = refl;
+        leads = refl;
+        fresh = refl;
+      };
+      here = refl;
+      event_is = refl;
     };
-    here = refl;
-    event_is = refl;
-  };
-  config = scanner;
-  is_module = refl;
-  new = is_done.0;
-  step = is_done.1;
-})
+    config = scanner;
+    is_module = refl;
+    new = is_done.0;
+    step = is_done.1;
+  },
+)
