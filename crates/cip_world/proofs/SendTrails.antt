@@ -92,11 +92,12 @@ module _ (t : Plan) (j : Journal) (run : IsRun t j) (m op : ℕ) where
   no_length (x ∷ b) e = absurd (omega (arith, e))
 
   -- the walk of the route goes on with it
-  goes_by : (k : ℕ) (s : StepIn t j k) (u : Unconnected) (n : ℕ) (sending : Sending) (kind : Kind) (l : ℕ) (next : StepIn t j l) → Arrives t j k l s next n sending
+  goes_by : (k : ℕ) (s : StepIn t j k) (u : Unconnected) (n : ℕ) (sending : Sending) (kind : Kind) (l : ℕ) (next : StepIn t j l)
+      → Arrives t j k l s next n sending
       → (g : SendGoes s.taken.config (state_before s) s.taken.event u sending kind) → walk t s.at.0 u.route ≡ walk t next.at.0 g.rest
   goes_by k s u n sending kind l next arrives g =
-      let leads = g.leads in
-      walk_on t s.at.0 sending.port sending.address u.route g.rest leads.hop arrives.there leads.first leads.port_is leads.address_is leads.rest_is arrives.leads
+      let h = g.leads in
+      walk_on t s.at.0 sending.port sending.address u.route g.rest h.hop arrives.there h.first h.port_is h.address_is h.rest_is arrives.leads
       ∙ ap (λ (x : ℕ). walk t x g.rest) (sym arrives.here)
 
   -- what goes on is the embedded request where no route is left, else an Unconnected_Send
