@@ -10,4 +10,4 @@ mod told;
 mod words;
 
 pub use chassis::{AnyModule, Device, Kinds, device_of, make};
-pub use player::{play, play_open};
+pub use player::{play, play_adapter, play_open};

@@ -230,12 +230,23 @@ pub fn play(alloc: Global, script: &str) -> Result<(), Fail> {
     Ok(())
 }
 
-/// Plays a script on modules along which the scanner opened a connection to the adapter.
+// On modules of this kind along which the scanner opened a connection to the adapter.
+fn play_opened(alloc: Global, kinds: Kinds, script: &str) -> Result<(), Fail> {
+    let mut bench = Bench::new(alloc, kinds).ok_or("no bench")?;
+    bench.play(OPENED)?;
+    bench.play(script)
+}
+
+/// Plays a script on modules of each kind along which the scanner opened a connection to the
+/// adapter.
 pub fn play_open(alloc: Global, script: &str) -> Result<(), Fail> {
     for kinds in KINDS {
-        let mut bench = Bench::new(alloc, kinds).ok_or("no bench")?;
-        bench.play(OPENED)?;
-        bench.play(script)?;
+        play_opened(alloc, kinds, script)?;
     }
     Ok(())
+}
+
+/// The same along plain modules alone, of a script that is long and that the adapter alone steps.
+pub fn play_adapter(alloc: Global, script: &str) -> Result<(), Fail> {
+    play_opened(alloc, Kinds::Plain, script)
 }

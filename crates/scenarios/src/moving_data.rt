@@ -1,5 +1,5 @@
 //! Data of a connection on their way, what an end writes of them and what it produces.
-use bench::{play, play_open};
+use bench::{play, play_adapter, play_open};
 use std::test::Fail;
 
 #[test]
@@ -354,7 +354,7 @@ fn each_connection_has_a_count_of_its_own(rt: HostRuntime) -> Result<(), Fail> {
 
 #[test]
 fn the_count_after_65535(rt: HostRuntime) -> Result<(), Fail> {
-    play_open(
+    play_adapter(
         rt.alloc(),
         "
         times 65533 E produce 102
