@@ -1,3 +1,4 @@
 pub mod Rows
 pub mod Opened
 pub mod Nexts
+pub mod Followed

@@ -35,7 +35,7 @@ has_id id (Some k) t = ap (λ (i : ℕ). Some i) (eqb-true k id t)
 pub id_has : (id : ℕ) (own : Option ℕ) → own ≡ Some id → is_id id own ≡ true
 id_has id own e = ap (is_id id) e ∙ eq-eqb id id refl
 
-local_op : (op : ℕ) (up : HopUp) → op_of up ≡ Some op → up ≡ UpLocal op
+pub local_op : (op : ℕ) (up : HopUp) → op_of up ≡ Some op → up ≡ UpLocal op
 local_op op (UpLink port address c) e = absurd (cc)
 local_op op (UpLocal o) e = let same : o ≡ op = cc in ap (λ (n : ℕ). UpLocal n) same
 

@@ -16,9 +16,9 @@ use Rattle.cip_topology.specs.Nodes.{node}
 use Rattle.cip_world.specs.Chains.{Member, HasHop, IsNextTo, GoesToEnd, IsChain, last_of}
 use Rattle.cip_world.specs.Journals.{Journal}
 use Rattle.cip_world.specs.Worlds.{IsShownAt}
-use Rattle.cip_chain.specs.declared.chain.ChainView.{ChainView}
-use Rattle.cip_chain.specs.declared.chain.ChainFault.{ChainFault}
-use Rattle.cip_chain.specs.declared.chain.ChainFault.TheVariants as faults
+use Rattle.cip_chain.specs.declared.chains.ChainView.{ChainView}
+use Rattle.cip_chain.specs.declared.chains.ChainFault.{ChainFault}
+use Rattle.cip_chain.specs.declared.chains.ChainFault.TheVariants as faults
 use Rattle.cip_chain.specs.declared.seeking.Here.{Here}
 use Rattle.cip_chain.specs.declared.seeking.Next.{Next}
 use Rattle.cip_chain.specs.declared.seeking.Next.TheVariants as nexts

@@ -1,7 +1,7 @@
 //! What the entries of a journal, and the connections of modules, have to do with one another.
 #![tactic(auto)]
 
-mod chain;
+mod chains;
 mod seeking;
 
-pub use chain::{ChainFault, ChainView, Modules};
+pub use chains::{ChainFault, ChainView, Modules, chain};

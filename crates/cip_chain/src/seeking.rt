@@ -7,7 +7,7 @@ ghost use Rattle.cip_world.specs.Worlds.{Stand};
 ghost use Rattle.cip_world.specs.Chains.{Member};
 ghost use Rattle.cip_chain.specs.Found.{is_of_op, has_up_id, Shows, IsShown, IsOpened, IsOpenedFault, IsNext, IsNextFault};
 
-use crate::chain::ChainFault;
+use crate::chains::ChainFault;
 use cip_base::ModuleId;
 use cip_hops::{HopDown, HopUp};
 use cip_module::{HopRow, Tables};
