@@ -2,3 +2,4 @@ pub mod Rows
 pub mod Opened
 pub mod Nexts
 pub mod Followed
+pub mod Laws

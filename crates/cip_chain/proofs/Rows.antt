@@ -51,6 +51,9 @@ placed p (x ∷ xs) i e =
     by_test false t s rest =
         placed_later p x xs i (position p xs) (sym (ap (λ c. cond c (Some 0) (option_map (λ n. suc n) (position p xs))) t) ∙ s) rest
 
+some_none : (n : ℕ) → Some n ≡ None → ⊥
+some_none n e = cc
+
 none_later : (o : Option ℕ) → option_map (λ n. suc n) o ≡ None → o ≡ None
 none_later None e = refl
 none_later (Some n) e = absurd (cc)
@@ -68,7 +71,7 @@ misplaced p (y ∷ xs) i x e at t =
     by_test : (b : Bool) → p y ≡ b → cond (p y) (Some 0) (option_map (λ n. suc n) (position p xs)) ≡ None → (i : ℕ) → slice_get (y ∷ xs) i ≡ Some x
         → ((k : ℕ) → position p xs ≡ None → slice_get xs k ≡ Some x → ⊥) → ⊥
     by_test true m s i at rest =
-        let no : Some 0 ≡ None = sym (ap (λ c. cond c (Some 0) (option_map (λ n. suc n) (position p xs))) m) ∙ s in cc
+        some_none 0 (sym (ap (λ c. cond c (Some 0) (option_map (λ n. suc n) (position p xs))) m) ∙ s)
     by_test false m s i at rest =
         by_place i at m (none_later (position p xs) (sym (ap (λ c. cond c (Some 0) (option_map (λ n. suc n) (position p xs))) m) ∙ s)) rest
 

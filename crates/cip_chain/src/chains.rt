@@ -1,5 +1,17 @@
 //! The modules through which a connection goes.
-ghost use Rattle.std.specs.Prelude.{◌≡◌, ◌++◌, ◌∷◌, [], map, OnOk, IfOk, IfErr};
+ghost use Rattle.std.specs.Prelude.{◌≡◌, ℕ, List, ◌++◌, ◌∷◌, [], Some, length, map, OnOk, IfOk, IfErr};
+ghost use Rattle.std.specs.FinMap as finite;
+ghost use Rattle.cip_base.specs.declared.triad.Triad.{Triad};
+ghost use Rattle.cip_hops.specs.declared.hop.Held.TheVariants.{Open};
+ghost use Rattle.cip_hops.specs.declared.hop.Hop.{Hop};
+ghost use Rattle.cip_hops.specs.declared.opening.HopDown.TheVariants.{Link as DownLink};
+ghost use Rattle.cip_module.specs.declared.config.ModuleSettings.{ModuleSettings as Settings};
+ghost use Rattle.cip_topology.specs.Plan.{IsTopology};
+ghost use Rattle.cip_topology.specs.Nodes.{Way};
+ghost use Rattle.cip_world.specs.Chains.{Member, IsChain, last_of, AreDeliveries, AreKept, IsTakenBy};
+ghost use Rattle.cip_world.specs.Entering.{before_entry, IsEntered};
+ghost use Rattle.cip_world.specs.Mirrors.{IsMirrored};
+ghost use Rattle.cip_world.specs.Runs.{IsModule, IsRun, state_in};
 ghost use Rattle.cip_world.specs.Worlds.{Stand};
 ghost use Rattle.cip_chain.specs.Answers.{IsView, IsChainFault};
 ghost use Rattle.cip_chain.specs.declared.chains.ChainFault.TheVariants.{NoMemory as NoChainMemory};
@@ -73,10 +85,8 @@ fn put(modules: &mut Vec<ModuleId>, at: ModuleId) -> Result<(), NoMemory>
     Ok(())
 }
 
-/// The modules through which the connection goes that a command of this op opened at this module,
-/// and the instances of the assemblies at its end. NotOpen where no connection of that op is open
-/// there; Broken with the module that lacks the next connection; NoMemory.
-pub fn chain(
+// The chain of an op, on a run of a topology.
+fn follow(
     alloc: Global,
     world: &World,
     at: ModuleId,
@@ -85,18 +95,13 @@ pub fn chain(
     requires stand { Stand world.now.ledger
         (map (λ b. config_of (b.vtable, b.value)) world.now.modules.items)
         (map (λ b. state_of (b.vtable, b.value)) world.now.modules.items) }
+    requires run { IsRun world.now.ledger.plan world.now.ledger.journal }
+    requires topology { IsTopology world.now.ledger.plan }
     ensures ok { IfOk result
         (IsView world.now.ledger.plan world.now.ledger.journal at.0 op) }
     ensures fault { IfErr result
         (IsChainFault world.now.ledger.plan world.now.ledger.journal at.0 op) }
 {
-    if at.0 >= world.topology().configs().len() {
-        return Err(ChainFault::NotOpen);
-    }
-    // Before anything happened no connection is open.
-    if world.journal().is_empty() {
-        return Err(ChainFault::NotOpen);
-    }
     let mut modules = Vec::new(alloc);
     let mut here = opened(world, at, op)?;
     put(&mut modules, here.at)?;
@@ -116,4 +121,49 @@ pub fn chain(
             Err(fault) => return Err(fault),
         }
     }
+}
+
+/// The modules through which the connection goes that a command of this op opened at this module,
+/// and the instances of the assemblies at its end. NotOpen where no connection of that op is open
+/// there; Broken with the module that lacks the next connection; NoMemory. Whatever it answers, on
+/// the world's run connections are mirrored below, and a datum that is entered on a chain of which
+/// nothing is removed comes to its end.
+pub fn chain(
+    alloc: Global,
+    world: &World,
+    at: ModuleId,
+    op: u32,
+) -> Result<ChainView, ChainFault>
+    requires stand { Stand world.now.ledger
+        (map (λ b. config_of (b.vtable, b.value)) world.now.modules.items)
+        (map (λ b. state_of (b.vtable, b.value)) world.now.modules.items) }
+    ensures ok { IfOk result
+        (IsView world.now.ledger.plan world.now.ledger.journal at.0 op) }
+    ensures fault { IfErr result
+        (IsChainFault world.now.ledger.plan world.now.ledger.journal at.0 op) }
+    ensures mirrored { (m : ℕ) (config : Settings) → IsModule world.now.ledger.plan m config
+        → (q : Triad) (h : Hop) (port : ℕ) (address : List ℕ)
+        → finite.get (state_in config m world.now.ledger.journal).hops.held q ≡ Some (Open h)
+        → h.opening.down ≡ DownLink port address
+        → IsMirrored world.now.ledger.plan world.now.ledger.journal
+        (record { at = m; port = port; address = address }) h }
+    ensures carries { (entry m own : ℕ) (bytes : List ℕ)
+        → IsEntered world.now.ledger.journal entry m own bytes
+        → (first : Member) (rest : List Member) → first.at ≡ m
+        → IsChain world.now.ledger.plan (before_entry world.now.ledger.journal entry) own first rest
+        → (ks : List ℕ) → AreDeliveries world.now.ledger.journal entry ks
+        → length ks ≡ length rest
+        → AreKept world.now.ledger.plan world.now.ledger.journal entry (last_of entry ks)
+        (first ∷ rest)
+        → IsTakenBy world.now.ledger.journal (last_of entry ks) (last_of first rest) bytes }
+{
+    let size = world.topology().configs().len();
+    // Before anything happened no connection is open, nor is one at a module that is not there.
+    if world.journal().is_empty() {
+        return Err(ChainFault::NotOpen);
+    }
+    if at.0 >= size {
+        return Err(ChainFault::NotOpen);
+    }
+    follow(alloc, world, at, op)
 }

@@ -1,7 +1,5 @@
-use Rattle.std.proofs.Common.{refl, subst}
-use Rattle.cip_world.specs.Chains.{last_of}
-use Rattle.cip_chain.specs.Found.{IsNext}
-use Rattle.cip_chain.proofs.Followed.{reached_next, shorter, viewed, fault_of, nothing_open, empty_journal}
+use Rattle.cip_chain.proofs.Laws.{all_mirrored, all_carried, past_all}
+use Rattle.cip_chain.proofs.Followed.{nothing_open, empty_journal}
 use Rattle.cip_chain.proofs.chains.chain.Goals as goal
 
 pub returns-then-is_empty-clause-fault : goal.returns-then-is_empty-clause-fault
@@ -9,30 +7,31 @@ returns-then-is_empty-clause-fault g c =
     nothing_open c.args.world.now.ledger.plan c.args.world.now.ledger.journal c.args.at.0 c.args.op
     (empty_journal c.journal.result.now c.args.world.now.ledger.journal c.journal.ensures.journal c.if-is_empty.ensures)
 
-pub loop-next-smaller : goal.loop-next-smaller
-loop-next-smaller g c =
-    let t = c.args.world.now.ledger.plan in
-    let j = c.args.world.now.ledger.journal in
-    let r = c.loop-next.invariant in
-    shorter t j c.loop-next.here c.in-Ok-Hop.next (last_of r.first r.rest) r.shows (subst (IsNext t j (last_of r.first r.rest)) c.in-Ok-Hop.field-0-is (c.in-Ok-Hop.ensures.ok (last_of r.first r.rest) r.shows))
+pub returns-then-is_empty-clause-mirrored : goal.returns-then-is_empty-clause-mirrored
+returns-then-is_empty-clause-mirrored g c =
+    all_mirrored c.args.world.now.ledger.plan c.topology.result.now c.args.world.now.ledger.journal c.topology.ensures c.configs-size.ensures.keeps c.journal.ensures.run
 
-pub loop-next-preserved : goal.loop-next-preserved
-loop-next-preserved g c =
-    let t = c.args.world.now.ledger.plan in
-    let j = c.args.world.now.ledger.journal in
-    let r = c.loop-next.invariant in
-    reached_next t j c.args.at.0 c.args.op c.loop-next.here c.in-Ok-Hop.next c.loop-next.modules.items c.put-in-Ok-Hop.new.modules.items r
-    (subst (IsNext t j (last_of r.first r.rest)) c.in-Ok-Hop.field-0-is (c.in-Ok-Hop.ensures.ok (last_of r.first r.rest) r.shows)) c.in_ok-put-in-Ok-Hop.ensures
+pub returns-then-is_empty-clause-carries : goal.returns-then-is_empty-clause-carries
+returns-then-is_empty-clause-carries g c =
+    all_carried c.args.world.now.ledger.plan c.topology.result.now c.args.world.now.ledger.journal c.topology.ensures c.configs-size.ensures.keeps c.journal.ensures.run
 
-pub returns-in-Ok-End-clause-ok : goal.returns-in-Ok-End-clause-ok
-returns-in-Ok-End-clause-ok g c =
-    let t = c.args.world.now.ledger.plan in
-    let j = c.args.world.now.ledger.journal in
-    let r = c.loop-next.invariant in
-    viewed t j c.args.at.0 c.args.op c.loop-next.here c.loop-next.modules.items
-    (record { modules = c.loop-next.modules.items; consume = c.in-Ok-End.consume; produce = c.in-Ok-End.produce }) c.journal.ensures.run r
-    (subst (IsNext t j (last_of r.first r.rest)) c.in-Ok-End.field-0-is (c.in-Ok-End.ensures.ok (last_of r.first r.rest) r.shows)) refl
+pub returns-then-at-size-clause-fault : goal.returns-then-at-size-clause-fault
+returns-then-at-size-clause-fault g c =
+    past_all c.args.world.now.ledger.plan c.topology.result.now c.args.world.now.ledger.journal c.args.at.0 c.args.op c.topology.ensures c.configs-size.result.now
+    c.configs-size.ensures.value c.if-at-size.true
 
-pub returns-in-Err-clause-fault : goal.returns-in-Err-clause-fault
-returns-in-Err-clause-fault g c =
-    fault_of c.args.world.now.ledger.plan c.args.world.now.ledger.journal c.args.at.0 c.args.op c.loop-next.here c.loop-next.modules.items c.in-Err.fault c.loop-next.invariant c.in-Err.ensures.fault
+pub returns-then-at-size-clause-mirrored : goal.returns-then-at-size-clause-mirrored
+returns-then-at-size-clause-mirrored g c =
+    all_mirrored c.args.world.now.ledger.plan c.topology.result.now c.args.world.now.ledger.journal c.topology.ensures c.configs-size.ensures.keeps c.journal.ensures.run
+
+pub returns-then-at-size-clause-carries : goal.returns-then-at-size-clause-carries
+returns-then-at-size-clause-carries g c =
+    all_carried c.args.world.now.ledger.plan c.topology.result.now c.args.world.now.ledger.journal c.topology.ensures c.configs-size.ensures.keeps c.journal.ensures.run
+
+pub returns-clause-mirrored : goal.returns-clause-mirrored
+returns-clause-mirrored g c =
+    all_mirrored c.args.world.now.ledger.plan c.topology.result.now c.args.world.now.ledger.journal c.topology.ensures c.configs-size.ensures.keeps c.journal.ensures.run
+
+pub returns-clause-carries : goal.returns-clause-carries
+returns-clause-carries g c =
+    all_carried c.args.world.now.ledger.plan c.topology.result.now c.args.world.now.ledger.journal c.topology.ensures c.configs-size.ensures.keeps c.journal.ensures.run

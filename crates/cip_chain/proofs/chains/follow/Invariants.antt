@@ -1,5 +1,5 @@
 use Rattle.cip_chain.specs.Answers.{IsReached, left}
-use Rattle.cip_chain.proofs.chains.chain.Given as goal
+use Rattle.cip_chain.proofs.chains.follow.Given as goal
 
 -- the modules so far lead to the connection that is looked at
 abbrev pub invariant-loop-next : goal.invariant-loop-next
