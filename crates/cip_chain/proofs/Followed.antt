@@ -1,10 +1,9 @@
 -- From connection to connection along a chain.
-use Rattle.std.proofs.Common.{◌≡◌, ℕ, ◌<◌, ◌≤◌, Bool, true, List, [], ◌∷◌, ◌++◌, reverse, length, Option, Some, None, refl, sym, ap, subst, ◌∙◌, arith, eqb}
-use Rattle.std.specs.Prelude.{slice_get, map}
+use Rattle.std.proofs.Common.{◌≡◌, ℕ, ◌<◌, true, List, [], ◌∷◌, ◌++◌, reverse, length, Option, Some, None, refl, sym, ap, subst, ◌∙◌, arith, eqb}
+use Rattle.std.specs.Prelude.{map}
 use Rattle.std.specs.Option.{option_map_or, option_and_then}
 use Rattle.std.specs.FinMap as finite
-use Rattle.std.proofs.lemmas.Bool.{eqb-true, eq-eqb}
-use Rattle.std.proofs.lemmas.Option.{slice_get_within}
+use Rattle.std.proofs.lemmas.Bool.{eqb-true}
 use Rattle.cip_base.specs.Triads.{triad_cmp}
 use Rattle.cip_base.specs.declared.numbers.ModuleId.{ModuleId}
 use Rattle.cip_base.specs.declared.triad.Triad.{Triad}
@@ -12,21 +11,18 @@ use Rattle.cip_base.proofs.Triads.{triads_total}
 use Rattle.cip_base.proofs.Views.{find-only}
 use Rattle.cip_segment.proofs.PathsShorten.{hop_shortens}
 use Rattle.cip_open.specs.Open.{Open as OpenRequest}
-use Rattle.cip_hops.specs.declared.hop.Hop.{Hop}
 use Rattle.cip_hops.specs.declared.hop.Held.{Held}
 use Rattle.cip_hops.specs.declared.hop.Held.TheVariants.{Opening as IsOpening, Open}
 use Rattle.cip_hops.specs.declared.opening.HopUp.TheVariants.{Local as UpLocal}
 use Rattle.cip_hops.specs.Hops.{as_hop, is_hop, is_hop_by_op, hop_by_op}
 use Rattle.cip_hops.specs.Sides.{op_of}
 use Rattle.cip_hops.proofs.Steps.{triads_apart}
-use Rattle.cip_module.specs.declared.config.ModuleSettings.{ModuleSettings}
 use Rattle.cip_module.specs.declared.tables.HopRow.{HopRow}
-use Rattle.cip_module.specs.Views.{hop_row_of}
 use Rattle.cip_module.proofs.Triads.{own_triads}
 use Rattle.cip_topology.specs.Plan.{Plan}
-use Rattle.cip_world.specs.Chains.{Member, HasHop, IsNextTo, GoesToEnd, GoesOnBy, IsChain, last_of}
+use Rattle.cip_world.specs.Chains.{Member, HasHop, IsNextTo, GoesToEnd, GoesOnBy, last_of}
 use Rattle.cip_world.specs.Journals.{Journal, part}
-use Rattle.cip_world.specs.Runs.{IsModule, IsRun, state_in}
+use Rattle.cip_world.specs.Runs.{IsRun, state_in}
 use Rattle.cip_world.proofs.Commands.{OpenOf, opened_by_op}
 use Rattle.cip_world.proofs.OpenedOnce.{opened_once}
 use Rattle.cip_world.proofs.Parts.{run_history}
@@ -34,7 +30,7 @@ use Rattle.cip_chain.specs.declared.chains.ChainView.{ChainView}
 use Rattle.cip_chain.specs.declared.chains.ChainFault.{ChainFault}
 use Rattle.cip_chain.specs.declared.chains.ChainFault.TheVariants as faults
 use Rattle.cip_chain.specs.declared.seeking.Here.{Here}
-use Rattle.cip_chain.specs.Answers.{IsChainFault, IsPath, AreModules, IsView, IsBroken, IsReached, left}
+use Rattle.cip_chain.specs.Answers.{IsChainFault, IsPath, IsView, IsBroken, IsReached, left}
 use Rattle.cip_chain.specs.Found.{IsNextFault, Shows, IsNotOpen, LeadsNowhere, IsOpened}
 use Rattle.cip_chain.proofs.Opened.{has_id, id_has, local_op}
 
@@ -44,7 +40,8 @@ last_more : (x : Member) (ys : List Member) (z : Member) → last_of x (ys ++ z 
 last_more x [] z = refl
 last_more x (y ∷ ys) z = last_more y ys z
 
-path_more : (t : Plan) (j : Journal) (x : Member) (ys : List Member) (z : Member) → IsPath t j x ys → IsNextTo t j (last_of x ys) z → IsPath t j x (ys ++ z ∷ [])
+path_more : (t : Plan) (j : Journal) (x : Member) (ys : List Member) (z : Member) → IsPath t j x ys → IsNextTo t j (last_of x ys) z
+    → IsPath t j x (ys ++ z ∷ [])
 path_more t j x [] z path next = (next, tt)
 path_more t j x (y ∷ ys) z path next = (path.0, path_more t j y ys z path.1 next)
 
@@ -52,7 +49,8 @@ map_more : {X Y : Type 0} (f : X → Y) (xs : List X) (x : X) → map f (xs ++ x
 map_more f [] x = refl
 map_more f (y ∷ xs) x = ap (λ ys. f y ∷ ys) (map_more f xs x)
 
-pub reached_first : (t : Plan) (j : Journal) (m op : ℕ) (here : Here) (modules : List ModuleId) → IsOpened t j m op here → modules ≡ here.at ∷ [] → IsReached t j m op here modules
+pub reached_first : (t : Plan) (j : Journal) (m op : ℕ) (here : Here) (modules : List ModuleId) → IsOpened t j m op here → modules ≡ here.at ∷ []
+    → IsReached t j m op here modules
 reached_first t j m op here modules o is = record {
   first = o.x;
   rest = [];
@@ -81,7 +79,8 @@ reached_next t j m op here next modules more r (y, step, shows) is = record {
 left_is : (t : Plan) (j : Journal) (here : Here) (x : Member) → Shows t j here x → left here ≡ length x.hop.opening.path
 left_is t j here x shows = ap (λ (o : Option HopRow). option_map_or (λ (row : HopRow). length row.path) o 0) shows.row_is
 
-pub shorter : (t : Plan) (j : Journal) (here next : Here) (x : Member) → Shows t j here x → (y : Member) × IsNextTo t j x y × Shows t j next y → left next < left here
+pub shorter : (t : Plan) (j : Journal) (here next : Here) (x : Member) → Shows t j here x → (y : Member) × IsNextTo t j x y × Shows t j next y
+    → left next < left here
 shorter t j here next x shows (y, step, there) =
     let less = hop_shortens x.hop.opening.path step.mirrors.first step.mirrors.first_is in
     let path = ap (λ (p : List ℕ). length p) step.mirrors.path_is in
@@ -111,7 +110,8 @@ module _ (t : Plan) (j : Journal) (run : IsRun t j) (x : Member) (has : HasHop t
   pub found_op : hop_by_op (state_in has.config x.at j).hops op ≡ Some x.hop
   found_op =
       ap (option_and_then (λ (e : Triad × Held). as_hop e.1))
-      (find-only triad_cmp triads_total triads_apart (state_in has.config x.at j).hops.held (λ e. is_hop (is_hop_by_op op) e.1) x.hop.opening.triad (Open x.hop) has.stands
+      (find-only triad_cmp triads_total triads_apart (state_in has.config x.at j).hops.held (λ e. is_hop (is_hop_by_op op) e.1) x.hop.opening.triad
+      (Open x.hop) has.stands
       (id_has op (op_of x.hop.opening.up) (ap op_of up)) only)
 
 pub viewed : (t : Plan) (j : Journal) (m op : ℕ) (here : Here) (modules : List ModuleId) (view : ChainView) → IsRun t j → (r : IsReached t j m op here modules)
@@ -127,7 +127,8 @@ viewed t j m op here modules view run r (end, consume, produce) is = record {
   produce_is = produce;
 }
 
-pub broken : (t : Plan) (j : Journal) (m op : ℕ) (here : Here) (modules : List ModuleId) (b : ℕ) → (r : IsReached t j m op here modules) → LeadsNowhere t j (last_of r.first r.rest) b
+pub broken : (t : Plan) (j : Journal) (m op : ℕ) (here : Here) (modules : List ModuleId) (b : ℕ) → (r : IsReached t j m op here modules)
+    → LeadsNowhere t j (last_of r.first r.rest) b
     → IsBroken t j m op b
 broken t j m op here modules b r nowhere = record { first = r.first; rest = r.rest; at_is = r.at_is; has = r.has; up_is = r.up_is; path = r.path; nowhere = nowhere }
 
@@ -135,7 +136,8 @@ broken t j m op here modules b r nowhere = record { first = r.first; rest = r.re
 pub nothing_open : (t : Plan) (j : Journal) (m op : ℕ) → j ≡ [] → IsNotOpen t j m op
 nothing_open t j m op empty x has same up =
     let none : None ≡ Some (Open x.hop) =
-    sym (finite.get-empty {X = Held} triad_cmp x.hop.opening.triad) ∙ (λ i. finite.get (state_in has.config x.at (sym empty i)).hops.held x.hop.opening.triad) ∙ has.stands in
+    sym (finite.get-empty {X = Held} triad_cmp x.hop.opening.triad) ∙ (λ i. finite.get (state_in has.config x.at (sym empty i)).hops.held x.hop.opening.triad)
+    ∙ has.stands in
     cc
 
 -- why the next one is not found is why there is no chain

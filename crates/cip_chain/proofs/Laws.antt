@@ -7,7 +7,6 @@ use Rattle.cip_hops.specs.declared.hop.Hop.{Hop}
 use Rattle.cip_hops.specs.declared.opening.HopDown.TheVariants.{Link as DownLink}
 use Rattle.cip_module.specs.declared.config.ModuleSettings.{ModuleSettings}
 use Rattle.cip_topology.specs.Plan.{Plan, IsTopology}
-use Rattle.cip_topology.specs.Nodes.{Way}
 use Rattle.cip_world.specs.Chains.{Member, IsChain, last_of, AreDeliveries, AreKept, IsTakenBy}
 use Rattle.cip_world.specs.Entering.{before_entry, IsEntered}
 use Rattle.cip_world.specs.Journals.{Journal}
@@ -21,7 +20,8 @@ use Rattle.cip_chain.specs.Found.{IsNotOpen}
 use Rattle.cip_chain.proofs.Opened.{no_module}
 
 pub all_mirrored : (t there : Plan) (j : Journal) → there ≡ t → IsTopology there → IsRun t j → (m : ℕ) (config : ModuleSettings) → IsModule t m config
-    → (q : Triad) (h : Hop) (port : ℕ) (address : List ℕ) → finite.get (state_in config m j).hops.held q ≡ Some (Open h) → h.opening.down ≡ DownLink port address
+    → (q : Triad) (h : Hop) (port : ℕ) (address : List ℕ) → finite.get (state_in config m j).hops.held q ≡ Some (Open h)
+    → h.opening.down ≡ DownLink port address
     → IsMirrored t j (record { at = m; port = port; address = address }) h
 all_mirrored t there j same topology run m config is q h port address at down =
     mirrored (chassis t (subst IsTopology same topology)) j j m config run is (itself j) q h port address at down
@@ -33,6 +33,7 @@ all_carried t there j same topology run entry m own bytes e first rest at chain 
     carried (chassis t (subst IsTopology same topology)) j entry m own bytes run e first rest at chain ks deliveries long kept
 
 -- where the topology has no such module, nothing is open
-pub past_all : (t there : Plan) (j : Journal) (m op : ℕ) → there ≡ t → (configs : List ModuleSettings) → configs ≡ there.modules → length configs ≤ m → IsNotOpen t j m op
+pub past_all : (t there : Plan) (j : Journal) (m op : ℕ) → there ≡ t → (configs : List ModuleSettings) → configs ≡ there.modules → length configs ≤ m
+    → IsNotOpen t j m op
 past_all t there j m op same configs is past =
     no_module t j m op (subst (λ (cs : List ModuleSettings). length cs ≤ m) (is ∙ ap (λ (p : Plan). p.modules) same) past)

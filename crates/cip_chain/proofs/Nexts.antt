@@ -1,26 +1,21 @@
 -- What stands next to a connection that is shown.
-use Rattle.std.proofs.Common.{◌≡◌, ℕ, Bool, true, false, List, Option, Some, None, refl, sym, ap, subst, ◌∙◌, eqb, length, ◌<◌, ◌≤◌, arith}
-use Rattle.std.specs.Prelude.{slice_get, option_map, get_or}
+use Rattle.std.proofs.Common.{◌≡◌, ℕ, List, Option, Some, None, refl, sym, ap, ◌∙◌, length, ◌<◌, ◌≤◌, arith}
+use Rattle.std.specs.Prelude.{slice_get}
 use Rattle.std.specs.List.{position}
 use Rattle.std.specs.FinMap as finite
-use Rattle.std.proofs.lemmas.Bool.{eqb-true, eq-eqb}
 use Rattle.std.proofs.lemmas.Option.{slice_get_within}
 use Rattle.cip_base.specs.declared.numbers.ModuleId.{ModuleId}
-use Rattle.cip_hops.specs.declared.hop.Hop.{Hop}
 use Rattle.cip_hops.specs.declared.hop.Held.TheVariants.{Open}
-use Rattle.cip_hops.specs.declared.opening.HopDown.{HopDown}
 use Rattle.cip_hops.specs.declared.opening.HopDown.TheVariants.{Link as DownLink, End}
-use Rattle.cip_hops.specs.Hops.{is_id}
-use Rattle.cip_module.specs.declared.config.ModuleSettings.{ModuleSettings}
 use Rattle.cip_module.specs.declared.tables.HopRow.{HopRow}
 use Rattle.cip_module.specs.declared.tables.Tables.{Tables}
 use Rattle.cip_module.specs.Views.{hop_row_of}
 use Rattle.cip_topology.specs.Plan.{Plan, IsTopology}
-use Rattle.cip_topology.specs.Nodes.{Way, node}
-use Rattle.cip_world.specs.Chains.{Member, HasHop, IsNextTo, GoesToEnd}
+use Rattle.cip_topology.specs.Nodes.{node}
+use Rattle.cip_world.specs.Chains.{Member, IsNextTo, GoesToEnd}
 use Rattle.cip_world.specs.Journals.{Journal}
-use Rattle.cip_world.specs.Mirrors.{IsMirrored, Mirrors}
-use Rattle.cip_world.specs.Runs.{IsModule, IsRun, state_in}
+use Rattle.cip_world.specs.Mirrors.{IsMirrored}
+use Rattle.cip_world.specs.Runs.{IsRun, state_in}
 use Rattle.cip_world.specs.Worlds.{IsShownAt}
 use Rattle.cip_world.proofs.Arrivals.{way_in}
 use Rattle.cip_world.proofs.Chassis.{chassis}
@@ -30,7 +25,7 @@ use Rattle.cip_world.proofs.Moments.{itself}
 use Rattle.cip_world.proofs.Parts.{same_module}
 use Rattle.cip_chain.specs.Found.{has_up_id, Shows, LeadsNowhere}
 use Rattle.cip_chain.specs.declared.seeking.Here.{Here}
-use Rattle.cip_chain.proofs.Opened.{has_id, id_has, ShownAt, found_at, none_at}
+use Rattle.cip_chain.proofs.Opened.{has_id, id_has, found_at, none_at}
 
 some_row : (a b : HopRow) → Some a ≡ Some b → a ≡ b
 some_row a b e = cc
@@ -51,13 +46,15 @@ pub ends : (x : Member) (row : HopRow) (config consume produce : ℕ) → row �
 ends x row config consume produce is down =
     (record { config = config; consume = consume; produce = produce; down_is = sym (ap (λ (r : HopRow). r.down) is) ∙ down }, refl, refl)
 
-module _ (t : Plan) (topology : IsTopology t) (j : Journal) (run : IsRun t j) (here : Here) (x : Member) (shows : Shows t j here x) (row : HopRow) (is : row ≡ hop_row_of x.hop)
+module _ (t : Plan) (topology : IsTopology t) (j : Journal) (run : IsRun t j) (here : Here) (x : Member) (shows : Shows t j here x) (row : HopRow)
+    (is : row ≡ hop_row_of x.hop)
     (port : ℕ) (address : List ℕ) (down : row.down ≡ DownLink port address) where
   down_is : x.hop.opening.down ≡ DownLink port address
   down_is = sym (ap (λ (r : HopRow). r.down) is) ∙ down
 
   im : IsMirrored t j (way_in x.at port address) x.hop
-  im = mirrored (chassis t topology) j j x.at shows.has.config run shows.has.is_module (itself j) x.hop.opening.triad x.hop port address shows.has.stands down_is
+  im = mirrored (chassis t topology) j j x.at shows.has.config run shows.has.is_module
+      (itself j) x.hop.opening.triad x.hop port address shows.has.stands down_is
 
   leads : node t x.at port address ≡ Some im.there.at
   leads = across_node t (way_in x.at port address) im.there im.across
@@ -102,17 +99,20 @@ module _ (t : Plan) (topology : IsTopology t) (j : Journal) (run : IsRun t j) (h
           let where_ : y.at ≡ im.there.at = f.at_is ∙ place in
           let config = same_module t im.there.at y.at f.shows.has.config im.config where_ f.shows.has.is_module im.is_module in
           let stands : finite.get (state_in im.config im.there.at j).hops.held y.hop.opening.triad ≡ Some (Open y.hop) =
-          (λ i. finite.get (state_in (sym config i) (sym where_ i) j).hops.held y.hop.opening.triad) ∙ f.shows.has.stands in
-          (y, record {
-            port = port;
-            address = address;
-            down_is = down_is;
-            there = im.there;
-            across = im.across;
-            at_is = sym where_;
-            has = f.shows.has;
-            mirrors = im.only j (itself j) y.hop.opening.triad y.hop stands (up ∙ ap (λ (n : ℕ). Some n) same_id);
-          }, f.shows)
+          (λ i. finite.get (state_in (sym config i) (sym where_ i) j).hops.held y.hop.opening.triad) ∙ f.shows.has.stands in (
+            y,
+            record {
+              port = port;
+              address = address;
+              down_is = down_is;
+              there = im.there;
+              across = im.across;
+              at_is = sym where_;
+              has = f.shows.has;
+              mirrors = im.only j (itself j) y.hop.opening.triad y.hop stands (up ∙ ap (λ (n : ℕ). Some n) same_id);
+            },
+            f.shows,
+          )
 
       pub next_none : position (has_up_id id) tables.hops ≡ None → LeadsNowhere t j x at.0
       next_none e = record {

@@ -1,18 +1,15 @@
 -- The connection of an op, found among the rows.
-use Rattle.std.proofs.Common.{◌≡◌, ℕ, Bool, true, false, List, Option, Some, None, refl, sym, ap, subst, ◌∙◌, eqb, length, ◌<◌, ◌≤◌, arith}
-use Rattle.std.specs.Prelude.{slice_get}
+use Rattle.std.proofs.Common.{◌≡◌, ℕ, Bool, true, Option, Some, None, refl, sym, ap, ◌∙◌, length, ◌≤◌, arith}
 use Rattle.std.specs.List.{position}
 use Rattle.std.specs.FinMap as finite
 use Rattle.std.proofs.lemmas.Bool.{eqb-true, eq-eqb}
 use Rattle.std.proofs.lemmas.Option.{slice_get_within}
 use Rattle.cip_base.specs.declared.numbers.ModuleId.{ModuleId}
-use Rattle.cip_hops.specs.declared.hop.Hop.{Hop}
 use Rattle.cip_hops.specs.declared.hop.Held.TheVariants.{Open}
 use Rattle.cip_hops.specs.declared.opening.HopUp.{HopUp}
 use Rattle.cip_hops.specs.declared.opening.HopUp.TheVariants.{Link as UpLink, Local as UpLocal}
 use Rattle.cip_hops.specs.Hops.{is_id}
 use Rattle.cip_hops.specs.Sides.{op_of}
-use Rattle.cip_module.specs.declared.config.ModuleSettings.{ModuleSettings}
 use Rattle.cip_module.specs.declared.tables.HopRow.{HopRow}
 use Rattle.cip_module.specs.declared.tables.Tables.{Tables}
 use Rattle.cip_module.specs.OwnTriads.{HasOwnTriads}
@@ -21,12 +18,12 @@ use Rattle.cip_module.proofs.Triads.{own_triads}
 use Rattle.cip_topology.specs.Plan.{Plan}
 use Rattle.cip_world.specs.Chains.{Member, HasHop}
 use Rattle.cip_world.specs.Journals.{Journal, part}
-use Rattle.cip_world.specs.Runs.{IsModule, IsRun, state_in}
+use Rattle.cip_world.specs.Runs.{IsRun, state_in}
 use Rattle.cip_world.specs.Worlds.{IsShownAt}
 use Rattle.cip_world.proofs.Parts.{run_history, same_module}
-use Rattle.cip_chain.specs.Found.{is_of_op, has_up_id, Shows, IsNotOpen, IsOpened}
+use Rattle.cip_chain.specs.Found.{is_of_op, Shows, IsNotOpen, IsOpened}
 use Rattle.cip_chain.specs.declared.seeking.Here.{Here}
-use Rattle.cip_chain.proofs.Rows.{placed, misplaced, IsRowOf, row_shown, hop_shown}
+use Rattle.cip_chain.proofs.Rows.{placed, misplaced, row_shown, hop_shown}
 
 pub has_id : (id : ℕ) (own : Option ℕ) → is_id id own ≡ true → own ≡ Some id
 has_id id None t = absurd (cc)

@@ -1,5 +1,5 @@
 -- The rows that tables show are the connections that stand.
-use Rattle.std.proofs.Common.{◌≡◌, ℕ, zero, suc, ◌+◌, ◌<◌, Bool, true, false, cond, List, [], ◌∷◌, length, get_or, Option, Some, None, refl, sym, ap, subst, ◌∙◌, arith}
+use Rattle.std.proofs.Common.{◌≡◌, ℕ, zero, suc, ◌<◌, Bool, true, false, cond, List, [], ◌∷◌, length, get_or, Option, Some, None, refl, sym, ap, ◌∙◌, arith}
 use Rattle.std.specs.Prelude.{map, slice_get, filter_map}
 use Rattle.std.specs.List.{position, cons_option}
 use Rattle.std.specs.Option.{option_map}
@@ -10,11 +10,11 @@ use Rattle.cip_base.specs.Triads.{triad_cmp}
 use Rattle.cip_base.specs.declared.triad.Triad.{Triad}
 use Rattle.cip_base.proofs.Places.{position-cons}
 use Rattle.cip_base.proofs.Triads.{triads_total}
-use Rattle.cip_base.proofs.Views.{get-at, tied_name}
+use Rattle.cip_base.proofs.Views.{get-at}
 use Rattle.cip_hops.specs.declared.hop.Hop.{Hop}
 use Rattle.cip_hops.specs.declared.hop.Held.{Held}
 use Rattle.cip_hops.specs.declared.hop.Held.TheVariants.{Opening as IsOpening, Open}
-use Rattle.cip_hops.specs.Hops.{as_hop, triad_of}
+use Rattle.cip_hops.specs.Hops.{as_hop}
 use Rattle.cip_hops.proofs.Steps.{triads_apart}
 use Rattle.cip_module.specs.declared.tables.HopRow.{HopRow}
 use Rattle.cip_module.specs.declared.tables.Tables.{Tables}
@@ -91,11 +91,13 @@ abbrev All : (P : Triad → Held → Type 0) → List (Triad × Held) → Type 0
 All P [] = Unit {0}
 All P (e ∷ es) = P e.0 e.1 × All P es
 
-all_places : (P : Triad → Held → Type 0) (es : List (Triad × Held)) → ((i : ℕ) (d : Triad × Held) → i < length es → P (get_or es i d).0 (get_or es i d).1) → All P es
+all_places : (P : Triad → Held → Type 0) (es : List (Triad × Held)) → ((i : ℕ) (d : Triad × Held) → i < length es → P (get_or es i d).0 (get_or es i d).1)
+    → All P es
 all_places P [] h = tt
 all_places P (e ∷ es) h = (h 0 e (omega arith), all_places P es (λ i d lt. h (suc i) d (omega arith)))
 
-row_in : (P : Triad → Held → Type 0) (es : List (Triad × Held)) (i : ℕ) (row : HopRow) → All P es → slice_get (map hop_row_of (open_in es)) i ≡ Some row → RowOf P row
+row_in : (P : Triad → Held → Type 0) (es : List (Triad × Held)) (i : ℕ) (row : HopRow) → All P es → slice_get (map hop_row_of (open_in es)) i ≡ Some row
+    → RowOf P row
 row_in P [] i row all at = absurd (cc)
 row_in P (e ∷ es) i row all at = by_held e.1 all.0 i at (λ k h. row_in P es k row all.1 h)
   where
@@ -105,7 +107,8 @@ row_in P (e ∷ es) i row all at = by_held e.1 all.0 i at (λ k h. row_in P es k
     by_held (Open hop) of zero at rest = record { q = e.0; hop = hop; of = of; is = let same : hop_row_of hop ≡ row = cc in sym same }
     by_held (Open hop) of (suc k) at rest = rest k at
 
-in_rows : (q : Triad) (hop : Hop) (es : List (Triad × Held)) → entries.find triad_cmp q es ≡ Some (Open hop) → (i : ℕ) × (slice_get (map hop_row_of (open_in es)) i ≡ Some (hop_row_of hop))
+in_rows : (q : Triad) (hop : Hop) (es : List (Triad × Held)) → entries.find triad_cmp q es ≡ Some (Open hop)
+    → (i : ℕ) × (slice_get (map hop_row_of (open_in es)) i ≡ Some (hop_row_of hop))
 in_rows q hop [] f = absurd (cc)
 in_rows q hop (e ∷ es) f =
     by_key (eq_by_cmp triad_cmp q e.0) f (λ g. in_rows q hop es g)

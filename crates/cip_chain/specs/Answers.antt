@@ -65,4 +65,5 @@ pub record IsReached (t : Plan) (j : Journal) (m : ℕ) (op : OpNumber) (here : 
 
 -- the length of the path that is left
 abbrev pub left : Here → ℕ
-left here = option_map_or (λ (row : HopRow). length row.path) (slice_get here.tables.hops here.place) 0
+left here =
+    option_map_or (λ (row : HopRow). length row.path) (slice_get here.tables.hops here.place) 0

@@ -1,22 +1,18 @@
 -- What `chain` finds: a connection as the tables of its module show it, what stands next to it, and
 -- why there is no chain.
-use Rattle.std.specs.Prelude.{◌≡◌, ℕ, Bool, ◌==◌, false, List, [], ◌∷◌, Some, Result, Ok, Err, map, slice_get}
-use Rattle.std.specs.Option.{option_map_or}
+use Rattle.std.specs.Prelude.{◌≡◌, ℕ, Bool, Some, slice_get}
 use Rattle.cip_base.specs.Words.{ConnectionId, LinkAddress, OpNumber, PortIdentifier}
-use Rattle.cip_base.specs.declared.numbers.ModuleId.{ModuleId}
 use Rattle.cip_hops.specs.declared.opening.HopDown.TheVariants.{Link as DownLink}
 use Rattle.cip_hops.specs.declared.opening.HopUp.TheVariants.{Local as UpLocal}
 use Rattle.cip_hops.specs.Hops.{is_id}
 use Rattle.cip_hops.specs.Sides.{op_of}
 use Rattle.cip_module.specs.declared.tables.HopRow.{HopRow}
-use Rattle.cip_module.specs.declared.tables.Tables.{Tables}
 use Rattle.cip_module.specs.Views.{hop_row_of}
 use Rattle.cip_topology.specs.Plan.{Plan}
 use Rattle.cip_topology.specs.Nodes.{node}
-use Rattle.cip_world.specs.Chains.{Member, HasHop, IsNextTo, GoesToEnd, IsChain, last_of}
+use Rattle.cip_world.specs.Chains.{Member, HasHop, IsNextTo, GoesToEnd}
 use Rattle.cip_world.specs.Journals.{Journal}
 use Rattle.cip_world.specs.Worlds.{IsShownAt}
-use Rattle.cip_chain.specs.declared.chains.ChainView.{ChainView}
 use Rattle.cip_chain.specs.declared.chains.ChainFault.{ChainFault}
 use Rattle.cip_chain.specs.declared.chains.ChainFault.TheVariants as faults
 use Rattle.cip_chain.specs.declared.seeking.Here.{Here}

@@ -86,12 +86,7 @@ fn put(modules: &mut Vec<ModuleId>, at: ModuleId) -> Result<(), NoMemory>
 }
 
 // The chain of an op, on a run of a topology.
-fn follow(
-    alloc: Global,
-    world: &World,
-    at: ModuleId,
-    op: u32,
-) -> Result<ChainView, ChainFault>
+fn follow(alloc: Global, world: &World, at: ModuleId, op: u32) -> Result<ChainView, ChainFault>
     requires stand { Stand world.now.ledger
         (map (λ b. config_of (b.vtable, b.value)) world.now.modules.items)
         (map (λ b. state_of (b.vtable, b.value)) world.now.modules.items) }
@@ -128,12 +123,7 @@ fn follow(
 /// there; Broken with the module that lacks the next connection; NoMemory. Whatever it answers, on
 /// the world's run connections are mirrored below, and a datum that is entered on a chain of which
 /// nothing is removed comes to its end.
-pub fn chain(
-    alloc: Global,
-    world: &World,
-    at: ModuleId,
-    op: u32,
-) -> Result<ChainView, ChainFault>
+pub fn chain(alloc: Global, world: &World, at: ModuleId, op: u32) -> Result<ChainView, ChainFault>
     requires stand { Stand world.now.ledger
         (map (λ b. config_of (b.vtable, b.value)) world.now.modules.items)
         (map (λ b. state_of (b.vtable, b.value)) world.now.modules.items) }

@@ -100,7 +100,9 @@ pub(crate) fn next_to(world: &World, here: &Here) -> Result<Next, ChainFault>
     let row = &here.tables.hops.as_slice()[here.place];
     match &row.down {
         HopDown::End {
-            consume, produce, ..
+            consume,
+            produce,
+            ..
         } => Ok(Next::End {
             consume: *consume,
             produce: *produce,

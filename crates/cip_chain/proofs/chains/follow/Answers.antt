@@ -9,7 +9,8 @@ loop-next-smaller g c =
     let t = c.args.world.now.ledger.plan in
     let j = c.args.world.now.ledger.journal in
     let r = c.loop-next.invariant in
-    shorter t j c.loop-next.here c.in-Ok-Hop.next (last_of r.first r.rest) r.shows (subst (IsNext t j (last_of r.first r.rest)) c.in-Ok-Hop.field-0-is (c.in-Ok-Hop.ensures.ok (last_of r.first r.rest) r.shows))
+    shorter t j c.loop-next.here c.in-Ok-Hop.next (last_of r.first r.rest) r.shows
+    (subst (IsNext t j (last_of r.first r.rest)) c.in-Ok-Hop.field-0-is (c.in-Ok-Hop.ensures.ok (last_of r.first r.rest) r.shows))
 
 pub loop-next-preserved : goal.loop-next-preserved
 loop-next-preserved g c =
