@@ -1,1 +1,6 @@
 pub mod Walked
+pub mod Rows
+pub mod Opened
+pub mod Nexts
+pub mod Followed
+pub mod Laws

@@ -1,1 +1,3 @@
 pub mod Seeking
+pub mod Found
+pub mod Answers

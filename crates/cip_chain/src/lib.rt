@@ -1,9 +1,12 @@
 //! What the entries of a journal have to do with one another: which command or tick an entry came
-//! from, and where the request of a command went.
+//! from, where the request of a command went, and along which modules a connection goes.
 #![tactic(auto)]
 
+mod chains;
 mod roots;
+mod seeking;
 mod trails;
 
+pub use chains::{ChainFault, ChainView, Modules, chain};
 pub use roots::root;
 pub use trails::trail;

@@ -1,10 +1,5 @@
 -- A run with an open, a datum that is lost, one that comes to its end, and a tick.
-use Rattle.std.proofs.Common.{◌≡◌, ℕ, List, [], ◌∷◌, Some, None, refl, sym, ◌∙◌}
-use Rattle.std.proofs.lemmas.List.{nil_from_length}
-use Rattle.std.specs.Prelude.{cond}
-use Rattle.std.specs.Ordering.{eq_by_cmp}
-use Rattle.cip_base.proofs.Triads.{triads_total}
-use Rattle.cip_target.specs.declared.identity.IdentityFields.{IdentityFields}
+use Rattle.std.proofs.Common.{◌≡◌, ℕ, List, [], ◌∷◌, refl}
 use Rattle.cip_module.specs.declared.config.ModuleSettings.{ModuleSettings}
 use Rattle.cip_module.specs.declared.config.ModuleKind.TheVariants.{Plain, Adapter}
 use Rattle.cip_module.specs.declared.config.PortConfig.{PortConfig}
@@ -14,22 +9,12 @@ use Rattle.cip_module.specs.declared.event.Event.TheVariants as events
 use Rattle.cip_module.specs.declared.event.Body.TheVariants as bodies
 use Rattle.cip_module.specs.declared.event.Output.TheVariants as outputs
 use Rattle.cip_module.specs.State.{initial_state}
-use Rattle.cip_module.specs.State.{State}
-use Rattle.cip_module.specs.Table.{table_step}
-use Rattle.std.specs.FinMap as map
-use Rattle.std.specs.Ordering.{nat_cmp}
-use Rattle.cip_pending.specs.declared.entry.Entry.{Entry}
-use Rattle.std.specs.Cmp.{nat_cmp_total}
-use Rattle.cip_base.specs.Triads.{triad_cmp}
 use Rattle.cip_base.specs.declared.triad.Triad.{Triad}
-use Rattle.cip_hops.specs.declared.hop.Held.{Held}
-use Rattle.cip_module.specs.declared.event.OpenParams.{OpenParams}
 use Rattle.cip_module.specs.declared.event.Event.{Event}
-use Rattle.cip_module.specs.declared.event.Output.{Output}
 use Rattle.cip_topology.specs.Plan.{Plan}
-use Rattle.cip_world.specs.declared.journal.FrameName.{FrameName}
 use Rattle.cip_world.specs.declared.journal.Input.TheVariants.{Command, Tick, Frame}
 use Rattle.cip_world.specs.declared.journal.Entry.TheVariants.{Step, Lost}
+use Rattle.cip_world.proofs.Concrete.{identity, none_waits, none_held, held_get, held_first, held_entries, held_none, pendings_none, bytes_get, entry_get, Gives, params, frame}
 use Rattle.cip_world.specs.Journals.{Journal}
 use Rattle.cip_world.specs.Runs.{IsRun, state_in}
 use Rattle.cip_message.specs.Counted.{counted_at, counted_path_at}
@@ -45,9 +30,6 @@ use Rattle.cip_open.specs.SuccessAt.{open_reply_at}
 use Rattle.cip_segment.specs.Reading.{segments_within, path_at, segments_of, behind, hop_of}
 use Rattle.cip_segment.specs.Scan.{bytes_at, padded_at, narrow_at, double_at, point_at, words_at, number_at, size_at, plain_port_at, port_at, other_at, logical_at, segment_at}
 use Rattle.cip_target.specs.Ends.{end_row}
-
-abbrev identity : ℕ → ℕ → IdentityFields
-identity product serial = record { vendor = 257; device_type = 12; product = product; major = 1; minor = 3; status = 0; serial = serial; name = 65 ∷ [] }
 
 abbrev port : ℕ → PortConfig
 port address = record { number = 2; link = 0; legal = Byte 0 254; address = address ∷ [] }
@@ -83,42 +65,6 @@ adapter = record {
 abbrev cell : Plan
 cell = record { links = []; modules = scanner ∷ adapter ∷ [] }
 
-none_waits : map.len (map.empty {X = Entry} {R = nat_cmp}) ≡ 0
-none_waits = map.len-empty nat_cmp Entry
-
-none_held : map.len (map.empty {X = Held} {R = triad_cmp}) ≡ 0
-none_held = map.len-empty triad_cmp Held
-
--- what the finite maps of this run answer
-held_get : (m : map.FinMap triad_cmp Held) (k : Triad) (v : Held) (q : Triad)
-    → map.get (map.insert m k v) q ≡ cond (eq_by_cmp triad_cmp q k) (Some v) (map.get m q)
-held_get m k v q = map.get-insert triads_total m k v q
-
-held_first : (q : Triad) → map.get (map.empty {X = Held} {R = triad_cmp}) q ≡ None
-held_first q = map.get-empty triad_cmp q
-
-held_entries : (m : map.FinMap triad_cmp Held) (k : Triad) (v : Held) → map.entries (map.insert m k v) ≡ map.put triad_cmp k v (map.entries m)
-held_entries m k v = map.entries-insert triads_total m k v
-
-held_none : map.entries (map.empty {X = Held} {R = triad_cmp}) ≡ []
-held_none = nil_from_length _ (sym (map.len-entries map.empty) ∙ map.len-empty triad_cmp Held)
-
-pendings_none : map.entries (map.empty {X = Entry} {R = nat_cmp}) ≡ []
-pendings_none = nil_from_length _ (sym (map.len-entries map.empty) ∙ map.len-empty nat_cmp Entry)
-
-bytes_get : (m : map.FinMap nat_cmp (List ℕ)) (k : ℕ) (v : List ℕ) (q : ℕ) → map.get (map.insert m k v) q ≡ cond (eq_by_cmp nat_cmp q k) (Some v) (map.get m q)
-bytes_get m k v q = map.get-insert nat_cmp_total m k v q
-
-entry_get : (m : map.FinMap nat_cmp Entry) (k : ℕ) (v : Entry) (q : ℕ) → map.get (map.insert m k v) q ≡ cond (eq_by_cmp nat_cmp q k) (Some v) (map.get m q)
-entry_get m k v q = map.get-insert nat_cmp_total m k v q
-
--- a module puts this out at an event, and is in some state then
-abbrev Gives : ModuleSettings → State → Event → List Output → Type 0
-Gives config s event outs = (new : State) × (table_step config s event ≡ Some (record { state = new; outputs = outs }))
-
-abbrev params : OpenParams
-params = record { serial = 66; multiplier = 0; transport = 1; ot_rpi = 10000; ot_params = 18438; to_rpi = 10000; to_params = 18436 }
-
 abbrev open_command : Event
 open_command = events.Command (commands.Open 1 (record { tick = 7; ticks = 250 }) (2 ∷ 7 ∷ 32 ∷ 4 ∷ 36 ∷ 100 ∷ 44 ∷ 101 ∷ 44 ∷ 102 ∷ []) params)
 
@@ -137,9 +83,6 @@ success = 212 ∷ 0 ∷ 0 ∷ 0 ∷ 65 ∷ 0 ∷ 0 ∷ 0 ∷ 17 ∷ 0 ∷ 0 ∷ 
 
 abbrev triad : Triad
 triad = record { serial = 66; vendor = 257; originator = 1 }
-
-abbrev frame : ℕ → FrameName
-frame k = record { entry = k; output = 0 }
 
 abbrev ticked : Journal
 ticked = Step (record { 0 = 1 }) (Tick 1) [] ∷ []

@@ -54,3 +54,7 @@ pub mod DonesTell
 pub mod RepliesTell
 pub mod StoredRun
 pub mod ConnectedRun
+pub mod Concrete
+pub mod FailedOpen
+pub mod TimedOutOpen
+pub mod LateReply

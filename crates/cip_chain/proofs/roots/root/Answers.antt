@@ -1,32 +1,14 @@
-use Rattle.std.proofs.Common.{reverse, take, ap, sym, ◌∙◌, arith}
-use Rattle.cip_world.specs.Roots.{root_from}
-use Rattle.cip_chain.proofs.Walked.{root_at, root_past, shown}
+use Rattle.std.proofs.Common.{List}
+use Rattle.std.specs.Prelude.{reverse}
+use Rattle.cip_world.proofs.Arrived.{arrived_of}
+use Rattle.cip_world.proofs.Chassis.{chassis}
+use Rattle.cip_world.proofs.Consumed.{consumed_of}
 use Rattle.cip_chain.proofs.roots.root.Goals as goal
 
-pub loop-at-preserved : goal.loop-at-preserved
-loop-at-preserved c =
-    let most = c.loop-at.invariant.0 in let l = c.loop-at-test.true in (
-      omega (arith, most, l),
-      c.loop-at.invariant.1
-          ∙ root_at c.args.journal.now c.loop-at.below c.loop-at.at c.index-journal-at.result _ most l c.index-journal-at.is c.in-Step.is
-          ∙ ap (root_from _ c.loop-at.at) (sym c.brought.ensures ∙ c.in-Some.is),
-    )
+pub returns-clause-consumed : goal.returns-clause-consumed
+returns-clause-consumed c t is run e triad instance bytes h =
+    consumed_of (chassis t is) (reverse c.args.journal.now) c.args.k e triad instance bytes run h
 
-pub returns-in-None : goal.returns-in-None
-returns-in-None c =
-    let most = c.loop-at.invariant.0 in let l = c.loop-at-test.true in
-    sym (c.loop-at.invariant.1
-    ∙ root_at c.args.journal.now c.loop-at.below c.loop-at.at c.index-journal-at.result _ most l c.index-journal-at.is c.in-Step.is
-    ∙ ap (root_from _ c.loop-at.at) (sym c.brought.ensures ∙ c.in-None.is))
-
-pub returns-in-Lost : goal.returns-in-Lost
-returns-in-Lost c =
-    let most = c.loop-at.invariant.0 in let l = c.loop-at-test.true in
-    sym (c.loop-at.invariant.1
-    ∙ root_at c.args.journal.now c.loop-at.below c.loop-at.at c.index-journal-at.result _ most l c.index-journal-at.is c.in-Lost.is)
-
-pub returns : goal.returns
-returns c =
-    let most = c.loop-at.invariant.0 in let l = c.loop-at-test.false in
-    let long = shown c.args.journal.now c.loop-at.below most in
-    sym (c.loop-at.invariant.1 ∙ root_past (reverse (take c.loop-at.below c.args.journal.now)) c.loop-at.at (omega (arith, long, l)))
+pub returns-clause-arrived : goal.returns-clause-arrived
+returns-clause-arrived c t is run m op bytes h =
+    arrived_of (chassis t is) (reverse c.args.journal.now) c.args.k m op bytes run h

@@ -1,6 +1,6 @@
 use Rattle.std.proofs.Common.{◌≡◌, ◌≤◌, length, reverse, take}
 use Rattle.cip_world.specs.Roots.{root_of}
-use Rattle.cip_chain.proofs.roots.root.Given as goal
+use Rattle.cip_chain.proofs.roots.root_at.Given as goal
 
 -- the root is looked for in the journal as it was before
 abbrev pub invariant-loop-at : goal.invariant-loop-at

@@ -1,0 +1,214 @@
+-- An open that fails at the second bridge: the path goes on by a port that it lacks.
+use Rattle.std.proofs.Common.{◌≡◌, ℕ, List, [], ◌∷◌, Some, refl}
+use Rattle.cip_module.specs.declared.event.Command.TheVariants as commands
+use Rattle.cip_module.specs.declared.event.Event.TheVariants as events
+use Rattle.cip_module.specs.declared.event.Body.TheVariants as bodies
+use Rattle.cip_module.specs.declared.event.Output.TheVariants as outputs
+use Rattle.cip_module.specs.State.{initial_state}
+use Rattle.cip_world.specs.declared.journal.Input.TheVariants.{Command, Frame}
+use Rattle.cip_world.specs.declared.journal.Entry.TheVariants.{Step}
+use Rattle.cip_world.specs.Journals.{Journal}
+use Rattle.cip_world.specs.Runs.{IsRun, state_in}
+use Rattle.cip_world.proofs.Concrete.{scanner, first_bridge, second_bridge, plant, frame, Gives, params, none_waits, none_held, held_first, held_get, entry_get}
+use Rattle.cip_message.specs.Counted.{counted_at, counted_path_at}
+use Rattle.cip_message.specs.Failure.{failure_at}
+use Rattle.cip_message.specs.ReplyAt.{reply_at}
+use Rattle.cip_message.specs.RequestAt.{request_at}
+use Rattle.cip_module.specs.CommandRows.{send_row}
+use Rattle.cip_module.specs.Links.{link_refusal}
+use Rattle.cip_module.specs.OpenRows.{open_row}
+use Rattle.cip_module.specs.ReplyRows.{reply_row}
+use Rattle.cip_module.specs.RequestRows.{request_row}
+use Rattle.cip_module.specs.UnconnectedRows.{unconnected_row}
+use Rattle.cip_open.specs.OpenAt.{open_at}
+use Rattle.cip_open.specs.SuccessAt.{open_reply_at}
+use Rattle.cip_segment.specs.Reading.{behind, hop_of, path_at, segments_of, segments_within}
+use Rattle.cip_segment.specs.Scan.{bytes_at, double_at, logical_at, narrow_at, number_at, other_at, padded_at, plain_port_at, point_at, port_at, segment_at, size_at, words_at}
+use Rattle.cip_target.specs.Ends.{end_row}
+use Rattle.cip_target.specs.Rows.{target_row}
+use Rattle.cip_unconnected.specs.UnconnectedAt.{unconnected_at}
+
+abbrev path : List ℕ
+path = 2 ∷ 5 ∷ 1 ∷ 3 ∷ 9 ∷ 7 ∷ 32 ∷ 4 ∷ 36 ∷ 100 ∷ []
+
+abbrev first_request : List ℕ
+first_request = 84 ∷ 2 ∷ 32 ∷ 6 ∷ 36 ∷ 1 ∷ 7 ∷ 249 ∷ 0 ∷ 0 ∷ 0 ∷ 0 ∷ 17 ∷ 0 ∷ 0 ∷ 0 ∷ 66 ∷ 0 ∷ 1 ∷ 1 ∷ 1 ∷ 0 ∷ 0 ∷ 0 ∷ 0 ∷ 0 ∷ 0 ∷ 0 ∷ 16 ∷ 39 ∷ 0 ∷ 0
+    ∷ 6 ∷ 72 ∷ 16 ∷ 39 ∷ 0 ∷ 0 ∷ 4 ∷ 72 ∷ 1 ∷ 4 ∷ 1 ∷ 3 ∷ 9 ∷ 7 ∷ 32 ∷ 4 ∷ 36 ∷ 100 ∷ []
+
+abbrev second_request : List ℕ
+second_request = 84 ∷ 2 ∷ 32 ∷ 6 ∷ 36 ∷ 1 ∷ 7 ∷ 248 ∷ 0 ∷ 0 ∷ 0 ∷ 0 ∷ 33 ∷ 0 ∷ 0 ∷ 0 ∷ 66 ∷ 0 ∷ 1 ∷ 1 ∷ 1 ∷ 0 ∷ 0 ∷ 0 ∷ 0 ∷ 0 ∷ 0 ∷ 0 ∷ 16 ∷ 39 ∷ 0 ∷
+    0 ∷ 6 ∷ 72 ∷ 16 ∷ 39 ∷ 0 ∷ 0 ∷ 4 ∷ 72 ∷ 1 ∷ 3 ∷ 9 ∷ 7 ∷ 32 ∷ 4 ∷ 36 ∷ 100 ∷ []
+
+abbrev failure : List ℕ
+failure = 212 ∷ 0 ∷ 1 ∷ 1 ∷ 17 ∷ 3 ∷ 66 ∷ 0 ∷ 1 ∷ 1 ∷ 1 ∷ 0 ∷ 0 ∷ 0 ∷ 3 ∷ 0 ∷ []
+
+abbrev asks : Journal
+asks = Step (record { 0 = 0 })
+    (Command (commands.Open 1 (record { tick = 7; ticks = 250 }) path params))
+    (outputs.Send 2 (5 ∷ []) (bodies.Request 1 first_request) ∷ []) ∷ []
+
+abbrev goes_on : Journal
+goes_on = Step (record { 0 = 1 })
+    (Frame 2 (1 ∷ []) (frame 0))
+    (outputs.Send 1 (3 ∷ []) (bodies.Request 1 second_request) ∷ []) ∷ asks
+
+abbrev refuses : Journal
+refuses = Step (record { 0 = 2 })
+    (Frame 1 (0 ∷ []) (frame 1))
+    (outputs.Send 1 (0 ∷ []) (bodies.Reply 1 failure) ∷ []) ∷ goes_on
+
+abbrev passes : Journal
+passes = Step (record { 0 = 1 })
+    (Frame 1 (3 ∷ []) (frame 2))
+    (outputs.Send 2 (1 ∷ []) (bodies.Reply 1 failure) ∷ []) ∷ refuses
+
+abbrev ends : Journal
+ends = Step (record { 0 = 0 })
+    (Frame 2 (5 ∷ []) (frame 3))
+    (outputs.Done 1 failure ∷ []) ∷ passes
+
+by_asks : Gives scanner (initial_state scanner)
+    (events.Command (commands.Open 1 (record { tick = 7; ticks = 250 }) path params))
+    (outputs.Send 2 (5 ∷ []) (bodies.Request 1 first_request) ∷ [])
+unfolding behind bytes_at counted_at counted_path_at double_at end_row failure_at hop_of link_refusal logical_at narrow_at number_at open_at
+    open_reply_at open_row other_at padded_at path_at plain_port_at point_at port_at reply_at reply_row request_at request_row segment_at segments_of
+    segments_within send_row size_at target_row unconnected_at unconnected_row words_at
+by_asks = simp (none_waits, none_held, held_first) (_, refl)
+
+by_goes_on : Gives first_bridge (initial_state first_bridge)
+    (events.Frame 2 (1 ∷ []) (bodies.Request 1 first_request))
+    (outputs.Send 1 (3 ∷ []) (bodies.Request 1 second_request) ∷ [])
+unfolding behind bytes_at counted_at counted_path_at double_at end_row failure_at hop_of link_refusal logical_at narrow_at number_at open_at
+    open_reply_at open_row other_at padded_at path_at plain_port_at point_at port_at reply_at reply_row request_at request_row segment_at segments_of
+    segments_within send_row size_at target_row unconnected_at unconnected_row words_at
+by_goes_on = simp (none_waits, none_held, held_first) (_, refl)
+
+by_refuses : Gives second_bridge (initial_state second_bridge)
+    (events.Frame 1 (0 ∷ []) (bodies.Request 1 second_request))
+    (outputs.Send 1 (0 ∷ []) (bodies.Reply 1 failure) ∷ [])
+unfolding behind bytes_at counted_at counted_path_at double_at end_row failure_at hop_of link_refusal logical_at narrow_at number_at open_at
+    open_reply_at open_row other_at padded_at path_at plain_port_at point_at port_at reply_at reply_row request_at request_row segment_at segments_of
+    segments_within send_row size_at target_row unconnected_at unconnected_row words_at
+by_refuses = simp (none_waits, none_held, held_first) (_, refl)
+
+by_passes : Gives first_bridge (state_in first_bridge 1 refuses)
+    (events.Frame 1 (3 ∷ []) (bodies.Reply 1 failure))
+    (outputs.Send 2 (1 ∷ []) (bodies.Reply 1 failure) ∷ [])
+unfolding behind bytes_at counted_at counted_path_at double_at end_row failure_at hop_of link_refusal logical_at narrow_at number_at open_at
+    open_reply_at open_row other_at padded_at path_at plain_port_at point_at port_at reply_at reply_row request_at request_row segment_at segments_of
+    segments_within send_row size_at target_row unconnected_at unconnected_row words_at
+by_passes = simp (none_waits, none_held, held_first, held_get, entry_get) (_, refl)
+
+by_ends : Gives scanner (state_in scanner 0 passes)
+    (events.Frame 2 (5 ∷ []) (bodies.Reply 1 failure))
+    (outputs.Done 1 failure ∷ [])
+unfolding behind bytes_at counted_at counted_path_at double_at end_row failure_at hop_of link_refusal logical_at narrow_at number_at open_at
+    open_reply_at open_row other_at padded_at path_at plain_port_at point_at port_at reply_at reply_row request_at request_row segment_at segments_of
+    segments_within send_row size_at target_row unconnected_at unconnected_row words_at
+by_ends = simp (none_waits, none_held, held_first, held_get, entry_get) (_, refl)
+
+run_asks : IsRun plant asks
+run_asks = (
+  tt,
+  record {
+    event = events.Command (commands.Open 1 (record { tick = 7; ticks = 250 }) path params);
+    given = refl;
+    config = scanner;
+    is_module = refl;
+    new = by_asks.0;
+    step = by_asks.1;
+  },
+)
+
+run_goes_on : IsRun plant goes_on
+run_goes_on = (
+  run_asks,
+  record {
+    event = events.Frame 2 (1 ∷ []) (bodies.Request 1 first_request);
+    given = record {
+      waits = record {
+        flight = record { way = record { at = 0; port = 2; address = 5 ∷ [] }; body = bodies.Request 1 first_request };
+        there = record { at = 1; port = 2; address = 1 ∷ [] };
+        sent = refl;
+        leads = refl;
+        fresh = refl;
+      };
+      here = refl;
+      event_is = refl;
+    };
+    config = first_bridge;
+    is_module = refl;
+    new = by_goes_on.0;
+    step = by_goes_on.1;
+  },
+)
+
+run_refuses : IsRun plant refuses
+run_refuses = (
+  run_goes_on,
+  record {
+    event = events.Frame 1 (0 ∷ []) (bodies.Request 1 second_request);
+    given = record {
+      waits = record {
+        flight = record { way = record { at = 1; port = 1; address = 3 ∷ [] }; body = bodies.Request 1 second_request };
+        there = record { at = 2; port = 1; address = 0 ∷ [] };
+        sent = refl;
+        leads = refl;
+        fresh = refl;
+      };
+      here = refl;
+      event_is = refl;
+    };
+    config = second_bridge;
+    is_module = refl;
+    new = by_refuses.0;
+    step = by_refuses.1;
+  },
+)
+
+run_passes : IsRun plant passes
+run_passes = (
+  run_refuses,
+  record {
+    event = events.Frame 1 (3 ∷ []) (bodies.Reply 1 failure);
+    given = record {
+      waits = record {
+        flight = record { way = record { at = 2; port = 1; address = 0 ∷ [] }; body = bodies.Reply 1 failure };
+        there = record { at = 1; port = 1; address = 3 ∷ [] };
+        sent = refl;
+        leads = refl;
+        fresh = refl;
+      };
+      here = refl;
+      event_is = refl;
+    };
+    config = first_bridge;
+    is_module = refl;
+    new = by_passes.0;
+    step = by_passes.1;
+  },
+)
+
+-- the whole run
+pub failed_open : IsRun plant ends
+failed_open = (
+  run_passes,
+  record {
+    event = events.Frame 2 (5 ∷ []) (bodies.Reply 1 failure);
+    given = record {
+      waits = record {
+        flight = record { way = record { at = 1; port = 2; address = 1 ∷ [] }; body = bodies.Reply 1 failure };
+        there = record { at = 0; port = 2; address = 5 ∷ [] };
+        sent = refl;
+        leads = refl;
+        fresh = refl;
+      };
+      here = refl;
+      event_is = refl;
+    };
+    config = scanner;
+    is_module = refl;
+    new = by_ends.0;
+    step = by_ends.1;
+  },
+)

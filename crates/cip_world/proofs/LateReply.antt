@@ -1,0 +1,206 @@
+-- A reply that comes when nothing waits for it any more.
+use Rattle.std.proofs.Common.{◌≡◌, ℕ, List, [], ◌∷◌, Some, refl}
+use Rattle.cip_module.specs.declared.event.Command.TheVariants as commands
+use Rattle.cip_module.specs.declared.event.Event.TheVariants as events
+use Rattle.cip_module.specs.declared.event.Body.TheVariants as bodies
+use Rattle.cip_module.specs.declared.event.Output.TheVariants as outputs
+use Rattle.cip_module.specs.declared.event.Dropped.TheVariants.{Late}
+use Rattle.cip_module.specs.State.{initial_state}
+use Rattle.cip_world.specs.declared.journal.Input.TheVariants.{Command, Tick, Frame}
+use Rattle.cip_world.specs.declared.journal.Entry.TheVariants.{Step}
+use Rattle.cip_world.specs.Journals.{Journal}
+use Rattle.cip_world.specs.Runs.{IsRun, state_in}
+use Rattle.cip_world.proofs.Concrete.{scanner, first_bridge, second_bridge, plant, frame, Gives, none_waits, held_none, pendings_none, entry_get, entry_remove, entry_entries}
+use Rattle.cip_message.specs.Counted.{counted_at, counted_path_at}
+use Rattle.cip_message.specs.Failure.{failure_at}
+use Rattle.cip_message.specs.ReplyAt.{reply_at}
+use Rattle.cip_message.specs.RequestAt.{request_at}
+use Rattle.cip_module.specs.CommandRows.{send_row}
+use Rattle.cip_module.specs.Links.{link_refusal}
+use Rattle.cip_module.specs.OpenRows.{open_row}
+use Rattle.cip_module.specs.ReplyRows.{reply_row}
+use Rattle.cip_module.specs.RequestRows.{request_row}
+use Rattle.cip_module.specs.UnconnectedRows.{unconnected_row}
+use Rattle.cip_open.specs.OpenAt.{open_at}
+use Rattle.cip_open.specs.SuccessAt.{open_reply_at}
+use Rattle.cip_segment.specs.Reading.{behind, hop_of, path_at, segments_of, segments_within}
+use Rattle.cip_segment.specs.Scan.{bytes_at, double_at, logical_at, narrow_at, number_at, other_at, padded_at, plain_port_at, point_at, port_at, segment_at, size_at, words_at}
+use Rattle.cip_target.specs.Ends.{end_row}
+use Rattle.cip_target.specs.Rows.{target_row}
+use Rattle.cip_unconnected.specs.UnconnectedAt.{unconnected_at}
+
+abbrev path : List ℕ
+path = 2 ∷ 5 ∷ 1 ∷ 3 ∷ []
+
+abbrev asked : List ℕ
+asked = 1 ∷ 2 ∷ 32 ∷ 1 ∷ 36 ∷ 1 ∷ []
+
+abbrev sent_on : List ℕ
+sent_on = 82 ∷ 2 ∷ 32 ∷ 6 ∷ 36 ∷ 1 ∷ 0 ∷ 4 ∷ 6 ∷ 0 ∷ 1 ∷ 2 ∷ 32 ∷ 1 ∷ 36 ∷ 1 ∷ 1 ∷ 0 ∷ 1 ∷ 3 ∷ []
+
+abbrev answer : List ℕ
+answer = 129 ∷ 0 ∷ 0 ∷ 0 ∷ 1 ∷ 1 ∷ 12 ∷ 0 ∷ 2 ∷ 0 ∷ 1 ∷ 3 ∷ 0 ∷ 0 ∷ 3 ∷ 0 ∷ 0 ∷ 0 ∷ 1 ∷ 65 ∷ []
+
+abbrev failure : List ℕ
+failure = 210 ∷ 0 ∷ 1 ∷ 1 ∷ 4 ∷ 2 ∷ 1 ∷ []
+
+abbrev asks : Journal
+asks = Step (record { 0 = 0 })
+    (Command (commands.Send 1 (record { tick = 0; ticks = 5 }) path asked))
+    (outputs.Send 2 (5 ∷ []) (bodies.Request 1 sent_on) ∷ []) ∷ []
+
+abbrev goes_on : Journal
+goes_on = Step (record { 0 = 1 })
+    (Frame 2 (1 ∷ []) (frame 0))
+    (outputs.Send 1 (3 ∷ []) (bodies.Request 1 asked) ∷ []) ∷ asks
+
+abbrev answers : Journal
+answers = Step (record { 0 = 2 })
+    (Frame 1 (0 ∷ []) (frame 1))
+    (outputs.Send 1 (0 ∷ []) (bodies.Reply 1 answer) ∷ []) ∷ goes_on
+
+abbrev times_out : Journal
+times_out = Step (record { 0 = 1 })
+    (Tick 4)
+    (outputs.Send 2 (1 ∷ []) (bodies.Reply 1 failure) ∷ []) ∷ answers
+
+abbrev comes_late : Journal
+comes_late = Step (record { 0 = 1 })
+    (Frame 1 (3 ∷ []) (frame 2))
+    (outputs.Dropped Late ∷ []) ∷ times_out
+
+by_asks : Gives scanner (initial_state scanner)
+    (events.Command (commands.Send 1 (record { tick = 0; ticks = 5 }) path asked))
+    (outputs.Send 2 (5 ∷ []) (bodies.Request 1 sent_on) ∷ [])
+unfolding behind bytes_at counted_at counted_path_at double_at end_row failure_at hop_of link_refusal logical_at narrow_at number_at open_at
+    open_reply_at open_row other_at padded_at path_at plain_port_at point_at port_at reply_at reply_row request_at request_row segment_at segments_of
+    segments_within send_row size_at target_row unconnected_at unconnected_row words_at
+by_asks = simp none_waits (_, refl)
+
+by_goes_on : Gives first_bridge (initial_state first_bridge)
+    (events.Frame 2 (1 ∷ []) (bodies.Request 1 sent_on))
+    (outputs.Send 1 (3 ∷ []) (bodies.Request 1 asked) ∷ [])
+unfolding behind bytes_at counted_at counted_path_at double_at end_row failure_at hop_of link_refusal logical_at narrow_at number_at open_at
+    open_reply_at open_row other_at padded_at path_at plain_port_at point_at port_at reply_at reply_row request_at request_row segment_at segments_of
+    segments_within send_row size_at target_row unconnected_at unconnected_row words_at
+by_goes_on = simp none_waits (_, refl)
+
+by_answers : Gives second_bridge (initial_state second_bridge)
+    (events.Frame 1 (0 ∷ []) (bodies.Request 1 asked))
+    (outputs.Send 1 (0 ∷ []) (bodies.Reply 1 answer) ∷ [])
+unfolding behind bytes_at counted_at counted_path_at double_at end_row failure_at hop_of link_refusal logical_at narrow_at number_at open_at
+    open_reply_at open_row other_at padded_at path_at plain_port_at point_at port_at reply_at reply_row request_at request_row segment_at segments_of
+    segments_within send_row size_at target_row unconnected_at unconnected_row words_at
+by_answers = (_, refl)
+
+by_times_out : Gives first_bridge (state_in first_bridge 1 answers)
+    (events.Tick 4)
+    (outputs.Send 2 (1 ∷ []) (bodies.Reply 1 failure) ∷ [])
+unfolding behind bytes_at counted_at counted_path_at double_at end_row failure_at hop_of link_refusal logical_at narrow_at number_at open_at
+    open_reply_at open_row other_at padded_at path_at plain_port_at point_at port_at reply_at reply_row request_at request_row segment_at segments_of
+    segments_within send_row size_at target_row unconnected_at unconnected_row words_at
+by_times_out = simp (none_waits, entry_get, entry_entries, pendings_none, held_none) (_, refl)
+
+by_comes_late : Gives first_bridge (state_in first_bridge 1 times_out)
+    (events.Frame 1 (3 ∷ []) (bodies.Reply 1 answer))
+    (outputs.Dropped Late ∷ [])
+unfolding behind bytes_at counted_at counted_path_at double_at end_row failure_at hop_of link_refusal logical_at narrow_at number_at open_at
+    open_reply_at open_row other_at padded_at path_at plain_port_at point_at port_at reply_at reply_row request_at request_row segment_at segments_of
+    segments_within send_row size_at target_row unconnected_at unconnected_row words_at
+by_comes_late = simp (none_waits, entry_get, entry_entries, pendings_none, held_none, entry_remove) (_, refl)
+
+run_asks : IsRun plant asks
+run_asks = (
+  tt,
+  record {
+    event = events.Command (commands.Send 1 (record { tick = 0; ticks = 5 }) path asked);
+    given = refl;
+    config = scanner;
+    is_module = refl;
+    new = by_asks.0;
+    step = by_asks.1;
+  },
+)
+
+run_goes_on : IsRun plant goes_on
+run_goes_on = (
+  run_asks,
+  record {
+    event = events.Frame 2 (1 ∷ []) (bodies.Request 1 sent_on);
+    given = record {
+      waits = record {
+        flight = record { way = record { at = 0; port = 2; address = 5 ∷ [] }; body = bodies.Request 1 sent_on };
+        there = record { at = 1; port = 2; address = 1 ∷ [] };
+        sent = refl;
+        leads = refl;
+        fresh = refl;
+      };
+      here = refl;
+      event_is = refl;
+    };
+    config = first_bridge;
+    is_module = refl;
+    new = by_goes_on.0;
+    step = by_goes_on.1;
+  },
+)
+
+run_answers : IsRun plant answers
+run_answers = (
+  run_goes_on,
+  record {
+    event = events.Frame 1 (0 ∷ []) (bodies.Request 1 asked);
+    given = record {
+      waits = record {
+        flight = record { way = record { at = 1; port = 1; address = 3 ∷ [] }; body = bodies.Request 1 asked };
+        there = record { at = 2; port = 1; address = 0 ∷ [] };
+        sent = refl;
+        leads = refl;
+        fresh = refl;
+      };
+      here = refl;
+      event_is = refl;
+    };
+    config = second_bridge;
+    is_module = refl;
+    new = by_answers.0;
+    step = by_answers.1;
+  },
+)
+
+run_times_out : IsRun plant times_out
+run_times_out = (
+  run_answers,
+  record {
+    event = events.Tick 4;
+    given = refl;
+    config = first_bridge;
+    is_module = refl;
+    new = by_times_out.0;
+    step = by_times_out.1;
+  },
+)
+
+-- the whole run
+pub late_reply : IsRun plant comes_late
+late_reply = (
+  run_times_out,
+  record {
+    event = events.Frame 1 (3 ∷ []) (bodies.Reply 1 answer);
+    given = record {
+      waits = record {
+        flight = record { way = record { at = 2; port = 1; address = 0 ∷ [] }; body = bodies.Reply 1 answer };
+        there = record { at = 1; port = 1; address = 3 ∷ [] };
+        sent = refl;
+        leads = refl;
+        fresh = refl;
+      };
+      here = refl;
+      event_is = refl;
+    };
+    config = first_bridge;
+    is_module = refl;
+    new = by_comes_late.0;
+    step = by_comes_late.1;
+  },
+)
