@@ -14,6 +14,4 @@ mod refusals;
 #[cfg(test)]
 mod runs;
 #[cfg(test)]
-mod trails;
-#[cfg(test)]
 mod ways;
