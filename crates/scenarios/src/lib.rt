@@ -13,8 +13,6 @@ mod console_transcripts;
 #[cfg(test)]
 mod falling_silent;
 #[cfg(test)]
-mod kept_buffers;
-#[cfg(test)]
 mod moving_data;
 #[cfg(test)]
 mod opening;
