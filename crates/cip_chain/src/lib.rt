@@ -2,6 +2,8 @@
 #![tactic(auto)]
 
 mod chains;
+mod laws;
 mod seeking;
 
 pub use chains::{ChainFault, ChainView, Modules, chain};
+pub use laws::answers_exclude_one_another;
