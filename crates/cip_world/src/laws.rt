@@ -92,8 +92,8 @@ pub fn what_is_consumed_was_entered()
         → ConsumedOf t j k e triad instance bytes }
 {}
 
-/// Each datum that arrives at an op is one that was produced, unchanged and at most once: its root is
-/// a Produce, at the module to which the op's open leads and of the assembly there, in which the
+/// Each datum that arrives at an op is one that was produced, unchanged and at most once: its root
+/// is a Produce, at the module to which the op's open leads and of the assembly there, in which the
 /// frame for the open's triad has the same bytes.
 pub fn what_arrives_was_produced()
     ensures { (t : Plan) → IsTopology t → (j : Journal) (k m op : ℕ) (bytes : List ℕ) → IsRun t j
@@ -111,8 +111,9 @@ pub fn an_op_opens_once()
 /// links, is consumed at its end with the same bytes, where no connection of the chain is removed
 /// meanwhile.
 pub fn chains_carry_data()
-    ensures { (t : Plan) → IsTopology t → (j : Journal) (entry m op : ℕ) (bytes : List ℕ) → IsRun t j
-        → IsEntered j entry m op bytes → (first : Member) (rest : List Member) → first.at ≡ m
+    ensures { (t : Plan) → IsTopology t → (j : Journal) (entry m op : ℕ) (bytes : List ℕ)
+        → IsRun t j → IsEntered j entry m op bytes
+        → (first : Member) (rest : List Member) → first.at ≡ m
         → IsChain t (before_entry j entry) op first rest
         → (ks : List ℕ) → AreDeliveries j entry ks → length ks ≡ length rest
         → AreKept t j entry (last_of entry ks) (first ∷ rest)
