@@ -3,4 +3,5 @@ pub mod Rows
 pub mod Opened
 pub mod Nexts
 pub mod Followed
-pub mod Laws
+pub mod OnRuns
+pub mod Apart

@@ -3,10 +3,12 @@
 #![tactic(auto)]
 
 mod chains;
+mod laws;
 mod roots;
 mod seeking;
 mod trails;
 
 pub use chains::{ChainFault, ChainView, Modules, chain};
+pub use laws::answers_exclude_one_another;
 pub use roots::root;
 pub use trails::trail;

@@ -112,8 +112,8 @@ pub fn an_op_opens_once()
 /// meanwhile.
 pub fn chains_carry_data()
     ensures { (t : Plan) → IsTopology t → (j : Journal) (entry m op : ℕ) (bytes : List ℕ)
-        → IsRun t j → IsEntered j entry m op bytes → (first : Member) (rest : List Member)
-        → first.at ≡ m
+        → IsRun t j → IsEntered j entry m op bytes
+        → (first : Member) (rest : List Member) → first.at ≡ m
         → IsChain t (before_entry j entry) op first rest
         → (ks : List ℕ) → AreDeliveries j entry ks → length ks ≡ length rest
         → AreKept t j entry (last_of entry ks) (first ∷ rest)

@@ -15,7 +15,8 @@ pub use fault::WorldFault;
 pub use fresh::NewFault;
 pub use journal::{Entry, FrameName, Input, Outputs};
 pub use laws::{
-    a_request_gets_one_reply, replies_answer_their_requests, requests_come_once,
-    runs_are_histories, what_waits_is_listed,
+    a_request_gets_one_reply, an_op_has_one_chain, an_op_opens_once, chains_carry_data,
+    hops_are_mirrored, replies_answer_their_requests, requests_come_once, runs_are_histories,
+    what_arrives_was_produced, what_is_consumed_was_entered, what_waits_is_listed,
 };
 pub use world::{End, World};

@@ -3,6 +3,7 @@ use crate::boxes::{boxes, chassis};
 use crate::given::{THROUGH_A_TO_B, ms, send};
 use crate::journals::{Came, came_with, first_of, is_done, is_lost, is_sent};
 use cip_base::{ModuleId, NoMemory};
+use cip_chain::root;
 use cip_world::{End, Entry, FrameName, World};
 use std::test::Fail;
 
@@ -73,6 +74,8 @@ fn ends_of_runs(rt: HostRuntime) -> Result<(), Fail> {
     assert_eq!(&rt; world.run(10), Ok(End::Quiet));
     assert_eq!(&rt; world.run(0), Ok(End::Quiet));
     assert!(&rt; is_the_run(world.journal()));
+    assert_eq!(&rt; root(world.journal(), 4), Some(0));
+    assert_eq!(&rt; root(world.journal(), 5), None);
     assert_eq!(&rt; world.journal().len(), 5);
     Ok(())
 }

@@ -1,4 +1,4 @@
-use Rattle.cip_chain.proofs.Laws.{all_mirrored, all_carried, past_all}
+use Rattle.cip_chain.proofs.OnRuns.{all_mirrored, all_carried, past_all}
 use Rattle.cip_chain.proofs.Followed.{nothing_open, empty_journal}
 use Rattle.cip_chain.proofs.chains.chain.Goals as goal
 
