@@ -10,8 +10,8 @@ mod case;
 mod fault;
 mod frames;
 
-use case::{CASES, Case, case_of};
 use bench::Kinds;
+use case::{CASES, Case, case_of};
 use fault::Fault;
 use std::env;
 use std::process::ExitCode;
