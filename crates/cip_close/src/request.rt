@@ -7,7 +7,9 @@ ghost use Rattle.cip_close.specs.CloseAt.{close_at, close_triad_of, close_words_
 ghost use Rattle.cip_close.specs.Reading.{close_of, close_along};
 
 use cip_base::{Bytes, NoMemory, Timing, Triad};
-use cip_message::{DataFault, counted_path, put_manager_header, put_triad, triad_at, triad_within};
+use cip_message::{
+    DataFault, MANAGER_HEADER, counted_path, put_manager_header, put_triad, triad_at, triad_within,
+};
 use cip_segment::PathView;
 use std::alloc::{AllocError, Global};
 
@@ -88,7 +90,10 @@ pub fn close_words_at(data_: &[u8]) -> Option<u8>
 fn joined(alloc: Global, fields: &CloseFields, path: PathView<'_>) -> Result<Vec<u8>, AllocError>
     ensures { IfOk result (λ v. v.items ≡ close_bytes (close_along fields.now path.entry)) }
 {
-    let mut bytes = Vec::new(alloc);
+    let mut bytes = Vec::with_capacity(
+        alloc,
+        MANAGER_HEADER + CLOSE_FIXED_PART + path.bytes.len(),
+    )?;
     put_manager_header(&mut bytes, FORWARD_CLOSE)?;
     bytes.extend_from_slice(&[fields.timing.tick, fields.timing.ticks])?;
     put_triad(&mut bytes, fields.triad)?;

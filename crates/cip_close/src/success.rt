@@ -8,7 +8,7 @@ ghost use Rattle.cip_close.specs.Reading.{success_of};
 
 use crate::request::FORWARD_CLOSE_REPLY;
 use cip_base::{Bytes, NoMemory, Status, Triad};
-use cip_message::{DataFault, counted_part, put_reply_header, put_triad, triad_at};
+use cip_message::{DataFault, REPLY_HEADER, counted_part, put_reply_header, put_triad, triad_at};
 use std::alloc::{AllocError, Global};
 
 /// What the data of a successful Forward_Close's reply says (Volume 1, chapter 3, Forward_Close,
@@ -52,7 +52,7 @@ fn joined(alloc: Global, reply: &CloseReply<'_>) -> Result<Vec<u8>, AllocError>
     requires { length reply.now.reply.now ≤ 510 }
     ensures { IfOk result (λ v. v.items ≡ close_reply_bytes (success_of reply.now)) }
 {
-    let mut bytes = Vec::new(alloc);
+    let mut bytes = Vec::with_capacity(alloc, REPLY_HEADER + 10 + reply.reply.len())?;
     put_reply_header(&mut bytes, FORWARD_CLOSE_REPLY, DONE)?;
     put_triad(&mut bytes, reply.triad)?;
     bytes.push((reply.reply.len() / 2) as u8)?;

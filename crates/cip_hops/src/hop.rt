@@ -4,6 +4,7 @@ ghost use Rattle.cip_hops.specs.Hops.{is_past, watched as watched_until};
 
 use crate::opening::{Opening, OwnIds};
 use cip_clock::Clock;
+use core::mem::replace_with;
 
 /// A side of a connection: up towards its originator, down towards its target.
 #[derive(Clone, Copy, Debug, PartialEq, Eq)]
@@ -93,22 +94,39 @@ impl Held {
         }
     }
 
-    // What the change makes of it, for `replace_with`.
-    pub(crate) fn changed(self, change: Change) -> (Held, ())
-        requires suits { Suits change self }
+    // An opening as a hop with the other side's id, watched from now on, for `replace_with`.
+    fn finished(self, found: (u32, u64)) -> (Held, ())
+        requires suits { Suits (Change.Finish found.0 found.1) self }
         requires multiplier { (opening_of self).multiplier < 8 }
-        ensures { result.0 ≡ change_of change self }
+        ensures { result.0 ≡ change_of (Change.Finish found.0 found.1) self }
     {
-        let hop = match (self, change) {
-            (Held::Opening(opening, ids), Change::Finish { their_id, now }) => {
-                Hop::opened(opening, ids, their_id, now)
-            }
-            (Held::Open(hop), Change::Touch { side, now }) => hop.touched(side, now),
-            (Held::Open(hop), Change::Count { side, count }) => hop.counted(side, count),
-            (Held::Opening(_, _), Change::Touch { .. } | Change::Count { .. })
-            | (Held::Open(_), Change::Finish { .. }) => unreachable!(),
+        let (their_id, now) = found;
+        let hop = match self {
+            Held::Opening(opening, ids) => Hop::opened(opening, ids, their_id, now),
+            Held::Open(_) => unreachable!(),
         };
         (Held::Open(hop), ())
+    }
+
+    // The change, where it stands.
+    pub(crate) fn change(&mut self, change: Change)
+        requires suits { Suits change self.old }
+        requires multiplier { (opening_of self.old).multiplier < 8 }
+        ensures { self.new ≡ change_of change self.old }
+    {
+        match change {
+            Change::Finish { their_id, now } => {
+                replace_with(self, (their_id, now), Held::finished);
+            }
+            Change::Touch { side, now } => match self {
+                Held::Opening(_, _) => unreachable!(),
+                Held::Open(hop) => hop.touch(side, now),
+            },
+            Change::Count { side, count } => match self {
+                Held::Opening(_, _) => unreachable!(),
+                Held::Open(hop) => hop.set_count(side, count),
+            },
+        }
     }
 }
 
@@ -155,32 +173,30 @@ impl Hop {
         }
     }
 
-    // With that side watched anew from now on.
-    pub(crate) fn touched(self, side: Side, now: u64) -> Hop
-        requires multiplier { self.opening.multiplier < 8 }
+    // That side is watched anew from now on.
+    fn touch(&mut self, side: Side, now: u64)
+        requires multiplier { self.old.opening.multiplier < 8 }
         requires time { now < 2 ^ 63 }
-        ensures { result ≡ touched side now self }
+        ensures { self.new ≡ touched side now self.old }
     {
-        let mut hop = self;
         let clock = Clock::new(now);
-        let multiplier = hop.opening.multiplier;
+        let multiplier = self.opening.multiplier;
         match side {
-            Side::Up => hop.up_deadline = Some(clock.after_rpi(hop.opening.ot_rpi, multiplier)),
-            Side::Down => hop.down_deadline = Some(clock.after_rpi(hop.opening.to_rpi, multiplier)),
+            Side::Up => self.up_deadline = Some(clock.after_rpi(self.opening.ot_rpi, multiplier)),
+            Side::Down => {
+                self.down_deadline = Some(clock.after_rpi(self.opening.to_rpi, multiplier));
+            }
         }
-        hop
     }
 
-    // With the count of its last datum, consumed (up) or produced (down).
-    pub(crate) fn counted(self, side: Side, count: u16) -> Hop
-        ensures { result ≡ counted side count self }
+    // The count of its last datum, consumed (up) or produced (down).
+    fn set_count(&mut self, side: Side, count: u16)
+        ensures { self.new ≡ counted side count self.old }
     {
-        let mut hop = self;
         match side {
-            Side::Up => hop.consumed = Some(count),
-            Side::Down => hop.produced = Some(count),
+            Side::Up => self.consumed = Some(count),
+            Side::Down => self.produced = Some(count),
         }
-        hop
     }
 }
 

@@ -14,7 +14,6 @@ use crate::hop::{Change, Held, Hop, Side};
 use crate::opening::{BeginFault, BeginReason, Opening, OwnIds};
 use crate::triads::{TriadIndex, place_after};
 use cip_base::{Address, LAST_COUNT, NoMemory, NumberIndex, PortNumber, Triad};
-use core::mem::replace_with;
 use slab::Slab;
 use std::alloc::Global;
 use std::marker::Model;
@@ -281,7 +280,7 @@ impl HopTable {
         let Some(held) = self.records.get_mut(key) else {
             unreachable!()
         };
-        replace_with(held, change, Held::changed);
+        held.change(change);
     }
 
     // Takes out what stands under a triad, and forgets its names.

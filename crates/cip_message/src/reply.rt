@@ -125,7 +125,7 @@ pub fn put_reply_header(out: &mut Vec<u8>, service: u8, status: Status) -> Resul
 fn joined(alloc: Global, service: u8, status: Status, data_: &[u8]) -> Result<Vec<u8>, AllocError>
     ensures { IfOk result (λ v. v.items ≡ reply_bytes (reply_with service status data_.now)) }
 {
-    let mut bytes = Vec::new(alloc);
+    let mut bytes = Vec::with_capacity(alloc, 6 + data_.len())?;
     put_reply_header(&mut bytes, service, status)?;
     bytes.extend_from_slice(data_)?;
     Ok(bytes)

@@ -8,7 +8,8 @@ ghost use Rattle.cip_open.specs.Reading.{open_of, open_along};
 
 use cip_base::{Bytes, NoMemory, Timing, Triad, put_double, put_word};
 use cip_message::{
-    DataFault, counted_path, double_at, put_manager_header, put_triad, triad_within, word_at,
+    DataFault, MANAGER_HEADER, counted_path, double_at, put_manager_header, put_triad,
+    triad_within, word_at,
 };
 use cip_segment::PathView;
 use std::alloc::{AllocError, Global};
@@ -125,7 +126,7 @@ pub fn words_at(data_: &[u8]) -> Option<u8>
 fn joined(alloc: Global, fields: &OpenFields, path: PathView<'_>) -> Result<Vec<u8>, AllocError>
     ensures { IfOk result (λ v. v.items ≡ open_bytes (open_along fields.now path.entry)) }
 {
-    let mut bytes = Vec::new(alloc);
+    let mut bytes = Vec::with_capacity(alloc, MANAGER_HEADER + OPEN_FIXED_PART + path.bytes.len())?;
     put_manager_header(&mut bytes, FORWARD_OPEN)?;
     bytes.extend_from_slice(&[fields.timing.tick, fields.timing.ticks])?;
     put_double(&mut bytes, fields.ot_id)?;

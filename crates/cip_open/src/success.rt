@@ -8,7 +8,9 @@ ghost use Rattle.cip_open.specs.Reading.{success_of};
 
 use crate::request::FORWARD_OPEN_REPLY;
 use cip_base::{Bytes, NoMemory, Status, Triad, put_double};
-use cip_message::{DataFault, counted_part, double_at, put_reply_header, put_triad, triad_at};
+use cip_message::{
+    DataFault, REPLY_HEADER, counted_part, double_at, put_reply_header, put_triad, triad_at,
+};
 use std::alloc::{AllocError, Global};
 
 /// Where the O→T network connection id stands in the data of a success.
@@ -75,7 +77,8 @@ fn joined(alloc: Global, reply: &OpenReply<'_>) -> Result<Vec<u8>, AllocError>
     requires { length reply.now.reply.now ≤ 510 }
     ensures { IfOk result (λ v. v.items ≡ open_reply_bytes (success_of reply.now)) }
 {
-    let mut bytes = Vec::new(alloc);
+    let room = REPLY_HEADER + SUCCESS_FIXED_PART + reply.reply.len();
+    let mut bytes = Vec::with_capacity(alloc, room)?;
     put_reply_header(&mut bytes, FORWARD_OPEN_REPLY, DONE)?;
     put_double(&mut bytes, reply.ot_id)?;
     put_double(&mut bytes, reply.to_id)?;

@@ -125,7 +125,7 @@ fn joined(
     requires { length request.now ≤ 1400 }
     ensures { IfOk result (λ v. v.items ≡ sent_along timing request.now route.entry) }
 {
-    let mut bytes = Vec::new(alloc);
+    let mut bytes = Vec::with_capacity(alloc, 13 + request.len() + route.bytes.len())?;
     put_manager_header(&mut bytes, UNCONNECTED_SEND)?;
     bytes.push(timing.tick)?;
     bytes.push(timing.ticks)?;

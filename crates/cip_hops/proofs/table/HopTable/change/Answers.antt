@@ -21,14 +21,14 @@ unreachable-requires-in_default-get_mut c =
     subst (λ (o : Option Held). IsSome o) (sym c.in_default-get_mut.ensures.value)
     (finds c.self.inside c.self.invariant c.args.triad.now c.in-Some.key (sym c.in-Some.ensures)) in cc
 
-pub replace_with-requires : goal.replace_with-requires
-replace_with-requires c =
-    let found = sym c.in-Some-get_mut.ensures.value in (
-      subst (λ (o : Option Held). IsSomeAnd o (Suits c.args.change))
+pub change-requires : goal.change-requires
+change-requires c =
+    let found = sym c.in-Some-get_mut.ensures.value in record {
+      suits = subst (λ (o : Option Held). IsSomeAnd o (Suits c.args.change))
           (stands c.self.inside c.args.self.now c.self.invariant c.self.view_is c.args.triad.now c.in-Some.key c.in-Some-get_mut.held.now
-          (sym c.in-Some.ensures) found) c.requires,
-      (c.self.invariant.each c.in-Some.key c.in-Some-get_mut.held.now found).multiplier,
-    )
+          (sym c.in-Some.ensures) found) c.requires;
+      multiplier = (c.self.invariant.each c.in-Some.key c.in-Some-get_mut.held.now found).multiplier;
+    }
 
 pub invariant_of-self : goal.invariant_of-self
 invariant_of-self c =
@@ -36,7 +36,7 @@ invariant_of-self c =
     let x = c.in-Some-get_mut.held.now in
     let held = stands c.self.inside c.args.self.now c.self.invariant c.self.view_is c.args.triad.now c.in-Some.key x (sym c.in-Some.ensures) found in
     let suits = subst (λ (o : Option Held). IsSomeAnd o (Suits c.args.change)) held c.requires in
-    subst (λ (y : Held). IsKept (written c.self.inside c.in-Some.key y)) (sym c.replace_with.ensures)
+    subst (λ (y : Held). IsKept (written c.self.inside c.in-Some.key y)) (sym c.change.ensures)
     (kept_in_place c.self.inside c.self.invariant c.args.triad.now c.in-Some.key x c.args.change (sym c.in-Some.ensures) found suits)
 
 pub returns : goal.returns
@@ -45,8 +45,8 @@ returns c =
     let x = c.in-Some-get_mut.held.now in
     let held = stands c.self.inside c.args.self.now c.self.invariant c.self.view_is c.args.triad.now c.in-Some.key x (sym c.in-Some.ensures) found in
     subst (λ (o : Option Held). IsSomeAnd o
-    (λ x. hops (written c.self.inside c.in-Some.key c.replace_with.new.dest) ≡ with_held c.args.self.now c.args.triad.now (change_of c.args.change x)))
+    (λ x. hops (written c.self.inside c.in-Some.key c.change.new.self) ≡ with_held c.args.self.now c.args.triad.now (change_of c.args.change x)))
     (sym held)
-    (ap (λ (y : Held). hops (written c.self.inside c.in-Some.key y)) c.replace_with.ensures
+    (ap (λ (y : Held). hops (written c.self.inside c.in-Some.key y)) c.change.ensures
     ∙ view_in_place c.self.inside c.self.invariant c.args.triad.now c.in-Some.key x c.args.change (sym c.in-Some.ensures) found
     ∙ ap (λ p. with_held p c.args.triad.now (change_of c.args.change x)) c.self.view_is)
