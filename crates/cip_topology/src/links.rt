@@ -1,4 +1,6 @@
 //! The links of a chassis.
+ghost use Rattle.std.specs.Prelude.{◌≡◌};
+
 use crate::name::Name;
 use cip_module::LegalAddresses;
 
@@ -7,4 +9,16 @@ use cip_module::LegalAddresses;
 pub struct Link {
     pub name: Name,
     pub legal: LegalAddresses,
+}
+
+impl Link {
+    /// The same link once more. It takes no memory.
+    pub fn copy(&self) -> Link
+        ensures { result ≡ self.now }
+    {
+        Link {
+            name: self.name.copy(),
+            legal: self.legal,
+        }
+    }
 }

@@ -1,5 +1,5 @@
 //! Where the ports stand: an index by link and address.
-ghost use Rattle.std.specs.Prelude.{◌≡◌, [], None, MatchResult, OnOk};
+ghost use Rattle.std.specs.Prelude.{◌≡◌, [], None, IfOk, MatchResult, OnOk};
 ghost use Rattle.cip_topology.specs.Seats.{spot_cmp, spot, AreRising, StandsAt, FitsAt, seat_at, seated};
 
 use cip_base::{Address, NoMemory, PortNumber};
@@ -41,6 +41,26 @@ impl Model for Seats {
     ghost invariant = { λ s. AreRising s.seats.items };
 }
 
+fn copy_seat(seated: &(Spot, Seat)) -> (Spot, Seat)
+    ensures { result ≡ seated.now }
+{
+    let spot = Spot {
+        link: seated.0.link,
+        address: seated.0.address.copy(),
+    };
+    (spot, seated.1)
+}
+
+fn copy_seats(alloc: Global, seats: &[(Spot, Seat)]) -> Result<Vec<(Spot, Seat)>, NoMemory>
+    ensures { IfOk result (λ v. v.items ≡ seats.now) }
+{
+    let mut copies = Vec::new(alloc);
+    for seated in seats {
+        copies.push(copy_seat(seated))?;
+    }
+    Ok(copies)
+}
+
 impl Seats {
     /// No seat.
     pub(crate) fn new(alloc: Global) -> Seats
@@ -49,6 +69,15 @@ impl Seats {
         Seats {
             seats: Vec::new(alloc),
         }
+    }
+
+    /// The same seats once more; NoMemory where an allocation is refused.
+    pub(crate) fn copy(&self, alloc: Global) -> Result<Seats, NoMemory>
+        ensures { IfOk result (λ s. s ≡ self.now) }
+    {
+        Ok(Seats {
+            seats: copy_seats(alloc, self.seats.as_slice())?,
+        })
     }
 
     /// The port at an address of a link, by binary search.

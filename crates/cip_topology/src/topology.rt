@@ -1,5 +1,5 @@
 //! A topology: its links and modules, and where frames come in it.
-ghost use Rattle.std.specs.Prelude.{◌≡◌, option_map, slice_get, position, find};
+ghost use Rattle.std.specs.Prelude.{◌≡◌, ◌↔◌, IfOk, IsTrue, option_map, slice_get, position, find};
 ghost use Rattle.std.specs.Option.{option_copied};
 ghost use Rattle.std.specs.Str.{bytes_eq};
 ghost use Rattle.cip_module.specs.Config.{has_number};
@@ -10,8 +10,9 @@ ghost use Rattle.cip_topology.specs.Ways.{way_of};
 
 use crate::links::Link;
 use crate::seats::Seats;
-use cip_base::{Address, ModuleId, PortNumber};
-use cip_module::{ModuleConfig, PortConfig};
+use cip_base::{Address, ModuleId, NoMemory, PortNumber};
+use cip_module::{LegalAddresses, ModuleConfig, PortConfig};
+use std::alloc::Global;
 use std::marker::Model;
 
 /// The links and the modules of a chassis, which keep every rule of a topology file. A contract
@@ -50,6 +51,74 @@ fn numbered(ports: &[PortConfig], number: PortNumber) -> Option<&PortConfig>
     ports.iter().find(|port| port.number == number)
 }
 
+fn copy_links(alloc: Global, links: &[Link]) -> Result<Vec<Link>, NoMemory>
+    ensures { IfOk result (λ v. v.items ≡ links.now) }
+{
+    let mut copies = Vec::new(alloc);
+    for link in links {
+        copies.push(link.copy())?;
+    }
+    Ok(copies)
+}
+
+fn copy_configs(alloc: Global, configs: &[ModuleConfig]) -> Result<Vec<ModuleConfig>, NoMemory>
+    ensures { IfOk result (λ v. v.items ≡ configs.now) }
+{
+    let mut copies = Vec::new(alloc);
+    for config in configs {
+        let copy = config.copy(alloc)?;
+        copies.push(copy)?;
+    }
+    Ok(copies)
+}
+
+fn are_same_addresses(left: LegalAddresses, right: LegalAddresses) -> bool
+    ensures { IsTrue result ↔ (left ≡ right) }
+{
+    left == right
+}
+
+fn are_same_names(left: &[u8], right: &[u8]) -> bool
+    ensures { IsTrue result ↔ (left.now ≡ right.now) }
+{
+    left == right
+}
+
+fn is_same_link(left: &Link, right: &Link) -> bool
+    ensures { IsTrue result ↔ (left.now ≡ right.now) }
+{
+    are_same_names(left.name.as_slice(), right.name.as_slice())
+        && are_same_addresses(left.legal, right.legal)
+}
+
+fn are_same_links(left: &[Link], right: &[Link]) -> bool
+    ensures { IsTrue result ↔ (left.now ≡ right.now) }
+{
+    if left.len() != right.len() {
+        return false;
+    }
+    for i in 0..left.len() {
+        if !is_same_link(&left[i], &right[i]) {
+            return false;
+        }
+    }
+    true
+}
+
+fn are_same_configs(left: &[ModuleConfig], right: &[ModuleConfig]) -> bool
+    ensures { IsTrue result ↔ (left.now ≡ right.now) }
+{
+    if left.len() != right.len() {
+        return false;
+    }
+    for i in 0..left.len() {
+        if !left[i].is(&right[i]) {
+            return false;
+        }
+    }
+    true
+}
+
 impl Topology {
     /// The topology of these links and modules.
     pub(crate) fn of(links: Vec<Link>, modules: Vec<ModuleConfig>, seats: Seats) -> Topology
@@ -62,6 +131,28 @@ impl Topology {
             modules,
             seats,
         }
+    }
+
+    /// The same topology once more; NoMemory where an allocation is refused.
+    pub fn copy(&self, alloc: Global) -> Result<Topology, NoMemory>
+        ensures { IfOk result (λ t. t ≡ self.now) }
+    {
+        let links = copy_links(alloc, self.links.as_slice())?;
+        let modules = copy_configs(alloc, self.modules.as_slice())?;
+        let seats = self.seats.copy(alloc)?;
+        Ok(Topology {
+            links,
+            modules,
+            seats,
+        })
+    }
+
+    /// Whether another topology is the same.
+    pub fn is(&self, other: &Topology) -> bool
+        ensures { IsTrue result ↔ (self.now ≡ other.now) }
+    {
+        are_same_links(self.links(), other.links())
+            && are_same_configs(self.configs(), other.configs())
     }
 
     /// The links, in the order of the file.

@@ -1,18 +1,19 @@
 -- What concrete runs are made of: three modules, and what finite maps answer.
-use Rattle.std.proofs.Common.{◌≡◌, ℕ, List, [], ◌∷◌, Some, None, refl, sym, ◌∙◌}
+use Rattle.std.proofs.Common.{◌≡◌, ℕ, List, [], ◌∷◌, Some, None, refl, sym, ap, ◌∙◌}
 use Rattle.std.proofs.lemmas.List.{nil_from_length}
-use Rattle.std.specs.Prelude.{cond, Option}
+use Rattle.std.specs.Prelude.{cond, Bool, true, false, Option}
 use Rattle.std.specs.FinMap as map
 use Rattle.std.specs.Ordering.{nat_cmp, eq_by_cmp}
-use Rattle.std.specs.Cmp.{nat_cmp_total}
-use Rattle.cip_base.proofs.Triads.{triads_total}
+use Rattle.std.specs.declared.cmp.Ordering.{Ordering}
+use Rattle.std.specs.Cmp.{IsTotalOrder, nat_cmp_total}
+use Rattle.cip_base.proofs.Triads.{triads_total, exact_triads}
 use Rattle.cip_base.specs.Triads.{triad_cmp}
 use Rattle.cip_base.specs.declared.triad.Triad.{Triad}
 use Rattle.cip_hops.specs.declared.hop.Held.{Held}
 use Rattle.cip_pending.specs.declared.entry.Entry.{Entry}
 use Rattle.cip_target.specs.declared.identity.IdentityFields.{IdentityFields}
 use Rattle.cip_module.specs.declared.config.ModuleSettings.{ModuleSettings}
-use Rattle.cip_module.specs.declared.config.ModuleKind.TheVariants.{Plain}
+use Rattle.cip_module.specs.declared.config.ModuleKind.TheVariants.{Plain, Adapter}
 use Rattle.cip_module.specs.declared.config.PortConfig.{PortConfig}
 use Rattle.cip_module.specs.declared.config.LegalAddresses.TheVariants.{Byte}
 use Rattle.cip_module.specs.declared.event.Event.{Event}
@@ -65,6 +66,33 @@ second_bridge = router 66 (identity 2 3) 49 (port 1 1 3 ∷ port 2 2 1 ∷ [])
 abbrev pub plant : Plan
 plant = record { links = []; modules = scanner ∷ first_bridge ∷ second_bridge ∷ [] }
 
+-- an adapter at 07 of a link
+abbrev pub adapter : ℕ → ℕ → ModuleSettings
+adapter link serial = record {
+  name = 69 ∷ [];
+  kind = Adapter;
+  identity = identity 3 serial;
+  clock = 0;
+  first_id = 65;
+  first_number = 1;
+  pending_room = 256;
+  hop_room = 256;
+  ports = port 2 link 7 ∷ [];
+  assemblies = record { instance = 100; size = 0 } ∷ record { instance = 101; size = 4 } ∷ record { instance = 102; size = 2 } ∷ [];
+}
+
+-- the scanner and an adapter on one link
+abbrev pub cell : Plan
+cell = record { links = []; modules = scanner ∷ adapter 0 2 ∷ [] }
+
+-- the scanner, both bridges, and an adapter behind them
+abbrev pub row : Plan
+row = record { links = []; modules = scanner ∷ first_bridge ∷ second_bridge ∷ adapter 2 4 ∷ [] }
+
+-- the name of the connections that the scanner opens
+abbrev pub triad : Triad
+triad = record { serial = 66; vendor = 257; originator = 1 }
+
 abbrev pub params : OpenParams
 params = record { serial = 66; multiplier = 0; transport = 1; ot_rpi = 10000; ot_params = 18438; to_rpi = 10000; to_params = 18436 }
 
@@ -114,3 +142,35 @@ entry_entries m k v = map.entries-insert nat_cmp_total m k v
 
 pub bytes_get : (m : map.FinMap nat_cmp (List ℕ)) (k : ℕ) (v : List ℕ) (q : ℕ) → map.get (map.insert m k v) q ≡ cond (eq_by_cmp nat_cmp q k) (Some v) (map.get m q)
 bytes_get m k v q = map.get-insert nat_cmp_total m k v q
+
+-- ---- what comes and goes
+
+neither : {X : Type 0} (b : Bool) (v : X) → cond b None (cond b (Some v) None) ≡ None
+neither true v = refl
+neither false v = refl
+
+the_later : {X : Type 0} (b : Bool) (v w : X) (x : Option X) → cond b (Some w) (cond b (Some v) x) ≡ cond b (Some w) x
+the_later true v w x = refl
+the_later false v w x = refl
+
+module _ {K X : Type 0} {R : K → K → Ordering} (o : IsTotalOrder R) (same : map.IsAntisymmetric R) where
+  -- what was put in and taken out leaves nothing
+  gone : (k : K) (v : X) → map.remove (map.insert (map.empty {X = X} {R = R}) k v) k ≡ map.empty
+  gone k v = map.same_map o same _ _ (λ q. map.get-remove o (map.insert map.empty k v) k q
+      ∙ ap (cond (eq_by_cmp R q k) None) (map.get-insert o map.empty k v q ∙ ap (cond (eq_by_cmp R q k) (Some v)) (map.get-empty R q))
+      ∙ neither (eq_by_cmp R q k) v ∙ sym (map.get-empty R q))
+
+  -- what is put in twice stands there as it was put in last
+  twice : (m : map.FinMap R X) (k : K) (v w : X) → map.insert (map.insert m k v) k w ≡ map.insert m k w
+  twice m k v w = map.same_map o same _ _ (λ q. map.get-insert o (map.insert m k v) k w q
+      ∙ ap (cond (eq_by_cmp R q k) (Some w)) (map.get-insert o m k v q)
+      ∙ the_later (eq_by_cmp R q k) v w (map.get m q) ∙ sym (map.get-insert o m k w q))
+
+pub held_gone : (k : Triad) (v : Held) → map.remove (map.insert (map.empty {X = Held} {R = triad_cmp}) k v) k ≡ map.empty
+held_gone k v = gone triads_total exact_triads k v
+
+pub held_twice : (m : map.FinMap triad_cmp Held) (k : Triad) (v w : Held) → map.insert (map.insert m k v) k w ≡ map.insert m k w
+held_twice m k v w = twice triads_total exact_triads m k v w
+
+pub entry_gone : (k : ℕ) (v : Entry) → map.remove (map.insert (map.empty {X = Entry} {R = nat_cmp}) k v) k ≡ map.empty
+entry_gone k v = gone nat_cmp_total map.nat_cmp-IsAntisymmetric k v

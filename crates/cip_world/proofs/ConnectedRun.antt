@@ -1,20 +1,14 @@
 -- A run with an open, a datum that is lost, one that comes to its end, and a tick.
 use Rattle.std.proofs.Common.{◌≡◌, ℕ, List, [], ◌∷◌, refl}
-use Rattle.cip_module.specs.declared.config.ModuleSettings.{ModuleSettings}
-use Rattle.cip_module.specs.declared.config.ModuleKind.TheVariants.{Plain, Adapter}
-use Rattle.cip_module.specs.declared.config.PortConfig.{PortConfig}
-use Rattle.cip_module.specs.declared.config.LegalAddresses.TheVariants.{Byte}
 use Rattle.cip_module.specs.declared.event.Command.TheVariants as commands
 use Rattle.cip_module.specs.declared.event.Event.TheVariants as events
 use Rattle.cip_module.specs.declared.event.Body.TheVariants as bodies
 use Rattle.cip_module.specs.declared.event.Output.TheVariants as outputs
 use Rattle.cip_module.specs.State.{initial_state}
-use Rattle.cip_base.specs.declared.triad.Triad.{Triad}
 use Rattle.cip_module.specs.declared.event.Event.{Event}
-use Rattle.cip_topology.specs.Plan.{Plan}
 use Rattle.cip_world.specs.declared.journal.Input.TheVariants.{Command, Tick, Frame}
 use Rattle.cip_world.specs.declared.journal.Entry.TheVariants.{Step, Lost}
-use Rattle.cip_world.proofs.Concrete.{identity, none_waits, none_held, held_get, held_first, held_entries, held_none, pendings_none, bytes_get, entry_get, Gives, params, frame}
+use Rattle.cip_world.proofs.Concrete.{scanner, adapter, cell, triad, none_waits, none_held, held_get, held_first, held_entries, held_none, pendings_none, bytes_get, entry_get, Gives, params, frame}
 use Rattle.cip_world.specs.Journals.{Journal}
 use Rattle.cip_world.specs.Runs.{IsRun, state_in}
 use Rattle.cip_message.specs.Counted.{counted_at, counted_path_at}
@@ -30,40 +24,6 @@ use Rattle.cip_open.specs.SuccessAt.{open_reply_at}
 use Rattle.cip_segment.specs.Reading.{segments_within, path_at, segments_of, behind, hop_of}
 use Rattle.cip_segment.specs.Scan.{bytes_at, padded_at, narrow_at, double_at, point_at, words_at, number_at, size_at, plain_port_at, port_at, other_at, logical_at, segment_at}
 use Rattle.cip_target.specs.Ends.{end_row}
-
-abbrev port : ℕ → PortConfig
-port address = record { number = 2; link = 0; legal = Byte 0 254; address = address ∷ [] }
-
-abbrev scanner : ModuleSettings
-scanner = record {
-  name = 83 ∷ [];
-  kind = Plain;
-  identity = identity 9 1;
-  clock = 0;
-  first_id = 17;
-  first_number = 1;
-  pending_room = 256;
-  hop_room = 256;
-  ports = port 1 ∷ [];
-  assemblies = [];
-}
-
-abbrev adapter : ModuleSettings
-adapter = record {
-  name = 69 ∷ [];
-  kind = Adapter;
-  identity = identity 3 2;
-  clock = 0;
-  first_id = 65;
-  first_number = 1;
-  pending_room = 256;
-  hop_room = 256;
-  ports = port 7 ∷ [];
-  assemblies = record { instance = 100; size = 0 } ∷ record { instance = 101; size = 4 } ∷ record { instance = 102; size = 2 } ∷ [];
-}
-
-abbrev cell : Plan
-cell = record { links = []; modules = scanner ∷ adapter ∷ [] }
 
 abbrev open_command : Event
 open_command = events.Command (commands.Open 1 (record { tick = 7; ticks = 250 }) (2 ∷ 7 ∷ 32 ∷ 4 ∷ 36 ∷ 100 ∷ 44 ∷ 101 ∷ 44 ∷ 102 ∷ []) params)
@@ -81,9 +41,6 @@ opens = simp (none_waits, none_held, held_first) (_, refl)
 abbrev success : List ℕ
 success = 212 ∷ 0 ∷ 0 ∷ 0 ∷ 65 ∷ 0 ∷ 0 ∷ 0 ∷ 17 ∷ 0 ∷ 0 ∷ 0 ∷ 66 ∷ 0 ∷ 1 ∷ 1 ∷ 1 ∷ 0 ∷ 0 ∷ 0 ∷ 16 ∷ 39 ∷ 0 ∷ 0 ∷ 16 ∷ 39 ∷ 0 ∷ 0 ∷ 0 ∷ 0 ∷ []
 
-abbrev triad : Triad
-triad = record { serial = 66; vendor = 257; originator = 1 }
-
 abbrev ticked : Journal
 ticked = Step (record { 0 = 1 }) (Tick 1) [] ∷ []
 
@@ -94,13 +51,13 @@ begins = Step (record { 0 = 0 }) (Command (commands.Open 1 (record { tick = 7; t
 abbrev ends_there : Journal
 ends_there = Step (record { 0 = 1 }) (Frame 2 (1 ∷ []) (frame 1)) (outputs.Send 2 (1 ∷ []) (bodies.Reply 1 success) ∷ []) ∷ begins
 
-ticks : Gives adapter (initial_state adapter) (events.Tick 1) []
+ticks : Gives (adapter 0 2) (initial_state (adapter 0 2)) (events.Tick 1) []
 unfolding behind bytes_at counted_at counted_path_at data_row double_at end_row hop_of link_refusal logical_at narrow_at number_at open_at
     open_reply_at open_row other_at padded_at path_at plain_port_at point_at port_at reply_at reply_row request_at request_row segment_at segments_of
     segments_within size_at words_at
 ticks = simp (held_none, pendings_none) (_, refl)
 
-accepts : Gives adapter (state_in adapter 1 begins) (events.Frame 2 (1 ∷ []) (bodies.Request 1 open_sent))
+accepts : Gives (adapter 0 2) (state_in (adapter 0 2) 1 begins) (events.Frame 2 (1 ∷ []) (bodies.Request 1 open_sent))
     (outputs.Send 2 (1 ∷ []) (bodies.Reply 1 success) ∷ [])
 unfolding behind bytes_at counted_at counted_path_at data_row double_at end_row hop_of link_refusal logical_at narrow_at number_at open_at
     open_reply_at open_row other_at padded_at path_at plain_port_at point_at port_at reply_at reply_row request_at request_row segment_at segments_of
@@ -147,7 +104,7 @@ unfolding behind bytes_at counted_at counted_path_at data_row double_at end_row 
     segments_within size_at words_at
 enters_again = simp (none_waits, none_held, held_first, held_get, held_entries, held_none, entry_get) (_, refl)
 
-takes : Gives adapter (state_in adapter 1 entered_again) (events.Frame 2 (1 ∷ []) (bodies.Data 65 second_datum)) (outputs.Consumed triad 101 second_datum ∷ [])
+takes : Gives (adapter 0 2) (state_in (adapter 0 2) 1 entered_again) (events.Frame 2 (1 ∷ []) (bodies.Data 65 second_datum)) (outputs.Consumed triad 101 second_datum ∷ [])
 unfolding behind bytes_at counted_at counted_path_at data_row double_at end_row hop_of link_refusal logical_at narrow_at number_at open_at
     open_reply_at open_row other_at padded_at path_at plain_port_at point_at port_at reply_at reply_row request_at request_row segment_at segments_of
     segments_within size_at words_at
@@ -161,7 +118,7 @@ run_ticked = (
   record {
     event = events.Tick 1;
     given = refl;
-    config = adapter;
+    config = adapter 0 2;
     is_module = refl;
     new = ticks.0;
     step = ticks.1;
@@ -197,7 +154,7 @@ run_ends_there = (
       here = refl;
       event_is = refl;
     };
-    config = adapter;
+    config = adapter 0 2;
     is_module = refl;
     new = accepts.0;
     step = accepts.1;
@@ -282,7 +239,7 @@ connected_run = (
       here = refl;
       event_is = refl;
     };
-    config = adapter;
+    config = adapter 0 2;
     is_module = refl;
     new = takes.0;
     step = takes.1;

@@ -58,3 +58,6 @@ pub mod Concrete
 pub mod FailedOpen
 pub mod TimedOutOpen
 pub mod LateReply
+pub mod LateClose
+pub mod ChainedRun
+pub mod OneAfterTheOther

@@ -29,7 +29,7 @@ use Rattle.cip_world.proofs.Named.{name_eq, same_self}
 -- ---- names of one entry
 
 -- the name is of entry k, at place i or later
-abbrev IsFrom : ℕ → ℕ → FrameName → Type 0
+abbrev pub IsFrom : ℕ → ℕ → FrameName → Type 0
 IsFrom k i f = (f.entry ≡ k) × (i ≤ f.output)
 
 from_later : (k i : ℕ) (fs : List FrameName) → AllByRecursion (IsFrom k (i + 1)) fs → AllByRecursion (IsFrom k i) fs
@@ -46,7 +46,7 @@ from_all t m k i (o ∷ outs) =
     or_none_all (IsFrom k i) (arrives t (flight_of m (Some o))) (record { entry = k; output = i }) (frames_of t m k (i + 1) outs) (refl, omega arith)
     (from_later k i (frames_of t m k (i + 1) outs) (from_all t m k (i + 1) outs))
 
-from_in : (t : Plan) (k : ℕ) (e : Entry) → AllByRecursion (IsFrom k 0) (frames_in t k e)
+pub from_in : (t : Plan) (k : ℕ) (e : Entry) → AllByRecursion (IsFrom k 0) (frames_in t k e)
 from_in t k (Step m input outputs) = from_all t m.0 k 0 outputs
 from_in t k (Lost frame) = tt
 
@@ -279,7 +279,7 @@ pub named_before : (t : Plan) (j : Journal) (f : FrameName) → IsRun t j → is
 named_before t [] f run h = absurd (cc)
 named_before t (e ∷ j) f run h = named_either t j e f run.1 (λ is. named_before t j f run.0 is) (names f e) refl h
 
-filter_both : (p q : FrameName → Bool) (fs : List FrameName) → filter (λ f. not (p f || q f)) fs ≡ filter (λ f. not (p f)) (filter (λ f. not (q f)) fs)
+pub filter_both : (p q : FrameName → Bool) (fs : List FrameName) → filter (λ f. not (p f || q f)) fs ≡ filter (λ f. not (p f)) (filter (λ f. not (q f)) fs)
 filter_both p q [] = refl
 filter_both p q (f ∷ fs) = both_by (p f) (q f) (filter (λ f. not (p f || q f)) fs) (filter (λ f. not (q f)) fs) refl (filter_both p q fs)
   where
@@ -290,7 +290,7 @@ filter_both p q (f ∷ fs) = both_by (p f) (q f) (filter (λ f. not (p f || q f)
     both_by true false x y is h = h ∙ ap (λ c. cond (not c) (f ∷ filter (λ f. not (p f)) y) (filter (λ f. not (p f)) y)) (sym is)
     both_by false false x y is h = ap (λ (z : List FrameName). f ∷ z) h ∙ ap (λ c. cond (not c) (f ∷ filter (λ f. not (p f)) y) (filter (λ f. not (p f)) y)) (sym is)
 
-filter_all : (p : FrameName → Bool) (fs : List FrameName) → AllByRecursion (λ f. p f ≡ false) fs → filter (λ f. not (p f)) fs ≡ fs
+pub filter_all : (p : FrameName → Bool) (fs : List FrameName) → AllByRecursion (λ f. p f ≡ false) fs → filter (λ f. not (p f)) fs ≡ fs
 filter_all p [] h = refl
 filter_all p (f ∷ fs) h = ap (λ b. cond (not b) (f ∷ filter (λ f. not (p f)) fs) (filter (λ f. not (p f)) fs)) h.0 ∙ ap (λ (z : List FrameName). f ∷ z) (filter_all p fs h.1)
 

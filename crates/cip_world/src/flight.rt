@@ -9,7 +9,7 @@ use cip_module::{Body, Output};
 
 /// A frame that a module sent by a port to an address.
 #[derive(Clone, Copy)]
-pub(crate) struct Flying<'a> {
+pub struct Flying<'a> {
     pub at: ModuleId,
     pub port: PortNumber,
     pub to: &'a Address,
@@ -18,7 +18,7 @@ pub(crate) struct Flying<'a> {
 
 /// A frame with where it comes in: at which module, by which of its ports, and from which address.
 #[derive(Clone, Copy)]
-pub(crate) struct Coming<'a> {
+pub struct Coming<'a> {
     pub at: ModuleId,
     pub port: PortNumber,
     pub from: &'a Address,
@@ -54,7 +54,7 @@ fn sent_frame(entries: &[Entry], name: FrameName) -> Option<Flying<'_>>
 }
 
 /// The frame of a name, in a journal that stands oldest entry first.
-pub(crate) fn frame_at(entries: &[Entry], name: FrameName) -> Option<Flying<'_>>
+pub fn frame_at(entries: &[Entry], name: FrameName) -> Option<Flying<'_>>
     ensures { option_map flight result ≡ frame_at (reverse entries.now) name }
 {
     sent_frame(entries, name)

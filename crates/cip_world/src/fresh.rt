@@ -82,7 +82,7 @@ fn first_stale(alloc: Global, modules: &[Box<dyn Module + Send>]) -> Result<Opti
 /// Whether modules are those of a topology, in their order, and as at the beginning. Count, then
 /// Config, then NotFresh, each where it is the first that holds; NoMemory where an allocation is
 /// refused.
-pub(crate) fn check_fresh(
+pub fn check_fresh(
     alloc: Global,
     topology: &Topology,
     modules: &[Box<dyn Module + Send>],

@@ -1,0 +1,464 @@
+-- A close that comes late, and takes the later connection of its triad.
+use Rattle.std.proofs.Common.{ℕ, List, [], ◌∷◌, refl}
+use Rattle.cip_module.specs.declared.event.Command.TheVariants as commands
+use Rattle.cip_module.specs.declared.event.Event.TheVariants as events
+use Rattle.cip_module.specs.declared.event.Body.TheVariants as bodies
+use Rattle.cip_module.specs.declared.event.Output.TheVariants as outputs
+use Rattle.cip_module.specs.declared.event.Dropped.TheVariants.{Late}
+use Rattle.cip_module.specs.State.{initial_state}
+use Rattle.cip_world.specs.declared.journal.Input.TheVariants.{Command, Tick, Frame}
+use Rattle.cip_world.specs.declared.journal.Entry.TheVariants.{Step}
+use Rattle.cip_world.specs.Journals.{Journal}
+use Rattle.cip_world.specs.Runs.{IsRun, state_in}
+use Rattle.cip_world.proofs.Concrete.{scanner, adapter, cell, triad, frame, Gives, params, none_waits, none_held, held_first, held_none, held_get, held_entries, held_gone, held_twice, pendings_none, bytes_get, entry_first, entry_get, entry_entries, entry_gone}
+use Rattle.cip_message.specs.Counted.{counted_at, counted_path_at}
+use Rattle.cip_message.specs.Failure.{failure_at}
+use Rattle.cip_message.specs.ReplyAt.{reply_at}
+use Rattle.cip_message.specs.RequestAt.{request_at}
+use Rattle.cip_close.specs.CloseAt.{close_at}
+use Rattle.cip_close.specs.SuccessAt.{close_reply_at}
+use Rattle.cip_module.specs.CloseRows.{close_row}
+use Rattle.cip_module.specs.DataRows.{data_row}
+use Rattle.cip_module.specs.Links.{link_refusal}
+use Rattle.cip_module.specs.OpenRows.{open_row}
+use Rattle.cip_module.specs.ReplyRows.{reply_row}
+use Rattle.cip_module.specs.RequestRows.{request_row}
+use Rattle.cip_open.specs.OpenAt.{open_at}
+use Rattle.cip_open.specs.SuccessAt.{open_reply_at}
+use Rattle.cip_segment.specs.Reading.{segments_within, path_at, segments_of, behind, hop_of}
+use Rattle.cip_segment.specs.Scan.{bytes_at, padded_at, narrow_at, double_at, point_at, words_at, number_at, size_at, plain_port_at, port_at, other_at, logical_at, segment_at}
+use Rattle.cip_target.specs.Ends.{end_row}
+
+abbrev first_request : List ℕ
+first_request = 84 ∷ 2 ∷ 32 ∷ 6 ∷ 36 ∷ 1 ∷ 7 ∷ 249 ∷ 0 ∷ 0 ∷ 0 ∷ 0 ∷ 17 ∷ 0 ∷ 0 ∷ 0 ∷ 66 ∷ 0 ∷ 1 ∷ 1 ∷ 1 ∷ 0 ∷ 0 ∷ 0 ∷ 0 ∷ 0 ∷ 0 ∷ 0 ∷ 16 ∷ 39 ∷ 0 ∷ 0 ∷ 6
+    ∷ 72 ∷ 16 ∷ 39 ∷ 0 ∷ 0 ∷ 4 ∷ 72 ∷ 1 ∷ 4 ∷ 32 ∷ 4 ∷ 36 ∷ 100 ∷ 44 ∷ 101 ∷ 44 ∷ 102 ∷ []
+
+abbrev first_success : List ℕ
+first_success = 212 ∷ 0 ∷ 0 ∷ 0 ∷ 65 ∷ 0 ∷ 0 ∷ 0 ∷ 17 ∷ 0 ∷ 0 ∷ 0 ∷ 66 ∷ 0 ∷ 1 ∷ 1 ∷ 1 ∷ 0 ∷ 0 ∷ 0 ∷ 16 ∷ 39 ∷ 0 ∷ 0 ∷ 16 ∷ 39 ∷ 0 ∷ 0 ∷ 0 ∷ 0 ∷ []
+
+abbrev close_request : List ℕ
+close_request = 78 ∷ 2 ∷ 32 ∷ 6 ∷ 36 ∷ 1 ∷ 7 ∷ 249 ∷ 66 ∷ 0 ∷ 1 ∷ 1 ∷ 1 ∷ 0 ∷ 0 ∷ 0 ∷ 4 ∷ 0 ∷ 32 ∷ 4 ∷ 36 ∷ 100 ∷ 44 ∷ 101 ∷ 44 ∷ 102 ∷ []
+
+abbrev given_up_reply : List ℕ
+given_up_reply = 206 ∷ 0 ∷ 1 ∷ 1 ∷ 4 ∷ 2 ∷ 66 ∷ 0 ∷ 1 ∷ 1 ∷ 1 ∷ 0 ∷ 0 ∷ 0 ∷ 5 ∷ 0 ∷ []
+
+abbrev second_request : List ℕ
+second_request = 84 ∷ 2 ∷ 32 ∷ 6 ∷ 36 ∷ 1 ∷ 7 ∷ 249 ∷ 0 ∷ 0 ∷ 0 ∷ 0 ∷ 18 ∷ 0 ∷ 0 ∷ 0 ∷ 66 ∷ 0 ∷ 1 ∷ 1 ∷ 1 ∷ 0 ∷ 0 ∷ 0 ∷ 0 ∷ 0 ∷ 0 ∷ 0 ∷ 16 ∷ 39 ∷ 0 ∷ 0 ∷ 6
+    ∷ 72 ∷ 16 ∷ 39 ∷ 0 ∷ 0 ∷ 4 ∷ 72 ∷ 1 ∷ 4 ∷ 32 ∷ 4 ∷ 36 ∷ 100 ∷ 44 ∷ 101 ∷ 44 ∷ 102 ∷ []
+
+abbrev second_success : List ℕ
+second_success = 212 ∷ 0 ∷ 0 ∷ 0 ∷ 66 ∷ 0 ∷ 0 ∷ 0 ∷ 18 ∷ 0 ∷ 0 ∷ 0 ∷ 66 ∷ 0 ∷ 1 ∷ 1 ∷ 1 ∷ 0 ∷ 0 ∷ 0 ∷ 16 ∷ 39 ∷ 0 ∷ 0 ∷ 16 ∷ 39 ∷ 0 ∷ 0 ∷ 0 ∷ 0 ∷ []
+
+abbrev close_success : List ℕ
+close_success = 206 ∷ 0 ∷ 0 ∷ 0 ∷ 66 ∷ 0 ∷ 1 ∷ 1 ∷ 1 ∷ 0 ∷ 0 ∷ 0 ∷ 0 ∷ 0 ∷ []
+
+abbrev datum : List ℕ
+datum = 1 ∷ 0 ∷ 170 ∷ 187 ∷ 204 ∷ 221 ∷ []
+
+abbrev path : List ℕ
+path = 2 ∷ 7 ∷ 32 ∷ 4 ∷ 36 ∷ 100 ∷ 44 ∷ 101 ∷ 44 ∷ 102 ∷ []
+
+abbrev opens : Journal
+opens = Step (record { 0 = 0 }) (Command (commands.Open 1 (record { tick = 7; ticks = 250 }) path params))
+    (outputs.Send 2 (7 ∷ []) (bodies.Request 1 first_request) ∷ []) ∷ []
+
+abbrev accepted : Journal
+accepted = Step (record { 0 = 1 }) (Frame 2 (1 ∷ []) (frame 0)) (outputs.Send 2 (1 ∷ []) (bodies.Reply 1 first_success) ∷ []) ∷ opens
+
+abbrev stands : Journal
+stands = Step (record { 0 = 0 }) (Frame 2 (7 ∷ []) (frame 1)) (outputs.Done 1 first_success ∷ []) ∷ accepted
+
+abbrev asked_to_close : Journal
+asked_to_close = Step (record { 0 = 0 }) (Command (commands.Close 2 1 (record { tick = 7; ticks = 250 })))
+    (outputs.Send 2 (7 ∷ []) (bodies.Request 2 close_request) ∷ []) ∷ stands
+
+abbrev lapsed : Journal
+lapsed = Step (record { 0 = 1 }) (Tick 41) (outputs.Expired triad ∷ []) ∷ asked_to_close
+
+abbrev given_up : Journal
+given_up = Step (record { 0 = 0 }) (Tick 32001) (outputs.Done 2 given_up_reply ∷ []) ∷ lapsed
+
+abbrev opens_again : Journal
+opens_again = Step (record { 0 = 0 }) (Command (commands.Open 3 (record { tick = 7; ticks = 250 }) path params))
+    (outputs.Send 2 (7 ∷ []) (bodies.Request 3 second_request) ∷ []) ∷ given_up
+
+abbrev accepted_again : Journal
+accepted_again = Step (record { 0 = 1 }) (Frame 2 (1 ∷ []) (frame 6)) (outputs.Send 2 (1 ∷ []) (bodies.Reply 3 second_success) ∷ []) ∷ opens_again
+
+abbrev stands_again : Journal
+stands_again = Step (record { 0 = 0 }) (Frame 2 (7 ∷ []) (frame 7)) (outputs.Done 3 second_success ∷ []) ∷ accepted_again
+
+abbrev closed_late : Journal
+closed_late = Step (record { 0 = 1 }) (Frame 2 (1 ∷ []) (frame 3)) (outputs.Send 2 (1 ∷ []) (bodies.Reply 2 close_success) ∷ []) ∷ stands_again
+
+abbrev entered : Journal
+entered = Step (record { 0 = 0 }) (Command (commands.Enter 3 datum)) (outputs.Send 2 (7 ∷ []) (bodies.Data 66 datum) ∷ []) ∷ closed_late
+
+abbrev answered : Journal
+answered = Step (record { 0 = 0 }) (Frame 2 (7 ∷ []) (frame 9)) (outputs.Dropped Late ∷ []) ∷ entered
+
+-- ---- what the modules put out
+
+by_opens : Gives scanner (initial_state scanner) (events.Command (commands.Open 1 (record { tick = 7; ticks = 250 }) path params))
+    (outputs.Send 2 (7 ∷ []) (bodies.Request 1 first_request) ∷ [])
+unfolding behind bytes_at close_at close_reply_at close_row counted_at counted_path_at data_row double_at end_row failure_at hop_of link_refusal logical_at
+    narrow_at number_at open_at open_reply_at open_row other_at padded_at path_at plain_port_at point_at port_at reply_at reply_row request_at request_row
+    segment_at segments_of segments_within size_at words_at
+by_opens = simp (none_waits, none_held, held_first) (_, refl)
+
+by_accepted : Gives (adapter 0 2) (state_in (adapter 0 2) 1 opens) (events.Frame 2 (1 ∷ []) (bodies.Request 1 first_request))
+    (outputs.Send 2 (1 ∷ []) (bodies.Reply 1 first_success) ∷ [])
+unfolding behind bytes_at close_at close_reply_at close_row counted_at counted_path_at data_row double_at end_row failure_at hop_of link_refusal logical_at
+    narrow_at number_at open_at open_reply_at open_row other_at padded_at path_at plain_port_at point_at port_at reply_at reply_row request_at request_row
+    segment_at segments_of segments_within size_at words_at
+by_accepted = simp (none_held, held_first, held_none, held_get, held_twice, bytes_get) (_, refl)
+
+by_stands : Gives scanner (state_in scanner 0 accepted) (events.Frame 2 (7 ∷ []) (bodies.Reply 1 first_success)) (outputs.Done 1 first_success ∷ [])
+unfolding behind bytes_at close_at close_reply_at close_row counted_at counted_path_at data_row double_at end_row failure_at hop_of link_refusal logical_at
+    narrow_at number_at open_at open_reply_at open_row other_at padded_at path_at plain_port_at point_at port_at reply_at reply_row request_at request_row
+    segment_at segments_of segments_within size_at words_at
+by_stands = simp (none_waits, none_held, held_first, held_get, held_twice, entry_get, entry_gone) (_, refl)
+
+by_asked_to_close : Gives scanner (state_in scanner 0 stands) (events.Command (commands.Close 2 1 (record { tick = 7; ticks = 250 })))
+    (outputs.Send 2 (7 ∷ []) (bodies.Request 2 close_request) ∷ [])
+unfolding behind bytes_at close_at close_reply_at close_row counted_at counted_path_at data_row double_at end_row failure_at hop_of link_refusal logical_at
+    narrow_at number_at open_at open_reply_at open_row other_at padded_at path_at plain_port_at point_at port_at reply_at reply_row request_at request_row
+    segment_at segments_of segments_within size_at words_at
+by_asked_to_close = simp (none_waits, none_held, held_first, held_none, held_get, held_entries, held_gone, held_twice, entry_get, entry_gone) (_, refl)
+
+by_lapsed : Gives (adapter 0 2) (state_in (adapter 0 2) 1 asked_to_close) (events.Tick 41) (outputs.Expired triad ∷ [])
+unfolding behind bytes_at close_at close_reply_at close_row counted_at counted_path_at data_row double_at end_row failure_at hop_of link_refusal logical_at
+    narrow_at number_at open_at open_reply_at open_row other_at padded_at path_at plain_port_at point_at port_at reply_at reply_row request_at request_row
+    segment_at segments_of segments_within size_at words_at
+by_lapsed = simp (none_held, held_first, held_none, held_get, held_entries, held_gone, held_twice, pendings_none, bytes_get) (_, refl)
+
+by_given_up : Gives scanner (state_in scanner 0 lapsed) (events.Tick 32001) (outputs.Done 2 given_up_reply ∷ [])
+unfolding behind bytes_at close_at close_reply_at close_row counted_at counted_path_at data_row double_at end_row failure_at hop_of link_refusal logical_at
+    narrow_at number_at open_at open_reply_at open_row other_at padded_at path_at plain_port_at point_at port_at reply_at reply_row request_at request_row
+    segment_at segments_of segments_within size_at words_at
+by_given_up = simp (
+  none_waits,
+  none_held,
+  held_first,
+  held_none,
+  held_get,
+  held_entries,
+  held_gone,
+  held_twice,
+  pendings_none,
+  entry_get,
+  entry_entries,
+  entry_gone,
+) (_, refl)
+
+by_opens_again : Gives scanner (state_in scanner 0 given_up) (events.Command (commands.Open 3 (record { tick = 7; ticks = 250 }) path params))
+    (outputs.Send 2 (7 ∷ []) (bodies.Request 3 second_request) ∷ [])
+unfolding behind bytes_at close_at close_reply_at close_row counted_at counted_path_at data_row double_at end_row failure_at hop_of link_refusal logical_at
+    narrow_at number_at open_at open_reply_at open_row other_at padded_at path_at plain_port_at point_at port_at reply_at reply_row request_at request_row
+    segment_at segments_of segments_within size_at words_at
+by_opens_again = simp (
+  none_waits,
+  none_held,
+  held_first,
+  held_none,
+  held_get,
+  held_entries,
+  held_gone,
+  held_twice,
+  pendings_none,
+  entry_get,
+  entry_entries,
+  entry_gone,
+) (_, refl)
+
+by_accepted_again : Gives (adapter 0 2) (state_in (adapter 0 2) 1 opens_again) (events.Frame 2 (1 ∷ []) (bodies.Request 3 second_request))
+    (outputs.Send 2 (1 ∷ []) (bodies.Reply 3 second_success) ∷ [])
+unfolding behind bytes_at close_at close_reply_at close_row counted_at counted_path_at data_row double_at end_row failure_at hop_of link_refusal logical_at
+    narrow_at number_at open_at open_reply_at open_row other_at padded_at path_at plain_port_at point_at port_at reply_at reply_row request_at request_row
+    segment_at segments_of segments_within size_at words_at
+by_accepted_again = simp (none_held, held_first, held_none, held_get, held_entries, held_gone, held_twice, pendings_none, bytes_get) (_, refl)
+
+by_stands_again : Gives scanner (state_in scanner 0 accepted_again) (events.Frame 2 (7 ∷ []) (bodies.Reply 3 second_success))
+    (outputs.Done 3 second_success ∷ [])
+unfolding behind bytes_at close_at close_reply_at close_row counted_at counted_path_at data_row double_at end_row failure_at hop_of link_refusal logical_at
+    narrow_at number_at open_at open_reply_at open_row other_at padded_at path_at plain_port_at point_at port_at reply_at reply_row request_at request_row
+    segment_at segments_of segments_within size_at words_at
+by_stands_again = simp (
+  none_waits,
+  none_held,
+  held_first,
+  held_none,
+  held_get,
+  held_entries,
+  held_gone,
+  held_twice,
+  pendings_none,
+  entry_get,
+  entry_entries,
+  entry_gone,
+) (_, refl)
+
+by_closed_late : Gives (adapter 0 2) (state_in (adapter 0 2) 1 stands_again) (events.Frame 2 (1 ∷ []) (bodies.Request 2 close_request))
+    (outputs.Send 2 (1 ∷ []) (bodies.Reply 2 close_success) ∷ [])
+unfolding behind bytes_at close_at close_reply_at close_row counted_at counted_path_at data_row double_at end_row failure_at hop_of link_refusal logical_at
+    narrow_at number_at open_at open_reply_at open_row other_at padded_at path_at plain_port_at point_at port_at reply_at reply_row request_at request_row
+    segment_at segments_of segments_within size_at words_at
+by_closed_late = simp (none_held, held_first, held_none, held_get, held_entries, held_gone, held_twice, pendings_none, bytes_get) (_, refl)
+
+by_entered : Gives scanner (state_in scanner 0 closed_late) (events.Command (commands.Enter 3 datum)) (outputs.Send 2 (7 ∷ []) (bodies.Data 66 datum) ∷ [])
+unfolding behind bytes_at close_at close_reply_at close_row counted_at counted_path_at data_row double_at end_row failure_at hop_of link_refusal logical_at
+    narrow_at number_at open_at open_reply_at open_row other_at padded_at path_at plain_port_at point_at port_at reply_at reply_row request_at request_row
+    segment_at segments_of segments_within size_at words_at
+by_entered = simp (
+  none_waits,
+  none_held,
+  held_first,
+  held_none,
+  held_get,
+  held_entries,
+  held_gone,
+  held_twice,
+  pendings_none,
+  entry_get,
+  entry_entries,
+  entry_gone,
+) (_, refl)
+
+by_answered : Gives scanner (state_in scanner 0 entered) (events.Frame 2 (7 ∷ []) (bodies.Reply 2 close_success)) (outputs.Dropped Late ∷ [])
+unfolding behind bytes_at close_at close_reply_at close_row counted_at counted_path_at data_row double_at end_row failure_at hop_of link_refusal logical_at
+    narrow_at number_at open_at open_reply_at open_row other_at padded_at path_at plain_port_at point_at port_at reply_at reply_row request_at request_row
+    segment_at segments_of segments_within size_at words_at
+by_answered = simp (
+  none_waits,
+  none_held,
+  held_first,
+  held_none,
+  held_get,
+  held_entries,
+  held_gone,
+  held_twice,
+  pendings_none,
+  entry_first,
+  entry_get,
+  entry_entries,
+  entry_gone,
+) (_, refl)
+
+-- ---- entry by entry
+
+run_opens : IsRun cell opens
+run_opens = (
+  tt,
+  record {
+    event = events.Command (commands.Open 1 (record { tick = 7; ticks = 250 }) path params);
+    given = refl;
+    config = scanner;
+    is_module = refl;
+    new = by_opens.0;
+    step = by_opens.1;
+  },
+)
+
+run_accepted : IsRun cell accepted
+run_accepted = (
+  run_opens,
+  record {
+    event = events.Frame 2 (1 ∷ []) (bodies.Request 1 first_request);
+    given = record {
+      waits = record {
+        flight = record { way = record { at = 0; port = 2; address = 7 ∷ [] }; body = bodies.Request 1 first_request };
+        there = record { at = 1; port = 2; address = 1 ∷ [] };
+        sent = refl;
+        leads = refl;
+        fresh = refl;
+      };
+      here = refl;
+      event_is = refl;
+    };
+    config = adapter 0 2;
+    is_module = refl;
+    new = by_accepted.0;
+    step = by_accepted.1;
+  },
+)
+
+run_stands : IsRun cell stands
+run_stands = (
+  run_accepted,
+  record {
+    event = events.Frame 2 (7 ∷ []) (bodies.Reply 1 first_success);
+    given = record {
+      waits = record {
+        flight = record { way = record { at = 1; port = 2; address = 1 ∷ [] }; body = bodies.Reply 1 first_success };
+        there = record { at = 0; port = 2; address = 7 ∷ [] };
+        sent = refl;
+        leads = refl;
+        fresh = refl;
+      };
+      here = refl;
+      event_is = refl;
+    };
+    config = scanner;
+    is_module = refl;
+    new = by_stands.0;
+    step = by_stands.1;
+  },
+)
+
+run_asked_to_close : IsRun cell asked_to_close
+run_asked_to_close = (
+  run_stands,
+  record {
+    event = events.Command (commands.Close 2 1 (record { tick = 7; ticks = 250 }));
+    given = refl;
+    config = scanner;
+    is_module = refl;
+    new = by_asked_to_close.0;
+    step = by_asked_to_close.1;
+  },
+)
+
+run_lapsed : IsRun cell lapsed
+run_lapsed = (
+  run_asked_to_close,
+  record {
+    event = events.Tick 41;
+    given = refl;
+    config = adapter 0 2;
+    is_module = refl;
+    new = by_lapsed.0;
+    step = by_lapsed.1;
+  },
+)
+
+run_given_up : IsRun cell given_up
+run_given_up = (
+  run_lapsed,
+  record {
+    event = events.Tick 32001;
+    given = refl;
+    config = scanner;
+    is_module = refl;
+    new = by_given_up.0;
+    step = by_given_up.1;
+  },
+)
+
+run_opens_again : IsRun cell opens_again
+run_opens_again = (
+  run_given_up,
+  record {
+    event = events.Command (commands.Open 3 (record { tick = 7; ticks = 250 }) path params);
+    given = refl;
+    config = scanner;
+    is_module = refl;
+    new = by_opens_again.0;
+    step = by_opens_again.1;
+  },
+)
+
+run_accepted_again : IsRun cell accepted_again
+run_accepted_again = (
+  run_opens_again,
+  record {
+    event = events.Frame 2 (1 ∷ []) (bodies.Request 3 second_request);
+    given = record {
+      waits = record {
+        flight = record { way = record { at = 0; port = 2; address = 7 ∷ [] }; body = bodies.Request 3 second_request };
+        there = record { at = 1; port = 2; address = 1 ∷ [] };
+        sent = refl;
+        leads = refl;
+        fresh = refl;
+      };
+      here = refl;
+      event_is = refl;
+    };
+    config = adapter 0 2;
+    is_module = refl;
+    new = by_accepted_again.0;
+    step = by_accepted_again.1;
+  },
+)
+
+run_stands_again : IsRun cell stands_again
+run_stands_again = (
+  run_accepted_again,
+  record {
+    event = events.Frame 2 (7 ∷ []) (bodies.Reply 3 second_success);
+    given = record {
+      waits = record {
+        flight = record { way = record { at = 1; port = 2; address = 1 ∷ [] }; body = bodies.Reply 3 second_success };
+        there = record { at = 0; port = 2; address = 7 ∷ [] };
+        sent = refl;
+        leads = refl;
+        fresh = refl;
+      };
+      here = refl;
+      event_is = refl;
+    };
+    config = scanner;
+    is_module = refl;
+    new = by_stands_again.0;
+    step = by_stands_again.1;
+  },
+)
+
+run_closed_late : IsRun cell closed_late
+run_closed_late = (
+  run_stands_again,
+  record {
+    event = events.Frame 2 (1 ∷ []) (bodies.Request 2 close_request);
+    given = record {
+      waits = record {
+        flight = record { way = record { at = 0; port = 2; address = 7 ∷ [] }; body = bodies.Request 2 close_request };
+        there = record { at = 1; port = 2; address = 1 ∷ [] };
+        sent = refl;
+        leads = refl;
+        fresh = refl;
+      };
+      here = refl;
+      event_is = refl;
+    };
+    config = adapter 0 2;
+    is_module = refl;
+    new = by_closed_late.0;
+    step = by_closed_late.1;
+  },
+)
+
+run_entered : IsRun cell entered
+run_entered = (
+  run_closed_late,
+  record {
+    event = events.Command (commands.Enter 3 datum);
+    given = refl;
+    config = scanner;
+    is_module = refl;
+    new = by_entered.0;
+    step = by_entered.1;
+  },
+)
+
+-- the whole run
+pub late_close : IsRun cell answered
+late_close = (
+  run_entered,
+  record {
+    event = events.Frame 2 (7 ∷ []) (bodies.Reply 2 close_success);
+    given = record {
+      waits = record {
+        flight = record { way = record { at = 1; port = 2; address = 1 ∷ [] }; body = bodies.Reply 2 close_success };
+        there = record { at = 0; port = 2; address = 7 ∷ [] };
+        sent = refl;
+        leads = refl;
+        fresh = refl;
+      };
+      here = refl;
+      event_is = refl;
+    };
+    config = scanner;
+    is_module = refl;
+    new = by_answered.0;
+    step = by_answered.1;
+  },
+)

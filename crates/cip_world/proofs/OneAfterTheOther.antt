@@ -1,0 +1,493 @@
+-- Two connections of one triad, one after the other: the datum of the first, which comes late, is no datum of the second.
+use Rattle.std.proofs.Common.{◌≡◌, ℕ, List, [], ◌∷◌, Some, None, refl, sym, subst}
+use Rattle.std.specs.FinMap as map
+use Rattle.cip_hops.specs.declared.hop.Held.TheVariants.{Open}
+use Rattle.cip_hops.specs.declared.opening.HopUp.TheVariants.{Link as UpLink}
+use Rattle.cip_hops.specs.declared.opening.HopDown.TheVariants.{End}
+use Rattle.cip_target.specs.Assemblies.{AssemblyMap}
+use Rattle.cip_module.specs.declared.event.Command.TheVariants as commands
+use Rattle.cip_module.specs.declared.event.Event.TheVariants as events
+use Rattle.cip_module.specs.declared.event.Body.TheVariants as bodies
+use Rattle.cip_module.specs.declared.event.Output.TheVariants as outputs
+use Rattle.cip_module.specs.declared.event.Dropped.TheVariants.{UnknownId}
+use Rattle.cip_module.specs.State.{State, initial_state}
+use Rattle.cip_world.specs.declared.journal.Input.TheVariants.{Command, Frame}
+use Rattle.cip_world.specs.declared.journal.Entry.TheVariants.{Step}
+use Rattle.cip_world.specs.Journals.{Journal}
+use Rattle.cip_world.specs.Runs.{IsRun, state_in}
+use Rattle.cip_world.proofs.Concrete.{scanner, adapter, cell, triad, frame, Gives, params, none_waits, none_held, held_first, held_none, held_get, held_entries, held_gone, held_twice, bytes_get, entry_get, entry_gone}
+use Rattle.cip_message.specs.Counted.{counted_at, counted_path_at}
+use Rattle.cip_message.specs.Failure.{failure_at}
+use Rattle.cip_message.specs.ReplyAt.{reply_at}
+use Rattle.cip_message.specs.RequestAt.{request_at}
+use Rattle.cip_close.specs.CloseAt.{close_at}
+use Rattle.cip_close.specs.SuccessAt.{close_reply_at}
+use Rattle.cip_module.specs.CloseRows.{close_row}
+use Rattle.cip_module.specs.DataRows.{data_row}
+use Rattle.cip_module.specs.Links.{link_refusal}
+use Rattle.cip_module.specs.OpenRows.{open_row}
+use Rattle.cip_module.specs.ReplyRows.{reply_row}
+use Rattle.cip_module.specs.RequestRows.{request_row}
+use Rattle.cip_open.specs.OpenAt.{open_at}
+use Rattle.cip_open.specs.SuccessAt.{open_reply_at}
+use Rattle.cip_segment.specs.Reading.{segments_within, path_at, segments_of, behind, hop_of}
+use Rattle.cip_segment.specs.Scan.{bytes_at, padded_at, narrow_at, double_at, point_at, words_at, number_at, size_at, plain_port_at, port_at, other_at, logical_at, segment_at}
+use Rattle.cip_target.specs.Ends.{end_row}
+
+abbrev first_request : List ℕ
+first_request = 84 ∷ 2 ∷ 32 ∷ 6 ∷ 36 ∷ 1 ∷ 7 ∷ 249 ∷ 0 ∷ 0 ∷ 0 ∷ 0 ∷ 17 ∷ 0 ∷ 0 ∷ 0 ∷ 66 ∷ 0 ∷ 1 ∷ 1 ∷ 1 ∷ 0 ∷ 0 ∷ 0 ∷ 0 ∷ 0 ∷ 0 ∷ 0 ∷ 16 ∷ 39 ∷ 0 ∷ 0 ∷ 6
+    ∷ 72 ∷ 16 ∷ 39 ∷ 0 ∷ 0 ∷ 4 ∷ 72 ∷ 1 ∷ 4 ∷ 32 ∷ 4 ∷ 36 ∷ 100 ∷ 44 ∷ 101 ∷ 44 ∷ 102 ∷ []
+
+abbrev first_success : List ℕ
+first_success = 212 ∷ 0 ∷ 0 ∷ 0 ∷ 65 ∷ 0 ∷ 0 ∷ 0 ∷ 17 ∷ 0 ∷ 0 ∷ 0 ∷ 66 ∷ 0 ∷ 1 ∷ 1 ∷ 1 ∷ 0 ∷ 0 ∷ 0 ∷ 16 ∷ 39 ∷ 0 ∷ 0 ∷ 16 ∷ 39 ∷ 0 ∷ 0 ∷ 0 ∷ 0 ∷ []
+
+abbrev first_datum : List ℕ
+first_datum = 1 ∷ 0 ∷ 170 ∷ 187 ∷ 204 ∷ 221 ∷ []
+
+abbrev close_request : List ℕ
+close_request = 78 ∷ 2 ∷ 32 ∷ 6 ∷ 36 ∷ 1 ∷ 7 ∷ 249 ∷ 66 ∷ 0 ∷ 1 ∷ 1 ∷ 1 ∷ 0 ∷ 0 ∷ 0 ∷ 4 ∷ 0 ∷ 32 ∷ 4 ∷ 36 ∷ 100 ∷ 44 ∷ 101 ∷ 44 ∷ 102 ∷ []
+
+abbrev close_success : List ℕ
+close_success = 206 ∷ 0 ∷ 0 ∷ 0 ∷ 66 ∷ 0 ∷ 1 ∷ 1 ∷ 1 ∷ 0 ∷ 0 ∷ 0 ∷ 0 ∷ 0 ∷ []
+
+abbrev second_request : List ℕ
+second_request = 84 ∷ 2 ∷ 32 ∷ 6 ∷ 36 ∷ 1 ∷ 7 ∷ 249 ∷ 0 ∷ 0 ∷ 0 ∷ 0 ∷ 18 ∷ 0 ∷ 0 ∷ 0 ∷ 66 ∷ 0 ∷ 1 ∷ 1 ∷ 1 ∷ 0 ∷ 0 ∷ 0 ∷ 0 ∷ 0 ∷ 0 ∷ 0 ∷ 16 ∷ 39 ∷ 0 ∷ 0 ∷ 6
+    ∷ 72 ∷ 16 ∷ 39 ∷ 0 ∷ 0 ∷ 4 ∷ 72 ∷ 1 ∷ 4 ∷ 32 ∷ 4 ∷ 36 ∷ 100 ∷ 44 ∷ 101 ∷ 44 ∷ 102 ∷ []
+
+abbrev second_success : List ℕ
+second_success = 212 ∷ 0 ∷ 0 ∷ 0 ∷ 66 ∷ 0 ∷ 0 ∷ 0 ∷ 18 ∷ 0 ∷ 0 ∷ 0 ∷ 66 ∷ 0 ∷ 1 ∷ 1 ∷ 1 ∷ 0 ∷ 0 ∷ 0 ∷ 16 ∷ 39 ∷ 0 ∷ 0 ∷ 16 ∷ 39 ∷ 0 ∷ 0 ∷ 0 ∷ 0 ∷ []
+
+abbrev second_datum : List ℕ
+second_datum = 1 ∷ 0 ∷ 17 ∷ 34 ∷ 51 ∷ 68 ∷ []
+
+abbrev path : List ℕ
+path = 2 ∷ 7 ∷ 32 ∷ 4 ∷ 36 ∷ 100 ∷ 44 ∷ 101 ∷ 44 ∷ 102 ∷ []
+
+abbrev opens : Journal
+opens = Step (record { 0 = 0 }) (Command (commands.Open 1 (record { tick = 7; ticks = 250 }) path params))
+    (outputs.Send 2 (7 ∷ []) (bodies.Request 1 first_request) ∷ []) ∷ []
+
+abbrev accepted : Journal
+accepted = Step (record { 0 = 1 }) (Frame 2 (1 ∷ []) (frame 0)) (outputs.Send 2 (1 ∷ []) (bodies.Reply 1 first_success) ∷ []) ∷ opens
+
+abbrev stands : Journal
+stands = Step (record { 0 = 0 }) (Frame 2 (7 ∷ []) (frame 1)) (outputs.Done 1 first_success ∷ []) ∷ accepted
+
+abbrev entered : Journal
+entered = Step (record { 0 = 0 }) (Command (commands.Enter 1 first_datum)) (outputs.Send 2 (7 ∷ []) (bodies.Data 65 first_datum) ∷ []) ∷ stands
+
+abbrev asked_to_close : Journal
+asked_to_close = Step (record { 0 = 0 }) (Command (commands.Close 2 1 (record { tick = 7; ticks = 250 })))
+    (outputs.Send 2 (7 ∷ []) (bodies.Request 2 close_request) ∷ []) ∷ entered
+
+abbrev closed : Journal
+closed = Step (record { 0 = 1 }) (Frame 2 (1 ∷ []) (frame 4)) (outputs.Send 2 (1 ∷ []) (bodies.Reply 2 close_success) ∷ []) ∷ asked_to_close
+
+abbrev closed_here : Journal
+closed_here = Step (record { 0 = 0 }) (Frame 2 (7 ∷ []) (frame 5)) (outputs.Done 2 close_success ∷ []) ∷ closed
+
+abbrev opens_again : Journal
+opens_again = Step (record { 0 = 0 }) (Command (commands.Open 3 (record { tick = 7; ticks = 250 }) path params))
+    (outputs.Send 2 (7 ∷ []) (bodies.Request 3 second_request) ∷ []) ∷ closed_here
+
+abbrev accepted_again : Journal
+accepted_again = Step (record { 0 = 1 }) (Frame 2 (1 ∷ []) (frame 7)) (outputs.Send 2 (1 ∷ []) (bodies.Reply 3 second_success) ∷ []) ∷ opens_again
+
+abbrev stands_again : Journal
+stands_again = Step (record { 0 = 0 }) (Frame 2 (7 ∷ []) (frame 8)) (outputs.Done 3 second_success ∷ []) ∷ accepted_again
+
+abbrev dropped : Journal
+dropped = Step (record { 0 = 1 }) (Frame 2 (1 ∷ []) (frame 3)) (outputs.Dropped UnknownId ∷ []) ∷ stands_again
+
+abbrev entered_again : Journal
+entered_again = Step (record { 0 = 0 }) (Command (commands.Enter 3 second_datum)) (outputs.Send 2 (7 ∷ []) (bodies.Data 66 second_datum) ∷ []) ∷ dropped
+
+abbrev taken : Journal
+taken = Step (record { 0 = 1 }) (Frame 2 (1 ∷ []) (frame 11)) (outputs.Consumed triad 101 second_datum ∷ []) ∷ entered_again
+
+-- ---- what the modules put out
+
+by_opens : Gives scanner (initial_state scanner) (events.Command (commands.Open 1 (record { tick = 7; ticks = 250 }) path params))
+    (outputs.Send 2 (7 ∷ []) (bodies.Request 1 first_request) ∷ [])
+unfolding behind bytes_at close_at close_reply_at close_row counted_at counted_path_at data_row double_at end_row failure_at hop_of link_refusal logical_at
+    narrow_at number_at open_at open_reply_at open_row other_at padded_at path_at plain_port_at point_at port_at reply_at reply_row request_at request_row
+    segment_at segments_of segments_within size_at words_at
+by_opens = simp (none_waits, none_held, held_first) (_, refl)
+
+by_accepted : Gives (adapter 0 2) (state_in (adapter 0 2) 1 opens) (events.Frame 2 (1 ∷ []) (bodies.Request 1 first_request))
+    (outputs.Send 2 (1 ∷ []) (bodies.Reply 1 first_success) ∷ [])
+unfolding behind bytes_at close_at close_reply_at close_row counted_at counted_path_at data_row double_at end_row failure_at hop_of link_refusal logical_at
+    narrow_at number_at open_at open_reply_at open_row other_at padded_at path_at plain_port_at point_at port_at reply_at reply_row request_at request_row
+    segment_at segments_of segments_within size_at words_at
+by_accepted = simp (none_held, held_first, held_none, held_get, held_twice, bytes_get) (_, refl)
+
+by_stands : Gives scanner (state_in scanner 0 accepted) (events.Frame 2 (7 ∷ []) (bodies.Reply 1 first_success)) (outputs.Done 1 first_success ∷ [])
+unfolding behind bytes_at close_at close_reply_at close_row counted_at counted_path_at data_row double_at end_row failure_at hop_of link_refusal logical_at
+    narrow_at number_at open_at open_reply_at open_row other_at padded_at path_at plain_port_at point_at port_at reply_at reply_row request_at request_row
+    segment_at segments_of segments_within size_at words_at
+by_stands = simp (none_waits, none_held, held_first, held_get, held_twice, entry_get, entry_gone) (_, refl)
+
+by_entered : Gives scanner (state_in scanner 0 stands) (events.Command (commands.Enter 1 first_datum))
+    (outputs.Send 2 (7 ∷ []) (bodies.Data 65 first_datum) ∷ [])
+unfolding behind bytes_at close_at close_reply_at close_row counted_at counted_path_at data_row double_at end_row failure_at hop_of link_refusal logical_at
+    narrow_at number_at open_at open_reply_at open_row other_at padded_at path_at plain_port_at point_at port_at reply_at reply_row request_at request_row
+    segment_at segments_of segments_within size_at words_at
+by_entered = simp (none_waits, none_held, held_first, held_none, held_get, held_entries, held_twice, entry_get, entry_gone) (_, refl)
+
+by_asked_to_close : Gives scanner (state_in scanner 0 entered) (events.Command (commands.Close 2 1 (record { tick = 7; ticks = 250 })))
+    (outputs.Send 2 (7 ∷ []) (bodies.Request 2 close_request) ∷ [])
+unfolding behind bytes_at close_at close_reply_at close_row counted_at counted_path_at data_row double_at end_row failure_at hop_of link_refusal logical_at
+    narrow_at number_at open_at open_reply_at open_row other_at padded_at path_at plain_port_at point_at port_at reply_at reply_row request_at request_row
+    segment_at segments_of segments_within size_at words_at
+by_asked_to_close = simp (none_waits, none_held, held_first, held_none, held_get, held_entries, held_gone, held_twice, entry_get, entry_gone) (_, refl)
+
+by_closed : Gives (adapter 0 2) (state_in (adapter 0 2) 1 asked_to_close) (events.Frame 2 (1 ∷ []) (bodies.Request 2 close_request))
+    (outputs.Send 2 (1 ∷ []) (bodies.Reply 2 close_success) ∷ [])
+unfolding behind bytes_at close_at close_reply_at close_row counted_at counted_path_at data_row double_at end_row failure_at hop_of link_refusal logical_at
+    narrow_at number_at open_at open_reply_at open_row other_at padded_at path_at plain_port_at point_at port_at reply_at reply_row request_at request_row
+    segment_at segments_of segments_within size_at words_at
+by_closed = simp (none_held, held_first, held_none, held_get, held_gone, held_twice, bytes_get) (_, refl)
+
+by_closed_here : Gives scanner (state_in scanner 0 closed) (events.Frame 2 (7 ∷ []) (bodies.Reply 2 close_success)) (outputs.Done 2 close_success ∷ [])
+unfolding behind bytes_at close_at close_reply_at close_row counted_at counted_path_at data_row double_at end_row failure_at hop_of link_refusal logical_at
+    narrow_at number_at open_at open_reply_at open_row other_at padded_at path_at plain_port_at point_at port_at reply_at reply_row request_at request_row
+    segment_at segments_of segments_within size_at words_at
+by_closed_here = simp (none_waits, none_held, held_first, held_none, held_get, held_entries, held_gone, held_twice, entry_get, entry_gone) (_, refl)
+
+by_opens_again : Gives scanner (state_in scanner 0 closed_here) (events.Command (commands.Open 3 (record { tick = 7; ticks = 250 }) path params))
+    (outputs.Send 2 (7 ∷ []) (bodies.Request 3 second_request) ∷ [])
+unfolding behind bytes_at close_at close_reply_at close_row counted_at counted_path_at data_row double_at end_row failure_at hop_of link_refusal logical_at
+    narrow_at number_at open_at open_reply_at open_row other_at padded_at path_at plain_port_at point_at port_at reply_at reply_row request_at request_row
+    segment_at segments_of segments_within size_at words_at
+by_opens_again = simp (none_waits, none_held, held_first, held_none, held_get, held_entries, held_gone, held_twice, entry_get, entry_gone) (_, refl)
+
+by_accepted_again : Gives (adapter 0 2) (state_in (adapter 0 2) 1 opens_again) (events.Frame 2 (1 ∷ []) (bodies.Request 3 second_request))
+    (outputs.Send 2 (1 ∷ []) (bodies.Reply 3 second_success) ∷ [])
+unfolding behind bytes_at close_at close_reply_at close_row counted_at counted_path_at data_row double_at end_row failure_at hop_of link_refusal logical_at
+    narrow_at number_at open_at open_reply_at open_row other_at padded_at path_at plain_port_at point_at port_at reply_at reply_row request_at request_row
+    segment_at segments_of segments_within size_at words_at
+by_accepted_again = simp (none_held, held_first, held_none, held_get, held_gone, held_twice, bytes_get) (_, refl)
+
+by_stands_again : Gives scanner (state_in scanner 0 accepted_again) (events.Frame 2 (7 ∷ []) (bodies.Reply 3 second_success))
+    (outputs.Done 3 second_success ∷ [])
+unfolding behind bytes_at close_at close_reply_at close_row counted_at counted_path_at data_row double_at end_row failure_at hop_of link_refusal logical_at
+    narrow_at number_at open_at open_reply_at open_row other_at padded_at path_at plain_port_at point_at port_at reply_at reply_row request_at request_row
+    segment_at segments_of segments_within size_at words_at
+by_stands_again = simp (none_waits, none_held, held_first, held_none, held_get, held_entries, held_gone, held_twice, entry_get, entry_gone) (_, refl)
+
+by_dropped : Gives (adapter 0 2) (state_in (adapter 0 2) 1 stands_again) (events.Frame 2 (1 ∷ []) (bodies.Data 65 first_datum))
+    (outputs.Dropped UnknownId ∷ [])
+unfolding behind bytes_at close_at close_reply_at close_row counted_at counted_path_at data_row double_at end_row failure_at hop_of link_refusal logical_at
+    narrow_at number_at open_at open_reply_at open_row other_at padded_at path_at plain_port_at point_at port_at reply_at reply_row request_at request_row
+    segment_at segments_of segments_within size_at words_at
+by_dropped = simp (none_held, held_first, held_none, held_get, held_entries, held_gone, held_twice, bytes_get) (_, refl)
+
+by_entered_again : Gives scanner (state_in scanner 0 dropped) (events.Command (commands.Enter 3 second_datum))
+    (outputs.Send 2 (7 ∷ []) (bodies.Data 66 second_datum) ∷ [])
+unfolding behind bytes_at close_at close_reply_at close_row counted_at counted_path_at data_row double_at end_row failure_at hop_of link_refusal logical_at
+    narrow_at number_at open_at open_reply_at open_row other_at padded_at path_at plain_port_at point_at port_at reply_at reply_row request_at request_row
+    segment_at segments_of segments_within size_at words_at
+by_entered_again = simp (none_waits, none_held, held_first, held_none, held_get, held_entries, held_gone, held_twice, entry_get, entry_gone) (_, refl)
+
+-- what the adapter has when the second datum comes: the second connection alone
+abbrev second_only : AssemblyMap → State
+second_only assemblies = record {
+  now = 0;
+  pendings = record { room = 256; next = 1; entries = map.empty };
+  hops = record {
+    room = 256;
+    next = 67;
+    held = map.insert map.empty triad (Open (record {
+      opening = record {
+        triad = triad;
+        up = UpLink 2 (1 ∷ []) 18;
+        down = End 100 101 102;
+        path = 32 ∷ 4 ∷ 36 ∷ 100 ∷ 44 ∷ 101 ∷ 44 ∷ 102 ∷ [];
+        ot_size = 6;
+        to_size = 4;
+        ot_rpi = 10000;
+        to_rpi = 10000;
+        multiplier = 0;
+        class = 1;
+      };
+      ids = record { up = Some 66; down = None };
+      their_id = None;
+      up_deadline = Some 40000;
+      down_deadline = None;
+      consumed = None;
+      produced = None;
+    }));
+  };
+  assemblies = assemblies;
+  ops = [];
+}
+
+is_second_only : (assemblies : AssemblyMap) × (state_in (adapter 0 2) 1 entered_again ≡ second_only assemblies)
+unfolding behind bytes_at close_at close_reply_at close_row counted_at counted_path_at data_row double_at end_row failure_at hop_of link_refusal logical_at
+    narrow_at number_at open_at open_reply_at open_row other_at padded_at path_at plain_port_at point_at port_at reply_at reply_row request_at request_row
+    segment_at segments_of segments_within size_at words_at
+is_second_only = simp (none_held, held_first, held_none, held_get, held_entries, held_gone, held_twice, bytes_get) (_, refl)
+
+takes_second : (assemblies : AssemblyMap) → Gives (adapter 0 2) (second_only assemblies) (events.Frame 2 (1 ∷ []) (bodies.Data 66 second_datum))
+    (outputs.Consumed triad 101 second_datum ∷ [])
+unfolding behind bytes_at close_at close_reply_at close_row counted_at counted_path_at data_row double_at end_row failure_at hop_of link_refusal logical_at
+    narrow_at number_at open_at open_reply_at open_row other_at padded_at path_at plain_port_at point_at port_at reply_at reply_row request_at request_row
+    segment_at segments_of segments_within size_at words_at
+takes_second assemblies = simp (held_first, held_none, held_get, held_entries) (_, refl)
+
+by_taken : Gives (adapter 0 2) (state_in (adapter 0 2) 1 entered_again) (events.Frame 2 (1 ∷ []) (bodies.Data 66 second_datum))
+    (outputs.Consumed triad 101 second_datum ∷ [])
+by_taken = subst (λ s. Gives (adapter 0 2) s (events.Frame 2 (1 ∷ []) (bodies.Data 66 second_datum)) (outputs.Consumed triad 101 second_datum ∷ []))
+    (sym is_second_only.1) (takes_second is_second_only.0)
+
+-- ---- entry by entry
+
+run_opens : IsRun cell opens
+run_opens = (
+  tt,
+  record {
+    event = events.Command (commands.Open 1 (record { tick = 7; ticks = 250 }) path params);
+    given = refl;
+    config = scanner;
+    is_module = refl;
+    new = by_opens.0;
+    step = by_opens.1;
+  },
+)
+
+run_accepted : IsRun cell accepted
+run_accepted = (
+  run_opens,
+  record {
+    event = events.Frame 2 (1 ∷ []) (bodies.Request 1 first_request);
+    given = record {
+      waits = record {
+        flight = record { way = record { at = 0; port = 2; address = 7 ∷ [] }; body = bodies.Request 1 first_request };
+        there = record { at = 1; port = 2; address = 1 ∷ [] };
+        sent = refl;
+        leads = refl;
+        fresh = refl;
+      };
+      here = refl;
+      event_is = refl;
+    };
+    config = adapter 0 2;
+    is_module = refl;
+    new = by_accepted.0;
+    step = by_accepted.1;
+  },
+)
+
+run_stands : IsRun cell stands
+run_stands = (
+  run_accepted,
+  record {
+    event = events.Frame 2 (7 ∷ []) (bodies.Reply 1 first_success);
+    given = record {
+      waits = record {
+        flight = record { way = record { at = 1; port = 2; address = 1 ∷ [] }; body = bodies.Reply 1 first_success };
+        there = record { at = 0; port = 2; address = 7 ∷ [] };
+        sent = refl;
+        leads = refl;
+        fresh = refl;
+      };
+      here = refl;
+      event_is = refl;
+    };
+    config = scanner;
+    is_module = refl;
+    new = by_stands.0;
+    step = by_stands.1;
+  },
+)
+
+run_entered : IsRun cell entered
+run_entered = (
+  run_stands,
+  record {
+    event = events.Command (commands.Enter 1 first_datum);
+    given = refl;
+    config = scanner;
+    is_module = refl;
+    new = by_entered.0;
+    step = by_entered.1;
+  },
+)
+
+run_asked_to_close : IsRun cell asked_to_close
+run_asked_to_close = (
+  run_entered,
+  record {
+    event = events.Command (commands.Close 2 1 (record { tick = 7; ticks = 250 }));
+    given = refl;
+    config = scanner;
+    is_module = refl;
+    new = by_asked_to_close.0;
+    step = by_asked_to_close.1;
+  },
+)
+
+run_closed : IsRun cell closed
+run_closed = (
+  run_asked_to_close,
+  record {
+    event = events.Frame 2 (1 ∷ []) (bodies.Request 2 close_request);
+    given = record {
+      waits = record {
+        flight = record { way = record { at = 0; port = 2; address = 7 ∷ [] }; body = bodies.Request 2 close_request };
+        there = record { at = 1; port = 2; address = 1 ∷ [] };
+        sent = refl;
+        leads = refl;
+        fresh = refl;
+      };
+      here = refl;
+      event_is = refl;
+    };
+    config = adapter 0 2;
+    is_module = refl;
+    new = by_closed.0;
+    step = by_closed.1;
+  },
+)
+
+run_closed_here : IsRun cell closed_here
+run_closed_here = (
+  run_closed,
+  record {
+    event = events.Frame 2 (7 ∷ []) (bodies.Reply 2 close_success);
+    given = record {
+      waits = record {
+        flight = record { way = record { at = 1; port = 2; address = 1 ∷ [] }; body = bodies.Reply 2 close_success };
+        there = record { at = 0; port = 2; address = 7 ∷ [] };
+        sent = refl;
+        leads = refl;
+        fresh = refl;
+      };
+      here = refl;
+      event_is = refl;
+    };
+    config = scanner;
+    is_module = refl;
+    new = by_closed_here.0;
+    step = by_closed_here.1;
+  },
+)
+
+run_opens_again : IsRun cell opens_again
+run_opens_again = (
+  run_closed_here,
+  record {
+    event = events.Command (commands.Open 3 (record { tick = 7; ticks = 250 }) path params);
+    given = refl;
+    config = scanner;
+    is_module = refl;
+    new = by_opens_again.0;
+    step = by_opens_again.1;
+  },
+)
+
+run_accepted_again : IsRun cell accepted_again
+run_accepted_again = (
+  run_opens_again,
+  record {
+    event = events.Frame 2 (1 ∷ []) (bodies.Request 3 second_request);
+    given = record {
+      waits = record {
+        flight = record { way = record { at = 0; port = 2; address = 7 ∷ [] }; body = bodies.Request 3 second_request };
+        there = record { at = 1; port = 2; address = 1 ∷ [] };
+        sent = refl;
+        leads = refl;
+        fresh = refl;
+      };
+      here = refl;
+      event_is = refl;
+    };
+    config = adapter 0 2;
+    is_module = refl;
+    new = by_accepted_again.0;
+    step = by_accepted_again.1;
+  },
+)
+
+run_stands_again : IsRun cell stands_again
+run_stands_again = (
+  run_accepted_again,
+  record {
+    event = events.Frame 2 (7 ∷ []) (bodies.Reply 3 second_success);
+    given = record {
+      waits = record {
+        flight = record { way = record { at = 1; port = 2; address = 1 ∷ [] }; body = bodies.Reply 3 second_success };
+        there = record { at = 0; port = 2; address = 7 ∷ [] };
+        sent = refl;
+        leads = refl;
+        fresh = refl;
+      };
+      here = refl;
+      event_is = refl;
+    };
+    config = scanner;
+    is_module = refl;
+    new = by_stands_again.0;
+    step = by_stands_again.1;
+  },
+)
+
+run_dropped : IsRun cell dropped
+run_dropped = (
+  run_stands_again,
+  record {
+    event = events.Frame 2 (1 ∷ []) (bodies.Data 65 first_datum);
+    given = record {
+      waits = record {
+        flight = record { way = record { at = 0; port = 2; address = 7 ∷ [] }; body = bodies.Data 65 first_datum };
+        there = record { at = 1; port = 2; address = 1 ∷ [] };
+        sent = refl;
+        leads = refl;
+        fresh = refl;
+      };
+      here = refl;
+      event_is = refl;
+    };
+    config = adapter 0 2;
+    is_module = refl;
+    new = by_dropped.0;
+    step = by_dropped.1;
+  },
+)
+
+run_entered_again : IsRun cell entered_again
+run_entered_again = (
+  run_dropped,
+  record {
+    event = events.Command (commands.Enter 3 second_datum);
+    given = refl;
+    config = scanner;
+    is_module = refl;
+    new = by_entered_again.0;
+    step = by_entered_again.1;
+  },
+)
+
+-- the whole run
+pub one_after_the_other : IsRun cell taken
+one_after_the_other = (
+  run_entered_again,
+  record {
+    event = events.Frame 2 (1 ∷ []) (bodies.Data 66 second_datum);
+    given = record {
+      waits = record {
+        flight = record { way = record { at = 0; port = 2; address = 7 ∷ [] }; body = bodies.Data 66 second_datum };
+        there = record { at = 1; port = 2; address = 1 ∷ [] };
+        sent = refl;
+        leads = refl;
+        fresh = refl;
+      };
+      here = refl;
+      event_is = refl;
+    };
+    config = adapter 0 2;
+    is_module = refl;
+    new = by_taken.0;
+    step = by_taken.1;
+  },
+)
