@@ -1,0 +1,25 @@
+-- What a finished book leaves.
+use Rattle.std.specs.Prelude.{◌≡◌, ◌<◌, ℕ, List, [], ◌++◌, ◌+◌, length}
+use Rattle.cip_base.specs.declared.numbers.ModuleId.{ModuleId}
+use Rattle.cip_topology.specs.Plan.{Plan}
+use Rattle.cip_world.specs.declared.journal.FrameName.{FrameName}
+use Rattle.cip_world.specs.declared.world.End.{End}
+use Rattle.cip_world.specs.declared.world.End.TheVariants.{Quiet, Limit}
+use Rattle.cip_world.specs.Journals.{Journal}
+use Rattle.cip_world.specs.Waiting.{waiting}
+use Rattle.cip_threads.specs.declared.feed.Feed.{Feed}
+use Rattle.cip_threads.specs.Feeds.{feeds_of, fed}
+use Rattle.cip_threads.specs.Flows.{IsFlow}
+
+-- Quiet only where nothing waits; Limit only where something waits and the journal has all turns
+abbrev pub IsEnd : ℕ → Journal → List (ModuleId × Feed) → List FrameName → End → Type 0
+IsEnd turns j feeds frames Quiet = (feeds ≡ []) × (frames ≡ [])
+IsEnd turns j feeds frames Limit =
+    (0 < length feeds + length frames) × (length j ≡ turns)
+
+pub record IsFinished (t : Plan) (given : List (ModuleId × Feed)) (turns : ℕ) (j : Journal)
+    (feeds : List (ModuleId × Feed)) (frames : List FrameName) (end : End) : Type 0 where
+  pub flow : IsFlow t j
+  pub waits : frames ≡ waiting t j
+  pub fed_all : (m : ℕ) → feeds_of m given ≡ fed m j ++ feeds_of m feeds
+  pub ends : IsEnd turns j feeds frames end

@@ -1,0 +1,180 @@
+-- What the calls of the book change.
+use Rattle.std.specs.Prelude.{◌≡◌, ◌≤◌, ◌<◌, ℕ, List, [], ◌∷◌, ◌++◌, Option, Some, None, true, false, not, ◌⊎◌, ◌+◌, length, set, replicate, filter, remove}
+use Rattle.cip_base.specs.declared.numbers.ModuleId.{ModuleId}
+use Rattle.cip_module.specs.declared.event.Event.{Event}
+use Rattle.cip_module.specs.declared.event.Output.{Output}
+use Rattle.cip_topology.specs.Plan.{Plan}
+use Rattle.cip_world.specs.declared.journal.FrameName.{FrameName}
+use Rattle.cip_world.specs.declared.journal.Input.{Input}
+use Rattle.cip_world.specs.declared.journal.Input.TheVariants.{Frame}
+use Rattle.cip_world.specs.declared.journal.Entry.TheVariants.{Step}
+use Rattle.cip_world.specs.Journals.{same_name}
+use Rattle.cip_world.specs.Waiting.{frames_of}
+use Rattle.cip_threads.specs.declared.feed.Feed.{Feed}
+use Rattle.cip_threads.specs.declared.shelf.Shelf.{Shelf}
+use Rattle.cip_threads.specs.declared.state.Handed.{Handed}
+use Rattle.cip_threads.specs.declared.state.Handed.TheVariants.{Work, Stop, Held, NotYet}
+use Rattle.cip_threads.specs.declared.state.CommitFault.{CommitFault}
+use Rattle.cip_threads.specs.declared.state.CommitFault.TheVariants as faults
+use Rattle.cip_threads.specs.Feeds.{input_of, event_of, feeds_of}
+use Rattle.cip_threads.specs.Flows.{Comes, goes_to, is_among}
+use Rattle.cip_threads.specs.Books.{hand_at, count_hands, IsFirst}
+
+-- at first nothing is in hand and every feed waits
+abbrev pub opened : Plan → List (ModuleId × Feed) → ℕ → Shelf
+opened t feeds turns =
+    record {
+      topology = t;
+      given = feeds;
+      feeds = feeds;
+      frames = [];
+      hands = replicate (length t.modules) None;
+      journal = [];
+      taken = 0;
+      turns = turns;
+      stopped = false;
+    }
+
+-- ---- hand
+
+-- module m has this in hand, and one more turn is taken
+abbrev pub with_hand : Shelf → ℕ → Input → Shelf
+with_hand s m input =
+    record {
+      topology = s.topology;
+      given = s.given;
+      feeds = s.feeds;
+      frames = s.frames;
+      hands = set s.hands m (Some input);
+      journal = s.journal;
+      taken = s.taken + 1;
+      turns = s.turns;
+      stopped = s.stopped;
+    }
+
+abbrev pub without_feed : Shelf → ℕ → Shelf
+without_feed s i =
+    record {
+      topology = s.topology;
+      given = s.given;
+      feeds = remove s.feeds i;
+      frames = s.frames;
+      hands = s.hands;
+      journal = s.journal;
+      taken = s.taken;
+      turns = s.turns;
+      stopped = s.stopped;
+    }
+
+abbrev pub without_frame : Shelf → FrameName → Shelf
+without_frame s f =
+    record {
+      topology = s.topology;
+      given = s.given;
+      feeds = s.feeds;
+      frames = filter (λ g. not (same_name g f)) s.frames;
+      hands = s.hands;
+      journal = s.journal;
+      taken = s.taken;
+      turns = s.turns;
+      stopped = s.stopped;
+    }
+
+-- the first feed of the module went into its hand
+pub record GaveFeed (old new : Shelf) (m : ℕ) (event : Event) : Type 0 where
+  pub place : ℕ
+  pub first : IsFirst m old.feeds place
+  pub is : event ≡ event_of first.found.1
+  pub gives : new ≡ with_hand (without_feed old place) m (input_of first.found.1)
+
+-- a frame that waits and comes to the module went into its hand
+pub record GaveFrame (old new : Shelf) (m : ℕ) (event : Event) : Type 0 where
+  pub name : FrameName
+  pub port : ℕ
+  pub from : List ℕ
+  pub waits : is_among old.frames name ≡ true
+  pub comes : Comes old.topology old.journal name m port from event
+  pub gives : new ≡ with_hand (without_frame old name) m (Frame port from name)
+
+-- the book is not stopped, and the module is one of its own and has nothing in hand
+pub record IsFree (s : Shelf) (m : ℕ) : Type 0 where
+  pub running : s.stopped ≡ false
+  pub within : m < length s.hands
+  pub free : hand_at s.hands m ≡ None
+
+-- no feed and no frame waits for the module
+pub record NothingFor (s : Shelf) (m : ℕ) : Type 0 where
+  pub feeds : feeds_of m s.feeds ≡ []
+  pub frames : filter (goes_to s.topology s.journal m) s.frames ≡ []
+
+-- nothing waits for any module, and nothing is in hand
+pub record IsQuiet (s : Shelf) : Type 0 where
+  pub feeds : s.feeds ≡ []
+  pub frames : s.frames ≡ []
+  pub idle : count_hands s.hands ≡ 0
+
+-- a turn is left, and the module got a feed or a frame
+pub record Gave (old new : Shelf) (m : ℕ) (event : Event) : Type 0 where
+  pub ready : IsFree old m
+  pub left : old.taken < old.turns
+  pub gave : GaveFeed old new m event ⊎ GaveFrame old new m event
+
+-- why a module is told to stop
+abbrev pub IsOver : Shelf → ℕ → Type 0
+IsOver s m =
+    (s.stopped ≡ true) ⊎ ((length s.hands ≤ m)
+    ⊎ (IsFree s m × ((s.turns ≤ s.taken) ⊎ (NothingFor s m × IsQuiet s))))
+
+-- what a call of `hand` did, by its answer
+abbrev pub IsHanded : Shelf → Shelf → ℕ → Handed → Type 0
+IsHanded old new m (Work event) = Gave old new m event
+IsHanded old new m Stop = (new ≡ old) × IsOver old m
+IsHanded old new m Held =
+    (new ≡ old) × (old.stopped ≡ false)
+    × ((input : Input) × (hand_at old.hands m ≡ Some input))
+IsHanded old new m NotYet =
+    (new ≡ old) × IsFree old m × (old.taken < old.turns) × NothingFor old m
+    × (IsQuiet old → ⊥)
+
+-- ---- enter
+
+-- the book after the entry of what the module had in hand
+abbrev pub entered : Shelf → ModuleId → Input → List Output → Shelf
+entered s m input outputs =
+    record {
+      topology = s.topology;
+      given = s.given;
+      feeds = s.feeds;
+      frames = s.frames ++ frames_of s.topology m.0 (length s.journal) 0 outputs;
+      hands = set s.hands m.0 None;
+      journal = Step m input outputs ∷ s.journal;
+      taken = s.taken;
+      turns = s.turns;
+      stopped = s.stopped;
+    }
+
+pub record IsEntered (old new : Shelf) (m : ModuleId) (outputs : List Output) : Type 0 where
+  pub input : Input
+  pub held : hand_at old.hands m.0 ≡ Some input
+  pub gives : new ≡ entered old m input outputs
+
+-- a module outside the topology has nothing in hand either
+abbrev pub IsNotEntered : Shelf → ModuleId → CommitFault → Type 0
+IsNotEntered s m faults.NoMemory = Unit {0}
+IsNotEntered s m faults.NothingInHand = hand_at s.hands m.0 ≡ None
+
+-- ---- stop
+
+abbrev pub stopped_of : Shelf → Shelf
+stopped_of s =
+    record {
+      topology = s.topology;
+      given = s.given;
+      feeds = s.feeds;
+      frames = s.frames;
+      hands = s.hands;
+      journal = s.journal;
+      taken = s.taken;
+      turns = s.turns;
+      stopped = true;
+    }

@@ -1,0 +1,21 @@
+//! A worker thread for each module, and the journal of what they did together.
+#![tactic(auto)]
+
+mod book;
+mod feed;
+mod frames;
+mod gate;
+mod message;
+mod report;
+mod run;
+mod same;
+mod shelf;
+mod state;
+mod worker;
+
+pub use book::{Book, Taken};
+pub use feed::Feed;
+pub use gate::{Gate, OpenGate};
+pub use report::{Report, RunFault, Waiting};
+pub use run::run_threads;
+pub use state::{BookState, CommitFault, Handed, feeds_fit};

@@ -1,0 +1,84 @@
+//! Steps and commits of several modules at once.
+use crate::boxes::boxes;
+use crate::given::{A, B, E, REPLY, S, S2, sends, ticks, two_scanners};
+use crate::held::held_boxes;
+use crate::holds::{Hold, HoldingGate};
+use cip_base::ModuleId;
+use cip_module::Output;
+use cip_threads::{OpenGate, feeds_fit, run_threads};
+use cip_world::{End, Entry};
+use std::sync::Arc;
+use std::test::Fail;
+
+// Whether an entry is the end of op 1 of a module with the reply of the second bridge.
+fn is_done_at(entry: &Entry, m: ModuleId) -> bool {
+    match entry {
+        Entry::Step { at, outputs, .. } if *at == m => match outputs.as_slice() {
+            [Output::Done { op: 1, reply }] => reply.as_slice() == REPLY.as_slice(),
+            _ => false,
+        },
+        _ => false,
+    }
+}
+
+fn count_done(journal: &[Entry], m: ModuleId) -> usize {
+    journal.iter().filter(|entry| is_done_at(entry, m)).count()
+}
+
+fn has_outputs(entry: &Entry) -> bool {
+    match entry {
+        Entry::Step { outputs, .. } => !outputs.as_slice().is_empty(),
+        Entry::Lost { .. } => true,
+    }
+}
+
+#[test]
+fn two_steps_at_once(rt: HostRuntime) -> Result<(), Fail> {
+    let alloc = rt.alloc();
+    let topology = two_scanners(alloc)?;
+    let modules = boxes(alloc, &topology)?;
+    let feeds = sends(alloc, &[S, S2])?;
+    let gate = HoldingGate {
+        hold: Hold::new(2),
+        one: S,
+        other: S2,
+    };
+    if !feeds_fit(&topology, feeds.as_slice()) {
+        return Err("no such module".into());
+    }
+    let report = run_threads(&rt, alloc, topology, modules, feeds, 100, &gate);
+    assert_eq!(&rt; gate.hold.passed(), 2);
+    let report = report?;
+    assert_eq!(&rt; report.end, End::Quiet);
+    assert_eq!(&rt; report.journal.len(), 10);
+    assert_eq!(&rt; count_done(report.journal.as_slice(), S), 1);
+    assert_eq!(&rt; count_done(report.journal.as_slice(), S2), 1);
+    assert_eq!(&rt; report.waiting.feeds.len(), 0);
+    assert_eq!(&rt; report.waiting.frames.len(), 0);
+
+    let topology = two_scanners(alloc)?;
+    let hold = Arc::new(alloc, Hold::new(5))?;
+    let modules = held_boxes(alloc, &topology, &hold)?;
+    let feeds = ticks(alloc, &[S, S2, A, B, E])?;
+    if !feeds_fit(&topology, feeds.as_slice()) {
+        return Err("no such module".into());
+    }
+    let report = run_threads(&rt, alloc, topology, modules, feeds, 100, &OpenGate);
+    assert_eq!(&rt; hold.passed(), 5);
+    let report = report?;
+    assert_eq!(&rt; report.end, End::Quiet);
+    assert_eq!(&rt; report.journal.len(), 5);
+    assert_eq!(&rt;
+        report
+            .journal
+            .iter()
+            .filter(|entry| has_outputs(entry))
+            .count(),
+        0
+    );
+    assert_eq!(&rt; report.tables.len(), 5);
+    for tables in report.tables.as_slice() {
+        assert_eq!(&rt; tables.now, 1000);
+    }
+    Ok(())
+}
