@@ -3,6 +3,7 @@ use Rattle.std.proofs.Common.{◌≡◌, ℕ, List, [], Option, Some, None, Ok, 
 use Rattle.std.specs.Prelude.{IfSome}
 use Rattle.std.proofs.KnownBytes.{Keeps-refl}
 use Rattle.cip_topology.specs.Plan.{Plan}
+use Rattle.cip_console.specs.declared.steps.Mode.TheVariants.{InTurn}
 use Rattle.cip_console.specs.declared.console.ConsoleFault.TheVariants.{Read, NoMemory}
 use Rattle.cip_console.specs.Outcome.{Steps, Front, WroteOf}
 use Rattle.cip_console.specs.Steps.{steps}
@@ -19,7 +20,7 @@ abbrev pub left_of : Option (List ℕ) → List ℕ
 left_of None = []
 left_of (Some bytes) = bytes
 
-is_left : (left : Option (List ℕ)) → IfSome left (λ bytes. left_of left ≡ bytes)
+pub is_left : (left : Option (List ℕ)) → IfSome left (λ bytes. left_of left ≡ bytes)
 is_left None = tt
 is_left (Some bytes) = refl
 
@@ -31,5 +32,5 @@ no_memory_to_read t left old = record {
   script = left_of left;
   read = is_left left;
   wrote =
-      nothing_written t old (steps (names_of t) (left_of left));
+      nothing_written t old (steps InTurn (names_of t) (left_of left));
 }

@@ -8,6 +8,7 @@ use Rattle.std.proofs.lemmas.Bool.Decides.{nat_tests}
 use Rattle.std.proofs.lemmas.List.{drop_more}
 use Rattle.cip_console.specs.declared.steps.ScriptFault.{ScriptFault}
 use Rattle.cip_console.specs.declared.steps.ScriptFault.TheVariants.{NotText}
+use Rattle.cip_console.specs.declared.steps.Mode.{Mode}
 use Rattle.cip_console.specs.declared.steps.Step.{Step}
 use Rattle.cip_console.specs.declared.steps.Numbered.{Numbered}
 use Rattle.cip_console.specs.Steps.{texts, line_step, words_step, with_step, steps_from}
@@ -29,14 +30,14 @@ all_ascii [] h i = lit< tt
 all_ascii (b ∷ bs) h zero = low_of b (and_parts _ _ h).0
 all_ascii (b ∷ bs) h (suc i) = all_ascii bs (and_parts _ _ h).1 i
 
-pub step-of_text : (names : List (List ℕ)) (line : List ℕ) → IsAscii line
-    → line_step names line ≡ (if slice_index line 0 == 35 then Ok None else words_step names (words_of line))
+pub step-of_text : (mode : Mode) (names : List (List ℕ)) (line : List ℕ) → IsAscii line
+    → line_step mode names line ≡ (if slice_index line 0 == 35 then Ok None else words_step mode names (words_of line))
 unfolding line_step
-step-of_text names line h = rw (ascii_all line h) refl
+step-of_text mode names line h = rw (ascii_all line h) refl
 
-pub step-of_other : (names : List (List ℕ)) (line : List ℕ) → (IsAscii line → ⊥) → line_step names line ≡ Err NotText
+pub step-of_other : (mode : Mode) (names : List (List ℕ)) (line : List ℕ) → (IsAscii line → ⊥) → line_step mode names line ≡ Err NotText
 unfolding line_step
-step-of_other names line h = elim (cases_Bool (list_all (λ b. nat_lt b 128) line)) [
+step-of_other mode names line h = elim (cases_Bool (list_all (λ b. nat_lt b 128) line)) [
   | inl is_text ↦ absurd (h (all_ascii line is_text))
   | inr is_other ↦ rw is_other refl
 ]
@@ -64,7 +65,7 @@ before_one front n step (Ok more) = ap Ok (sym (append_assoc front (record { lin
 before_one front n step (Err fault) = refl
 
 -- the line at i, and those after it
-pub line_at : (names : List (List ℕ)) (items : List (Bor (List ℕ))) (i : ℕ) → i < length items
-    → steps_from names (i + 1) (texts (drop i items)) ≡ with_step (i + 1) (line_step names (get_or items i unread).now)
-    (steps_from names (i + 1 + 1) (texts (drop (i + 1) items)))
-line_at names items i h = rw (drop_more items i unread h) refl
+pub line_at : (mode : Mode) (names : List (List ℕ)) (items : List (Bor (List ℕ))) (i : ℕ) → i < length items
+    → steps_from mode names (i + 1) (texts (drop i items)) ≡ with_step (i + 1) (line_step mode names (get_or items i unread).now)
+    (steps_from mode names (i + 1 + 1) (texts (drop (i + 1) items)))
+line_at mode names items i h = rw (drop_more items i unread h) refl

@@ -2,10 +2,11 @@
 use Rattle.std.specs.Prelude.{◌≡◌, ℕ, List, Option, Some, None, Result, Ok, Err, IfSome}
 use Rattle.std.specs.Io.KnownBytes.{Keeps, Appends}
 use Rattle.cip_topology.specs.Plan.{Plan}
+use Rattle.cip_console.specs.declared.steps.Mode.TheVariants.{InTurn}
 use Rattle.cip_console.specs.declared.steps.Numbered.{Numbered}
 use Rattle.cip_console.specs.declared.steps.ScriptFault.{ScriptFault}
 use Rattle.cip_console.specs.declared.console.ConsoleFault.{ConsoleFault}
-use Rattle.cip_console.specs.declared.console.ConsoleFault.TheVariants.{Script, Read, Write, NoMemory, New}
+use Rattle.cip_console.specs.declared.console.ConsoleFault.TheVariants.{Script, Read, Write, NoMemory, New, Run}
 use Rattle.cip_console.specs.Known.{AppendsFront}
 use Rattle.cip_console.specs.Steps.{steps}
 use Rattle.cip_console.specs.Transcript.{names_of, transcript, stop_of}
@@ -46,10 +47,11 @@ Wrote t old new script (Err Read) = Keeps old new
 Wrote t old new script (Err Write) = Front t old new script
 Wrote t old new script (Err NoMemory) = Front t old new script
 Wrote t old new script (Err (New fault)) = NotBegun old new script
+Wrote t old new script (Err (Run fault)) = ⊥
 
 -- the same of the script that was read: all that the reader had left, where that is known
 pub record WroteOf (t : Plan) (left : Option (List ℕ))
     (old new : Option (List ℕ)) (result : Result (Unit {0}) ConsoleFault) : Type 0 where
   pub script : List ℕ
   pub read : IfSome left (λ bytes. script ≡ bytes)
-  pub wrote : Wrote t old new (steps (names_of t) script) result
+  pub wrote : Wrote t old new (steps InTurn (names_of t) script) result

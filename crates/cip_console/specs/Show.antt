@@ -1,7 +1,9 @@
 -- The lines of a transcript. Numbers are decimal; bytes are upper-case pairs, `-` for none.
-use Rattle.std.specs.Prelude.{ℕ, ◌+◌, ◌==◌, List, [], ◌∷◌, ◌++◌, length, codes, decimal, if◌then◌else◌, unwrap_or, slice_get, Option, Some, None}
+use Rattle.std.specs.Prelude.{ℕ, ◌+◌, ◌==◌, List, [], ◌∷◌, ◌++◌, length, codes, decimal, if◌then◌else◌, unwrap_or, slice_get, Option, Some, None, Ok, Err}
 use Rattle.hex.specs.Hex.{encode_upper}
+use Rattle.cip_base.specs.declared.numbers.ModuleId.{ModuleId}
 use Rattle.cip_base.specs.declared.triad.Triad.{Triad}
+use Rattle.cip_chain.specs.declared.chains.ChainFault.TheVariants as chains
 use Rattle.cip_module.specs.declared.event.Body.{Body}
 use Rattle.cip_module.specs.declared.event.Body.TheVariants.{Request, Reply, Data}
 use Rattle.cip_module.specs.declared.event.Command.{Command}
@@ -18,6 +20,7 @@ use Rattle.cip_world.specs.declared.journal.Input.{Input}
 use Rattle.cip_world.specs.declared.journal.Input.TheVariants as inputs
 use Rattle.cip_world.specs.declared.journal.Entry.{Entry}
 use Rattle.cip_world.specs.declared.journal.Entry.TheVariants.{Step, Lost}
+use Rattle.cip_console.specs.Chained.{Chained}
 
 abbrev pub bytes_text : List ℕ → List ℕ
 bytes_text bytes = if length bytes == 0 then codes "-" else encode_upper bytes
@@ -109,6 +112,21 @@ numbers_text (n ∷ more) = codes " " ++ decimal n ++ numbers_text more
 -- `trail` and the entries of one
 abbrev pub trail_text : List ℕ → List ℕ
 trail_text entries = codes "trail" ++ numbers_text entries ++ codes "\n"
+
+-- names of modules, each behind a space
+abbrev pub names_text : List (List ℕ) → List ModuleId → List ℕ
+names_text names [] = []
+names_text names (m ∷ more) = codes " " ++ name_of names m.0 ++ names_text names more
+
+-- `chain`, its modules, and the instances at its end; or why there is none
+abbrev pub chain_text : List (List ℕ) → Chained → List ℕ
+chain_text names (Ok view) =
+    codes "chain" ++ names_text names view.modules ++ codes " " ++ decimal view.consume
+    ++ codes " " ++ decimal view.produce ++ codes "\n"
+chain_text names (Err chains.NotOpen) = codes "not open\n"
+chain_text names (Err (chains.Broken m)) =
+    codes "broken " ++ name_of names m.0 ++ codes "\n"
+chain_text names (Err chains.NoMemory) = []
 
 abbrev pub lost_text : ℕ → FrameName → List ℕ
 lost_text k frame = decimal k ++ codes " lost " ++ frame_text frame ++ codes "\n"

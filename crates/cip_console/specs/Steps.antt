@@ -1,6 +1,6 @@
 -- The steps of a script, or its first faulty line. Faults of a line: not text, its first word, the
 -- number of its words, and then its words from the left.
-use Rattle.std.specs.Prelude.{◌≡◌, ℕ, ◌+◌, ◌^◌, List, [], ◌∷◌, map, length, codes, nat_lt, ◌==◌, slice_index, slice_index_or, if◌then◌else◌, Option, Some, None, Result, Ok, Err}
+use Rattle.std.specs.Prelude.{◌≡◌, ◌||◌, Bool, ℕ, ◌+◌, ◌^◌, List, [], ◌∷◌, map, length, codes, nat_lt, ◌==◌, slice_index, slice_index_or, if◌then◌else◌, Option, Some, None, Result, Ok, Err}
 use Rattle.std.specs.Str.{bytes_eq}
 use Rattle.std.specs.Str.Lines.{lines}
 use Rattle.std.specs.List.{list_all, position, slice_split}
@@ -14,10 +14,12 @@ use Rattle.cip_segment.specs.declared.segment.Segment.{Segment}
 use Rattle.cip_segment.specs.declared.fault.PathFault.{PathFault}
 use Rattle.cip_segment.specs.Reading.{path_at}
 use Rattle.cip_console.specs.declared.steps.Step.{Step}
-use Rattle.cip_console.specs.declared.steps.Step.TheVariants.{Feed, Tick, Deliver, Lose, Run, Tables, Trail}
+use Rattle.cip_console.specs.declared.steps.Step.TheVariants.{Feed, Tick, Deliver, Lose, Run, Tables, Trail, Chain}
+use Rattle.cip_console.specs.declared.steps.Mode.{Mode}
+use Rattle.cip_console.specs.declared.steps.Mode.TheVariants.{InTurn, OnThreads}
 use Rattle.cip_console.specs.declared.steps.Numbered.{Numbered}
 use Rattle.cip_console.specs.declared.steps.ScriptFault.{ScriptFault}
-use Rattle.cip_console.specs.declared.steps.ScriptFault.TheVariants.{UnknownWord, Count, BadNumber, BadBytes, BadPath, NoModule, NotText}
+use Rattle.cip_console.specs.declared.steps.ScriptFault.TheVariants.{UnknownWord, Count, BadNumber, BadBytes, BadPath, NoModule, NotWithThreads, NotText}
 use Rattle.cip_console.specs.declared.steps.StepFault.{StepFault}
 use Rattle.cip_console.specs.declared.steps.StepFault.TheVariants as step_fault
 use Rattle.cip_console.specs.declared.steps.StepsFault.{StepsFault}
@@ -198,6 +200,13 @@ trail_words names args = do
   op ← bounded (2 ^ 32) (nth args 1)
   Ok (Trail m op)
 
+-- `chain M OP`
+abbrev pub chain_words : List (List ℕ) → List (List ℕ) → Result Step ScriptFault
+chain_words names args = do
+  m ← module_of names (nth args 0)
+  op ← bounded (2 ^ 32) (nth args 1)
+  Ok (Chain m op)
+
 -- the words that give a module nothing
 abbrev pub other_step : List (List ℕ) → List ℕ → List (List ℕ) → Result Step ScriptFault
 other_step names word args =
@@ -206,11 +215,25 @@ other_step names word args =
     else if bytes_eq word (codes "run") then of_words 1 args (run_words args)
     else if bytes_eq word (codes "tables") then of_words 1 args (tables_words names args)
     else if bytes_eq word (codes "trail") then of_words 2 args (trail_words names args)
+    else if bytes_eq word (codes "chain") then of_words 2 args (chain_words names args)
     else Err UnknownWord
 
+abbrev pub is_other : List ℕ → Bool
+is_other word = bytes_eq word (codes "deliver") || (bytes_eq word (codes "lose")
+    || (bytes_eq word (codes "run") || (bytes_eq word (codes "tables")
+    || (bytes_eq word (codes "trail") || bytes_eq word (codes "chain")))))
+
+-- where modules run on threads of their own, no other words are taken
+abbrev pub unheard : List ℕ → Result Step ScriptFault
+unheard word = if is_other word then Err NotWithThreads else Err UnknownWord
+
+abbrev pub last_step : Mode → List (List ℕ) → List ℕ → List (List ℕ) → Result Step ScriptFault
+last_step InTurn names word args = other_step names word args
+last_step OnThreads names word args = unheard word
+
 -- the first word says what the others are
-abbrev pub step_by : List (List ℕ) → List ℕ → List (List ℕ) → Result Step ScriptFault
-step_by names word args =
+abbrev pub step_by : Mode → List (List ℕ) → List ℕ → List (List ℕ) → Result Step ScriptFault
+step_by mode names word args =
     if bytes_eq word (codes "send") then of_words 6 args (send_words names args)
     else if bytes_eq word (codes "open") then of_words 12 args (open_words names args)
     else if bytes_eq word (codes "close") then of_words 5 args (close_words names args)
@@ -218,21 +241,21 @@ step_by names word args =
     else if bytes_eq word (codes "set") then of_words 3 args (set_words names args)
     else if bytes_eq word (codes "produce") then of_words 2 args (produce_words names args)
     else if bytes_eq word (codes "tick") then of_words 2 args (tick_words names args)
-    else other_step names word args
+    else last_step mode names word args
 
 abbrev pub some_step : Result Step ScriptFault → Result (Option Step) ScriptFault
 some_step (Ok step) = Ok (Some step)
 some_step (Err fault) = Err fault
 
-abbrev pub words_step : List (List ℕ) → List (List ℕ) → Result (Option Step) ScriptFault
-words_step names [] = Ok None
-words_step names (word ∷ args) = some_step (step_by names word args)
+abbrev pub words_step : Mode → List (List ℕ) → List (List ℕ) → Result (Option Step) ScriptFault
+words_step mode names [] = Ok None
+words_step mode names (word ∷ args) = some_step (step_by mode names word args)
 
 -- a comment and a line without words do nothing
-unfoldable pub line_step : List (List ℕ) → List ℕ → Result (Option Step) ScriptFault
-line_step names line =
+unfoldable pub line_step : Mode → List (List ℕ) → List ℕ → Result (Option Step) ScriptFault
+line_step mode names line =
     if list_all (λ b. nat_lt b 128) line then
-    (if slice_index line 0 == 35 then Ok None else words_step names (words_of line))
+    (if slice_index line 0 == 35 then Ok None else words_step mode names (words_of line))
     else Err NotText
 
 abbrev pub with_step : ℕ → Result (Option Step) ScriptFault
@@ -243,14 +266,15 @@ with_step n (Ok (Some step)) (Ok more) = Ok (record { line = n; step = step } �
 with_step n (Ok (Some step)) (Err fault) = Err fault
 
 -- the lines from line n on
-abbrev pub steps_from : List (List ℕ) → ℕ → List (List ℕ) → Result (List Numbered) (ℕ × ScriptFault)
-steps_from names n [] = Ok []
-steps_from names n (line ∷ more) = with_step n (line_step names line)
-    (steps_from names (n + 1) more)
+abbrev pub steps_from : Mode → List (List ℕ) → ℕ → List (List ℕ)
+    → Result (List Numbered) (ℕ × ScriptFault)
+steps_from mode names n [] = Ok []
+steps_from mode names n (line ∷ more) = with_step n (line_step mode names line)
+    (steps_from mode names (n + 1) more)
 
 -- the steps of a script with their lines, or the first faulty line with its fault
-abbrev pub steps : List (List ℕ) → List ℕ → Result (List Numbered) (ℕ × ScriptFault)
-steps names script = steps_from names 1 (lines script)
+abbrev pub steps : Mode → List (List ℕ) → List ℕ → Result (List Numbered) (ℕ × ScriptFault)
+steps mode names script = steps_from mode names 1 (lines script)
 
 -- what a function returned is this, unless memory ran out
 abbrev pub Fails : {Y : Type 0} → StepFault → Result Y ScriptFault → Type 0

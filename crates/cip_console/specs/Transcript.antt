@@ -23,7 +23,8 @@ use Rattle.cip_console.specs.declared.steps.Step.TheVariants as steps
 use Rattle.cip_console.specs.declared.steps.Numbered.{Numbered}
 use Rattle.cip_console.specs.declared.steps.ScriptFault.{ScriptFault}
 use Rattle.cip_console.specs.declared.steps.ScriptFault.TheVariants.{NoFrame, ClockFull}
-use Rattle.cip_console.specs.Show.{entry_text, name_of, trail_text}
+use Rattle.cip_console.specs.Chained.{chain_of}
+use Rattle.cip_console.specs.Show.{chain_text, entry_text, name_of, trail_text}
 use Rattle.cip_console.specs.TablesText.{tables_text}
 
 abbrev pub names_of : Plan → List (List ℕ)
@@ -122,6 +123,10 @@ tabled t j m = record { text = tables_in t j m (slice_get t.modules m.0); after 
 abbrev pub trailed : Journal → ModuleId → ℕ → Part
 trailed j m op = record { text = trail_text (trail_of j m.0 op); after = Ok j }
 
+-- `chain M OP`
+abbrev pub chained : Plan → Journal → ModuleId → ℕ → Part
+chained t j m op = record { text = chain_text (names_of t) (chain_of t j m.0 op); after = Ok j }
+
 -- one step of a script
 abbrev pub played : Plan → Journal → Step → Part
 played t j (steps.Feed m command) = given t j m (inputs.Command command)
@@ -131,6 +136,7 @@ played t j (steps.Lose frame) = lost t j frame
 played t j (steps.Run limit) = ran t limit j
 played t j (steps.Tables m) = tabled t j m
 played t j (steps.Trail m op) = trailed j m op
+played t j (steps.Chain m op) = chained t j m op
 
 abbrev pub played_all : Plan → Journal → List Numbered → Part
 played_all t j [] = record { text = []; after = Ok j }

@@ -10,9 +10,10 @@ ghost use Rattle.cip_console.specs.declared.console.ConsoleFault.TheVariants.{No
 use crate::names::names_of;
 use crate::playing::{PlayFault, flush, play};
 use crate::source::{ReadFault, SCRIPT_LIMIT, Sink, Source, WriteFault, read_script};
-use crate::steps::{Numbered, ScriptFault, StepsFault, read_steps};
+use crate::steps::{Mode, Numbered, ScriptFault, StepsFault, read_steps};
 use cip_base::{Bytes, NoMemory};
 use cip_module::Module;
+use cip_threads::RunFault;
 use cip_topology::Topology;
 use cip_world::{NewFault, World};
 use std::alloc::{AllocError, Global};
@@ -38,6 +39,10 @@ pub enum ConsoleFault {
     /// The modules are not those of the topology, or not as at the beginning. Nothing was written.
     #[error("{0}")]
     New(NewFault),
+    /// A run of modules on threads came to no end: no thread could be made, a clock is full, or a
+    /// thread and the journal differ. Nothing was written.
+    #[error("{0}")]
+    Run(RunFault),
 }
 
 impl From<AllocError> for ConsoleFault {
@@ -104,14 +109,14 @@ fn run_script<W: Sink>(
     modules: Vec<Box<dyn Module + Send>>,
 ) -> Result<(), ConsoleFault>
     ensures wrote { Wrote topology (W.contents writer.old) (W.contents writer.new)
-        (steps (names_of topology) script.now) result }
+        (steps Mode.InTurn (names_of topology) script.now) result }
     ensures read { result ≢ Err ConsoleFault.Read }
     ensures new { (f : _) → result ≡ Err (ConsoleFault.New f) → IsNewFault topology
         (map (λ b. config_of b) modules.items) (map (λ b. state_of b) modules.items) f }
     ensures write { result ≡ Err ConsoleFault.Write → W.has_refused writer.new }
 {
     let names = names_of(alloc, &topology)?;
-    match read_steps(alloc, names.as_slice(), script) {
+    match read_steps(alloc, Mode::InTurn, names.as_slice(), script) {
         Ok(steps) => match World::new(alloc, topology, modules) {
             Ok(mut world) => run_steps(alloc, &mut world, names.as_slice(), steps, writer),
             Err(NewFault::NoMemory) => Err(ConsoleFault::NoMemory),

@@ -3,6 +3,8 @@
 
 mod boxes;
 mod console;
+mod explaining;
+mod live;
 mod names;
 mod options;
 mod playing;
@@ -14,8 +16,10 @@ mod steps;
 mod text;
 mod words;
 
-pub use boxes::{chassis, run_chassis, run_new};
+pub use boxes::{chassis, run_chassis, run_new, run_new_live};
 pub use console::{ConsoleFault, run};
+pub use explaining::{Explained, WordFault, explain};
+pub use live::run_live;
 pub use options::{HELP, Options, OptionsFault, VERSION, read_options};
 pub use source::{Out, Plain, ReadFault, SCRIPT_LIMIT, Script, Sink, Source, read_script};
 pub use steps::{Numbered, ScriptFault, Step};

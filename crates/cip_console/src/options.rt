@@ -22,7 +22,8 @@ pub struct Options {
 #[derive(Clone, Copy, Debug, PartialEq, Eq, Error)]
 pub enum OptionsFault {
     /// The words are none of the program's.
-    #[error("usage: cipbridge [--topology FILE] [--script FILE]; `cipbridge --help` says more")]
+    #[error("usage: cipbridge [--topology FILE] [--script FILE] [--threads] [--turns N]; \
+        `cipbridge --help` says more")]
     Usage,
     /// What the program does was asked for.
     #[error("{HELP}")]
@@ -50,18 +51,20 @@ pub const VERSION: &str = "0.1.0";
 pub const HELP: &str = "\
 cipbridge runs a script over the modules of a CIP chassis and prints each hop of each message.
 
-usage: cipbridge [--topology FILE] [--script FILE]
+usage: cipbridge [--topology FILE] [--script FILE] [--threads] [--turns N]
 
   --topology FILE   the links and modules, as TOML; without it a chassis of a scanner S,
                     bridges A and B, and an adapter E
   --script FILE     the commands, ticks, deliveries and losses, a line each; without it the
                     standard input
+  --threads         each module on a thread of its own: the script has commands and ticks alone
+  --turns N         with --threads: end after N events, 1 to 1000000; without it after 100000
   -h, --help        this text
   -V, --version     the version
 
 exit status: 0 done, 1 a faulty script, a frame that does not wait or a full clock, 2 wrong
-options, 3 a faulty topology, 4 a file that can't be read or output that can't be written,
-5 no memory";
+options, 3 a faulty topology, 4 a file that can't be read, output that can't be written or no
+thread, 5 no memory, 6 a thread that differs from the journal";
 
 /// The greatest number of turns.
 pub const MOST_TURNS: u32 = 1_000_000;
@@ -103,6 +106,19 @@ fn text_at(
     }
 }
 
+// The number of turns: the one that is asked for, where it is in its range.
+fn turns_at(matches: &ArgMatches<'_>) -> Result<u32, OptionsFault>
+    ensures { IfOk result (λ turns. (1 ≤ turns) × (turns ≤ MOST_TURNS)) }
+{
+    if matches.get_str("turns").is_none() {
+        return Ok(DEFAULT_TURNS);
+    }
+    match matches.get_one::<u32>("turns") {
+        Some(turns) if 1 <= turns && turns <= MOST_TURNS => Ok(turns),
+        _ => Err(OptionsFault::Usage),
+    }
+}
+
 fn fault_of(error: &clap::Error) -> OptionsFault {
     match error.kind() {
         ErrorKind::OutOfMemory => OptionsFault::NoMemory,
@@ -112,9 +128,10 @@ fn fault_of(error: &clap::Error) -> OptionsFault {
     }
 }
 
-/// Reads the words after the program's name: `--topology FILE`, `--script FILE`, each at most once,
-/// and `--help` and `--version`. There are no workers yet, so `--threads` and `--turns` are Usage,
-/// as is every other word. NoMemory where an allocation is refused.
+/// Reads the words after the program's name: `--topology FILE`, `--script FILE`, `--threads` and
+/// `--turns N`, each at most once, and `--help` and `--version`. N is 1 to 1,000,000, and 100,000
+/// where it is not given; it means nothing without `--threads`. Every other word is Usage. NoMemory
+/// where an allocation is refused.
 pub fn read_options(alloc: Global, words: &[String]) -> Result<Options, OptionsFault>
     ensures { IfOk result (λ options. (1 ≤ options.turns) × (options.turns ≤ MOST_TURNS)) }
 {
@@ -122,13 +139,10 @@ pub fn read_options(alloc: Global, words: &[String]) -> Result<Options, OptionsF
         Ok(matches) => matches,
         Err(error) => return Err(fault_of(&error)),
     };
-    if matches.get_flag("threads") || matches.get_str("turns").is_some() {
-        return Err(OptionsFault::Usage);
-    }
     Ok(Options {
         topology: text_at(alloc, &matches, "topology")?,
         script: text_at(alloc, &matches, "script")?,
-        threads: false,
-        turns: DEFAULT_TURNS,
+        threads: matches.get_flag("threads"),
+        turns: turns_at(&matches)?,
     })
 }

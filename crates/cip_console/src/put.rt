@@ -20,24 +20,23 @@ pub(crate) fn put(text: &mut Vec<u8>, bytes: &[u8]) -> Result<(), NoMemory>
 pub(crate) fn put_number(text: &mut Vec<u8>, number: u64) -> Result<(), NoMemory>
     ensures { OnOk result (text.new.items ≡ text.old.items ++ decimal number) }
 {
+    if number < 10 {
+        text.push(b'0' + number as u8)?;
+        return Ok(());
+    }
     let mut buffer = Buffer::new();
     put(text, buffer.format(number).as_bytes())
 }
 
-// A byte as its two digits, in upper case.
+// Bytes as pairs of digits, in upper case, each written into the room that is there for it.
 #[tactic(auto, unfolding(hex::specs::Hex::encode_with))]
-fn pair(byte: u8) -> [u8; 2]
-    ensures { result ≡ encode_upper (byte ∷ []) }
-{
-    [DIGITS[(byte >> 4) as usize], DIGITS[(byte & 0x0f) as usize]]
-}
-
-// Bytes as pairs of digits, in upper case.
 fn put_pairs(text: &mut Vec<u8>, bytes: &[u8]) -> Result<(), NoMemory>
     ensures { OnOk result (text.new.items ≡ text.old.items ++ encode_upper bytes.now) }
 {
+    text.reserve(2 * bytes.len())?;
     for byte in bytes {
-        put(text, &pair(*byte))?;
+        text.push_reserved(DIGITS[(*byte >> 4) as usize]);
+        text.push_reserved(DIGITS[(*byte & 0x0f) as usize]);
     }
     Ok(())
 }

@@ -1,9 +1,10 @@
 //! The lines of a transcript.
-ghost use Rattle.std.specs.Prelude.{◌≡◌, ◌++◌, OnOk, codes, decimal};
-ghost use Rattle.cip_console.specs.Show.{bytes_text, body_text, triad_text, refusal_text, drop_text, output_text, output_line, outputs_text, frame_text, arrived_text, command_text, input_text, name_of, numbers_text, trail_text, head_text, lost_text, entry_text};
+ghost use Rattle.std.specs.Prelude.{◌≡◌, ◌++◌, OnOk, Ok, codes, decimal};
+ghost use Rattle.cip_console.specs.Show.{bytes_text, body_text, triad_text, refusal_text, drop_text, output_text, output_line, outputs_text, frame_text, arrived_text, command_text, input_text, name_of, numbers_text, trail_text, names_text, chain_text, head_text, lost_text, entry_text};
 
 use crate::put::{put, put_bytes, put_number};
-use cip_base::{Address, Bytes, NoMemory, PortNumber, Triad};
+use cip_base::{Address, Bytes, ModuleId, NoMemory, PortNumber, Triad};
+use cip_chain::ChainView;
 use cip_module::{Body, Command, Dropped, Output, Refused};
 use cip_world::{Entry, FrameName, Input};
 
@@ -260,5 +261,43 @@ pub(crate) fn put_trail(text: &mut Vec<u8>, entries: &[usize]) -> Result<(), NoM
 {
     put(text, b"trail")?;
     put_numbers(text, entries)?;
+    put(text, b"\n")
+}
+
+// The names of modules, each behind a space.
+fn put_names(text: &mut Vec<u8>, names: &[Bytes], modules: &[ModuleId]) -> Result<(), NoMemory>
+    ensures { OnOk result (text.new.items ≡ text.old.items ++ names_text names.now modules.now) }
+{
+    for at in modules {
+        put(text, b" ")?;
+        put(text, name_in(names, at.0))?;
+    }
+    Ok(())
+}
+
+/// The modules of a chain, and the instances of the assemblies at its end.
+pub(crate) fn put_chain(
+    text: &mut Vec<u8>,
+    names: &[Bytes],
+    view: &ChainView,
+) -> Result<(), NoMemory>
+    ensures { OnOk result (text.new.items ≡ text.old.items ++ chain_text names.now (Ok view.now)) }
+{
+    put(text, b"chain")?;
+    put_names(text, names, view.modules.as_slice())?;
+    put(text, b" ")?;
+    put_number(text, u64::from(view.consume))?;
+    put(text, b" ")?;
+    put_number(text, u64::from(view.produce))?;
+    put(text, b"\n")
+}
+
+/// The module that lacks the next connection.
+pub(crate) fn put_broken(text: &mut Vec<u8>, name: &[u8]) -> Result<(), NoMemory>
+    ensures { OnOk result (text.new.items
+        ≡ text.old.items ++ (codes "broken " ++ name.now ++ codes "\n")) }
+{
+    put(text, b"broken ")?;
+    put(text, name)?;
     put(text, b"\n")
 }

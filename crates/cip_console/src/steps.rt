@@ -1,6 +1,6 @@
 //! The steps of a script, or its first faulty line.
 ghost use Rattle.std.specs.Prelude.{◌≡◌, ◌++◌, ◌∷◌, [], length, OnOk};
-ghost use Rattle.cip_console.specs.Steps.{Gives, Reads, of_words, send_words, params_of, open_words, close_words, enter_words, set_words, produce_words, tick_words, deliver_words, lose_words, run_words, tables_words, trail_words, other_step, step_by, line_step, steps, texts};
+ghost use Rattle.cip_console.specs.Steps.{Gives, Fails, Reads, of_words, send_words, params_of, open_words, close_words, enter_words, set_words, produce_words, tick_words, deliver_words, lose_words, run_words, tables_words, trail_words, chain_words, other_step, is_other, unheard, step_by, line_step, steps, texts};
 ghost use Rattle.cip_console.specs.declared.steps.StepFault.TheVariants.{NoMemory as NoStepMemory};
 ghost use Rattle.cip_console.specs.declared.steps.StepsFault.TheVariants.{NoMemory as NoStepsMemory};
 
@@ -32,6 +32,16 @@ pub enum Step {
     Tables { module_: ModuleId },
     /// The entries that the request of an op went through are shown.
     Trail { module_: ModuleId, op: u32 },
+    /// The modules through which the connection of an op goes are shown.
+    Chain { module_: ModuleId, op: u32 },
+}
+
+/// How a script is played: a step after the other, or by modules on threads of their own, which are
+/// given commands and ticks alone.
+#[derive(Clone, Copy, Debug, PartialEq, Eq)]
+pub(crate) enum Mode {
+    InTurn,
+    OnThreads,
 }
 
 /// A step, and the line that it stands in, from 1.
@@ -62,6 +72,9 @@ pub enum ScriptFault {
     /// No module has this name.
     #[error("no such module")]
     NoModule,
+    /// The word is none that modules on threads of their own can be given.
+    #[error("not with --threads")]
+    NotWithThreads,
     /// The line has a byte that is not ASCII.
     #[error("not text")]
     NotText,
@@ -293,6 +306,18 @@ fn trail_step(names: &[Bytes], args: &[&str]) -> Result<Step, StepFault>
     Ok(Step::Trail { module_, op })
 }
 
+// `chain M OP`
+fn chain_step(names: &[Bytes], args: &[&str]) -> Result<Step, StepFault>
+    ensures { Gives result (of_words 2 (texts args.now) (chain_words names.now (texts args.now))) }
+{
+    if args.len() != 2 {
+        return Err(StepFault::Fault(ScriptFault::Count));
+    }
+    let module_ = module_of(names, nth(args, 0))?;
+    let op = number_u32(nth(args, 1))?;
+    Ok(Step::Chain { module_, op })
+}
+
 // The words that give a module nothing.
 fn other_step(alloc: Global, names: &[Bytes], word: &str, args: &[&str]) -> Result<Step, StepFault>
     ensures { Gives result (other_step names.now word.now (texts args.now)) }
@@ -307,14 +332,44 @@ fn other_step(alloc: Global, names: &[Bytes], word: &str, args: &[&str]) -> Resu
         tables_step(names, args)
     } else if word == "trail" {
         trail_step(names, args)
+    } else if word == "chain" {
+        chain_step(names, args)
     } else {
         Err(StepFault::Fault(ScriptFault::UnknownWord))
     }
 }
 
+// Whether a word is one that gives a module nothing.
+fn is_other(word: &str) -> bool
+    ensures { result ≡ is_other word.now }
+{
+    word == "deliver"
+        || word == "lose"
+        || word == "run"
+        || word == "tables"
+        || word == "trail"
+        || word == "chain"
+}
+
+// Where modules run on threads of their own, no other words are taken.
+fn unheard(word: &str) -> StepFault
+    ensures { Fails result (unheard word.now) }
+{
+    if is_other(word) {
+        return StepFault::Fault(ScriptFault::NotWithThreads);
+    }
+    StepFault::Fault(ScriptFault::UnknownWord)
+}
+
 // The step that the first word and the others make.
-fn step_of(alloc: Global, names: &[Bytes], word: &str, args: &[&str]) -> Result<Step, StepFault>
-    ensures { Gives result (step_by names.now word.now (texts args.now)) }
+fn step_of(
+    alloc: Global,
+    mode: Mode,
+    names: &[Bytes],
+    word: &str,
+    args: &[&str],
+) -> Result<Step, StepFault>
+    ensures { Gives result (step_by mode names.now word.now (texts args.now)) }
 {
     if word == "send" {
         send_step(alloc, names, args)
@@ -331,14 +386,24 @@ fn step_of(alloc: Global, names: &[Bytes], word: &str, args: &[&str]) -> Result<
     } else if word == "tick" {
         tick_step(names, args)
     } else {
-        other_step(alloc, names, word, args)
+        match mode {
+            Mode::InTurn => other_step(alloc, names, word, args),
+            Mode::OnThreads => Err(unheard(word)),
+        }
     }
 }
 
 // The step of a line, if it is no comment and not blank.
 #[tactic(auto, using(crate::proofs::StepsLaws::step_laws))]
-fn line_step(alloc: Global, names: &[Bytes], line: &[u8]) -> Result<Option<Step>, StepFault>
-    ensures { Gives result (line_step names.now line.now) }
+fn line_step<'a>(
+    alloc: Global,
+    mode: Mode,
+    names: &[Bytes],
+    line: &'a [u8],
+    parts: &mut Vec<&'a str>,
+    words: &mut Vec<&'a str>,
+) -> Result<Option<Step>, StepFault>
+    ensures { Gives result (line_step mode names.now line.now) }
 {
     let line = match text::ascii(line) {
         Some(line) => line,
@@ -347,10 +412,10 @@ fn line_step(alloc: Global, names: &[Bytes], line: &[u8]) -> Result<Option<Step>
     if text::is_comment(line) {
         return Ok(None);
     }
-    let words = text::words(alloc, line)?;
+    text::words(line, parts, words)?;
     match words.split_first() {
         None => Ok(None),
-        Some((word, args)) => Ok(Some(step_of(alloc, names, word, args)?)),
+        Some((word, args)) => Ok(Some(step_of(alloc, mode, names, word, args)?)),
     }
 }
 
@@ -365,15 +430,18 @@ fn push(found: &mut Vec<Numbered>, step: Numbered) -> Result<(), AllocError>
 /// All steps of a script, or its first faulty line. Only memory is no property of the script.
 pub(crate) fn read_steps(
     alloc: Global,
+    mode: Mode,
     names: &[Bytes],
     script: &[u8],
 ) -> Result<Vec<Numbered>, StepsFault>
-    ensures { Reads (λ v. v.items) result (steps names.now script.now) }
+    ensures { Reads (λ v. v.items) result (steps mode names.now script.now) }
 {
     let lines = text::lines_of(alloc, script)?;
     let mut found = Vec::new(alloc);
+    let mut parts = Vec::new(alloc);
+    let mut words = Vec::new(alloc);
     for (i, line) in lines.iter().enumerate() {
-        match line_step(alloc, names, line) {
+        match line_step(alloc, mode, names, *line, &mut parts, &mut words) {
             Ok(None) => {}
             Ok(Some(step)) => push(&mut found, Numbered { line: i + 1, step })?,
             Err(StepFault::Fault(fault)) => return Err(StepsFault::Script(i + 1, fault)),

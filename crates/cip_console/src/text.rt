@@ -1,6 +1,6 @@
 //! Lines, words, numbers and bytes as they stand in a script.
 
-ghost use Rattle.std.specs.Prelude.{◌≡◌, ◌==◌, ◌^◌, ◌↔◌, ◌≤◌, map, IfOk, IfSome, IsTrue, slice_index, IsSome, option_map};
+ghost use Rattle.std.specs.Prelude.{◌≡◌, ◌==◌, ◌^◌, ◌↔◌, ◌≤◌, map, IfOk, OnOk, IfSome, IsTrue, slice_index, IsSome, option_map};
 ghost use Rattle.std.specs.Str.{IsAscii};
 ghost use Rattle.std.specs.Str.Lines.{lines, lines_of_parts, strip_carriage_return};
 ghost use Rattle.cip_console.specs.Text.{words_of, numeral, number_of, below, bytes_of, is_space, is_newline};
@@ -54,25 +54,32 @@ fn parts_of(alloc: Global, script: &[u8]) -> Result<Vec<&[u8]>, AllocError>
     script.split(|byte| *byte == b'\n').collect(alloc)
 }
 
-/// The parts of a line between its spaces.
-fn spaced(alloc: Global, line: &str) -> Result<Vec<&str>, AllocError>
-    ensures { IfOk result (λ v. map (λ part. part.now) v.items ≡ slice_split is_space line.now) }
+// The parts of a line between its spaces, in place of those before.
+fn spaced<'a>(line: &'a str, parts: &mut Vec<&'a str>) -> Result<(), AllocError>
+    ensures { OnOk result (map (λ part. part.now) parts.new.items
+        ≡ slice_split is_space line.now) }
 {
-    line.split(' ').collect(alloc)
+    parts.clear();
+    parts.extend(line.split(' '))?;
+    Ok(())
 }
 
-/// The words of a line.
-pub(crate) fn words(alloc: Global, line: &str) -> Result<Vec<&str>, AllocError>
-    ensures { IfOk result (λ v. map (λ word. word.now) v.items ≡ words_of line.now) }
+/// The words of a line, in place of those before. The room of the parts is kept for the next line.
+pub(crate) fn words<'a>(
+    line: &'a str,
+    parts: &mut Vec<&'a str>,
+    found: &mut Vec<&'a str>,
+) -> Result<(), AllocError>
+    ensures { OnOk result (map (λ word. word.now) found.new.items ≡ words_of line.now) }
 {
-    let parts = spaced(alloc, line)?;
-    let mut found = Vec::new(alloc);
-    for part in &parts {
+    spaced(line, parts)?;
+    found.clear();
+    for part in parts.iter() {
         if !part.is_empty() {
             found.push(*part)?;
         }
     }
-    Ok(found)
+    Ok(())
 }
 
 /// Whether a plus stands first.

@@ -1,6 +1,7 @@
 //! Why the program ends with an exit status above 0.
 use cip_base::NoMemory;
-use cip_console::{ConsoleFault, OptionsFault, ScriptFault};
+use cip_console::{ConsoleFault, Explained, OptionsFault};
+use cip_threads::RunFault;
 use cip_topology::LoadFault;
 use thiserror::Error;
 
@@ -18,14 +19,25 @@ pub enum Fault {
     /// A file can't be read, or is too long.
     #[error("{0}: can't be read, or has more than 1,048,576 bytes")]
     Read(String),
-    /// A line of the script.
+    /// A line of the script, and what is wrong with it.
     #[error("{0}:{1}: {2}")]
-    Script(String, usize, ScriptFault),
+    Script(String, usize, Explained),
     /// The console, but for reading and for the script.
     #[error("{0}")]
     Console(ConsoleFault),
     #[error("out of memory")]
     NoMemory,
+}
+
+// The exit status of a run of modules on threads.
+fn status_of_run(fault: &RunFault) -> u8 {
+    match fault {
+        RunFault::Step(_) => 1,
+        RunFault::New(_) => 3,
+        RunFault::NoThread => 4,
+        RunFault::NoMemory => 5,
+        RunFault::Split(_) => 6,
+    }
 }
 
 // The exit status of a fault of the console.
@@ -36,12 +48,14 @@ fn status_of(fault: &ConsoleFault) -> u8 {
         ConsoleFault::Read => 4,
         ConsoleFault::Write => 4,
         ConsoleFault::NoMemory => 5,
+        ConsoleFault::Run(fault) => status_of_run(fault),
     }
 }
 
 impl Fault {
     /// The exit status: 1 for the script, 2 for the options, 3 for the topology, 4 for reading and
-    /// writing, 5 for want of memory; 0 for a text that was asked for.
+    /// writing or where no thread can be made, 5 for want of memory, 6 where a thread and the journal
+    /// differ; 0 for a text that was asked for.
     pub fn status(&self) -> u8 {
         match self {
             Fault::Options(OptionsFault::Help) => 0,

@@ -7,7 +7,7 @@ mod program;
 use std::process::ExitCode;
 
 fn main(rt: HostRuntime) -> ExitCode {
-    match program::run(&rt) {
+    match program::run(&rt, &rt) {
         Ok(()) => ExitCode::SUCCESS,
         Err(fault) => {
             let _ = eprintln!(rt; "cipbridge: {fault}");

@@ -3,12 +3,15 @@
 use crate::fault::Fault;
 use cip_base::NoMemory;
 use cip_console::{
-    ConsoleFault, Options, OptionsFault, Out, Plain, ReadFault, Source, chassis, read_options,
-    read_script, run_new,
+    ConsoleFault, Options, OptionsFault, Out, Plain, ReadFault, Script, Source, chassis, explain,
+    read_options, read_script, run_new, run_new_live,
 };
+use cip_threads::OpenGate;
 use cip_topology::{LoadFault, Topology, load};
 use std::alloc::Global;
 use std::fs::File;
+use std::sync::Wait;
+use std::thread::Threads;
 use std::{env, io};
 
 // A name of its own for a fault.
@@ -27,18 +30,22 @@ fn unread(alloc: Global, name: &str) -> Fault {
     }
 }
 
-// What the console says, with the name of the script.
-fn told(alloc: Global, script: &str, fault: ConsoleFault) -> Fault {
-    let name = match named(alloc, script) {
+// What the console says, with the name of the script, and of a line what is wrong there.
+fn told(alloc: Global, name: &str, script: &[u8], fault: ConsoleFault) -> Fault {
+    let name = match named(alloc, name) {
         Ok(name) => name,
         Err(fault) => return fault,
     };
     match fault {
-        ConsoleFault::Script(line, fault) => Fault::Script(name, line, fault),
+        ConsoleFault::Script(line, fault) => match explain(alloc, script, line, fault) {
+            Ok(explained) => Fault::Script(name, line, explained),
+            Err(NoMemory) => Fault::NoMemory,
+        },
         ConsoleFault::Read => Fault::Read(name),
         ConsoleFault::Write => Fault::Console(ConsoleFault::Write),
         ConsoleFault::NoMemory => Fault::NoMemory,
         ConsoleFault::New(fault) => Fault::Console(ConsoleFault::New(fault)),
+        ConsoleFault::Run(fault) => Fault::Console(ConsoleFault::Run(fault)),
     }
 }
 
@@ -102,19 +109,43 @@ fn topology(rt: &HostRuntime, alloc: Global, options: &Options) -> Result<Topolo
 }
 
 // Runs the script that a reader gives, and writes the transcript to the standard output.
-fn play<S: Source>(
+fn play<T: Threads + Wait + Sync, S: Source>(
     rt: &HostRuntime,
+    workers: &T,
+    options: &Options,
     name: &str,
     script: &mut S,
     topology: Topology,
 ) -> Result<(), Fault> {
     let alloc = rt.alloc();
+    let script = match read_script(alloc, script) {
+        Ok(script) => script,
+        Err(ReadFault::NoMemory) => return Err(Fault::NoMemory),
+        Err(_) => return Err(unread(alloc, name)),
+    };
+    let mut reader = Script {
+        rest: script.as_slice(),
+    };
     let mut writer = Out {
         inner: io::writer(rt),
     };
-    match run_new(alloc, script, &mut writer, topology) {
+    let result = if options.threads {
+        let turns = options.turns as usize;
+        run_new_live(
+            workers,
+            alloc,
+            &mut reader,
+            &mut writer,
+            topology,
+            turns,
+            &OpenGate,
+        )
+    } else {
+        run_new(alloc, &mut reader, &mut writer, topology)
+    };
+    match result {
         Ok(()) => Ok(()),
-        Err(fault) => Err(told(alloc, name, fault)),
+        Err(fault) => Err(told(alloc, name, script.as_slice(), fault)),
     }
 }
 
@@ -126,8 +157,9 @@ fn say(rt: &HostRuntime, asked: OptionsFault) -> Result<(), Fault> {
     }
 }
 
-/// The whole program, but for what it says of a fault and for its exit status.
-pub fn run(rt: &HostRuntime) -> Result<(), Fault> {
+/// The whole program, but for what it says of a fault and for its exit status. `workers` is the same
+/// runtime, as what can start threads.
+pub fn run<T: Threads + Wait + Sync>(rt: &HostRuntime, workers: &T) -> Result<(), Fault> {
     let alloc = rt.alloc();
     let options = match options(rt, alloc) {
         Ok(options) => options,
@@ -141,11 +173,11 @@ pub fn run(rt: &HostRuntime) -> Result<(), Fault> {
             let mut script = Plain {
                 inner: open(rt, alloc, path.as_str())?,
             };
-            play(rt, path.as_str(), &mut script, topology)
+            play(rt, workers, &options, path.as_str(), &mut script, topology)
         }
         None => {
             let mut script = Plain { inner: rt.reader() };
-            play(rt, "<stdin>", &mut script, topology)
+            play(rt, workers, &options, "<stdin>", &mut script, topology)
         }
     }
 }

@@ -10,7 +10,7 @@ struct Row {
     lines: &'static [&'static str],
 }
 
-const ROWS: [Row; 19] = [
+const ROWS: [Row; 27] = [
     Row {
         name: "a request of an odd length gets a pad behind it",
         script: "\
@@ -357,6 +357,194 @@ trail S 1
         ],
     },
     Row {
+        name: "the chain of an open, and nothing where no command of that op opened one",
+        script: "\
+chain S 1
+open S 1 0x07 0xFA 020501030207200424642C652C66 0x42 0 1 10000 0x4806 10000 0x4804
+chain S 1
+run 100
+chain S 1
+chain A 1
+chain S 2
+",
+        lines: &[
+            "not open",
+            "not open",
+            "quiet",
+            "chain S A B E 101 102",
+            "not open",
+            "not open",
+        ],
+    },
+    Row {
+        name: "a chain that is broken where a bridge has heard nothing for too long",
+        script: "\
+open S 1 0x07 0xFA 020501030207200424642C652C66 0x42 0 1 10000 0x4806 10000 0x4804
+run 100
+tick B 40
+chain S 1
+chain A 1
+",
+        lines: &[
+            "7 B tick 40",
+            "  0 expired 66 257 168496141",
+            "broken B",
+            "not open",
+        ],
+    },
+    Row {
+        name: "a chain that is broken at its end, and then at its first bridge",
+        script: "\
+open S 1 0x07 0xFA 020501030207200424642C652C66 0x42 0 1 10000 0x4806 10000 0x4804
+run 100
+tick E 40
+chain S 1
+tick A 40
+chain S 1
+tick S 40
+chain S 1
+",
+        lines: &["broken E", "broken A", "not open"],
+    },
+    Row {
+        name: "a datum down the chain and one up, and data of a wrong size",
+        script: "\
+open S 1 0x07 0xFA 020501030207200424642C652C66 0x42 0 1 10000 0x4806 10000 0x4804
+run 100
+trail S 1
+chain S 1
+enter S 1 0100AABBCCDD
+run 100
+tables E
+enter S 1 0100AABBCC
+enter S 1 0100AABBCCDDEE
+produce E 102
+run 100
+",
+        lines: &[
+            "0 S open 1",
+            "  0 send 2 05 request 1 54022006240107F90000000011000000420001010D0C0B0A00000000102700000648\
+102700000448010601030207200424642C652C66",
+            "trail 0 1 2 3",
+            "chain S A B E 101 102",
+            "  0 send 2 05 data 34 0100AABBCCDD",
+            "  0 send 1 03 data 50 0100AABBCCDD",
+            "  0 send 2 07 data 65 0100AABBCCDD",
+            "  0 consumed 66 257 168496141 101 0100AABBCCDD",
+            "  assembly 101 AABBCCDD",
+            "  0 refused WrongSize",
+            "  0 refused WrongSize",
+            "  0 send 2 01 data 49 01000000",
+            "  0 send 1 00 data 33 01000000",
+            "  0 send 2 01 data 17 01000000",
+            "  0 arrived 1 01000000",
+        ],
+    },
+    Row {
+        name: "the ids of a chain, and its replies on the way back",
+        script: "\
+open S 1 0x07 0xFA 020501030207200424642C652C66 0x42 0 1 10000 0x4806 10000 0x4804
+run 100
+",
+        lines: &[
+            "  0 send 2 01 reply 1 D40000004100000031000000420001010D0C0B0A10270000102700000000",
+            "  0 send 1 00 reply 1 D40000003200000021000000420001010D0C0B0A10270000102700000000",
+            "  0 send 2 01 reply 1 D40000002200000011000000420001010D0C0B0A10270000102700000000",
+            "  0 done 1 D40000002200000011000000420001010D0C0B0A10270000102700000000",
+        ],
+    },
+    Row {
+        name: "a close that is lost half way, and a later connection of the same triad",
+        script: "\
+open S 1 0x07 0xFA 020501030207200424642C652C66 0x42 0 1 10000 0x4806 10000 0x4804
+run 100
+enter S 1 0100AABBCCDD
+deliver 7.0
+close S 2 1 0x07 0xFA
+deliver 9.0
+lose 10.0
+chain S 1
+open S 3 0x07 0xFA 020501030207200424642C652C66 0x42 0 1 10000 0x4806 10000 0x4804
+deliver 12.0
+deliver 13.0
+deliver 14.0
+deliver 15.0
+chain S 3
+tick B 40
+tick E 40
+open S 4 0x07 0xFA 020501030207200424642C672C66 0x42 0 1 10000 0x4806 10000 0x4804
+deliver 19.0
+deliver 20.0
+deliver 21.0
+deliver 22.0
+deliver 23.0
+deliver 24.0
+chain S 4
+chain S 3
+deliver 8.0
+chain S 4
+",
+        lines: &[
+            "  0 send 1 03 data 50 0100AABBCCDD",
+            "11 lost 10.0",
+            "not open",
+            "14 B frame 13.0",
+            "  0 send 1 00 reply 3 D40001010001420001010D0C0B0A0500",
+            "16 S frame 15.0",
+            "  0 done 3 D40001010001420001010D0C0B0A0500",
+            "not open",
+            "17 B tick 40",
+            "  0 expired 66 257 168496141",
+            "18 E tick 40",
+            "  0 expired 66 257 168496141",
+            "  0 done 4 D40000002600000013000000420001010D0C0B0A10270000102700000000",
+            "chain S A B E 103 102",
+            "not open",
+            "26 B frame 8.0",
+            "  0 dropped UnknownId",
+            "chain S A B E 103 102",
+        ],
+    },
+    Row {
+        name: "one count twice, a close, and what stands after it",
+        script: "\
+open S 1 0x07 0xFA 020501030207200424642C652C66 0x42 0 1 10000 0x4806 10000 0x4804
+run 100
+enter S 1 0100AABBCCDD
+enter S 1 010011223344
+run 100
+tables E
+chain S 1
+close S 2 1 0x07 0xFA
+run 100
+chain S 1
+enter S 1 0200AABBCCDD
+close S 2 1 0x07 0xFA
+",
+        lines: &[
+            "  0 consumed 66 257 168496141 101 0100AABBCCDD",
+            "  0 consumed 66 257 168496141 101 010011223344",
+            "  assembly 101 AABBCCDD",
+            "chain S A B E 101 102",
+            "  0 done 2 CE000000420001010D0C0B0A0000",
+            "not open",
+            "  0 refused NotOpen",
+            "  0 refused OpUsed",
+        ],
+    },
+    Row {
+        name: "a chain while its close is under way",
+        script: "\
+open S 1 0x07 0xFA 020501030207200424642C652C66 0x42 0 1 10000 0x4806 10000 0x4804
+run 100
+close S 2 1 0x07 0xFA
+chain S 1
+run 1
+chain S 1
+",
+        lines: &["7 S close 2", "not open", "8 A frame 7.0", "not open"],
+    },
+    Row {
         name: "limits of a run",
         script: "\
 send S 1 0x07 0xFA 02050103 010220012401
@@ -423,7 +611,7 @@ fn scripts_of_every_word(rt: HostRuntime) -> Result<(), Fail> {
 /// A faulty script, its first faulty line, and its fault.
 type Faulty = (&'static [u8], usize, ScriptFault);
 
-const FAULTY: [Faulty; 27] = [
+const FAULTY: [Faulty; 30] = [
     (b"open S 1", 1, ScriptFault::Count),
     (b"close S 1 1 7", 1, ScriptFault::Count),
     (b"enter S 1", 1, ScriptFault::Count),
@@ -434,7 +622,10 @@ const FAULTY: [Faulty; 27] = [
     (b"lose 0 0", 1, ScriptFault::Count),
     (b"tables", 1, ScriptFault::Count),
     (b"trail S", 1, ScriptFault::Count),
-    (b"chain S 1", 1, ScriptFault::UnknownWord),
+    (b"chain S", 1, ScriptFault::Count),
+    (b"chain C 1", 1, ScriptFault::NoModule),
+    (b"chain S 4294967296", 1, ScriptFault::BadNumber),
+    (b"chains S 1", 1, ScriptFault::UnknownWord),
     (b"tables C", 1, ScriptFault::NoModule),
     (b"tick C 0", 1, ScriptFault::NoModule),
     (b"tick S 0", 1, ScriptFault::BadNumber),

@@ -4,12 +4,16 @@
 #[cfg(test)]
 mod asking_objects;
 #[cfg(test)]
+mod by_threads;
+#[cfg(test)]
 mod closing;
 #[cfg(test)]
 mod console_rows;
 mod console_streams;
 #[cfg(test)]
 mod console_transcripts;
+#[cfg(test)]
+mod explained_faults;
 #[cfg(test)]
 mod falling_silent;
 #[cfg(test)]
@@ -28,3 +32,5 @@ mod refused_requests;
 mod sending_unconnected;
 #[cfg(test)]
 mod taking_replies;
+#[cfg(test)]
+mod transcripts_of_each_kind;

@@ -14,4 +14,4 @@ returns-in-None-split_first c =
     let no_word : words_of line ≡ [] = ap words_of (sym text) ∙ sym c.in_ok-words.ensures ∙ ap texts (sym c.deref.ensures.value ∙ no_item) in
     let plain : (slice_index line 0 == 35) ≡ false =
     ap (λ (l : List ℕ). slice_index l 0 == 35) (sym text) ∙ sym c.is_comment.ensures ∙ c.if-is_comment.false in
-    step-of_text c.args.names.now line (c.in-Some.ensures.exact.0 refl) ∙ rw (plain, no_word) refl
+    step-of_text c.args.mode c.args.names.now line (c.in-Some.ensures.exact.0 refl) ∙ rw (plain, no_word) refl
