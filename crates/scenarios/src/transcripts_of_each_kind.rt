@@ -383,12 +383,12 @@ run 100
 // The chassis file for a row, with modules of these kinds.
 fn file_for(alloc: Global, row: &Row, kinds: Kinds) -> Result<String, AllocError> {
     let mut text = String::new(alloc);
-    let mut name = "";
+    let mut is_indexed = false;
     for line in CHASSIS.lines() {
-        if let Some(rest) = line.strip_prefix("name = ") {
-            name = rest;
+        if let Some(name) = line.strip_prefix("name = ") {
+            is_indexed = kinds.is_indexed(name);
         }
-        if line == "kind = \"plain\"" && kinds.is_indexed(name) {
+        if is_indexed && line == "kind = \"plain\"" {
             text.push_str("kind = \"indexed\"")?;
         } else if line == row.line {
             text.push_str(row.instead)?;
