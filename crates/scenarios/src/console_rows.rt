@@ -10,7 +10,7 @@ struct Row {
     lines: &'static [&'static str],
 }
 
-const ROWS: [Row; 27] = [
+const ROWS: [Row; 17] = [
     Row {
         name: "a request of an odd length gets a pad behind it",
         script: "\
@@ -356,6 +356,10 @@ trail S 1
             "trail 0 1 2 3",
         ],
     },
+];
+
+/// Scripts with the word `chain`.
+const CHAINED: [Row; 10] = [
     Row {
         name: "the chain of an open, and nothing where no command of that op opened one",
         script: "\
@@ -595,15 +599,29 @@ fn has_lines(text: &str, lines: &[&str]) -> bool {
     next.is_none()
 }
 
+// That a script is run to its end, and writes its lines.
+fn plays(alloc: Global, row: &Row) -> Result<(), Fail> {
+    let (result, text) = written(alloc, row.script.as_bytes());
+    result?;
+    let text = std::str::from_utf8(text.as_slice())?;
+    if has_lines(text, row.lines) {
+        return Ok(());
+    }
+    Err(Fail::new(format_args!("{}: wrote {text}", row.name)))
+}
+
 #[test]
 fn scripts_of_every_word(rt: HostRuntime) -> Result<(), Fail> {
     for row in &ROWS {
-        let (result, text) = written(rt.alloc(), row.script.as_bytes());
-        result?;
-        let text = std::str::from_utf8(text.as_slice())?;
-        if !has_lines(text, row.lines) {
-            return Err(Fail::new(format_args!("{}: wrote {text}", row.name)));
-        }
+        plays(rt.alloc(), row)?;
+    }
+    Ok(())
+}
+
+#[test]
+fn scripts_with_chains(rt: HostRuntime) -> Result<(), Fail> {
+    for row in &CHAINED {
+        plays(rt.alloc(), row)?;
     }
     Ok(())
 }
