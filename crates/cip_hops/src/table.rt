@@ -262,6 +262,7 @@ impl HopTable {
     }
 
     /// What stands under a triad, opening or open.
+    #[inline(always)]
     pub fn held(&self, triad: &Triad) -> Option<&Held>
         ensures { option_copied result ≡ map.get self.now.held triad.now }
     {
@@ -270,6 +271,7 @@ impl HopTable {
     }
 
     // Changes what stands under a triad in its place. Its names stay.
+    #[inline(always)]
     fn change(&mut self, triad: &Triad, change: Change)
         requires { IsSomeAnd (map.get self.old.held triad.now) (Suits change) }
         ensures { IsChanged change self.old triad.now self.new }

@@ -52,6 +52,7 @@ fn instance_in(class_: u16, path: PathView<'_>) -> Option<ObjectPath>
 
 /// The object that a path names: exactly a class, an instance and perhaps an attribute, in any
 /// spelling.
+#[inline(always)]
 pub fn object_path(path: PathView<'_>) -> Option<ObjectPath>
     ensures least { IfSome result (λ _. 4 ≤ length path.entry.bytes.now) }
     ensures value { result ≡ object_of (segments_of path.entry.bytes.now) }

@@ -64,6 +64,7 @@ fn embedded(data_: &[u8]) -> &[u8]
 }
 
 #[tactic(auto, unfolding(crate::specs::UnconnectedAt::unconnected_at))]
+#[inline(always)]
 fn unconnected(data_: &[u8]) -> Result<UnconnectedView<'_>, UnconnectedFault>
     ensures { Gives unconnected_of result (unconnected_at data_.now) }
 {
@@ -91,6 +92,7 @@ fn unconnected(data_: &[u8]) -> Result<UnconnectedView<'_>, UnconnectedFault>
 ///
 /// Otherwise the first that fits: Short where bytes are missing, Long where bytes stand after the
 /// route, Route of the route's fault.
+#[inline(always)]
 pub fn read_unconnected(data_: &[u8]) -> Result<UnconnectedView<'_>, UnconnectedFault>
     ensures { IsRead unconnected_of unconnected_at ReadsUnconnected IsUnconnectedFault data_.now
         result }

@@ -13,21 +13,21 @@ returns-in-Err-clause-readable c =
     let some : length c.loop-rest.rest.now ≡ 0 → ⊥ = eqb-false _ 0 (sym c.loop-rest-test.ensures) in
     let wrong =
     at_fault c.args.bytes.now c.loop-rest.rest.now c.in-Err.fault (λ i. omega (arith, c.type_inv.bytes i))
-    (omega arith) some c.loop-rest.invariant c.in-Err.ensures.gives in
+    (omega arith) some c.loop-rest.invariant c.in-Err.ensures in
     (λ e. absurd cc, λ r. absurd (unreadable c.args.bytes.now c.in-Err.fault wrong r))
 
 pub returns-in-Err-clause-fault : goal.returns-in-Err-clause-fault
 returns-in-Err-clause-fault c =
     at_fault c.args.bytes.now c.loop-rest.rest.now c.in-Err.fault (λ i. omega (arith, c.type_inv.bytes i)) (omega arith)
-    (eqb-false _ 0 (sym c.loop-rest-test.ensures)) c.loop-rest.invariant c.in-Err.ensures.gives
+    (eqb-false _ 0 (sym c.loop-rest-test.ensures)) c.loop-rest.invariant c.in-Err.ensures
 
 pub loop-rest-smaller : goal.loop-rest-smaller
 loop-rest-smaller c =
-    falls c.args.bytes.now c.loop-rest.rest.now c.in-Ok.after.now _ (λ i. omega (arith, c.type_inv.bytes i)) c.loop-rest.invariant c.in-Ok.ensures.gives
+    falls c.args.bytes.now c.loop-rest.rest.now c.in-Ok.after.now c.in-Ok.ensures.0 (λ i. omega (arith, c.type_inv.bytes i)) c.loop-rest.invariant c.in-Ok.ensures.1
 
 pub loop-rest-preserved : goal.loop-rest-preserved
 loop-rest-preserved c =
-    one_more c.args.bytes.now c.loop-rest.rest.now c.in-Ok.after.now _ (λ i. omega (arith, c.type_inv.bytes i)) c.loop-rest.invariant c.in-Ok.ensures.gives
+    one_more c.args.bytes.now c.loop-rest.rest.now c.in-Ok.after.now c.in-Ok.ensures.0 (λ i. omega (arith, c.type_inv.bytes i)) c.loop-rest.invariant c.in-Ok.ensures.1
 
 pub returns-then-bytes-gt-MAX_PATH-clause-gives : goal.returns-then-bytes-gt-MAX_PATH-clause-gives
 returns-then-bytes-gt-MAX_PATH-clause-gives c = path_at-TooLong c.args.bytes.now (omega arith)
@@ -35,7 +35,7 @@ returns-then-bytes-gt-MAX_PATH-clause-gives c = path_at-TooLong c.args.bytes.now
 pub returns-in-Err-clause-gives : goal.returns-in-Err-clause-gives
 returns-in-Err-clause-gives c =
     path_at-stops c.args.bytes.now c.loop-rest.rest.now c.in-Err.fault (omega arith)
-    (eqb-false _ 0 (sym c.loop-rest-test.ensures)) c.loop-rest.invariant c.in-Err.ensures.gives
+    (eqb-false _ 0 (sym c.loop-rest-test.ensures)) c.loop-rest.invariant c.in-Err.ensures
 
 pub returns-clause-gives : goal.returns-clause-gives
 returns-clause-gives c =
