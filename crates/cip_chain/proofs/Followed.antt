@@ -1,7 +1,7 @@
 -- From connection to connection along a chain.
-use Rattle.std.proofs.Common.{◌≡◌, ℕ, ◌<◌, true, List, [], ◌∷◌, ◌++◌, reverse, length, Option, Some, None, refl, sym, ap, subst, ◌∙◌, arith, eqb}
+use Rattle.std.proofs.Common.{◌≡◌, ℕ, ◌<◌, true, List, [], ◌∷◌, ◌++◌, reverse, length, Some, None, refl, sym, ap, subst, ◌∙◌, arith, eqb}
 use Rattle.std.specs.Prelude.{map}
-use Rattle.std.specs.Option.{option_map_or, option_and_then}
+use Rattle.std.specs.Option.{option_and_then}
 use Rattle.std.specs.FinMap as finite
 use Rattle.std.proofs.lemmas.Bool.{eqb-true}
 use Rattle.cip_base.specs.Triads.{triad_cmp}
@@ -14,15 +14,15 @@ use Rattle.cip_open.specs.Open.{Open as OpenRequest}
 use Rattle.cip_hops.specs.declared.hop.Held.{Held}
 use Rattle.cip_hops.specs.declared.hop.Held.TheVariants.{Opening as IsOpening, Open}
 use Rattle.cip_hops.specs.declared.opening.HopUp.TheVariants.{Local as UpLocal}
-use Rattle.cip_hops.specs.Hops.{as_hop, is_hop, is_hop_by_op, hop_by_op}
+use Rattle.cip_hops.specs.Hops.{Hops, as_hop, is_hop, is_hop_by_op, hop_by_op}
 use Rattle.cip_hops.specs.Sides.{op_of}
 use Rattle.cip_hops.proofs.Steps.{triads_apart}
-use Rattle.cip_module.specs.declared.tables.HopRow.{HopRow}
 use Rattle.cip_module.proofs.Triads.{own_triads}
 use Rattle.cip_topology.specs.Plan.{Plan}
 use Rattle.cip_world.specs.Chains.{Member, HasHop, IsNextTo, GoesToEnd, GoesOnBy, last_of}
 use Rattle.cip_world.specs.Journals.{Journal, part}
 use Rattle.cip_world.specs.Runs.{IsRun, state_in}
+use Rattle.cip_world.specs.Worlds.{looked_up}
 use Rattle.cip_world.proofs.Commands.{OpenOf, opened_by_op}
 use Rattle.cip_world.proofs.OpenedOnce.{opened_once}
 use Rattle.cip_world.proofs.Parts.{run_history}
@@ -31,8 +31,8 @@ use Rattle.cip_chain.specs.declared.chains.ChainFault.{ChainFault}
 use Rattle.cip_chain.specs.declared.chains.ChainFault.TheVariants as faults
 use Rattle.cip_chain.specs.declared.seeking.Here.{Here}
 use Rattle.cip_chain.specs.Answers.{IsChainFault, IsPath, IsView, IsBroken, IsReached, left}
-use Rattle.cip_chain.specs.Found.{IsNextFault, Shows, IsNotOpen, LeadsNowhere, IsOpened}
-use Rattle.cip_chain.proofs.Opened.{has_id, id_has, local_op}
+use Rattle.cip_chain.specs.Found.{member, IsNextFault, IsNotOpen, LeadsNowhere, IsOpened}
+use Rattle.cip_chain.proofs.Opened.{has_id, id_has, local_op, look_at}
 
 -- ---- one more
 
@@ -52,41 +52,37 @@ map_more f (y ∷ xs) x = ap (λ ys. f y ∷ ys) (map_more f xs x)
 pub reached_first : (t : Plan) (j : Journal) (m op : ℕ) (here : Here) (modules : List ModuleId) → IsOpened t j m op here → modules ≡ here.at ∷ []
     → IsReached t j m op here modules
 reached_first t j m op here modules o is = record {
-  first = o.x;
+  first = member here;
   rest = [];
   at_is = o.at_is;
-  has = o.shows.has;
+  has = o.has;
   up_is = o.up_is;
   path = tt;
-  modules_are = ap (λ (n : ℕ). n ∷ []) (sym o.shows.at_is) ∙ ap (λ (ms : List ModuleId). map (λ (i : ModuleId). i.0) ms) (sym is);
-  shows = o.shows;
+  modules_are = ap (λ (ms : List ModuleId). map (λ (i : ModuleId). i.0) ms) (sym is);
+  last_is = refl;
+  has_last = o.has;
 }
 
 pub reached_next : (t : Plan) (j : Journal) (m op : ℕ) (here next : Here) (modules more : List ModuleId) → (r : IsReached t j m op here modules)
-    → (y : Member) × IsNextTo t j (last_of r.first r.rest) y × Shows t j next y → more ≡ modules ++ next.at ∷ [] → IsReached t j m op next more
-reached_next t j m op here next modules more r (y, step, shows) is = record {
+    → IsNextTo t j (member here) (member next) → more ≡ modules ++ next.at ∷ [] → IsReached t j m op next more
+reached_next t j m op here next modules more r step is = record {
   first = r.first;
-  rest = r.rest ++ y ∷ [];
+  rest = r.rest ++ member next ∷ [];
   at_is = r.at_is;
   has = r.has;
   up_is = r.up_is;
-  path = path_more t j r.first r.rest y r.path step;
-  modules_are = map_more (λ (x : Member). x.at) (r.first ∷ r.rest) y ∙ (λ i. r.modules_are i ++ sym shows.at_is i ∷ [])
+  path = path_more t j r.first r.rest (member next) r.path (subst (λ (x : Member). IsNextTo t j x (member next)) (sym r.last_is) step);
+  modules_are = map_more (λ (x : Member). x.at) (r.first ∷ r.rest) (member next) ∙ (λ i. r.modules_are i ++ next.at.0 ∷ [])
       ∙ sym (map_more (λ (n : ModuleId). n.0) modules next.at) ∙ ap (λ (ms : List ModuleId). map (λ (n : ModuleId). n.0) ms) (sym is);
-  shows = subst (Shows t j next) (sym (last_more r.first r.rest y)) shows;
+  last_is = last_more r.first r.rest (member next);
+  has_last = step.has;
 }
 
-left_is : (t : Plan) (j : Journal) (here : Here) (x : Member) → Shows t j here x → left here ≡ length x.hop.opening.path
-left_is t j here x shows = ap (λ (o : Option HopRow). option_map_or (λ (row : HopRow). length row.path) o 0) shows.row_is
-
-pub shorter : (t : Plan) (j : Journal) (here next : Here) (x : Member) → Shows t j here x → (y : Member) × IsNextTo t j x y × Shows t j next y
-    → left next < left here
-shorter t j here next x shows (y, step, there) =
-    let less = hop_shortens x.hop.opening.path step.mirrors.first step.mirrors.first_is in
+pub shorter : (t : Plan) (j : Journal) (here next : Here) → IsNextTo t j (member here) (member next) → left next < left here
+shorter t j here next step =
+    let less = hop_shortens here.hop.now.opening.path step.mirrors.first step.mirrors.first_is in
     let path = ap (λ (p : List ℕ). length p) step.mirrors.path_is in
-    let a = left_is t j here x shows in
-    let b = left_is t j next y there in
-    omega (arith, less, path, a, b)
+    omega (arith, less, path)
 
 -- ---- at the end
 
@@ -115,22 +111,39 @@ module _ (t : Plan) (j : Journal) (run : IsRun t j) (x : Member) (has : HasHop t
       (id_has op (op_of x.hop.opening.up) (ap op_of up)) only)
 
 pub viewed : (t : Plan) (j : Journal) (m op : ℕ) (here : Here) (modules : List ModuleId) (view : ChainView) → IsRun t j → (r : IsReached t j m op here modules)
-    → (e : GoesToEnd (last_of r.first r.rest).hop) × (e.consume ≡ view.consume) × (e.produce ≡ view.produce) → view.modules ≡ modules → IsView t j m op view
-viewed t j m op here modules view run r (end, consume, produce) is = record {
+    → (e : GoesToEnd here.hop.now) × (e.consume ≡ view.consume) × (e.produce ≡ view.produce) → view.modules ≡ modules → IsView t j m op view
+viewed t j m op here modules view run r at_end is =
+    let ends = subst (λ (x : Member). (e : GoesToEnd x.hop) × (e.consume ≡ view.consume) × (e.produce ≡ view.produce)) (sym r.last_is) at_end in
+    record {
+      first = r.first;
+      rest = r.rest;
+      at_is = r.at_is;
+      chain = record { has = r.has; opened = found_op t j run r.first r.has op r.up_is; goes_on = to_end t j r.first r.rest r.path ends.0 };
+      modules = r.modules_are ∙ ap (λ (ms : List ModuleId). map (λ (n : ModuleId). n.0) ms) (sym is);
+      end = ends.0;
+      consume_is = ends.1;
+      produce_is = ends.2;
+    }
+
+pub broken : (t : Plan) (j : Journal) (m op : ℕ) (here : Here) (modules : List ModuleId) (b : ℕ) → (r : IsReached t j m op here modules)
+    → LeadsNowhere t j (member here) b → IsBroken t j m op b
+broken t j m op here modules b r nowhere = record {
   first = r.first;
   rest = r.rest;
   at_is = r.at_is;
-  chain = record { has = r.has; opened = found_op t j run r.first r.has op r.up_is; goes_on = to_end t j r.first r.rest r.path end };
-  modules = r.modules_are ∙ ap (λ (ms : List ModuleId). map (λ (n : ModuleId). n.0) ms) (sym is);
-  end = end;
-  consume_is = consume;
-  produce_is = produce;
+  has = r.has;
+  up_is = r.up_is;
+  path = r.path;
+  nowhere = subst (λ (x : Member). LeadsNowhere t j x b) (sym r.last_is) nowhere;
 }
 
-pub broken : (t : Plan) (j : Journal) (m op : ℕ) (here : Here) (modules : List ModuleId) (b : ℕ) → (r : IsReached t j m op here modules)
-    → LeadsNowhere t j (last_of r.first r.rest) b
-    → IsBroken t j m op b
-broken t j m op here modules b r nowhere = record { first = r.first; rest = r.rest; at_is = r.at_is; has = r.has; up_is = r.up_is; path = r.path; nowhere = nowhere }
+-- where a look finds nothing, nothing is open
+pub not_opened : (t : Plan) (j : Journal) (m op : ℕ) → IsRun t j → None ≡ looked_up t j m (λ (hs : Hops). hop_by_op hs op) → IsNotOpen t j m op
+not_opened t j m op run none x has same up =
+    let no : None ≡ Some x.hop =
+    none ∙ ap (λ (n : ℕ). looked_up t j n (λ (hs : Hops). hop_by_op hs op)) (sym same)
+    ∙ look_at t j x.at has.config (λ (hs : Hops). hop_by_op hs op) has.is_module ∙ found_op t j run x has op up in
+    cc
 
 -- before anything happened nothing is open
 pub nothing_open : (t : Plan) (j : Journal) (m op : ℕ) → j ≡ [] → IsNotOpen t j m op
@@ -142,9 +155,9 @@ nothing_open t j m op empty x has same up =
 
 -- why the next one is not found is why there is no chain
 pub fault_of : (t : Plan) (j : Journal) (m op : ℕ) (here : Here) (modules : List ModuleId) (f : ChainFault) → (r : IsReached t j m op here modules)
-    → ((x : Member) → Shows t j here x → IsNextFault t j x f) → IsChainFault t j m op f
-fault_of t j m op here modules faults.NotOpen r told = absurd (told (last_of r.first r.rest) r.shows)
-fault_of t j m op here modules (faults.Broken b) r told = broken t j m op here modules b.0 r (told (last_of r.first r.rest) r.shows)
+    → IsNextFault t j (member here) f → IsChainFault t j m op f
+fault_of t j m op here modules faults.NotOpen r told = absurd told
+fault_of t j m op here modules (faults.Broken b) r told = broken t j m op here modules b.0 r told
 fault_of t j m op here modules faults.NoMemory r told = tt
 
 empty_list : {X : Type 0} (xs : List X) → true ≡ eqb (length xs) 0 → xs ≡ []

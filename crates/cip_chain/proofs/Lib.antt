@@ -1,5 +1,4 @@
 pub mod Walked
-pub mod Rows
 pub mod Opened
 pub mod Nexts
 pub mod Followed

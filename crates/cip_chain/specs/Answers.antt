@@ -1,10 +1,8 @@
 -- What `chain` answers.
-use Rattle.std.specs.Prelude.{◌≡◌, ℕ, List, [], ◌∷◌, map, length, slice_get}
-use Rattle.std.specs.Option.{option_map_or}
+use Rattle.std.specs.Prelude.{◌≡◌, ℕ, List, [], ◌∷◌, map, length}
 use Rattle.cip_base.specs.Words.{OpNumber}
 use Rattle.cip_base.specs.declared.numbers.ModuleId.{ModuleId}
 use Rattle.cip_hops.specs.declared.opening.HopUp.TheVariants.{Local as UpLocal}
-use Rattle.cip_module.specs.declared.tables.HopRow.{HopRow}
 use Rattle.cip_topology.specs.Plan.{Plan}
 use Rattle.cip_world.specs.Chains.{Member, HasHop, IsNextTo, GoesToEnd, IsChain, last_of}
 use Rattle.cip_world.specs.Journals.{Journal}
@@ -12,7 +10,7 @@ use Rattle.cip_chain.specs.declared.chains.ChainView.{ChainView}
 use Rattle.cip_chain.specs.declared.chains.ChainFault.{ChainFault}
 use Rattle.cip_chain.specs.declared.chains.ChainFault.TheVariants as faults
 use Rattle.cip_chain.specs.declared.seeking.Here.{Here}
-use Rattle.cip_chain.specs.Found.{Shows, IsNotOpen, LeadsNowhere}
+use Rattle.cip_chain.specs.Found.{member, IsNotOpen, LeadsNowhere}
 
 -- each stands next to the one before it, from x on
 abbrev pub IsPath : Plan → Journal → Member → List Member → Type 0
@@ -51,7 +49,7 @@ IsChainFault t j m op faults.NotOpen = IsNotOpen t j m op
 IsChainFault t j m op (faults.Broken b) = IsBroken t j m op b.0
 IsChainFault t j m op faults.NoMemory = Unit {0}
 
--- so far: from the connection that the op opened at module m to the one that is shown here
+-- so far: from the connection that the op opened at module m to this one
 pub record IsReached (t : Plan) (j : Journal) (m : ℕ) (op : OpNumber) (here : Here)
     (modules : List ModuleId) : Type 0 where
   pub first : Member
@@ -61,9 +59,9 @@ pub record IsReached (t : Plan) (j : Journal) (m : ℕ) (op : OpNumber) (here : 
   pub up_is : first.hop.opening.up ≡ UpLocal op
   pub path : IsPath t j first rest
   pub modules_are : AreModules first rest modules
-  pub shows : Shows t j here (last_of first rest)
+  pub last_is : last_of first rest ≡ member here
+  pub has_last : HasHop t j (member here)
 
 -- the length of the path that is left
 abbrev pub left : Here → ℕ
-left here =
-    option_map_or (λ (row : HopRow). length row.path) (slice_get here.tables.hops here.place) 0
+left here = length here.hop.now.opening.path

@@ -1,40 +1,21 @@
--- What `chain` finds: a connection as the tables of its module show it, what stands next to it, and
--- why there is no chain.
-use Rattle.std.specs.Prelude.{◌≡◌, ℕ, Bool, Some, slice_get}
+-- What `chain` finds: a connection of a module, what stands next to it, and why there is no chain.
+use Rattle.std.specs.Prelude.{◌≡◌, ℕ, Some}
 use Rattle.cip_base.specs.Words.{ConnectionId, LinkAddress, OpNumber, PortIdentifier}
 use Rattle.cip_hops.specs.declared.opening.HopDown.TheVariants.{Link as DownLink}
 use Rattle.cip_hops.specs.declared.opening.HopUp.TheVariants.{Local as UpLocal}
-use Rattle.cip_hops.specs.Hops.{is_id}
-use Rattle.cip_hops.specs.Sides.{op_of}
-use Rattle.cip_module.specs.declared.tables.HopRow.{HopRow}
-use Rattle.cip_module.specs.Views.{hop_row_of}
 use Rattle.cip_topology.specs.Plan.{Plan}
 use Rattle.cip_topology.specs.Nodes.{node}
 use Rattle.cip_world.specs.Chains.{Member, HasHop, IsNextTo, GoesToEnd}
 use Rattle.cip_world.specs.Journals.{Journal}
-use Rattle.cip_world.specs.Worlds.{IsShownAt}
 use Rattle.cip_chain.specs.declared.chains.ChainFault.{ChainFault}
 use Rattle.cip_chain.specs.declared.chains.ChainFault.TheVariants as faults
 use Rattle.cip_chain.specs.declared.seeking.Here.{Here}
 use Rattle.cip_chain.specs.declared.seeking.Next.{Next}
 use Rattle.cip_chain.specs.declared.seeking.Next.TheVariants as nexts
 
--- ---- rows
-
--- a connection that the op opened
-abbrev pub is_of_op : OpNumber → HopRow → Bool
-is_of_op op row = is_id op (op_of row.up)
-
--- a connection with this up id
-abbrev pub has_up_id : ConnectionId → HopRow → Bool
-has_up_id id row = is_id id row.ids.up
-
--- this connection is shown there
-pub record Shows (t : Plan) (j : Journal) (here : Here) (x : Member) : Type 0 where
-  pub has : HasHop t j x
-  pub at_is : here.at.0 ≡ x.at
-  pub shown : IsShownAt t j x.at here.tables
-  pub row_is : slice_get here.tables.hops here.place ≡ Some (hop_row_of x.hop)
+-- the connection as runs see it
+abbrev pub member : Here → Member
+member here = record { at = here.at.0; hop = here.hop.now }
 
 -- ---- why there is no chain
 
@@ -56,27 +37,22 @@ pub record LeadsNowhere (t : Plan) (j : Journal) (x : Member) (b : ℕ) : Type 0
 
 -- a connection that the op opened at module m
 pub record IsOpened (t : Plan) (j : Journal) (m : ℕ) (op : OpNumber) (here : Here) : Type 0 where
-  pub x : Member
-  pub shows : Shows t j here x
-  pub at_is : x.at ≡ m
-  pub up_is : x.hop.opening.up ≡ UpLocal op
+  pub has : HasHop t j (member here)
+  pub at_is : here.at.0 ≡ m
+  pub up_is : here.hop.now.opening.up ≡ UpLocal op
 
 abbrev pub IsOpenedFault : Plan → Journal → ℕ → OpNumber → ChainFault → Type 0
 IsOpenedFault t j m op faults.NotOpen = IsNotOpen t j m op
 IsOpenedFault t j m op (faults.Broken b) = ⊥
-IsOpenedFault t j m op faults.NoMemory = Unit {0}
-
--- some connection is shown there
-abbrev pub IsShown : Plan → Journal → Here → Type 0
-IsShown t j here = (x : Member) × Shows t j here x
+IsOpenedFault t j m op faults.NoMemory = ⊥
 
 -- what stands next to the connection: another, or the end that it goes to
 abbrev pub IsNext : Plan → Journal → Member → Next → Type 0
-IsNext t j x (nexts.Hop here) = (y : Member) × IsNextTo t j x y × Shows t j here y
+IsNext t j x (nexts.Hop here) = IsNextTo t j x (member here)
 IsNext t j x (nexts.End consume produce) =
     (e : GoesToEnd x.hop) × (e.consume ≡ consume) × (e.produce ≡ produce)
 
 abbrev pub IsNextFault : Plan → Journal → Member → ChainFault → Type 0
 IsNextFault t j x faults.NotOpen = ⊥
 IsNextFault t j x (faults.Broken b) = LeadsNowhere t j x b.0
-IsNextFault t j x faults.NoMemory = Unit {0}
+IsNextFault t j x faults.NoMemory = ⊥

@@ -1,66 +1,32 @@
-//! Connections among the rows that the tables of modules show.
+//! Connections of modules, and what stands next to them.
 ghost use Rattle.std.specs.Prelude.{◌≡◌, map, IfOk, IfErr};
-ghost use Rattle.std.specs.List.{position};
 ghost use Rattle.cip_topology.specs.Plan.{IsTopology};
 ghost use Rattle.cip_world.specs.Runs.{IsRun};
 ghost use Rattle.cip_world.specs.Worlds.{Stand};
-ghost use Rattle.cip_world.specs.Chains.{Member};
-ghost use Rattle.cip_chain.specs.Found.{is_of_op, has_up_id, Shows, IsShown, IsOpened, IsOpenedFault, IsNext, IsNextFault};
+ghost use Rattle.cip_world.specs.Chains.{HasHop};
+ghost use Rattle.cip_chain.specs.Found.{member, IsOpened, IsOpenedFault, IsNext, IsNextFault};
 
 use crate::chains::ChainFault;
 use cip_base::ModuleId;
-use cip_hops::{HopDown, HopUp};
-use cip_module::{HopRow, Tables};
-use cip_world::{World, WorldFault};
+use cip_hops::{Hop, HopDown};
+use cip_world::World;
 
-// A connection, as the tables of its module show it.
+// A connection of a module.
 #[derive(Drop)]
-pub(crate) struct Here {
+pub(crate) struct Here<'a> {
     pub(crate) at: ModuleId,
-    pub(crate) tables: Tables,
-    // Its place among the rows.
-    pub(crate) place: usize,
+    pub(crate) hop: &'a Hop,
 }
 
 // What stands next to a connection: another, or an end with the instances of its assemblies.
 #[derive(Drop)]
-pub(crate) enum Next {
-    Hop(Here),
+pub(crate) enum Next<'a> {
+    Hop(Here<'a>),
     End { consume: u32, produce: u32 },
 }
 
-fn is_of_op(row: &HopRow, op: u32) -> bool
-    ensures { result ≡ is_of_op op row.now }
-{
-    match &row.up {
-        HopUp::Local { op: own } => *own == op,
-        HopUp::Link { .. } => false,
-    }
-}
-
-fn has_up_id(row: &HopRow, id: u32) -> bool
-    ensures { result ≡ has_up_id id row.now }
-{
-    match row.ids.up {
-        Some(own) => own == id,
-        None => false,
-    }
-}
-
-fn place_of_op(rows: &[HopRow], op: u32) -> Option<usize>
-    ensures { result ≡ position (is_of_op op) rows.now }
-{
-    rows.iter().position(|row| is_of_op(row, op))
-}
-
-fn place_of_id(rows: &[HopRow], id: u32) -> Option<usize>
-    ensures { result ≡ position (has_up_id id) rows.now }
-{
-    rows.iter().position(|row| has_up_id(row, id))
-}
-
 // The connection that an op opened.
-pub(crate) fn opened(world: &World, at: ModuleId, op: u32) -> Result<Here, ChainFault>
+pub(crate) fn opened<'a>(world: &'a World, at: ModuleId, op: u32) -> Result<Here<'a>, ChainFault>
     requires stand { Stand world.now.ledger
         (map (λ b. config_of (b.vtable, b.value)) world.now.modules.items)
         (map (λ b. state_of (b.vtable, b.value)) world.now.modules.items) }
@@ -70,35 +36,27 @@ pub(crate) fn opened(world: &World, at: ModuleId, op: u32) -> Result<Here, Chain
     ensures fault { IfErr result
         (IsOpenedFault world.now.ledger.plan world.now.ledger.journal at.0 op) }
 {
-    let tables = match world.tables(at) {
-        Ok(tables) => tables,
-        Err(WorldFault::NoModule) => return Err(ChainFault::NotOpen),
-        Err(_) => return Err(ChainFault::NoMemory),
-    };
-    match place_of_op(tables.hops.as_slice(), op) {
-        Some(place) => Ok(Here { at, tables, place }),
+    match world.hop_by_op(at, op) {
+        Some(hop) => Ok(Here { at, hop }),
         None => Err(ChainFault::NotOpen),
     }
 }
 
 // What stands next to a connection. On every run there is a module where it goes down to, and the
 // connection names an id there.
-pub(crate) fn next_to(world: &World, here: &Here) -> Result<Next, ChainFault>
+pub(crate) fn next_to<'a>(world: &'a World, here: &Here<'_>) -> Result<Next<'a>, ChainFault>
     requires stand { Stand world.now.ledger
         (map (λ b. config_of (b.vtable, b.value)) world.now.modules.items)
         (map (λ b. state_of (b.vtable, b.value)) world.now.modules.items) }
     requires run { IsRun world.now.ledger.plan world.now.ledger.journal }
     requires topology { IsTopology world.now.ledger.plan }
-    requires shown { IsShown world.now.ledger.plan world.now.ledger.journal here.now }
-    ensures ok { IfOk result (λ n. (x : Member)
-        → Shows world.now.ledger.plan world.now.ledger.journal here.now x
-        → IsNext world.now.ledger.plan world.now.ledger.journal x n) }
-    ensures fault { IfErr result (λ f. (x : Member)
-        → Shows world.now.ledger.plan world.now.ledger.journal here.now x
-        → IsNextFault world.now.ledger.plan world.now.ledger.journal x f) }
+    requires has { HasHop world.now.ledger.plan world.now.ledger.journal (member here.now) }
+    ensures ok { IfOk result
+        (IsNext world.now.ledger.plan world.now.ledger.journal (member here.now)) }
+    ensures fault { IfErr result
+        (IsNextFault world.now.ledger.plan world.now.ledger.journal (member here.now)) }
 {
-    let row = &here.tables.hops.as_slice()[here.place];
-    match &row.down {
+    match &here.hop.opening.down {
         HopDown::End {
             consume,
             produce,
@@ -108,20 +66,15 @@ pub(crate) fn next_to(world: &World, here: &Here) -> Result<Next, ChainFault>
             produce: *produce,
         }),
         HopDown::Link { port, address } => {
-            let Some(at) = world.topology().node_at(here.at, *port, address) else {
+            let Some(there) = world.topology().across(here.at, *port, address) else {
                 return Err(ChainFault::Broken(here.at));
             };
-            let Some(id) = row.their_id else {
-                return Err(ChainFault::Broken(at));
+            let Some(id) = here.hop.their_id else {
+                return Err(ChainFault::Broken(there.at));
             };
-            let tables = match world.tables(at) {
-                Ok(tables) => tables,
-                Err(WorldFault::NoModule) => return Err(ChainFault::Broken(at)),
-                Err(_) => return Err(ChainFault::NoMemory),
-            };
-            match place_of_id(tables.hops.as_slice(), id) {
-                Some(place) => Ok(Next::Hop(Here { at, tables, place })),
-                None => Err(ChainFault::Broken(at)),
+            match world.hop_by_up(there.at, id, there.port, there.from) {
+                Some(hop) => Ok(Next::Hop(Here { at: there.at, hop })),
+                None => Err(ChainFault::Broken(there.at)),
             }
         }
     }

@@ -13,6 +13,7 @@ use cip_rewrite::{
 };
 
 // The bytes that came, edited so.
+#[inline(always)]
 fn edited(came: Bytes, edit: Edit) -> Bytes
     requires { (b : Octets) × Becomes came edit b }
     ensures { (b : Octets) → Becomes came edit b → result ≡ b }
@@ -30,6 +31,7 @@ fn edited(came: Bytes, edit: Edit) -> Bytes
 }
 
 /// What a reaction to these bytes puts out. It takes no memory.
+#[inline(always)]
 pub(crate) fn put_out(reaction: Reaction, came: Bytes) -> Output
     requires { CanPutOut came reaction }
     ensures { (output : Outputs) → IsPutOut came reaction output → result ≡ output }

@@ -10,6 +10,7 @@ ghost use Rattle.cip_indexed.specs.Indexed.{config_of_indexed, state_of_indexed}
 
 use crate::edited::put_out;
 use cip_base::{Address, Bytes, NoMemory, PortNumber};
+use cip_hops::Hop;
 use cip_module::{
     Body, Command, Event, Module, ModuleConfig, ModuleKind, Node, Output, StepFault, Tables,
 };
@@ -80,6 +81,7 @@ impl IndexedModule {
     }
 
     // A command.
+    #[inline(never)]
     fn command(&mut self, command: Command) -> Result<Vec<Output>, StepFault>
         ensures ok { IfOk result (λ outputs. IsStep (config_of_indexed self.old)
             (state_of_indexed self.old) (events.Command command) (state_of_indexed self.new)
@@ -121,5 +123,13 @@ impl Module for IndexedModule {
 
     fn tables(&self) -> Result<Tables, NoMemory> {
         self.node.tables()
+    }
+
+    fn hop_by_op(&self, op: u32) -> Option<&Hop> {
+        self.node.hop_by_op(op)
+    }
+
+    fn hop_by_up(&self, id: u32, port: PortNumber, address: &Address) -> Option<&Hop> {
+        self.node.hop_by_up(id, port, address)
     }
 }

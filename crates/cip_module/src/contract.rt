@@ -1,5 +1,7 @@
 //! What the layers above know of a module.
 ghost use Rattle.std.specs.Prelude.{◌≡◌, IfOk};
+ghost use Rattle.std.specs.Option.{option_copied};
+ghost use Rattle.cip_hops.specs.Hops.{hop_by_op, hop_by_up};
 ghost use Rattle.cip_module.specs.declared.config.ModuleSettings.{ModuleSettings as Settings};
 ghost use Rattle.cip_module.specs.State.{State};
 ghost use Rattle.cip_module.specs.Steps.{IsStep, IsStepFault};
@@ -10,7 +12,8 @@ ghost use Rattle.cip_module.specs.Rooms.{HasRooms};
 use crate::config::ModuleConfig;
 use crate::event::{Event, Output};
 use crate::tables::Tables;
-use cip_base::NoMemory;
+use cip_base::{Address, NoMemory, PortNumber};
+use cip_hops::Hop;
 use thiserror::Error;
 
 /// A step that did not happen: the module is as it was, and the event comes back whole.
@@ -54,6 +57,15 @@ pub trait Module: Drop {
     /// The state, as lists in rising key.
     fn tables(&self) -> Result<Tables, NoMemory>
         ensures { IfOk result (ShowsState (state_of self.now)) };
+
+    /// The connection that a command of this op opened. There is at most one.
+    fn hop_by_op(&self, op: u32) -> Option<&Hop>
+        ensures { option_copied result ≡ hop_by_op (state_of self.now).hops op };
+
+    /// The connection of which this is the own id towards the originator, on the link by this port
+    /// to this address. There is at most one.
+    fn hop_by_up(&self, id: u32, port: PortNumber, address: &Address) -> Option<&Hop>
+        ensures { option_copied result ≡ hop_by_up (state_of self.now).hops id port address.now };
 }
 
 impl Module for Box<dyn Module + Send> {
@@ -78,5 +90,15 @@ impl Module for Box<dyn Module + Send> {
     fn tables(&self) -> Result<Tables, NoMemory> {
         let inner = self.as_ref();
         inner.tables()
+    }
+
+    fn hop_by_op(&self, op: u32) -> Option<&Hop> {
+        let inner = self.as_ref();
+        inner.hop_by_op(op)
+    }
+
+    fn hop_by_up(&self, id: u32, port: PortNumber, address: &Address) -> Option<&Hop> {
+        let inner = self.as_ref();
+        inner.hop_by_up(id, port, address)
     }
 }

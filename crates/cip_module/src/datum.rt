@@ -30,6 +30,7 @@ impl Node {
     }
 
     /// The side by which a datum came is watched anew, and its end writes it.
+    #[inline(always)]
     pub(crate) fn note_datum(
         &mut self,
         triad: &Triad,

@@ -191,6 +191,7 @@ impl Node {
 
     /// What becomes of a datum.
     #[tactic(auto, unfolding(crate::specs::DataRows::data_row))]
+    #[inline(always)]
     pub(crate) fn datum_plan(
         &self,
         port: PortNumber,

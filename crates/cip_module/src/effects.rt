@@ -73,6 +73,7 @@ impl Node {
     }
 
     /// A request waits that opens no connection. Its number.
+    #[inline(always)]
     pub(crate) fn forwards(&mut self, entry: Entry) -> u32
         requires room { refusal self.old.pendings ≡ None }
         requires other { IsOther entry.kind }

@@ -1,13 +1,15 @@
 //! What the modules of each kind share: their tables, which fit one another.
 ghost use Rattle.std.specs.Prelude.{◌≡◌, IfOk};
+ghost use Rattle.std.specs.Option.{option_copied};
+ghost use Rattle.cip_hops.specs.Hops.{hop_by_op, hop_by_up};
 ghost use Rattle.cip_module.specs.declared.config.ModuleSettings.{ModuleSettings as Settings};
 ghost use Rattle.cip_module.specs.Code.Fit.{Fit};
 
 use crate::config::ModuleConfig;
 use crate::spent::SpentOps;
-use cip_base::NoMemory;
+use cip_base::{Address, NoMemory, PortNumber};
 use cip_clock::Clock;
-use cip_hops::HopTable;
+use cip_hops::{Hop, HopTable};
 use cip_pending::PendingTable;
 use cip_target::Target;
 use std::alloc::Global;
@@ -57,5 +59,20 @@ impl Node {
         ensures { result.now ≡ self.now.config }
     {
         &self.config
+    }
+
+    /// The connection that a command of this op opened.
+    pub fn hop_by_op(&self, op: u32) -> Option<&Hop>
+        ensures { option_copied result ≡ hop_by_op self.now.hops op }
+    {
+        self.hops.by_op(op)
+    }
+
+    /// The connection of which this is the own id towards the originator, on the link by this port
+    /// to this address.
+    pub fn hop_by_up(&self, id: u32, port: PortNumber, address: &Address) -> Option<&Hop>
+        ensures { option_copied result ≡ hop_by_up self.now.hops id port address.now }
+    {
+        self.hops.by_up(id, port, address)
     }
 }

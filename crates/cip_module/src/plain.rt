@@ -10,7 +10,8 @@ use crate::contract::{Module, StepFault};
 use crate::event::{Event, Output};
 use crate::node::Node;
 use crate::tables::Tables;
-use cip_base::NoMemory;
+use cip_base::{Address, NoMemory, PortNumber};
+use cip_hops::Hop;
 use std::alloc::Global;
 
 /// A module that originates, routes and answers. It decodes each message and writes what goes on
@@ -54,5 +55,13 @@ impl Module for PlainModule {
 
     fn tables(&self) -> Result<Tables, NoMemory> {
         self.node.tables()
+    }
+
+    fn hop_by_op(&self, op: u32) -> Option<&Hop> {
+        self.node.hop_by_op(op)
+    }
+
+    fn hop_by_up(&self, id: u32, port: PortNumber, address: &Address) -> Option<&Hop> {
+        self.node.hop_by_up(id, port, address)
     }
 }

@@ -44,6 +44,7 @@ impl Body {
     }
 
     /// The same body with these bytes.
+    #[inline(always)]
     pub fn filled(self, bytes: Bytes) -> Body
         ensures { result ≡ filled_body self bytes }
     {
@@ -57,6 +58,7 @@ impl Body {
 
 impl Output {
     /// The same output with these bytes, where it has bytes.
+    #[inline(always)]
     pub fn filled(self, bytes: Bytes) -> Output
         ensures { result ≡ filled self bytes }
     {

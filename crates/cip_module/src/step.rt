@@ -149,6 +149,7 @@ impl Node {
     }
 
     /// One event, as the contract of a module says.
+    #[inline(never)]
     pub fn step(&mut self, event: Event) -> Result<Vec<Output>, StepFault>
         ensures ok { IfOk result (λ outputs. IsStep self.old.config (state_of_node self.old) event
             (state_of_node self.new) outputs.items) }

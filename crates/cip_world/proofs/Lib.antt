@@ -25,6 +25,7 @@ pub mod Carried
 pub mod OneChain
 pub mod Answered
 pub mod Named
+pub mod Spotted
 pub mod StepAt
 pub mod Waits
 pub mod Reversed

@@ -1,12 +1,9 @@
--- The order of names is total and tells any two apart; what is added at the end of a rising list, and what is taken out of it.
-use Rattle.std.proofs.Common.{◌≡◌, ℕ, true, false, cond, not, ◌&&◌, List, [], ◌∷◌, ◌++◌, refl, sym, ap, subst, ◌∙◌, arith, eqb, nat_lt, filter}
+-- The order of names is total and tells any two apart; what is taken out of names that are all above it.
+use Rattle.std.proofs.Common.{◌≡◌, ℕ, true, false, cond, not, ◌&&◌, List, [], ◌∷◌, refl, sym, ap, ◌∙◌, arith, eqb, nat_lt, filter}
 use Rattle.std.specs.Cmp.{IsTotalOrder, nat_cmp_total, both_ways}
 use Rattle.std.specs.List.{AllByRecursion}
-use Rattle.std.specs.List.Sorted.{IsStrictlySortedBy}
-use Rattle.std.specs.Ordering.{nat_cmp, ordering_then, ordering_reverse, match_ordering, is_eq}
-use Rattle.std.specs.Set.{remove_key}
+use Rattle.std.specs.Ordering.{nat_cmp, ordering_then, is_eq}
 use Rattle.std.specs.BTreeMap.{is_at}
-use Rattle.std.specs.BTreeSet.{insert_key}
 use Rattle.std.specs.declared.cmp.Ordering.{Ordering}
 use Rattle.std.specs.declared.cmp.Ordering.TheVariants.{Less, Equal, Greater}
 use Rattle.std.proofs.lemmas.Bool.Decides.{nat_tests}
@@ -14,7 +11,7 @@ use Rattle.std.proofs.lemmas.Bool.{and_parts, and_from, eqb-true, eq-eqb}
 use Rattle.std.proofs.lemmas.Cmp.{on_total, then_total}
 use Rattle.cip_world.specs.declared.journal.FrameName.{FrameName}
 use Rattle.cip_world.specs.Journals.{same_name}
-use Rattle.cip_world.specs.Names.{name_cmp, AreRising, AllBefore}
+use Rattle.cip_world.specs.Names.{name_cmp}
 
 pub names_total : IsTotalOrder name_cmp
 names_total = then_total (on_total (λ f. f.entry) nat_cmp_total) (on_total (λ f. f.output) nat_cmp_total)
@@ -55,33 +52,10 @@ at_same_name f g =
 pub at_same : (f g : FrameName) → is_at (name_cmp f) g ≡ same_name g f
 at_same f g = at_same_name f g ∙ same_sym f g
 
-above : (f g : FrameName) → name_cmp g f ≡ Less → name_cmp f g ≡ Greater
-above f g h = names_total.antisymm f g ∙ ap ordering_reverse h
-
--- a name above all others goes to the end
-pub insert_last : (f : FrameName) (gs : List FrameName) → AllBefore f gs → insert_key name_cmp gs f ≡ gs ++ f ∷ []
-insert_last f [] h = refl
-insert_last f (g ∷ gs) h =
-    ap (λ o. match_ordering o (f ∷ g ∷ gs) (g ∷ gs) (g ∷ insert_key name_cmp gs f)) (above f g h.0) ∙ ap (λ (xs : List FrameName). g ∷ xs) (insert_last f gs h.1)
-
-less_differ : (f g : FrameName) → name_cmp f g ≡ Less → same_name g f ≡ false
+pub less_differ : (f g : FrameName) → name_cmp f g ≡ Less → same_name g f ≡ false
 less_differ f g h = sym (at_same f g) ∙ ap is_eq h
 
 pub all_stay : (f : FrameName) (gs : List FrameName) → AllByRecursion (λ g. name_cmp f g ≡ Less) gs → filter (λ g. not (same_name g f)) gs ≡ gs
 all_stay f [] h = refl
 all_stay f (g ∷ gs) h =
     ap (λ b. cond (not b) (g ∷ filter (λ g. not (same_name g f)) gs) (filter (λ g. not (same_name g f)) gs)) (less_differ f g h.0) ∙ ap (λ (xs : List FrameName). g ∷ xs) (all_stay f gs h.1)
-
--- of a rising list each name goes at once
-pub removed : (f : FrameName) (gs : List FrameName) → AreRising gs → remove_key (is_at (name_cmp f)) gs ≡ filter (λ g. not (same_name g f)) gs
-unfolding IsStrictlySortedBy
-removed f [] s = refl
-removed f (g ∷ gs) s =
-    elim (same_name g f) as (λ b. same_name g f ≡ b → remove_key (is_at (name_cmp f)) (g ∷ gs) ≡ cond (not b) (g ∷ filter (λ g. not (same_name g f)) gs) (filter (λ g. not (same_name g f)) gs)) [
-      | true ↦ λ t.
-          ap (λ b. cond b gs (g ∷ remove_key (is_at (name_cmp f)) gs)) (at_same f g ∙ t)
-          ∙ sym (all_stay f gs (subst (λ (x : FrameName). AllByRecursion (λ y. name_cmp x y ≡ Less) gs) (name_eq g f t) s.0))
-      | false ↦ λ t.
-          ap (λ b. cond b gs (g ∷ remove_key (is_at (name_cmp f)) gs)) (at_same f g ∙ t)
-          ∙ ap (λ (xs : List FrameName). g ∷ xs) (removed f gs s.1)
-    ] refl

@@ -1,6 +1,9 @@
 -- Frames that arrive one by one, each of least name.
-use Rattle.std.proofs.Common.{◌≡◌, ◌≢◌, ℕ, suc, ◌+◌, Bool, true, List, [], ◌∷◌, map, Some, None, refl, sym, ap, subst, ◌∙◌, arith}
+use Rattle.std.proofs.Common.{◌≡◌, ◌≢◌, ℕ, zero, suc, ◌+◌, Bool, true, List, [], ◌∷◌, map, Some, None, refl, sym, ap, subst, ◌∙◌, arith}
 use Rattle.std.specs.Prelude.{slice_get, Option}
+use Rattle.std.specs.Option.{option_and_then}
+use Rattle.cip_hops.specs.declared.hop.Hop.{Hop}
+use Rattle.cip_hops.specs.Hops.{Hops}
 use Rattle.cip_module.specs.declared.config.ModuleSettings.{ModuleSettings}
 use Rattle.cip_module.specs.declared.tables.Tables.{Tables}
 use Rattle.cip_module.specs.State.{State}
@@ -11,7 +14,7 @@ use Rattle.cip_world.specs.Journals.{Journal}
 use Rattle.cip_world.specs.Ledgers.{Told}
 use Rattle.cip_world.specs.Runs.{IsModule, state_in}
 use Rattle.cip_world.specs.Waiting.{waiting}
-use Rattle.cip_world.specs.Worlds.{Stand, DeliversOne, Delivers, IsOneMore, IsShownAt}
+use Rattle.cip_world.specs.Worlds.{Stand, DeliversOne, Delivers, IsOneMore, IsShownAt, looked_up}
 use Rattle.cip_world.proofs.Delivered.{some_same}
 use Rattle.cip_world.proofs.StepAt.{slice_get-map}
 
@@ -40,3 +43,25 @@ shown_at told config state boxes m b tables stand at shows =
     let same : state b ≡ state_in (config b) m told.journal =
     some_same (state b) (state_in (config b) m told.journal) (sym (slice_get-map state boxes m b at) ∙ stand.stand.each m (config b) there) in
     record { config = config b; is_module = there; shows = subst (λ (s : State). ShowsState s tables) same shows }
+
+-- ---- looks at connections
+
+slice_get-none : {A B : Type 0} (f : A → B) (xs : List A) (i : ℕ) → slice_get xs i ≡ None → slice_get (map f xs) i ≡ None
+slice_get-none f [] i e = refl
+slice_get-none f (x ∷ xs) zero e = absurd (cc)
+slice_get-none f (x ∷ xs) (suc i) e = slice_get-none f xs i e
+
+pub looked_at : {A : Type 0} (told : Told) (config : A → ModuleSettings) (state : A → State) (boxes : List A) (m : ℕ) (b : A) (look : Hops → Option Hop)
+    → Stand told (map config boxes) (map state boxes) → slice_get boxes m ≡ Some b → look (state b).hops ≡ looked_up told.plan told.journal m look
+looked_at told config state boxes m b look stand at =
+    let there : IsModule told.plan m (config b) = subst (λ (cs : List ModuleSettings). slice_get cs m ≡ Some (config b)) stand.same (slice_get-map config boxes m b at) in
+    let same : state b ≡ state_in (config b) m told.journal =
+    some_same (state b) (state_in (config b) m told.journal) (sym (slice_get-map state boxes m b at) ∙ stand.stand.each m (config b) there) in
+    ap (λ (s : State). look s.hops) same ∙ sym (ap (option_and_then (λ (c : ModuleSettings). look (state_in c m told.journal).hops)) there)
+
+pub looked_nowhere : {A : Type 0} (told : Told) (config : A → ModuleSettings) (state : A → State) (boxes : List A) (m : ℕ) (look : Hops → Option Hop)
+    → Stand told (map config boxes) (map state boxes) → slice_get boxes m ≡ None → None ≡ looked_up told.plan told.journal m look
+looked_nowhere told config state boxes m look stand at =
+    let nowhere : slice_get told.plan.modules m ≡ None =
+    subst (λ (cs : List ModuleSettings). slice_get cs m ≡ None) stand.same (slice_get-none config boxes m at) in
+    sym (ap (option_and_then (λ (c : ModuleSettings). look (state_in c m told.journal).hops)) nowhere)

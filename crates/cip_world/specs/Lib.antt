@@ -1,6 +1,7 @@
 pub mod Journals
 pub mod Runs
 pub mod Names
+pub mod Spots
 pub mod Waiting
 pub mod Ledgers
 pub mod Coming

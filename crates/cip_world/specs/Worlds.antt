@@ -1,6 +1,9 @@
 -- What a world keeps, and what its calls do.
-use Rattle.std.specs.Prelude.{◌≡◌, ◌≢◌, ℕ, zero, suc, ◌≤◌, Bool, true, false, List, [], ◌∷◌, Result, Ok, Err, Some, None, length, slice_get, slice_set}
+use Rattle.std.specs.Prelude.{◌≡◌, ◌≢◌, ℕ, zero, suc, ◌≤◌, Bool, true, false, List, [], ◌∷◌, Result, Ok, Err, Option, Some, None, length, slice_get, slice_set}
+use Rattle.std.specs.Option.{option_and_then}
 use Rattle.cip_base.specs.declared.numbers.ModuleId.{ModuleId}
+use Rattle.cip_hops.specs.declared.hop.Hop.{Hop}
+use Rattle.cip_hops.specs.Hops.{Hops}
 use Rattle.cip_module.specs.declared.config.ModuleSettings.{ModuleSettings}
 use Rattle.cip_module.specs.declared.contract.StepFault.{StepFault}
 use Rattle.cip_module.specs.declared.contract.StepFault.TheVariants as steps
@@ -135,3 +138,8 @@ pub record IsShownAt (t : Plan) (j : Journal) (m : ℕ) (tables : Tables) : Type
   pub config : ModuleSettings
   pub is_module : IsModule t m config
   pub shows : ShowsState (state_in config m j) tables
+
+-- what a look at the connections of module m finds; nothing where there is no such module
+abbrev pub looked_up : Plan → Journal → ℕ → (Hops → Option Hop) → Option Hop
+looked_up t j m look =
+    option_and_then (λ config. look (state_in config m j).hops) (slice_get t.modules m)

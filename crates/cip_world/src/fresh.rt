@@ -10,8 +10,8 @@ use cip_topology::Topology;
 use std::alloc::Global;
 use thiserror::Error;
 
-/// Why no world was made of modules and a topology. They are looked at in this order; m is the least
-/// module that the answer is true of.
+/// Why no world was made of modules and a topology. They are looked at in this order; m is the
+/// least module that the answer is true of.
 #[derive(Clone, Copy, Debug, Error, PartialEq, Eq)]
 pub enum NewFault {
     /// There are not as many modules as the topology has.

@@ -1,32 +1,107 @@
 //! Names of frames, in rising order.
-ghost use Rattle.std.specs.Prelude.{◌≡◌, ◌∷◌, ◌++◌, [], not, filter, slice_get, OnOk, OnErr, IfOk};
+ghost use Rattle.std.specs.Prelude.{◌≡◌, ◌∷◌, ◌++◌, [], None, not, filter, slice_get, MatchOption, MatchResult, OnOk, OnErr, IfOk};
 ghost use Rattle.std.specs.List.{list_any};
-ghost use Rattle.std.specs.Option.{option_copied};
 ghost use Rattle.cip_world.specs.Journals.{same_name};
 ghost use Rattle.cip_world.specs.Names.{AllBefore};
+ghost use Rattle.cip_world.specs.Spots.{names_in, AreInOrder, AreSpots, IsPlaceOf, value_of, is_first_gone, is_last_gone};
 
 use crate::journal::FrameName;
 use cip_base::NoMemory;
 use std::alloc::Global;
-use std::collections::BTreeSet;
+use std::collections::VecDeque;
 use std::marker::Model;
 
 /// A set of names, which contracts see as a rising list.
 #[derive(Drop)]
 pub(crate) struct Names {
-    names: BTreeSet<FrameName>,
+    // Each name with whether it is there still: one that is taken out amid others keeps its place
+    // until all before it or all behind it are gone.
+    spots: VecDeque<(FrameName, bool)>,
 }
 
 impl Model for Names {
     ghost use Rattle.std.specs.Prelude.{List};
     ghost use Rattle.cip_world.specs.declared.journal.FrameName.{FrameName};
-    ghost use Rattle.cip_world.specs.Names.{AreRising};
+    ghost use Rattle.cip_world.specs.Spots.{names_in, AreSpots};
 
     ghost Value = { List FrameName };
 
-    ghost view = { λ n. n.names.keys };
+    ghost view = { λ n. names_in n.spots.items };
 
-    ghost invariant = { λ n. AreRising n.names.keys };
+    ghost invariant = { λ n. AreSpots n.spots.items };
+}
+
+// Where a name stands, by binary search.
+fn searched(spots: &VecDeque<(FrameName, bool)>, name: FrameName) -> Result<usize, usize>
+    requires { AreInOrder spots.now.items }
+    ensures { MatchResult result (IsPlaceOf spots.now.items name)
+        (λ _. value_of name spots.now.items ≡ None) }
+{
+    spots.binary_search_by_key(&name, |&(name, _)| name)
+}
+
+// Where a name stands: at once where it is the first.
+fn place_of(spots: &VecDeque<(FrameName, bool)>, name: FrameName) -> Option<usize>
+    requires { AreInOrder spots.now.items }
+    ensures { MatchOption result (value_of name spots.now.items ≡ None)
+        (IsPlaceOf spots.now.items name) }
+{
+    match spots.front() {
+        Some((first, _)) if *first == name => Some(0),
+        _ => match searched(spots, name) {
+            Ok(place) => Some(place),
+            Err(_) => None,
+        },
+    }
+}
+
+fn is_first_gone(spots: &VecDeque<(FrameName, bool)>) -> bool
+    ensures { result ≡ is_first_gone spots.now.items }
+{
+    match spots.front() {
+        Some((_, waits)) => !*waits,
+        None => false,
+    }
+}
+
+#[tactic(auto, using(crate::proofs::Spotted::last_is))]
+fn is_last_gone(spots: &VecDeque<(FrameName, bool)>) -> bool
+    ensures { result ≡ is_last_gone spots.now.items }
+{
+    match spots.back() {
+        Some((_, waits)) => !*waits,
+        None => false,
+    }
+}
+
+// The names at both ends that are gone leave their places.
+fn give_up_gone(spots: &mut VecDeque<(FrameName, bool)>)
+    requires { AreInOrder spots.old.items }
+    ensures spots { AreSpots spots.new.items }
+    ensures same { names_in spots.new.items ≡ names_in spots.old.items }
+{
+    while is_last_gone(spots) {
+        spots.pop_back();
+    }
+    while is_first_gone(spots) {
+        spots.pop_front();
+    }
+}
+
+// The names that are there still, behind others.
+fn push_waiting(
+    spots: &VecDeque<(FrameName, bool)>,
+    all: &mut Vec<FrameName>,
+) -> Result<(), NoMemory>
+    ensures { OnOk result (all.new.items ≡ all.old.items ++ names_in spots.now.items) }
+{
+    for place in 0..spots.len() {
+        let (name, waits) = spots[place];
+        if waits {
+            all.push(name)?;
+        }
+    }
+    Ok(())
 }
 
 impl Names {
@@ -35,7 +110,7 @@ impl Names {
         ensures { result ≡ [] }
     {
         Names {
-            names: BTreeSet::new(alloc),
+            spots: VecDeque::new(alloc),
         }
     }
 
@@ -43,40 +118,53 @@ impl Names {
     pub(crate) fn has(&self, name: FrameName) -> bool
         ensures { result ≡ list_any (λ f. same_name f name) self.now }
     {
-        self.names.contains(&name)
+        match place_of(&self.spots, name) {
+            Some(place) => self.spots[place].1,
+            None => false,
+        }
     }
 
     /// The least name.
     pub(crate) fn first(&self) -> Option<FrameName>
         ensures { result ≡ slice_get self.now 0 }
     {
-        self.names.first().copied()
+        match self.spots.front() {
+            Some((name, _)) => Some(*name),
+            None => None,
+        }
     }
 
     /// Adds a name that is above all others.
-    #[tactic(auto, using(crate::proofs::Named::insert_last))]
     pub(crate) fn add(&mut self, name: FrameName) -> Result<(), NoMemory>
         requires { AllBefore name self.old }
         ensures ok { OnOk result (self.new ≡ self.old ++ name ∷ []) }
         ensures err { OnErr result (self.new ≡ self.old) }
     {
-        if self.names.insert(name).is_err() {
-            return Err(NoMemory);
+        match self.spots.push_back((name, true)) {
+            Ok(()) => Ok(()),
+            Err(_) => Err(NoMemory),
         }
-        Ok(())
     }
 
     /// Takes a name out, if it is there.
     pub(crate) fn remove(&mut self, name: FrameName)
         ensures { self.new ≡ filter (λ f. not (same_name f name)) self.old }
     {
-        self.names.remove(&name);
+        match place_of(&self.spots, name) {
+            Some(place) => {
+                self.spots[place].1 = false;
+                give_up_gone(&mut self.spots);
+            }
+            None => {}
+        }
     }
 
     /// The names as a list.
     pub(crate) fn list(&self, alloc: Global) -> Result<Vec<FrameName>, NoMemory>
         ensures { IfOk result (λ v. v.items ≡ self.now) }
     {
-        Ok(self.names.iter().copied().collect(alloc)?)
+        let mut all = Vec::new(alloc);
+        push_waiting(&self.spots, &mut all)?;
+        Ok(all)
     }
 }

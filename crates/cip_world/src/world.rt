@@ -1,11 +1,13 @@
 //! The world: modules in boxes, and the journal of what they did.
 ghost use Rattle.std.specs.Prelude.{◌≡◌, ◌∷◌, ◌↔◌, ◌⊎◌, ◌≤◌, ◌<◌, [], true, Err, length, map, reverse, vec_len, IfOk, IfErr, OnOk, OnErr};
 ghost use Rattle.cip_module.specs.declared.event.Event.TheVariants as events;
+ghost use Rattle.std.specs.Option.{option_copied};
+ghost use Rattle.cip_hops.specs.Hops.{hop_by_op, hop_by_up};
 ghost use Rattle.cip_module.specs.Views.{ShowsState};
 ghost use Rattle.cip_world.specs.declared.journal.Input.TheVariants as inputs;
 ghost use Rattle.cip_world.specs.Runs.{IsGiven, IsRun, state_in};
 ghost use Rattle.cip_world.specs.Waiting.{waiting};
-ghost use Rattle.cip_world.specs.Worlds.{Stand, AddsStep, AddsArrival, AddsLoss, IsFeedFault, IsFrameFault, IsOneMore, RunsTo, IsShownAt};
+ghost use Rattle.cip_world.specs.Worlds.{Stand, AddsStep, AddsArrival, AddsLoss, IsFeedFault, IsFrameFault, IsOneMore, RunsTo, IsShownAt, looked_up};
 ghost use Rattle.cip_world.specs.Fresh.{AreFresh, IsNewFault};
 
 use crate::fault::WorldFault;
@@ -13,8 +15,9 @@ use crate::fresh::{NewFault, check_fresh};
 use crate::journal::{Entry, FrameName, Input, Outputs};
 use crate::ledger::Ledger;
 use crate::step::step_at;
-use cip_base::{ModuleId, Ms, NoMemory};
+use cip_base::{Address, ModuleId, Ms, NoMemory, PortNumber};
 use cip_clock::ClockFull;
+use cip_hops::Hop;
 use cip_module::{Command, Event, Module, StepFault, Tables};
 use cip_topology::Topology;
 use std::alloc::Global;
@@ -23,8 +26,9 @@ use std::alloc::Global;
 #[derive(Drop)]
 pub struct World {
     alloc: Global,
-    ledger: Ledger,
+    // Given up before the ledger: a table is one large piece, an entry several small ones.
     modules: Vec<Box<dyn Module + Send>>,
+    ledger: Ledger,
 }
 
 // A module that the topology has takes a step, and the journal has one more entry.
@@ -302,5 +306,40 @@ impl World {
             return Err(WorldFault::NoModule);
         };
         Ok(boxed.tables()?)
+    }
+
+    /// The connection at a module that a command of this op opened, of which there is at most one;
+    /// None also where the topology has no such module.
+    pub fn hop_by_op(&self, at: ModuleId, op: u32) -> Option<&Hop>
+        requires stand { Stand self.now.ledger (map (λ b. config_of b) self.now.modules.items)
+            (map (λ b. state_of b) self.now.modules.items) }
+        ensures { option_copied result ≡ looked_up self.now.ledger.plan self.now.ledger.journal
+            at.0 (λ hops. hop_by_op hops op) }
+    {
+        match self.modules.get(at.0) {
+            Some(boxed) => boxed.hop_by_op(op),
+            None => None,
+        }
+    }
+
+    /// The connection at a module of which this is the own id towards the originator, on the link
+    /// by this port to this address, of which there is at most one; None also where the topology
+    /// has no such module.
+    pub fn hop_by_up(
+        &self,
+        at: ModuleId,
+        id: u32,
+        port: PortNumber,
+        address: &Address,
+    ) -> Option<&Hop>
+        requires stand { Stand self.now.ledger (map (λ b. config_of b) self.now.modules.items)
+            (map (λ b. state_of b) self.now.modules.items) }
+        ensures { option_copied result ≡ looked_up self.now.ledger.plan self.now.ledger.journal
+            at.0 (λ hops. hop_by_up hops id port address.now) }
+    {
+        match self.modules.get(at.0) {
+            Some(boxed) => boxed.hop_by_up(id, port, address),
+            None => None,
+        }
     }
 }

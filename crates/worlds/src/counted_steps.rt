@@ -1,7 +1,8 @@
 //! A module of the tests' own, which counts its steps: the world steps the box that it was given.
 use crate::boxes::{boxed, chassis};
 use crate::given::{THROUGH_A_TO_B, send};
-use cip_base::{ModuleId, NoMemory};
+use cip_base::{Address, ModuleId, NoMemory, PortNumber};
+use cip_hops::Hop;
 use cip_module::{Event, Module, ModuleConfig, ModuleKind, Output, PlainModule, StepFault, Tables};
 use cip_topology::Topology;
 use cip_world::{End, World};
@@ -40,6 +41,14 @@ impl Module for CountedModule {
 
     fn tables(&self) -> Result<Tables, NoMemory> {
         self.inner.tables()
+    }
+
+    fn hop_by_op(&self, op: u32) -> Option<&Hop> {
+        self.inner.hop_by_op(op)
+    }
+
+    fn hop_by_up(&self, id: u32, port: PortNumber, address: &Address) -> Option<&Hop> {
+        self.inner.hop_by_up(id, port, address)
     }
 }
 

@@ -1,4 +1,3 @@
-use Rattle.std.proofs.Common.{List}
 use Rattle.std.specs.Prelude.{reverse}
 use Rattle.cip_world.proofs.Arrived.{arrived_of}
 use Rattle.cip_world.proofs.Chassis.{chassis}

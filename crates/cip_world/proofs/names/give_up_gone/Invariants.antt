@@ -1,0 +1,16 @@
+use Rattle.std.proofs.Common.{◌≡◌, length, false}
+use Rattle.cip_world.specs.Spots.{names_in, AreInOrder, is_last_gone}
+use Rattle.cip_world.proofs.names.give_up_gone.Given as goal
+
+abbrev pub invariant-loop-spots : goal.invariant-loop-spots
+invariant-loop-spots l = AreInOrder l.spots.items × (names_in l.spots.items ≡ names_in l.initial.spots.items)
+
+abbrev pub decreases-loop-spots : goal.decreases-loop-spots
+decreases-loop-spots l = length l.spots.items
+
+abbrev pub invariant-loop-spots-2 : goal.invariant-loop-spots-2
+invariant-loop-spots-2 l =
+    AreInOrder l.spots.items × (names_in l.spots.items ≡ names_in l.initial.spots.items) × (is_last_gone l.spots.items ≡ false)
+
+abbrev pub decreases-loop-spots-2 : goal.decreases-loop-spots-2
+decreases-loop-spots-2 l = length l.spots.items
