@@ -1,5 +1,5 @@
 -- A journal in which each module was given what it could be given, and what each module did is a history of it, is a run; and what waits after such a journal.
-use Rattle.std.proofs.Common.{◌≡◌, ℕ, zero, suc, List, [], ◌∷◌, ◌++◌, Option, Some, None, Bool, true, false, not, ◌&&◌, ◌||◌, refl, sym, subst, cond, filter, length, arith, ◌<◌, ◌+◌, ◌∙◌, ap, eqb}
+use Rattle.std.proofs.Common.{◌≡◌, ℕ, zero, suc, List, [], ◌∷◌, ◌++◌, Option, Some, None, Bool, true, false, not, ◌||◌, refl, sym, subst, cond, filter, length, arith, ◌<◌, ◌∙◌, ap, eqb}
 use Rattle.std.specs.Prelude.{slice_get}
 use Rattle.std.specs.List.{AllByRecursion}
 use Rattle.std.proofs.lemmas.Bool.{eq-eqb}
@@ -17,7 +17,7 @@ use Rattle.cip_world.specs.declared.journal.Input.{Input}
 use Rattle.cip_world.specs.declared.journal.Input.TheVariants as inputs
 use Rattle.cip_world.specs.declared.journal.Entry.{Entry}
 use Rattle.cip_world.specs.declared.journal.Entry.TheVariants.{Step, Lost}
-use Rattle.cip_world.specs.Journals.{Journal, Flight, event_of, with_turn, part, brought_by, named_by, is_that, names, is_named}
+use Rattle.cip_world.specs.Journals.{Journal, Flight, event_of, with_turn, part, brought_by, is_that, names, is_named}
 use Rattle.cip_world.specs.Runs.{IsModule, IsArrival, IsRun}
 use Rattle.cip_world.specs.Waiting.{frames_in, frames, waiting}
 use Rattle.cip_world.proofs.Frames.{frame_older}

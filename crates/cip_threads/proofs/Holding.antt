@@ -85,12 +85,6 @@ idle_held [] f e = refl
 idle_held (None ∷ hs) f e = idle_held hs f e
 idle_held (Some h ∷ hs) f e = absurd (omega (arith, e))
 
-pub busy : (hands : List (Option Input)) (i : ℕ) (h : Option Input) → i < length hands → h ≡ get_or hands i h → is_some h ≡ true → count_hands hands ≡ 0 → ⊥
-busy hands i h lt at some idle =
-    let s = some_of h some in
-    let a : hand_at hands i ≡ Some s.0 = hand_read hands i h lt at ∙ s.1 in
-    let b = idle_at hands i idle in cc
-
 count-append : (xs ys : List (Option Input)) → count_hands (xs ++ ys) ≡ count_hands xs + count_hands ys
 count-append [] ys = omega arith
 count-append (None ∷ xs) ys = count-append xs ys

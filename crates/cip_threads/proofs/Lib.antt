@@ -1,5 +1,8 @@
+pub mod Queueing
+pub mod Merging
 pub mod Flowing
 pub mod Feeding
 pub mod Holding
+pub mod Sending
 pub mod Keeping
 pub mod Reporting

@@ -1,6 +1,5 @@
 -- What the book keeps: feeds and frames that wait, what each module has in hand, and the journal.
-use Rattle.std.specs.Prelude.{◌≡◌, ◌≤◌, ℕ, List, [], ◌∷◌, ◌++◌, Option, Some, None, Bool, false, not, ◌||◌, ◌+◌, length, get_or, filter, remove, slice_get}
-use Rattle.cip_base.specs.declared.numbers.ModuleId.{ModuleId}
+use Rattle.std.specs.Prelude.{◌≡◌, ◌≤◌, ℕ, List, [], ◌∷◌, ◌++◌, Option, Some, None, Bool, false, not, ◌||◌, ◌+◌, length, get_or, filter}
 use Rattle.cip_world.specs.declared.journal.FrameName.{FrameName}
 use Rattle.cip_world.specs.declared.journal.Input.{Input}
 use Rattle.cip_world.specs.Journals.{brought_by, is_that}
@@ -8,7 +7,8 @@ use Rattle.cip_world.specs.Waiting.{waiting}
 use Rattle.cip_threads.specs.declared.feed.Feed.{Feed}
 use Rattle.cip_threads.specs.declared.shelf.Shelf.{Shelf}
 use Rattle.cip_threads.specs.Feeds.{feeds_of, fed, fed_by}
-use Rattle.cip_threads.specs.Flows.{IsFlow, IsOpenTo}
+use Rattle.cip_threads.specs.Flows.{IsFlow, IsOpenTo, goes_to}
+use Rattle.cip_threads.specs.Queues.{queue_at, count_all}
 
 -- what module m has in hand
 abbrev pub hand_at : List (Option Input) → ℕ → Option Input
@@ -37,23 +37,30 @@ abbrev pub fed_in : Option Input → List Feed
 fed_in None = []
 fed_in (Some input) = fed_by input
 
--- Each event in the journal or in hand was the module's to take when it was; the frames that wait
--- are those of the journal but for those in hand; the feeds of a module are those committed, then
--- the one in hand, then those waiting; entries and hands together are the turns taken.
+-- the waiting frames that are in no hand
+abbrev pub unheld : Shelf → List FrameName
+unheld s = filter (λ f. not (is_held s.hands f)) (waiting s.topology s.journal)
+
+-- Each event in the journal or in hand was the module's to take when it was; the queue of a module
+-- has exactly the waiting frames that come to it and are in no hand, in their order; the feeds of a
+-- module are those committed, then the one in hand, then its queue; entries and hands together are
+-- the turns taken.
 pub record IsKept (s : Shelf) : Type 0 where
   pub flow : IsFlow s.topology s.journal
   pub count : length s.hands ≡ length s.topology.modules
-  pub frames : s.frames ≡ filter (λ f. not (is_held s.hands f)) (waiting s.topology s.journal)
+  pub feed_queues : length s.feeds ≡ length s.topology.modules
+  pub frame_queues : length s.frames ≡ length s.topology.modules
+  pub frames : (m : ℕ) → queue_at s.frames m
+      ≡ filter (goes_to s.topology s.journal m) (unheld s)
   pub held : (m : ℕ) (input : Input) → hand_at s.hands m ≡ Some input
       → IsOpenTo s.topology s.journal m input
   pub feeds : (m : ℕ) → feeds_of m s.given
-      ≡ fed m s.journal ++ (fed_in (hand_at s.hands m) ++ feeds_of m s.feeds)
+      ≡ fed m s.journal ++ (fed_in (hand_at s.hands m) ++ queue_at s.feeds m)
   pub taken : length s.journal + count_hands s.hands ≡ s.taken
   pub turns : s.taken ≤ s.turns
 
--- place i has the first of these feeds that is for module m
-pub record IsFirst (m : ℕ) (feeds : List (ModuleId × Feed)) (i : ℕ) : Type 0 where
-  pub found : ModuleId × Feed
-  pub at : slice_get feeds i ≡ Some found
-  pub goal : found.0.0 ≡ m
-  pub first : feeds_of m feeds ≡ found.1 ∷ feeds_of m (remove feeds i)
+-- what the book keeps, with how many feeds and how many frames wait in all
+pub record IsBook (s : Shelf) (feeds frames : ℕ) : Type 0 where
+  pub kept : IsKept s
+  pub feed_count : count_all s.feeds ≡ feeds
+  pub frame_count : count_all s.frames ≡ frames

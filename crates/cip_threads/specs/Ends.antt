@@ -1,5 +1,5 @@
 -- What a finished book leaves.
-use Rattle.std.specs.Prelude.{◌≡◌, ◌<◌, ℕ, List, [], ◌++◌, ◌+◌, length}
+use Rattle.std.specs.Prelude.{◌≡◌, ◌<◌, ◌≤◌, ℕ, List, [], ◌++◌, ◌+◌, length}
 use Rattle.cip_base.specs.declared.numbers.ModuleId.{ModuleId}
 use Rattle.cip_topology.specs.Plan.{Plan}
 use Rattle.cip_world.specs.declared.journal.FrameName.{FrameName}
@@ -10,6 +10,8 @@ use Rattle.cip_world.specs.Waiting.{waiting}
 use Rattle.cip_threads.specs.declared.feed.Feed.{Feed}
 use Rattle.cip_threads.specs.Feeds.{feeds_of, fed}
 use Rattle.cip_threads.specs.Flows.{IsFlow}
+use Rattle.cip_threads.specs.Queues.{count_all}
+use Rattle.cip_threads.specs.declared.shelf.Shelf.{Shelf}
 
 -- Quiet only where nothing waits; Limit only where something waits and the journal has all turns
 abbrev pub IsEnd : ℕ → Journal → List (ModuleId × Feed) → List FrameName → End → Type 0
@@ -23,3 +25,8 @@ pub record IsFinished (t : Plan) (given : List (ModuleId × Feed)) (turns : ℕ)
   pub waits : frames ≡ waiting t j
   pub fed_all : (m : ℕ) → feeds_of m given ≡ fed m j ++ feeds_of m feeds
   pub ends : IsEnd turns j feeds frames end
+
+-- the same of a book's queues
+abbrev pub MayEnd : Shelf → End → Type 0
+MayEnd s Quiet = (count_all s.feeds ≡ 0) × (count_all s.frames ≡ 0)
+MayEnd s Limit = (0 < count_all s.feeds + count_all s.frames) × (s.turns ≤ s.taken)

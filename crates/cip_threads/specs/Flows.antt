@@ -1,15 +1,16 @@
 -- Journals without a word of the routing table: each entry is a step of a module that was given a
 -- command, a tick or a frame that waited, whatever it did.
-use Rattle.std.specs.Prelude.{◌≡◌, ℕ, ◌<◌, List, [], ◌∷◌, Some, None, Option, Bool, false, ◌==◌, length}
-use Rattle.std.specs.List.{list_any}
+use Rattle.std.specs.Prelude.{◌≡◌, ℕ, ◌<◌, ◌+◌, List, [], ◌∷◌, Some, None, Option, Bool, false, ◌==◌, length}
+use Rattle.cip_base.specs.declared.numbers.ModuleId.{ModuleId}
 use Rattle.cip_module.specs.declared.event.Event.{Event}
 use Rattle.cip_module.specs.declared.event.Event.TheVariants as events
+use Rattle.cip_module.specs.declared.event.Output.{Output}
 use Rattle.cip_topology.specs.Plan.{Plan}
 use Rattle.cip_topology.specs.Nodes.{Way, across}
 use Rattle.cip_world.specs.declared.journal.FrameName.{FrameName}
 use Rattle.cip_world.specs.declared.journal.Input.{Input}
 use Rattle.cip_world.specs.declared.journal.Entry.TheVariants.{Step, Lost}
-use Rattle.cip_world.specs.Journals.{Journal, Flight, frame_at, same_name}
+use Rattle.cip_world.specs.Journals.{Journal, Flight, flight_of, frame_at}
 use Rattle.cip_world.specs.Runs.{IsGiven}
 
 -- the module may be given this now
@@ -43,8 +44,18 @@ is_into m (Some there) = there.at == m
 abbrev pub goes_to : Plan → Journal → ℕ → FrameName → Bool
 goes_to t j m f = is_into m (way_of t (frame_at j f))
 
-abbrev pub is_among : List FrameName → FrameName → Bool
-is_among frames f = list_any (λ g. same_name g f) frames
+abbrev pub sent_if : Option Way → FrameName → List (ModuleId × FrameName)
+    → List (ModuleId × FrameName)
+sent_if None f more = more
+sent_if (Some there) f more = (record { 0 = there.at }, f) ∷ more
+
+-- the frames that arrive somewhere among these outputs of module m in entry k, each with the
+-- module that it comes to; the first of the outputs has place i
+abbrev pub sends_of : Plan → ℕ → ℕ → ℕ → List Output → List (ModuleId × FrameName)
+sends_of t m k i [] = []
+sends_of t m k i (output ∷ outputs) =
+    sent_if (way_of t (flight_of m (Some output))) (record { entry = k; output = i })
+    (sends_of t m k (i + 1) outputs)
 
 -- the frame comes to module m, by a port and from an address, as this event
 pub record Comes (t : Plan) (j : Journal) (f : FrameName) (m port : ℕ) (from : List ℕ)

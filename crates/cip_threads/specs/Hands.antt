@@ -1,5 +1,5 @@
 -- What the calls of the book change.
-use Rattle.std.specs.Prelude.{◌≡◌, ◌≤◌, ◌<◌, ℕ, List, [], ◌∷◌, ◌++◌, Option, Some, None, true, false, not, ◌⊎◌, ◌+◌, length, set, replicate, filter, remove}
+use Rattle.std.specs.Prelude.{◌≡◌, ◌≤◌, ◌<◌, ℕ, List, [], ◌∷◌, Some, None, true, false, ◌⊎◌, ◌+◌, length, set, replicate}
 use Rattle.cip_base.specs.declared.numbers.ModuleId.{ModuleId}
 use Rattle.cip_module.specs.declared.event.Event.{Event}
 use Rattle.cip_module.specs.declared.event.Output.{Output}
@@ -8,26 +8,25 @@ use Rattle.cip_world.specs.declared.journal.FrameName.{FrameName}
 use Rattle.cip_world.specs.declared.journal.Input.{Input}
 use Rattle.cip_world.specs.declared.journal.Input.TheVariants.{Frame}
 use Rattle.cip_world.specs.declared.journal.Entry.TheVariants.{Step}
-use Rattle.cip_world.specs.Journals.{same_name}
-use Rattle.cip_world.specs.Waiting.{frames_of}
 use Rattle.cip_threads.specs.declared.feed.Feed.{Feed}
 use Rattle.cip_threads.specs.declared.shelf.Shelf.{Shelf}
 use Rattle.cip_threads.specs.declared.state.Handed.{Handed}
 use Rattle.cip_threads.specs.declared.state.Handed.TheVariants.{Work, Stop, Held, NotYet}
 use Rattle.cip_threads.specs.declared.state.CommitFault.{CommitFault}
 use Rattle.cip_threads.specs.declared.state.CommitFault.TheVariants as faults
-use Rattle.cip_threads.specs.Feeds.{input_of, event_of, feeds_of}
-use Rattle.cip_threads.specs.Flows.{Comes, goes_to, is_among}
-use Rattle.cip_threads.specs.Books.{hand_at, count_hands, IsFirst}
+use Rattle.cip_threads.specs.Queues.{queue_at, enqueue, count_all}
+use Rattle.cip_threads.specs.Feeds.{input_of, event_of}
+use Rattle.cip_threads.specs.Flows.{Comes, sends_of}
+use Rattle.cip_threads.specs.Books.{hand_at, count_hands}
 
--- at first nothing is in hand and every feed waits
+-- at first nothing is in hand, and every feed waits in its module's queue
 abbrev pub opened : Plan → List (ModuleId × Feed) → ℕ → Shelf
 opened t feeds turns =
     record {
       topology = t;
       given = feeds;
-      feeds = feeds;
-      frames = [];
+      feeds = enqueue (replicate (length t.modules) []) feeds;
+      frames = replicate (length t.modules) [];
       hands = replicate (length t.modules) None;
       journal = [];
       taken = 0;
@@ -52,12 +51,13 @@ with_hand s m input =
       stopped = s.stopped;
     }
 
-abbrev pub without_feed : Shelf → ℕ → Shelf
-without_feed s i =
+-- these feeds are left in the queue of module m
+abbrev pub with_feeds : Shelf → ℕ → List Feed → Shelf
+with_feeds s m rest =
     record {
       topology = s.topology;
       given = s.given;
-      feeds = remove s.feeds i;
+      feeds = set s.feeds m rest;
       frames = s.frames;
       hands = s.hands;
       journal = s.journal;
@@ -66,13 +66,14 @@ without_feed s i =
       stopped = s.stopped;
     }
 
-abbrev pub without_frame : Shelf → FrameName → Shelf
-without_frame s f =
+-- these frames are left in the queue of module m
+abbrev pub with_frames : Shelf → ℕ → List FrameName → Shelf
+with_frames s m rest =
     record {
       topology = s.topology;
       given = s.given;
       feeds = s.feeds;
-      frames = filter (λ g. not (same_name g f)) s.frames;
+      frames = set s.frames m rest;
       hands = s.hands;
       journal = s.journal;
       taken = s.taken;
@@ -82,19 +83,21 @@ without_frame s f =
 
 -- the first feed of the module went into its hand
 pub record GaveFeed (old new : Shelf) (m : ℕ) (event : Event) : Type 0 where
-  pub place : ℕ
-  pub first : IsFirst m old.feeds place
-  pub is : event ≡ event_of first.found.1
-  pub gives : new ≡ with_hand (without_feed old place) m (input_of first.found.1)
+  pub feed : Feed
+  pub rest : List Feed
+  pub first : queue_at old.feeds m ≡ feed ∷ rest
+  pub is : event ≡ event_of feed
+  pub gives : new ≡ with_hand (with_feeds old m rest) m (input_of feed)
 
--- a frame that waits and comes to the module went into its hand
+-- the first frame that waits for the module went into its hand
 pub record GaveFrame (old new : Shelf) (m : ℕ) (event : Event) : Type 0 where
   pub name : FrameName
+  pub rest : List FrameName
   pub port : ℕ
   pub from : List ℕ
-  pub waits : is_among old.frames name ≡ true
+  pub first : queue_at old.frames m ≡ name ∷ rest
   pub comes : Comes old.topology old.journal name m port from event
-  pub gives : new ≡ with_hand (without_frame old name) m (Frame port from name)
+  pub gives : new ≡ with_hand (with_frames old m rest) m (Frame port from name)
 
 -- the book is not stopped, and the module is one of its own and has nothing in hand
 pub record IsFree (s : Shelf) (m : ℕ) : Type 0 where
@@ -104,13 +107,13 @@ pub record IsFree (s : Shelf) (m : ℕ) : Type 0 where
 
 -- no feed and no frame waits for the module
 pub record NothingFor (s : Shelf) (m : ℕ) : Type 0 where
-  pub feeds : feeds_of m s.feeds ≡ []
-  pub frames : filter (goes_to s.topology s.journal m) s.frames ≡ []
+  pub feeds : queue_at s.feeds m ≡ []
+  pub frames : queue_at s.frames m ≡ []
 
 -- nothing waits for any module, and nothing is in hand
 pub record IsQuiet (s : Shelf) : Type 0 where
-  pub feeds : s.feeds ≡ []
-  pub frames : s.frames ≡ []
+  pub feeds : count_all s.feeds ≡ 0
+  pub frames : count_all s.frames ≡ 0
   pub idle : count_hands s.hands ≡ 0
 
 -- a turn is left, and the module got a feed or a frame
@@ -138,14 +141,15 @@ IsHanded old new m NotYet =
 
 -- ---- enter
 
--- the book after the entry of what the module had in hand
+-- the book after the entry of what the module had in hand: its frames go to the queues of the
+-- modules that they come to
 abbrev pub entered : Shelf → ModuleId → Input → List Output → Shelf
 entered s m input outputs =
     record {
       topology = s.topology;
       given = s.given;
       feeds = s.feeds;
-      frames = s.frames ++ frames_of s.topology m.0 (length s.journal) 0 outputs;
+      frames = enqueue s.frames (sends_of s.topology m.0 (length s.journal) 0 outputs);
       hands = set s.hands m.0 None;
       journal = Step m input outputs ∷ s.journal;
       taken = s.taken;

@@ -1,4 +1,6 @@
+pub mod Queues
 pub mod Feeds
+pub mod QueueSteps
 pub mod Flows
 pub mod Books
 pub mod Hands

@@ -1,16 +1,19 @@
 //! The frames that wait, and where they come in.
-ghost use Rattle.std.specs.Prelude.{◌≡◌, ◌++◌, [], IfOk, IfSome, IfNone, OnOk, Some, true, false, option_map, reverse, filter, drop};
+ghost use Rattle.std.specs.Prelude.{◌≡◌, ◌<◌, ◌∷◌, ◌++◌, [], IfOk, IfSome, IfNone, OnOk, List, Some, true, drop, length, map, option_map, reverse};
 ghost use Rattle.cip_topology.specs.Nodes.{across};
 ghost use Rattle.cip_world.specs.Coming.{flight, way_in};
 ghost use Rattle.cip_world.specs.Journals.{flight_of, frame_at};
-ghost use Rattle.cip_world.specs.Waiting.{arrives, frames_of};
-ghost use Rattle.cip_threads.specs.Flows.{Comes, goes_to, is_among, way_of};
+ghost use Rattle.cip_world.specs.declared.journal.FrameName.{FrameName as Name};
+ghost use Rattle.cip_threads.specs.Flows.{Comes, goes_to, sends_of, sent_if, way_of};
+ghost use Rattle.cip_threads.specs.Queues.{queue_at};
 
+use crate::queues::first_in;
 use cip_base::{Address, ModuleId, NoMemory, PortNumber};
 use cip_module::{Event, Output};
 use cip_topology::Topology;
 use cip_world::{Coming, Entry, Flying, FrameName, frame_at};
 use std::alloc::Global;
+use std::collections::VecDeque;
 
 /// A frame for a module, with the event that it is there.
 #[derive(Drop)]
@@ -50,36 +53,24 @@ fn coming<'a>(topology: &'a Topology, entries: &'a [Entry], name: FrameName) -> 
     }
 }
 
-/// The module that the frame of a name comes to.
-pub(crate) fn goal_of(topology: &Topology, entries: &[Entry], name: FrameName) -> Option<ModuleId> {
-    match coming(topology, entries, name) {
-        Some(coming) => Some(coming.at),
-        None => None,
-    }
-}
-
-// The frame of a name, where it comes to a module.
-fn frame_to(
+// The frame of a name that comes to a module.
+fn arrival(
     alloc: Global,
     topology: &Topology,
     entries: &[Entry],
     name: FrameName,
     m: usize,
-) -> Result<Option<Found>, NoMemory>
-    ensures some { IfOk result (λ found. IfSome found (λ r. (r.name ≡ name)
-        × Comes topology.now (reverse entries.now) name m r.port r.from r.event)) }
-    ensures none { IfOk result (λ found. IfNone found
-        (goes_to topology.now (reverse entries.now) m name ≡ false)) }
+) -> Result<Found, NoMemory>
+    requires { goes_to topology.now (reverse entries.now) m name ≡ true }
+    ensures { IfOk result (λ r. (r.name ≡ name)
+        × Comes topology.now (reverse entries.now) name m r.port r.from r.event) }
 {
     let Some(coming) = coming(topology, entries, name) else {
-        return Ok(None);
+        unreachable!()
     };
-    if coming.at.0 != m {
-        return Ok(None);
-    }
     let body = coming.body.copy(alloc)?;
     let port = coming.port;
-    Ok(Some(Found {
+    Ok(Found {
         name,
         port,
         from: coming.from.copy(),
@@ -88,55 +79,85 @@ fn frame_to(
             from: coming.from.copy(),
             body,
         },
-    }))
+    })
 }
 
-/// The first of these frames that comes to a module.
+/// The first frame in a module's queue; each of them comes to the module.
 pub(crate) fn frame_for(
     alloc: Global,
     topology: &Topology,
     entries: &[Entry],
-    frames: &[FrameName],
+    queues: &[VecDeque<FrameName>],
     m: usize,
 ) -> Result<Option<Found>, NoMemory>
-    ensures some { IfOk result (λ found. IfSome found (λ r. (is_among frames.now r.name ≡ true)
+    requires within { m < length queues.now }
+    requires goes { (name : Name) (rest : List Name)
+        → queue_at (map (λ q. q.items) queues.now) m ≡ name ∷ rest
+        → goes_to topology.now (reverse entries.now) m name ≡ true }
+    ensures some { IfOk result (λ found. IfSome found (λ r.
+        (queue_at (map (λ q. q.items) queues.now) m
+        ≡ r.name ∷ drop 1 (queue_at (map (λ q. q.items) queues.now) m))
         × Comes topology.now (reverse entries.now) r.name m r.port r.from r.event)) }
     ensures none { IfOk result (λ found. IfNone found
-        (filter (goes_to topology.now (reverse entries.now) m) frames.now ≡ [])) }
+        (queue_at (map (λ q. q.items) queues.now) m ≡ [])) }
 {
-    for i in 0..frames.len() {
-        if let Some(found) = frame_to(alloc, topology, entries, frames[i], m)? {
-            return Ok(Some(found));
+    match first_in(queues, m) {
+        Some(name) => {
+            let found = arrival(alloc, topology, entries, *name, m)?;
+            Ok(Some(found))
         }
+        None => Ok(None),
     }
-    Ok(None)
 }
 
-// Whether an output of a module is a frame to an address that some module has.
-fn arrives(topology: &Topology, at: ModuleId, output: &Output) -> bool
-    ensures { result ≡ arrives topology.now (flight_of at.0 (Some output.now)) }
+// The module that an output of a module comes to, where it is a frame that arrives.
+fn goal(topology: &Topology, at: ModuleId, output: &Output) -> Option<ModuleId>
+    ensures { option_map (λ id. id.0) result
+        ≡ option_map (λ w. w.at) (way_of topology.now (flight_of at.0 (Some output.now))) }
 {
     match output {
-        Output::Send { port, to, .. } => topology.across(at, *port, to).is_some(),
-        _ => false,
+        Output::Send { port, to, .. } => match topology.across(at, *port, to) {
+            Some(there) => Some(there.at),
+            None => None,
+        },
+        _ => None,
     }
 }
 
-/// The frames that arrive somewhere among the outputs of an entry.
-pub(crate) fn frames_of(
+// The frame of this name, if the output is one that arrives, at the end of a list.
+#[tactic(auto, using(crate::proofs::Sending::sent_some, crate::proofs::Sending::sent_none))]
+fn push_send(
+    sends: &mut Vec<(ModuleId, FrameName)>,
+    topology: &Topology,
+    at: ModuleId,
+    output: &Output,
+    name: FrameName,
+) -> Result<(), NoMemory>
+    ensures { OnOk result (sends.new.items ≡ sends.old.items
+        ++ sent_if (way_of topology.now (flight_of at.0 (Some output.now))) name []) }
+{
+    if let Some(to) = goal(topology, at, output) {
+        sends.push((to, name))?;
+        return Ok(());
+    }
+    Ok(())
+}
+
+/// The frames that arrive somewhere among the outputs of an entry, each with the module that it
+/// comes to.
+pub(crate) fn sends_of(
     alloc: Global,
     topology: &Topology,
     entry: usize,
     at: ModuleId,
     outputs: &[Output],
-) -> Result<Vec<FrameName>, NoMemory>
-    ensures { IfOk result (λ v. v.items ≡ frames_of topology.now at.0 entry 0 outputs.now) }
+) -> Result<Vec<(ModuleId, FrameName)>, NoMemory>
+    ensures { IfOk result (λ v. v.items ≡ sends_of topology.now at.0 entry 0 outputs.now) }
 {
-    let mut names = Vec::new(alloc);
+    let mut sends = Vec::new(alloc);
     for output in 0..outputs.len() {
-        if arrives(topology, at, &outputs[output]) {
-            names.push(FrameName { entry, output })?;
-        }
+        let name = FrameName { entry, output };
+        push_send(&mut sends, topology, at, &outputs[output], name)?;
     }
-    Ok(names)
+    Ok(sends)
 }

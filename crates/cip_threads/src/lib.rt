@@ -6,6 +6,7 @@ mod feed;
 mod frames;
 mod gate;
 mod message;
+mod queues;
 mod report;
 mod run;
 mod same;

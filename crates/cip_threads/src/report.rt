@@ -43,3 +43,10 @@ pub enum RunFault {
     #[error("{0}")]
     New(NewFault),
 }
+
+/// A message or the book is missing something or differs from the journal, or there was no memory.
+#[derive(Clone, Copy, Debug, PartialEq, Eq)]
+pub(crate) enum CompareFault {
+    NoMemory,
+    Differs(ModuleId),
+}

@@ -8,7 +8,7 @@ use crate::book::Book;
 use crate::feed::Feed;
 use crate::gate::Gate;
 use crate::message::Message;
-use crate::report::{Report, RunFault, Waiting};
+use crate::report::{CompareFault, Report, RunFault, Waiting};
 use crate::state::{BookState, Finished, copy_feeds};
 use crate::worker::{Ended, Post, Shared};
 use cip_base::{ModuleId, NoMemory};
@@ -88,13 +88,6 @@ fn gather<R: Wait>(
         }
     }
     Ok(slots)
-}
-
-// A message is missing or differs from the journal, or there was no memory.
-#[derive(Clone, Copy, Debug, PartialEq, Eq)]
-enum CompareFault {
-    NoMemory,
-    Differs(ModuleId),
 }
 
 fn take_message(messages: &mut Vec<Option<Message>>, m: usize) -> Option<Message>
@@ -244,7 +237,8 @@ fn report(
 {
     let finished = match state.finish(topology, feeds, turns) {
         Ok(finished) => finished,
-        Err(m) => return Err(RunFault::Split(m)),
+        Err(CompareFault::NoMemory) => return Err(RunFault::NoMemory),
+        Err(CompareFault::Differs(m)) => return Err(RunFault::Split(m)),
     };
     let tables = match compare(alloc, messages, topology, finished.journal.as_slice()) {
         Ok(tables) => tables,

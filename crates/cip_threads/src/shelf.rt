@@ -24,10 +24,10 @@ impl<T> Model for Row<T> {
 #[derive(Drop)]
 pub(crate) struct Shelf {
     pub(crate) topology: Topology,
-    // What the book was made with, and what of it waits.
     pub(crate) given: Row<(ModuleId, Feed)>,
-    pub(crate) feeds: Row<(ModuleId, Feed)>,
-    pub(crate) frames: Row<FrameName>,
+    // What waits for each module, by its place.
+    pub(crate) feeds: Row<Row<Feed>>,
+    pub(crate) frames: Row<Row<FrameName>>,
     pub(crate) hands: Row<Option<Input>>,
     pub(crate) journal: Row<Entry>,
     pub(crate) taken: usize,

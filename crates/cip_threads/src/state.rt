@@ -1,20 +1,27 @@
 //! What the lock holds: feeds, frames, what each module has in hand, and the journal.
-ghost use Rattle.std.specs.Prelude.{◌≡◌, ◌≢◌, ◌∷◌, [], ◌++◌, ◌+◌, ◌<◌, ℕ, All, IfOk, IfErr, OnOk, OnErr, IfSome, IfNone, IsTrue, IsFalse, Some, None, length, slice_get, replicate, filter, not, take, reverse, vec_len, set, remove};
-ghost use Rattle.cip_base.specs.declared.numbers.ModuleId.{ModuleId as Id};
+ghost use Rattle.std.specs.Prelude.{◌≡◌, ◌∷◌, [], ◌<◌, List, All, IfOk, IfErr, OnOk, OnErr, IfSome, IfNone, IsTrue, IsFalse, Some, None, drop, length, map, replicate, reverse, vec_len, set};
 ghost use Rattle.cip_world.specs.declared.journal.Input.{Input as Given};
-ghost use Rattle.cip_world.specs.Journals.{same_name};
-ghost use Rattle.cip_threads.specs.Feeds.{event_of, feeds_of, input_of};
-ghost use Rattle.cip_threads.specs.Books.{IsFirst, hand_at, count_hands};
+ghost use Rattle.cip_threads.specs.declared.feed.Feed.{Feed as Fed};
+ghost use Rattle.cip_threads.specs.Feeds.{event_of};
+ghost use Rattle.cip_threads.specs.Books.{hand_at, count_hands};
+ghost use Rattle.cip_threads.specs.Queues.{queue_at};
 
 use crate::feed::Feed;
-use crate::frames::{frame_for, frames_of, goal_of};
+use crate::frames::{frame_for, sends_of};
+use crate::queues::{
+    deal, feeds_left, first_in, merge, no_queues, push_all, reserve_all, take_first,
+};
+use crate::report::CompareFault;
 use crate::shelf::{Row, Shelf};
 use cip_base::{ModuleId, NoMemory};
 use cip_module::{Event, Output};
 use cip_topology::Topology;
 use cip_world::{End, Entry, FrameName, Input, Outputs};
 use std::alloc::Global;
+use std::collections::VecDeque;
 use std::marker::Model;
+use std::mem;
+use std::sync::Condvar;
 use thiserror::Error;
 
 /// What a call of `hand` gives a module's worker.
@@ -57,27 +64,32 @@ pub struct BookState {
     alloc: Global,
     topology: Topology,
     given: Vec<(ModuleId, Feed)>,
-    feeds: Vec<(ModuleId, Feed)>,
-    frames: Vec<FrameName>,
+    // What waits for each module, and how much of it there is in all.
+    feeds: Vec<VecDeque<Feed>>,
+    frames: Vec<VecDeque<FrameName>>,
+    feed_count: usize,
+    frame_count: usize,
     hands: Vec<Option<Input>>,
     journal: Vec<Entry>,
     taken: usize,
     turns: usize,
     stopped: bool,
+    // What the worker of each module sleeps on, until the book takes it.
+    signals: Vec<Condvar>,
 }
 
 impl Model for BookState {
-    ghost use Rattle.std.specs.Prelude.{reverse};
+    ghost use Rattle.std.specs.Prelude.{map, reverse};
     ghost use Rattle.cip_threads.specs.declared.shelf.Shelf.{Shelf};
-    ghost use Rattle.cip_threads.specs.Books.{IsKept};
+    ghost use Rattle.cip_threads.specs.Books.{IsBook};
 
     ghost Value = { Shelf };
 
     ghost view = { λ b. record {
       topology = b.topology;
       given = b.given.items;
-      feeds = b.feeds.items;
-      frames = b.frames.items;
+      feeds = map (λ q. q.items) b.feeds.items;
+      frames = map (λ q. q.items) b.frames.items;
       hands = b.hands.items;
       journal = reverse b.journal.items;
       taken = b.taken;
@@ -85,17 +97,17 @@ impl Model for BookState {
       stopped = b.stopped;
     } };
 
-    ghost invariant = { λ b. IsKept (record {
+    ghost invariant = { λ b. IsBook (record {
       topology = b.topology;
       given = b.given.items;
-      feeds = b.feeds.items;
-      frames = b.frames.items;
+      feeds = map (λ q. q.items) b.feeds.items;
+      frames = map (λ q. q.items) b.frames.items;
       hands = b.hands.items;
       journal = reverse b.journal.items;
       taken = b.taken;
       turns = b.turns;
       stopped = b.stopped;
-    }) };
+    }) b.feed_count b.frame_count };
 }
 
 /// Whether each feed is for a module of the topology.
@@ -106,42 +118,23 @@ pub fn feeds_fit(topology: &Topology, feeds: &[(ModuleId, Feed)]) -> bool
     feeds.iter().all(|fed| fed.0.0 < count)
 }
 
-// The place of a module's first feed.
-fn first_feed(feeds: &[(ModuleId, Feed)], m: usize) -> Option<usize>
-    ensures found { IfSome result (λ i. IsFirst m feeds.now i) }
-    ensures none { IfNone result (feeds_of m feeds.now ≡ []) }
+// The event of the first feed in a module's queue.
+fn feed_for(alloc: Global, queues: &[VecDeque<Feed>], m: usize) -> Result<Option<Event>, NoMemory>
+    requires { m < length queues.now }
+    ensures some { IfOk result (λ found. IfSome found (λ event. (feed : Fed)
+        × (queue_at (map (λ q. q.items) queues.now) m
+        ≡ feed ∷ drop 1 (queue_at (map (λ q. q.items) queues.now) m))
+        × (event ≡ event_of feed))) }
+    ensures none { IfOk result (λ found. IfNone found
+        (queue_at (map (λ q. q.items) queues.now) m ≡ [])) }
 {
-    for i in 0..feeds.len() {
-        let id = feeds[i].0;
-        if id.0 == m {
-            return Some(i);
+    match first_in(queues, m) {
+        Some(feed) => {
+            let event = feed.event(alloc)?;
+            Ok(Some(event))
         }
+        None => Ok(None),
     }
-    None
-}
-
-// A feed by its place, with its event.
-#[derive(Drop)]
-struct FeedFound {
-    place: usize,
-    event: Event,
-}
-
-// The first feed of a module.
-fn feed_for(
-    alloc: Global,
-    feeds: &[(ModuleId, Feed)],
-    m: usize,
-) -> Result<Option<FeedFound>, NoMemory>
-    ensures some { IfOk result (λ found. IfSome found (λ r.
-        (first : IsFirst m feeds.now r.place) × (r.event ≡ event_of first.found.1))) }
-    ensures none { IfOk result (λ found. IfNone found (feeds_of m feeds.now ≡ [])) }
-{
-    let Some(place) = first_feed(feeds, m) else {
-        return Ok(None);
-    };
-    let event = feeds[place].1.event(alloc)?;
-    Ok(Some(FeedFound { place, event }))
 }
 
 // Whether a module has something in hand.
@@ -160,6 +153,23 @@ fn put_hand(hands: &mut Vec<Option<Input>>, m: usize, input: Input)
     hands[m] = Some(input);
 }
 
+// Takes the first feed out of a module's queue.
+fn take_feed(queues: &mut Vec<VecDeque<Feed>>, m: usize) -> Feed
+    requires within { m < vec_len queues.old }
+    requires full { (feed : Fed) × (rest : List Fed)
+        × (queue_at (map (λ q. q.items) queues.old.items) m ≡ feed ∷ rest) }
+    ensures value { queue_at (map (λ q. q.items) queues.old.items) m
+        ≡ result ∷ drop 1 (queue_at (map (λ q. q.items) queues.old.items) m) }
+    ensures after { map (λ q. q.items) queues.new.items
+        ≡ set (map (λ q. q.items) queues.old.items) m
+        (drop 1 (queue_at (map (λ q. q.items) queues.old.items) m)) }
+{
+    let Some(feed) = take_first(queues, m) else {
+        unreachable!()
+    };
+    feed
+}
+
 fn take_hand(hands: &mut Vec<Option<Input>>, m: usize) -> Input
     requires within { m < vec_len hands.old }
     requires full { (input : Given) × (hand_at hands.old.items m ≡ Some input) }
@@ -170,70 +180,6 @@ fn take_hand(hands: &mut Vec<Option<Input>>, m: usize) -> Input
         unreachable!()
     };
     input
-}
-
-fn add_frames(frames: &mut Vec<FrameName>, more: Vec<FrameName>) -> Result<(), NoMemory>
-    ensures ok { OnOk result (frames.new.items ≡ frames.old.items ++ more.items) }
-    ensures err { OnErr result (frames.new.items ≡ frames.old.items) }
-{
-    let mut more = more;
-    frames.append(&mut more)?;
-    Ok(())
-}
-
-fn take_feed(feeds: &mut Vec<(ModuleId, Feed)>, place: usize) -> Feed
-    requires { place < vec_len feeds.old }
-    ensures value { (id : Id) × (slice_get feeds.old.items place ≡ Some (id, result)) }
-    ensures after { feeds.new.items ≡ remove feeds.old.items place }
-{
-    let (_, feed) = feeds.remove(place);
-    feed
-}
-
-fn is_name(name: FrameName, other: FrameName) -> bool
-    ensures { result ≡ same_name name other }
-{
-    name.entry == other.entry && name.output == other.output
-}
-
-// Takes the frame of a name out.
-fn take_out(frames: &mut Vec<FrameName>, name: FrameName)
-    ensures { frames.new.items ≡ filter (λ g. not (same_name g name)) frames.old.items }
-{
-    frames.retain(
-        |other| -> bool
-            ensures { result ≡ not (same_name other.now name) }
-        { !is_name(*other, name) },
-    );
-}
-
-fn is_idle(hands: &[Option<Input>]) -> bool
-    ensures yes { IsTrue result → count_hands hands.now ≡ 0 }
-    ensures no { IsFalse result → count_hands hands.now ≡ 0 → ⊥ }
-{
-    for i in 0..hands.len() {
-        if hands[i].is_some() {
-            return false;
-        }
-    }
-    true
-}
-
-// Whether nothing waits and nothing is in hand.
-fn is_quiet(feeds: &[(ModuleId, Feed)], frames: &[FrameName], hands: &[Option<Input>]) -> bool
-    ensures yes { IsTrue result
-        → (feeds.now ≡ []) × (frames.now ≡ []) × (count_hands hands.now ≡ 0) }
-    ensures no { IsFalse result
-        → feeds.now ≡ [] → frames.now ≡ [] → count_hands hands.now ≡ 0 → ⊥ }
-{
-    feeds.is_empty() && frames.is_empty() && is_idle(hands)
-}
-
-fn waits(feeds: &[(ModuleId, Feed)], frames: &[FrameName]) -> bool
-    ensures yes { IsTrue result → 0 < length feeds.now + length frames.now }
-    ensures no { IsFalse result → (feeds.now ≡ []) × (frames.now ≡ []) }
-{
-    !(feeds.is_empty() && frames.is_empty())
 }
 
 /// The same feeds once more; NoMemory where an allocation is refused.
@@ -291,6 +237,25 @@ fn first_full(hands: &[Option<Input>]) -> Option<ModuleId>
     None
 }
 
+// A signal for each of so many modules.
+fn signals(alloc: Global, count: usize) -> Result<Vec<Condvar>, NoMemory> {
+    let mut signals = Vec::new(alloc);
+    for _i in 0..count {
+        signals.push(Condvar::new())?;
+    }
+    Ok(signals)
+}
+
+// The first module with something in its queue.
+fn first_waiting<T>(queues: &[VecDeque<T>]) -> Option<ModuleId> {
+    for m in 0..queues.len() {
+        if !queues[m].is_empty() {
+            return Some(ModuleId(m));
+        }
+    }
+    None
+}
+
 fn no_hands(alloc: Global, count: usize) -> Result<Vec<Option<Input>>, NoMemory>
     ensures { IfOk result (λ v. v.items ≡ replicate count None) }
 {
@@ -302,8 +267,10 @@ fn no_hands(alloc: Global, count: usize) -> Result<Vec<Option<Input>>, NoMemory>
 }
 
 impl BookState {
-    ghost use Rattle.cip_threads.specs.Hands.{IsHanded, IsEntered, IsNotEntered, opened, stopped_of};
-    ghost use Rattle.cip_threads.specs.Ends.{IsFinished};
+    ghost use Rattle.std.specs.Prelude.{true, ◌↔◌};
+    ghost use Rattle.cip_threads.specs.Hands.{IsHanded, IsEntered, IsNotEntered, IsQuiet, opened, stopped_of};
+    ghost use Rattle.cip_threads.specs.Ends.{IsFinished, MayEnd};
+    ghost use Rattle.cip_threads.specs.Flows.{sends_of};
 
     /// A book in which every feed waits, nothing is in hand, and the journal is empty. So many turns
     /// may be taken. NoMemory where an allocation is refused.
@@ -316,26 +283,35 @@ impl BookState {
         requires { All (λ fed. fed.0.0 < length topology.modules) feeds.items }
         ensures { IfOk result (λ s. s ≡ opened topology feeds.items turns) }
     {
+        let count = topology.configs().len();
         let given = copy_feeds(alloc, feeds.as_slice())?;
-        let hands = no_hands(alloc, topology.configs().len())?;
+        let feed_count = feeds.as_slice().len();
+        let feeds = deal(alloc, count, feeds)?;
+        let frames = no_queues(alloc, count)?;
+        let hands = no_hands(alloc, count)?;
+        let signals = signals(alloc, count)?;
         Ok(BookState {
             alloc,
             topology,
             given,
             feeds,
-            frames: Vec::new(alloc),
+            frames,
+            feed_count,
+            frame_count: 0,
             hands,
             journal: Vec::new(alloc),
             taken: 0,
             turns,
             stopped: false,
+            signals,
         })
     }
 
-    /// Moves the first feed of a module, or a waiting frame that comes to it, into its hand: Work.
-    /// It looks in this order: stopped, or no such module: Stop; something in hand: Held; turns left
-    /// and something waits for the module: Work; no turns left, or nothing waits and nothing is in
-    /// hand anywhere: Stop; else NotYet. All answers but Work change nothing, and so does NoMemory.
+    /// Moves the first feed of a module, or the first waiting frame that comes to it, into its hand:
+    /// Work. It looks in this order: stopped, or no such module: Stop; something in hand: Held; turns
+    /// left and something waits for the module: Work; no turns left, or nothing waits and nothing is
+    /// in hand anywhere: Stop; else NotYet. All answers but Work change nothing, and so does
+    /// NoMemory.
     pub fn hand(&mut self, m: ModuleId) -> Result<Handed, NoMemory>
         ensures ok { IfOk result (λ answer. IsHanded self.old self.new m.0 answer) }
         ensures err { OnErr result (self.new ≡ self.old) }
@@ -352,11 +328,12 @@ impl BookState {
         if self.taken >= self.turns {
             return Ok(Handed::Stop);
         }
-        if let Some(found) = feed_for(self.alloc, self.feeds.as_slice(), m.0)? {
-            let feed = take_feed(&mut self.feeds, found.place);
+        if let Some(event) = feed_for(self.alloc, self.feeds.as_slice(), m.0)? {
+            let feed = take_feed(&mut self.feeds, m.0);
+            self.feed_count -= 1;
             put_hand(&mut self.hands, m.0, feed.into_input());
             self.taken += 1;
-            return Ok(Handed::Work(found.event));
+            return Ok(Handed::Work(event));
         }
         if let Some(found) = frame_for(
             self.alloc,
@@ -365,7 +342,8 @@ impl BookState {
             self.frames.as_slice(),
             m.0,
         )? {
-            take_out(&mut self.frames, found.name);
+            let _name = take_first(&mut self.frames, m.0);
+            self.frame_count -= 1;
             put_hand(
                 &mut self.hands,
                 m.0,
@@ -378,14 +356,23 @@ impl BookState {
             self.taken += 1;
             return Ok(Handed::Work(found.event));
         }
-        if is_quiet(
-            self.feeds.as_slice(),
-            self.frames.as_slice(),
-            self.hands.as_slice(),
-        ) {
+        if self.is_quiet() {
             return Ok(Handed::Stop);
         }
         Ok(Handed::NotYet)
+    }
+
+    /// Whether nothing waits and nothing is in hand. It looks at counts alone.
+    pub(crate) fn is_quiet(&self) -> bool
+        ensures yes { IsTrue result → IsQuiet self.now }
+        ensures no { IsFalse result → IsQuiet self.now → ⊥ }
+    {
+        self.feed_count == 0 && self.frame_count == 0 && self.taken == self.journal.as_slice().len()
+    }
+
+    /// Whether all turns are taken.
+    pub(crate) fn is_spent(&self) -> bool {
+        self.taken >= self.turns
     }
 
     /// Appends the entry of what a module has in hand, with these outputs; the frames among them
@@ -396,6 +383,25 @@ impl BookState {
         ensures err { OnErr result (self.new ≡ self.old) }
         ensures fault { IfErr result (IsNotEntered self.old m) }
     {
+        match self.enter_sends(m, outputs) {
+            Ok(_) => Ok(()),
+            Err(fault) => Err(fault),
+        }
+    }
+
+    /// The same as `enter`, answering the frames that wait from then on, each with the module that it
+    /// comes to.
+    pub(crate) fn enter_sends(
+        &mut self,
+        m: ModuleId,
+        outputs: Vec<Output>,
+    ) -> Result<Vec<(ModuleId, FrameName)>, CommitFault>
+        ensures ok { OnOk result (IsEntered self.old self.new m outputs.items) }
+        ensures sends { IfOk result (λ v. v.items
+            ≡ sends_of self.old.topology m.0 (length self.old.journal) 0 outputs.items) }
+        ensures err { OnErr result (self.new ≡ self.old) }
+        ensures fault { IfErr result (IsNotEntered self.old m) }
+    {
         if m.0 >= self.hands.as_slice().len() {
             return Err(CommitFault::NothingInHand);
         }
@@ -403,22 +409,27 @@ impl BookState {
             return Err(CommitFault::NothingInHand);
         }
         let number = self.journal.as_slice().len();
-        let Ok(names) = frames_of(self.alloc, &self.topology, number, m, outputs.as_slice()) else {
+        let Ok(sends) = sends_of(self.alloc, &self.topology, number, m, outputs.as_slice()) else {
+            return Err(CommitFault::NoMemory);
+        };
+        let Some(frame_count) = self.frame_count.checked_add(sends.as_slice().len()) else {
             return Err(CommitFault::NoMemory);
         };
         if self.journal.reserve(1).is_err() {
             return Err(CommitFault::NoMemory);
         }
-        let Ok(()) = add_frames(&mut self.frames, names) else {
+        let Ok(()) = reserve_all(&mut self.frames, sends.as_slice()) else {
             return Err(CommitFault::NoMemory);
         };
+        push_all(&mut self.frames, sends.as_slice());
+        self.frame_count = frame_count;
         let input = take_hand(&mut self.hands, m.0);
         self.journal.push_reserved(Entry::Step {
             at: m,
             input,
             outputs: Outputs::of(outputs),
         });
-        Ok(())
+        Ok(sends)
     }
 
     /// Ends the handing out.
@@ -428,59 +439,75 @@ impl BookState {
         self.stopped = true;
     }
 
+    /// What the workers sleep on, one for each module, where nobody took it before.
+    pub(crate) fn take_signals(&mut self) -> Vec<Condvar>
+        ensures { self.new ≡ self.old }
+    {
+        mem::replace(&mut self.signals, Vec::new(self.alloc))
+    }
+
     // The module that something waits for.
     fn goal(&self) -> ModuleId {
-        if let Some(given) = self.feeds.first() {
-            return given.0;
+        if let Some(m) = first_waiting(self.feeds.as_slice()) {
+            return m;
         }
-        let Some(name) = self.frames.first() else {
-            return ModuleId(0);
-        };
-        match goal_of(&self.topology, self.journal.as_slice(), *name) {
+        match first_waiting(self.frames.as_slice()) {
             Some(m) => m,
             None => ModuleId(0),
         }
     }
 
+    // What is left, where nothing is in hand.
+    fn leave(self, end: End) -> Result<Finished, CompareFault>
+        requires idle { count_hands self.hands ≡ 0 }
+        requires end { MayEnd self end }
+        ensures { IfOk result (λ f. IsFinished self.topology self.given self.turns
+            (reverse f.journal.items) f.feeds.items f.frames.items f.end) }
+    {
+        let Ok(feeds) = feeds_left(self.alloc, self.feeds) else {
+            return Err(CompareFault::NoMemory);
+        };
+        let Ok(frames) = merge(self.alloc, self.frames, self.frame_count) else {
+            return Err(CompareFault::NoMemory);
+        };
+        Ok(Finished {
+            journal: self.journal,
+            feeds,
+            frames,
+            end,
+        })
+    }
+
     /// What is left, where the book is that of this topology, these feeds and turns, nothing is in
-    /// hand, and nothing waits with turns left; else the module where it does not add up.
+    /// hand, and nothing waits with turns left; else Differs of the module where it does not add up.
+    /// NoMemory where an allocation is refused.
     pub(crate) fn finish(
         self,
         topology: &Topology,
         given: &[(ModuleId, Feed)],
         turns: usize,
-    ) -> Result<Finished, ModuleId>
+    ) -> Result<Finished, CompareFault>
         ensures { IfOk result (λ f. IsFinished topology.now given.now turns
             (reverse f.journal.items) f.feeds.items f.frames.items f.end) }
     {
         if !self.topology.is(topology) {
-            return Err(ModuleId(0));
+            return Err(CompareFault::Differs(ModuleId(0)));
         }
         if self.turns != turns {
-            return Err(ModuleId(0));
+            return Err(CompareFault::Differs(ModuleId(0)));
         }
         if let Some(m) = first_other(self.given.as_slice(), given) {
-            return Err(m);
+            return Err(CompareFault::Differs(m));
         }
         if let Some(m) = first_full(self.hands.as_slice()) {
-            return Err(m);
+            return Err(CompareFault::Differs(m));
         }
-        if !waits(self.feeds.as_slice(), self.frames.as_slice()) {
-            return Ok(Finished {
-                journal: self.journal,
-                feeds: self.feeds,
-                frames: self.frames,
-                end: End::Quiet,
-            });
+        if self.feed_count == 0 && self.frame_count == 0 {
+            return self.leave(End::Quiet);
         }
         if self.taken < self.turns {
-            return Err(self.goal());
+            return Err(CompareFault::Differs(self.goal()));
         }
-        Ok(Finished {
-            journal: self.journal,
-            feeds: self.feeds,
-            frames: self.frames,
-            end: End::Limit,
-        })
+        self.leave(End::Limit)
     }
 }
