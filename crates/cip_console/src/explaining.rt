@@ -39,7 +39,8 @@ pub enum Explained {
         place: usize,
         byte: u8,
     },
-    #[error("unknown word: {word}; allowed: send, open, close, enter, set, produce, tick, deliver, lose, run, tables, trail, chain")]
+    #[error("unknown word: {word}; allowed: send, open, close, enter, set, produce, tick, \
+        deliver, lose, run, tables, trail, chain")]
     UnknownWord {
         word: Excerpt,
     },

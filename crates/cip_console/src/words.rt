@@ -7,8 +7,8 @@ ghost use Rattle.cip_console.specs.Text.{is_dot};
 
 use crate::steps::{ScriptFault, StepFault};
 use crate::text;
-use cip_base::{Bytes, ModuleId, Ms, Timing};
-use cip_segment::{Path, read_path, view_path};
+use cip_base::{Bytes, ModuleId, Ms, NoMemory, Timing};
+use cip_segment::{Path, view_path};
 use cip_world::FrameName;
 use std::alloc::{AllocError, Global};
 
@@ -96,9 +96,9 @@ pub(crate) fn path_at(alloc: Global, word: &str) -> Result<Path, StepFault>
     let bytes = bytes_at(alloc, word)?;
     match view_path(bytes.as_slice()) {
         Err(_) => Err(StepFault::Fault(ScriptFault::BadPath)),
-        Ok(_) => match read_path(alloc, bytes.as_slice()) {
+        Ok(path) => match path.to_path(alloc) {
             Ok(path) => Ok(path),
-            Err(_) => Err(StepFault::NoMemory),
+            Err(NoMemory) => Err(StepFault::NoMemory),
         },
     }
 }
