@@ -5,5 +5,6 @@ pub mod Steps
 pub mod Named
 pub mod Answering
 pub mod Changes
+pub mod Touching
 pub mod Ticks
 pub mod Callers

@@ -24,11 +24,11 @@ pub not_true : (b : Bool) → (b ≡ true → ⊥) → b ≡ false
 not_true true never = absurd (never refl)
 not_true false never = refl
 
-and_first : (a b : Bool) → (a && b) ≡ true → a ≡ true
+pub and_first : (a b : Bool) → (a && b) ≡ true → a ≡ true
 and_first true b e = refl
 and_first false b e = absurd (cc)
 
-is_id_true : (id : ℕ) (own : Option ℕ) → is_id id own ≡ true → own ≡ Some id
+pub is_id_true : (id : ℕ) (own : Option ℕ) → is_id id own ≡ true → own ≡ Some id
 is_id_true id None e = absurd (cc)
 is_id_true id (Some n) e = ap (λ m. Some m) (eqb-true n id e)
 

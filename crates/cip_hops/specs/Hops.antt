@@ -200,6 +200,13 @@ hop_by_down h id port address = first_hop (is_hop_by_down id port address) h
 abbrev pub hop_by_op : Hops → OpNumber → Option Hop
 hop_by_op h op = first_hop (is_hop_by_op op) h
 
+-- the hop under this triad has this id, as its own towards the originator or towards the target
+pub record HasId (id_of : Held → Option ConnectionId) (h : Hops) (id : ConnectionId)
+    (triad : Triad) : Type 0 where
+  pub hop : Hop
+  pub stands : hop_at h triad ≡ Some hop
+  pub named : id_of (Open hop) ≡ Some id
+
 abbrev pub is_past : Microseconds → Option Microseconds → Bool
 is_past now deadline = option_map_or (λ time. nat_le time now) deadline false
 

@@ -109,6 +109,7 @@ impl Held {
     }
 
     // The change, where it stands.
+    #[inline(always)]
     pub(crate) fn change(&mut self, change: Change)
         requires suits { Suits change self.old }
         requires multiplier { (opening_of self.old).multiplier < 8 }
@@ -174,6 +175,7 @@ impl Hop {
     }
 
     // That side is watched anew from now on.
+    #[inline(always)]
     fn touch(&mut self, side: Side, now: u64)
         requires multiplier { self.old.opening.multiplier < 8 }
         requires time { now < 2 ^ 63 }

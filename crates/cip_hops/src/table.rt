@@ -6,9 +6,11 @@ ghost use Rattle.std.specs.Option.{option_copied, option_to_list, option_map_or}
 ghost use Rattle.std.specs.FinMap as map;
 ghost use Rattle.slab.specs.Slab.{get as get_record};
 ghost use Rattle.cip_base.specs.Joined.{passes};
+ghost use Rattle.cip_base.specs.declared.triad.Triad.{Triad as Triads};
+ghost use Rattle.cip_hops.specs.declared.hop.Side.TheVariants.{Up, Down};
 ghost use Rattle.cip_hops.specs.Sides.{op_of};
 ghost use Rattle.cip_hops.specs.Changes.{Suits, IsChanged};
-ghost use Rattle.cip_hops.specs.Hops.{refusal, begin_gives, begun, IsOpFree, opening_at, hop_at, without, without_if, IsWithout, finished, changed, is_link, ends_here, touched, counted, hop_by_up, hop_by_down, hop_by_op, first_due, due, rest, first_after, as_hop, is_hop_due, is_entry_due, is_entry_open, IsWithin};
+ghost use Rattle.cip_hops.specs.Hops.{refusal, begin_gives, begun, IsOpFree, opening_at, hop_at, without, without_if, IsWithout, finished, changed, is_link, ends_here, touched, counted, hop_by_up, hop_by_down, hop_by_op, HasId, up_id_of, down_id_of, first_due, due, rest, first_after, as_hop, is_hop_due, is_entry_due, is_entry_open, IsWithin};
 
 use crate::hop::{Change, Held, Hop, Side};
 use crate::opening::{BeginFault, BeginReason, Opening, OwnIds};
@@ -206,6 +208,46 @@ impl HopTable {
         ensures { self.new ≡ changed self.old triad.now (touched side now) }
     {
         self.change(triad, Change::Touch { side, now });
+    }
+
+    /// Watches the up side of the hop with this own id towards the originator anew from `now` on,
+    /// in microseconds.
+    pub fn touch_up(&mut self, id: u32, now: u64)
+        requires named { (triad : Triads) × HasId up_id_of self.old id triad }
+        requires time { now < 2 ^ 63 }
+        ensures { (triad : Triads) → HasId up_id_of self.old id triad
+            → self.new ≡ changed self.old triad (touched Up now) }
+    {
+        let Some(key) = self.ups.find(id) else {
+            unreachable!()
+        };
+        let Some(held) = self.records.get_mut(key) else {
+            unreachable!()
+        };
+        held.change(Change::Touch {
+            side: Side::Up,
+            now,
+        });
+    }
+
+    /// Watches the down side of the hop with this own id towards the target anew from `now` on, in
+    /// microseconds.
+    pub fn touch_down(&mut self, id: u32, now: u64)
+        requires named { (triad : Triads) × HasId down_id_of self.old id triad }
+        requires time { now < 2 ^ 63 }
+        ensures { (triad : Triads) → HasId down_id_of self.old id triad
+            → self.new ≡ changed self.old triad (touched Down now) }
+    {
+        let Some(key) = self.downs.find(id) else {
+            unreachable!()
+        };
+        let Some(held) = self.records.get_mut(key) else {
+            unreachable!()
+        };
+        held.change(Change::Touch {
+            side: Side::Down,
+            now,
+        });
     }
 
     /// Keeps the sequence count of the last datum of a hop that ends here: up that of the last that

@@ -2,6 +2,7 @@
 //! the buffer in which it came.
 ghost use Rattle.std.specs.Prelude.{◌≡◌, IfOk};
 ghost use Rattle.cip_module.specs.declared.config.ModuleKind.{ModuleKind as Kind};
+ghost use Rattle.cip_module.specs.declared.event.Body.TheVariants as bodies;
 ghost use Rattle.cip_module.specs.declared.event.Event.TheVariants as events;
 ghost use Rattle.cip_module.specs.declared.event.Command.TheVariants.{Enter};
 ghost use Rattle.cip_module.specs.State.{initial_state};
@@ -35,30 +36,89 @@ impl IndexedModule {
         Ok(IndexedModule { node, alloc })
     }
 
-    // A frame: its bytes go on, edited, or it comes back whole.
-    fn frame(
+    // A request: its bytes go on, edited, or it comes back whole.
+    fn request(
         &mut self,
         port: PortNumber,
         from: Address,
-        body: Body,
+        number: u32,
+        bytes: Bytes,
     ) -> Result<Vec<Output>, StepFault>
         ensures ok { IfOk result (λ outputs. IsStep (config_of_indexed self.old)
-            (state_of_indexed self.old) (events.Frame port from body) (state_of_indexed self.new)
-            outputs.items) }
+            (state_of_indexed self.old) (events.Frame port from (bodies.Request number bytes))
+            (state_of_indexed self.new) outputs.items) }
         ensures fault { IsStepFault (config_of_indexed self.old) (state_of_indexed self.old)
-            (events.Frame port from body) (state_of_indexed self.new) result }
+            (events.Frame port from (bodies.Request number bytes)) (state_of_indexed self.new)
+            result }
         ensures config { config_of_indexed self.new ≡ config_of_indexed self.old }
     {
         let Ok(mut outputs) = Vec::with_capacity(self.alloc, 1) else {
+            let body = Body::Request { number, bytes };
             return Err(StepFault::NoMemory(Event::Frame { port, from, body }));
         };
-        match self.node.react(port, &from, &body) {
+        match self
+            .node
+            .react_to_request(port, &from, number, bytes.as_slice())
+        {
             Ok(reaction) => {
-                outputs.push_reserved(put_out(reaction, body.into_bytes()));
+                outputs.push_reserved(put_out(reaction, bytes));
                 Ok(outputs)
             }
-            Err(_) => Err(StepFault::NoMemory(Event::Frame { port, from, body })),
+            Err(_) => {
+                let body = Body::Request { number, bytes };
+                Err(StepFault::NoMemory(Event::Frame { port, from, body }))
+            }
         }
+    }
+
+    // A reply: its bytes go up, edited, or it comes back whole.
+    fn reply(
+        &mut self,
+        port: PortNumber,
+        from: Address,
+        number: u32,
+        bytes: Bytes,
+    ) -> Result<Vec<Output>, StepFault>
+        ensures ok { IfOk result (λ outputs. IsStep (config_of_indexed self.old)
+            (state_of_indexed self.old) (events.Frame port from (bodies.Reply number bytes))
+            (state_of_indexed self.new) outputs.items) }
+        ensures fault { IsStepFault (config_of_indexed self.old) (state_of_indexed self.old)
+            (events.Frame port from (bodies.Reply number bytes)) (state_of_indexed self.new)
+            result }
+        ensures config { config_of_indexed self.new ≡ config_of_indexed self.old }
+    {
+        let Ok(mut outputs) = Vec::with_capacity(self.alloc, 1) else {
+            let body = Body::Reply { number, bytes };
+            return Err(StepFault::NoMemory(Event::Frame { port, from, body }));
+        };
+        let reaction = self
+            .node
+            .react_to_reply(port, &from, number, bytes.as_slice());
+        outputs.push_reserved(put_out(reaction, bytes));
+        Ok(outputs)
+    }
+
+    // A datum: its bytes go on, or it comes back whole.
+    fn datum(
+        &mut self,
+        port: PortNumber,
+        from: Address,
+        id: u32,
+        bytes: Bytes,
+    ) -> Result<Vec<Output>, StepFault>
+        ensures ok { IfOk result (λ outputs. IsStep (config_of_indexed self.old)
+            (state_of_indexed self.old) (events.Frame port from (bodies.Data id bytes))
+            (state_of_indexed self.new) outputs.items) }
+        ensures fault { IsStepFault (config_of_indexed self.old) (state_of_indexed self.old)
+            (events.Frame port from (bodies.Data id bytes)) (state_of_indexed self.new) result }
+        ensures config { config_of_indexed self.new ≡ config_of_indexed self.old }
+    {
+        let Ok(mut outputs) = Vec::with_capacity(self.alloc, 1) else {
+            let body = Body::Data { id, bytes };
+            return Err(StepFault::NoMemory(Event::Frame { port, from, body }));
+        };
+        outputs.push_reserved(self.node.pass(port, &from, id, bytes));
+        Ok(outputs)
     }
 }
 
@@ -115,7 +175,11 @@ impl Module for IndexedModule {
 
     fn step(&mut self, event: Event) -> Result<Vec<Output>, StepFault> {
         match event {
-            Event::Frame { port, from, body } => self.frame(port, from, body),
+            Event::Frame { port, from, body } => match body {
+                Body::Request { number, bytes } => self.request(port, from, number, bytes),
+                Body::Reply { number, bytes } => self.reply(port, from, number, bytes),
+                Body::Data { id, bytes } => self.datum(port, from, id, bytes),
+            },
             Event::Command(command) => self.command(command),
             Event::Tick(by) => self.node.step(Event::Tick(by)),
         }

@@ -1,17 +1,20 @@
 //! The data group: a datum of a connection on its way.
-ghost use Rattle.std.specs.Prelude.{◌≡◌, ◌∷◌, Some};
-ghost use Rattle.cip_module.specs.Effects.{Renews, applied};
-ghost use Rattle.cip_module.specs.DataRows.{data_row};
+ghost use Rattle.std.specs.Prelude.{◌≡◌, ◌∷◌, [], Some};
+ghost use Rattle.cip_hops.specs.Hops.{hop_by_up, hop_by_down};
+ghost use Rattle.cip_module.specs.declared.event.Output.TheVariants as outputs;
+ghost use Rattle.cip_module.specs.Effects.{applied};
+ghost use Rattle.cip_module.specs.DataRows.{id_row, data_row};
 ghost use Rattle.cip_module.specs.Table.{datum_effects};
 ghost use Rattle.cip_module.specs.Code.Plans.{written_effects};
-ghost use Rattle.cip_module.specs.Code.Does.{Handles};
+ghost use Rattle.cip_module.specs.Code.Does.{Handled};
 ghost use Rattle.cip_module.specs.Code.Node.{state_of_node};
 
-use crate::datum_rows::{DatumPlan, Writing, behind_count};
-use crate::event::Output;
+use crate::datum_rows::{Writing, behind_count, datum_down, datum_up, written_of};
+use crate::event::{Dropped, Output};
 use crate::node::Node;
-use cip_base::{Address, Bytes, NoMemory, PortNumber, Triad};
-use cip_hops::Side;
+use crate::ports::port_of;
+use cip_base::{Address, Bytes, PortNumber, Triad};
+use cip_hops::{HopDown, Side};
 
 impl Node {
     // An end writes a datum without its sequence count, and keeps the count.
@@ -29,49 +32,86 @@ impl Node {
         }
     }
 
-    /// The side by which a datum came is watched anew, and its end writes it.
-    #[inline(always)]
-    pub(crate) fn note_datum(
+    // An end takes a datum, and writes it where it is not that of the last count.
+    fn takes_datum(
         &mut self,
-        triad: &Triad,
-        side: Side,
+        triad: Triad,
+        instance: u32,
         writing: Option<Writing>,
-        bytes: &[u8],
-    )
+        bytes: Bytes,
+    ) -> Output
+        ensures value { result ≡ outputs.Consumed triad instance bytes }
         ensures after { state_of_node self.new ≡ applied self.old.config (state_of_node self.old)
-            (Renews triad.now side ∷ written_effects triad.now bytes.now writing) }
+            (written_effects triad bytes writing) }
         ensures config { self.new.config ≡ self.old.config }
     {
-        self.renews(triad, side);
         if let Some(writing) = writing {
-            self.write_datum(triad, writing, bytes);
+            self.write_datum(&triad, writing, bytes.as_slice());
+        }
+        Output::Consumed {
+            triad,
+            instance,
+            bytes,
         }
     }
 
-    /// A datum that came in by a port from an address, under an id.
+    // A datum under an id of a port that the module has.
+    #[inline(always)]
+    fn datum_by_id(&mut self, port: PortNumber, from: &Address, id: u32, bytes: Bytes) -> Output
+        ensures { Handled self.old self.new (datum_effects bytes (id_row bytes
+            (hop_by_up self.old.hops id port from.now)
+            (hop_by_down self.old.hops id port from.now))) (result ∷ []) }
+    {
+        self.hops.is_within();
+        if let Some(hop) = self.hops.by_up(id, port, from) {
+            if bytes.as_slice().len() != usize::from(hop.opening.ot_size) {
+                return Output::Dropped(Dropped::WrongSize);
+            }
+            return match &hop.opening.down {
+                HopDown::Link { .. } => {
+                    let output = datum_down(hop, bytes);
+                    self.renews(Side::Up, id);
+                    output
+                }
+                HopDown::End { consume, .. } => {
+                    let (triad, instance) = (hop.opening.triad, *consume);
+                    let writing = written_of(hop, instance, bytes.as_slice());
+                    self.renews(Side::Up, id);
+                    self.takes_datum(triad, instance, writing, bytes)
+                }
+            };
+        }
+        match self.hops.by_down(id, port, from) {
+            Some(hop) => {
+                if bytes.as_slice().len() != usize::from(hop.opening.to_size) {
+                    return Output::Dropped(Dropped::WrongSize);
+                }
+                let output = datum_up(hop, bytes);
+                self.renews(Side::Down, id);
+                output
+            }
+            None => Output::Dropped(Dropped::UnknownId),
+        }
+    }
+
+    /// A datum that came in by a port from an address, under an id: what goes on has its bytes. It
+    /// takes no memory.
+    #[tactic(auto, unfolding(crate::specs::DataRows::data_row))]
+    #[inline(always)]
     pub(crate) fn datum(
         &mut self,
         port: PortNumber,
         from: &Address,
         id: u32,
-        bytes: &Bytes,
-    ) -> Result<Output, NoMemory>
-        ensures { Handles self.old self.new (datum_effects bytes.now
-            (data_row self.old.config (state_of_node self.old) port from.now id bytes.now))
-            result }
+        bytes: Bytes,
+    ) -> Output
+        ensures { Handled self.old self.new (datum_effects bytes
+            (data_row self.old.config (state_of_node self.old) port from.now id bytes))
+            (result ∷ []) }
     {
-        match self.datum_plan(port, from, id, bytes.as_slice()) {
-            DatumPlan::Drops(reason) => Ok(Output::Dropped(reason)),
-            DatumPlan::Passes {
-                output,
-                triad,
-                side,
-                writing,
-            } => {
-                let copied = Bytes::of(Vec::from_slice(self.alloc, bytes.as_slice())?);
-                self.note_datum(&triad, side, writing, bytes.as_slice());
-                Ok(output.filled(copied))
-            }
+        if port_of(self.config.settings(), port).is_none() {
+            return Output::Dropped(Dropped::UnknownId);
         }
+        self.datum_by_id(port, from, id, bytes)
     }
 }

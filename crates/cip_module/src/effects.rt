@@ -6,7 +6,9 @@ ghost use Rattle.std.specs.Vec.{vec_len, vec_capacity};
 ghost use Rattle.cip_open.specs.Reading.{open_of};
 ghost use Rattle.cip_pending.specs.declared.entry.Kind.TheVariants as kinds;
 ghost use Rattle.cip_pending.specs.Pendings.{refusal, added, without, waiting_at};
-ghost use Rattle.cip_hops.specs.Hops.{begun, finished};
+ghost use Rattle.cip_base.specs.declared.triad.Triad.{Triad as Triads};
+ghost use Rattle.cip_hops.specs.Hops.{begun, finished, HasId};
+ghost use Rattle.cip_module.specs.Code.Plans.{own_id};
 ghost use Rattle.cip_hops.specs.Sides.{down_is_link, up_is_link};
 ghost use Rattle.cip_target.specs.Ends.{row_at, configured};
 ghost use Rattle.cip_module.specs.State.{is_spent, spent_with};
@@ -192,22 +194,20 @@ impl Node {
         }
     }
 
-    /// That side of the connection is watched anew from now on, if it is a link.
-    pub(crate) fn renews(&mut self, triad: &Triad, side: Side)
-        ensures after { state_of_node self.new ≡ record (state_of_node self.old)
-            { hops = renewed self.old.hops triad.now side self.old.clock } }
+    /// The side of a connection whose own id this is is watched anew from now on.
+    #[inline(always)]
+    pub(crate) fn renews(&mut self, side: Side, id: u32)
+        requires named { (triad : Triads) × HasId (own_id side) self.old.hops id triad }
+        ensures after { (triad : Triads) → HasId (own_id side) self.old.hops id triad
+            → state_of_node self.new ≡ record (state_of_node self.old)
+            { hops = renewed self.old.hops triad side self.old.clock } }
         ensures config { self.new.config ≡ self.old.config }
     {
+        self.hops.is_within();
         let now = self.clock.now();
-        let is_link = match self.hops.by_triad(triad) {
-            Some(hop) => match side {
-                Side::Up => hop.opening.up.is_link(),
-                Side::Down => hop.opening.down.is_link(),
-            },
-            None => false,
-        };
-        if is_link {
-            self.hops.touch(triad, side, now);
+        match side {
+            Side::Up => self.hops.touch_up(id, now),
+            Side::Down => self.hops.touch_down(id, now),
         }
     }
 

@@ -34,7 +34,6 @@ ghost use Rattle.cip_module.specs.Code.Ready.{IsAsked};
 use crate::answers::unconnected_failure;
 use crate::close_rows::CloseDecision;
 use crate::closes::unread_close;
-use crate::datum_rows::DatumPlan;
 use crate::event::{Dropped, Output};
 use crate::messages::{no_bytes, reply_to};
 use crate::node::Node;
@@ -276,35 +275,6 @@ impl Node {
                 };
                 Reaction::Edited {
                     output: reply_to(up, no_bytes(self.alloc)),
-                    edit: Edit::AsTheyCame,
-                }
-            }
-        }
-    }
-
-    /// A datum that came in by a port from an address, under an id. It takes no memory.
-    pub(crate) fn datum_in_place(
-        &mut self,
-        port: PortNumber,
-        from: &Address,
-        id: u32,
-        bytes: &[u8],
-    ) -> Reaction
-        ensures { Reacted bytes.now self.old self.new (datum_effects bytes.now
-            (data_row self.old.config (state_of_node self.old) port from.now id bytes.now))
-            result }
-    {
-        match self.datum_plan(port, from, id, bytes) {
-            DatumPlan::Drops(reason) => Reaction::Whole(Output::Dropped(reason)),
-            DatumPlan::Passes {
-                output,
-                triad,
-                side,
-                writing,
-            } => {
-                self.note_datum(&triad, side, writing, bytes);
-                Reaction::Edited {
-                    output,
                     edit: Edit::AsTheyCame,
                 }
             }

@@ -8,6 +8,7 @@ ghost use Rattle.cip_module.specs.Code.Node.{state_of_node};
 ghost use Rattle.cip_module.specs.Code.Does.{Handles, HandlesAs};
 ghost use Rattle.cip_module.specs.Code.Reacts.{Reacts};
 ghost use Rattle.cip_module.specs.Reactions.{bytes_in, PutsOut};
+ghost use Rattle.cip_module.specs.declared.event.Body.TheVariants as bodies;
 ghost use Rattle.cip_module.specs.declared.event.Event.TheVariants as events;
 ghost use Rattle.cip_module.specs.declared.event.Command.TheVariants.{Enter};
 
@@ -16,7 +17,7 @@ use crate::event::{Body, Command, Event, Output};
 use crate::node::Node;
 use crate::reaction::{Edit, Reaction};
 use crate::ticks::TickFault;
-use cip_base::{Address, NoMemory, PortNumber};
+use cip_base::{Address, Bytes, NoMemory, PortNumber};
 use cip_unconnected::UnconnectedView;
 
 impl Node {
@@ -29,7 +30,10 @@ impl Node {
         match body {
             Body::Request { number, bytes } => self.request(port, from, *number, bytes.as_slice()),
             Body::Reply { number, bytes } => self.reply(port, from, *number, bytes),
-            Body::Data { id, bytes } => self.datum(port, from, *id, bytes),
+            Body::Data { id, bytes } => {
+                let copied = Bytes::of(Vec::from_slice(self.alloc, bytes.as_slice())?);
+                Ok(self.datum(port, from, *id, copied))
+            }
         }
     }
 
@@ -89,46 +93,53 @@ impl Node {
         Ok(outputs)
     }
 
-    // The same, its bytes left where they are.
-    fn frame_in_place(
+    /// A request that came in by a port, its bytes left where they are: the new state is that of
+    /// the routing table, and so is the output, once the bytes that came are edited as the reaction
+    /// says and stand in it. NoMemory where an allocation is refused: then nothing has changed.
+    pub fn react_to_request(
         &mut self,
         port: PortNumber,
         from: &Address,
-        body: &Body,
+        number: u32,
+        bytes: &[u8],
     ) -> Result<Reaction, NoMemory>
-        ensures { Reacts (bytes_in body.now) self.old self.new
-            (frame_effects self.old.config (state_of_node self.old) port from.now body.now)
-            result }
-    {
-        match body {
-            Body::Request { number, bytes } => {
-                self.request_in_place(port, from, *number, bytes.as_slice())
-            }
-            Body::Reply { number, bytes } => {
-                Ok(self.reply_in_place(port, from, *number, bytes.as_slice()))
-            }
-            Body::Data { id, bytes } => {
-                Ok(self.datum_in_place(port, from, *id, bytes.as_slice()))
-            }
-        }
-    }
-
-    /// A frame, its bytes left where they are: the new state is that of the routing table, and so
-    /// is the output, once the bytes that came are edited as the reaction says and stand in it.
-    /// NoMemory where an allocation is refused: then nothing has changed.
-    pub fn react(
-        &mut self,
-        port: PortNumber,
-        from: &Address,
-        body: &Body,
-    ) -> Result<Reaction, NoMemory>
-        ensures done { IfOk result (λ reaction. PutsOut (bytes_in body.now) reaction (λ output.
-            IsStep self.old.config (state_of_node self.old) (events.Frame port from.now body.now)
+        ensures done { IfOk result (λ reaction. PutsOut bytes.now reaction (λ output.
+            IsStep self.old.config (state_of_node self.old)
+            (events.Frame port from.now (bodies.Request number bytes.now))
             (state_of_node self.new) (output ∷ []))) }
         ensures same { OnErr result (state_of_node self.new ≡ state_of_node self.old) }
         ensures config { self.new.config ≡ self.old.config }
     {
-        self.frame_in_place(port, from, body)
+        self.request_in_place(port, from, number, bytes)
+    }
+
+    /// A reply, in the same way. It takes no memory.
+    pub fn react_to_reply(
+        &mut self,
+        port: PortNumber,
+        from: &Address,
+        number: u32,
+        bytes: &[u8],
+    ) -> Reaction
+        ensures done { PutsOut bytes.now result (λ output.
+            IsStep self.old.config (state_of_node self.old)
+            (events.Frame port from.now (bodies.Reply number bytes.now))
+            (state_of_node self.new) (output ∷ [])) }
+        ensures config { self.new.config ≡ self.old.config }
+    {
+        self.reply_in_place(port, from, number, bytes)
+    }
+
+    /// A datum: the new state and the output are those of the routing table. What goes on has the
+    /// bytes that came. It takes no memory.
+    #[inline(always)]
+    pub fn pass(&mut self, port: PortNumber, from: &Address, id: u32, bytes: Bytes) -> Output
+        ensures done { IsStep self.old.config (state_of_node self.old)
+            (events.Frame port from.now (bodies.Data id bytes)) (state_of_node self.new)
+            (result ∷ []) }
+        ensures config { self.new.config ≡ self.old.config }
+    {
+        self.datum(port, from, id, bytes)
     }
 
     /// An Enter, its bytes left where they are: nothing changes, and the output is that of the
