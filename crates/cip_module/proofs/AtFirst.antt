@@ -1,6 +1,6 @@
 -- The tables that the first state of a config is shown by.
-use Rattle.std.proofs.Common.{◌≡◌, List, [], ◌∷◌, length, refl, sym, ap, subst, ◌∙◌, map, zero, arith}
-use Rattle.std.specs.Prelude.{filter_map, ℕ}
+use Rattle.std.proofs.Common.{◌≡◌, List, [], ◌∷◌, length, refl, sym, ap, subst, ◌∙◌, map, arith}
+use Rattle.std.specs.Prelude.{filter_map}
 use Rattle.std.specs.FinMap as finite
 use Rattle.std.specs.Ordering.{nat_cmp}
 use Rattle.cip_base.specs.Triads.{triad_cmp}
@@ -9,8 +9,6 @@ use Rattle.cip_hops.specs.declared.hop.Held.{Held}
 use Rattle.cip_hops.specs.Hops.{as_hop}
 use Rattle.cip_module.specs.declared.config.ModuleSettings.{ModuleSettings}
 use Rattle.cip_module.specs.declared.tables.Tables.{Tables}
-use Rattle.cip_module.specs.declared.tables.PendingRow.{PendingRow}
-use Rattle.cip_module.specs.declared.tables.HopRow.{HopRow}
 use Rattle.cip_module.specs.Rising.{IsRising}
 use Rattle.cip_module.specs.State.{initial_state}
 use Rattle.cip_module.specs.Views.{row_of, hop_row_of, assemblies_of, ShowsState, HasFirstCounts, HoldsNothing}

@@ -9,6 +9,7 @@ pub mod Fits
 pub mod Kept
 pub mod Removed
 pub mod Data
+pub mod KeysRead
 pub mod Sends
 pub mod Sizes
 pub mod Accepted

@@ -49,6 +49,13 @@ fn key_mismatch(identity: &IdentityFields, key: KeyFields) -> Option<KeyPart>
 pub(crate) fn leading_mismatch(settings: &ModuleSettings, path: PathView<'_>) -> Option<KeyPart>
     ensures { result ≡ leading_mismatch settings.now (segments_of path.entry.bytes.now) }
 {
+    let [head, ..] = path.bytes else {
+        return None;
+    };
+    // No other segment begins as a key does.
+    if *head != 0x34 {
+        return None;
+    }
     match split_first(path) {
         None => None,
         Some((first, _)) => match first {

@@ -7,7 +7,7 @@ use Rattle.cip_base.specs.Fields.{IsBytes}
 use Rattle.std.proofs.lemmas.Bool.Decides.{nat_tests}
 use Rattle.cip_segment.specs.declared.segment.Segment.{Segment}
 use Rattle.cip_segment.specs.declared.segment.Segment.TheVariants.{Port, Class, Instance, Member, Point, Attribute}
-use Rattle.cip_segment.specs.Spelling.{IsForm}
+use Rattle.cip_segment.specs.Spelling.{IsForm, Splits}
 use Rattle.cip_segment.specs.Scan.{At, segment_at}
 use Rattle.cip_segment.specs.Brief.{is_short}
 use Rattle.cip_segment.proofs.Forms.{form_scans}
@@ -52,3 +52,34 @@ short_at (h ∷ n ∷ rest) two fits e =
     let some = short_scans h n rest (fits 1) e in
     let all : take (length (h ∷ n ∷ rest) - 2) rest ≡ rest = take_all (length (h ∷ n ∷ rest) - 2) rest (omega arith) in
     (some.0, some.1 ∙ ap (λ (z : List ℕ). answer some.0 z) (sym all))
+
+-- the segment of two bytes that is read at their first, and what is left
+module _ (b : List ℕ) (two : 2 ≤ length b) (g : Segment) where
+  behind_two : (h n : ℕ) (rest : List ℕ) → take (length (h ∷ n ∷ rest) - 2) rest ≡ rest
+  behind_two h n rest = take_all (length (h ∷ n ∷ rest) - 2) rest (omega arith)
+
+  pub brief_at : IsForm (slice_index b 0 ∷ slice_index b 1 ∷ []) g → segment_at b ≡ Ok (g, take (length b - 2) (drop 2 b))
+  brief_at = by b two
+    where
+      by : (b : List ℕ) → 2 ≤ length b → IsForm (slice_index b 0 ∷ slice_index b 1 ∷ []) g → segment_at b ≡ Ok (g, take (length b - 2) (drop 2 b))
+      by [] two form = absurd (omega (arith, two))
+      by (h ∷ []) two form = absurd (omega (arith, two))
+      by (h ∷ n ∷ rest) two form = form_scans g (h ∷ n ∷ []) rest form ∙ ap (λ (z : List ℕ). answer g z) (sym (behind_two h n rest))
+
+  pub brief_splits : IsForm (slice_index b 0 ∷ slice_index b 1 ∷ []) g → Splits b g (take (length b - 2) (drop 2 b))
+  brief_splits = by b two
+    where
+      by : (b : List ℕ) → 2 ≤ length b → IsForm (slice_index b 0 ∷ slice_index b 1 ∷ []) g → Splits b g (take (length b - 2) (drop 2 b))
+      by [] two form = absurd (omega (arith, two))
+      by (h ∷ []) two form = absurd (omega (arith, two))
+      by (h ∷ n ∷ rest) two form = (h ∷ n ∷ [], ap (λ (z : List ℕ). h ∷ n ∷ z) (sym (behind_two h n rest)), form)
+
+pub small_at : (b : List ℕ) → IsBytes b → 2 ≤ length b → slice_index b 1 < 256
+small_at b fits two = fits 1
+
+-- a port below 15 with an address of one byte
+pub plain_splits : (b : List ℕ) → 2 ≤ length b → (port : ℕ) → slice_index b 0 ≡ port → 0 < port → port < 15
+    → Splits b (Port port (slice_index b 1 ∷ [])) (take (length b - 2) (drop 2 b))
+plain_splits b two port is some below =
+    brief_splits b two (Port port (slice_index b 1 ∷ []))
+    (port, [], (some, inl (below, refl, refl)), inl (refl, ap (λ (h : ℕ). h ∷ slice_index b 1 ∷ []) is))

@@ -1,4 +1,4 @@
-use Rattle.std.proofs.Common.{◌≡◌, ◌≤◌, length, true, arith}
+use Rattle.std.proofs.Common.{◌≡◌, true, arith}
 use Rattle.std.specs.Prelude.{slice_index}
 use Rattle.cip_segment.specs.Brief.{is_short}
 use Rattle.cip_segment.proofs.Brief.{short_at}
