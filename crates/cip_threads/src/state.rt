@@ -1,5 +1,5 @@
 //! What the lock holds: feeds, frames, what each module has in hand, and the journal.
-ghost use Rattle.std.specs.Prelude.{◌≡◌, ◌∷◌, [], ◌<◌, List, All, IfOk, IfErr, OnOk, OnErr, IfSome, IfNone, IsTrue, IsFalse, Some, None, drop, length, map, replicate, reverse, vec_len, set};
+ghost use Rattle.std.specs.Prelude.{◌↔◌, ◌≡◌, ◌∷◌, [], ◌<◌, List, All, IfOk, IfErr, OnOk, OnErr, IfSome, IfNone, IsTrue, IsFalse, Some, None, drop, length, map, replicate, reverse, vec_len, set};
 ghost use Rattle.cip_world.specs.declared.journal.Input.{Input as Given};
 ghost use Rattle.cip_threads.specs.declared.feed.Feed.{Feed as Fed};
 ghost use Rattle.cip_threads.specs.Feeds.{event_of};
@@ -112,7 +112,7 @@ impl Model for BookState {
 
 /// Whether each feed is for a module of the topology.
 pub fn feeds_fit(topology: &Topology, feeds: &[(ModuleId, Feed)]) -> bool
-    ensures { IsTrue result → All (λ fed. fed.0.0 < length topology.now.modules) feeds.now }
+    ensures { IsTrue result ↔ All (λ fed. fed.0.0 < length topology.now.modules) feeds.now }
 {
     let count = topology.configs().len();
     feeds.iter().all(|fed| fed.0.0 < count)
