@@ -211,7 +211,7 @@ impl HopTable {
     }
 
     /// Watches the up side of the hop with this own id towards the originator anew from `now` on,
-    /// in microseconds.
+    /// in microseconds. The condition is that there is such a hop.
     pub fn touch_up(&mut self, id: u32, now: u64)
         requires named { (triad : Triads) × HasId up_id_of self.old id triad }
         requires time { now < 2 ^ 63 }
@@ -231,7 +231,7 @@ impl HopTable {
     }
 
     /// Watches the down side of the hop with this own id towards the target anew from `now` on, in
-    /// microseconds.
+    /// microseconds. The condition is that there is such a hop.
     pub fn touch_down(&mut self, id: u32, now: u64)
         requires named { (triad : Triads) × HasId down_id_of self.old id triad }
         requires time { now < 2 ^ 63 }
