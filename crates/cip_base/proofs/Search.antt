@@ -1,5 +1,5 @@
 -- Where a binary search by name ends in a list whose names strictly rise.
-use Rattle.std.proofs.Common.{◌≡◌, ℕ, zero, suc, ◌+◌, ◌<◌, ◌≤◌, Bool, true, false, T, List, [], ◌∷◌, length, get_or, refl, sym, ap, ◌∙◌, arith, Result, Ok, Err, MatchResult, not, ◌⊎◌, inl, inr}
+use Rattle.std.proofs.Common.{◌≡◌, ℕ, zero, suc, ◌+◌, ◌-◌, Some, ◌<◌, ◌≤◌, Bool, true, false, T, List, [], ◌∷◌, length, get_or, refl, sym, ap, ◌∙◌, arith, Result, Ok, Err, MatchResult, not, ◌⊎◌, inl, inr}
 use Rattle.std.specs.List.Sorted.{IsSearchInRange, IsBinarySearchResult, IsNonDecreasingBy, IsPartitionedBy, IsPartitionPoint}
 use Rattle.std.specs.Ordering.{ordering_index, is_lt, is_ge, ordering_reverse}
 use Rattle.std.specs.declared.cmp.Ordering.{Ordering}
@@ -8,6 +8,8 @@ use Rattle.std.specs.Cmp.{IsTotalOrder}
 use Rattle.std.specs.FinMap.{IsAntisymmetric}
 use Rattle.std.specs.FinMap.Entries.{is_sorted}
 use Rattle.std.proofs.lemmas.List.Sorted.{searchable_from_sorted}
+use Rattle.std.specs.List.{slice_get}
+use Rattle.std.proofs.lemmas.Option.{slice_get_within, get_or_from_slice_get}
 use Rattle.cip_base.proofs.Sorted.{first, second, below-at}
 use Rattle.cip_base.specs.Rising.{StandsAt, FitsAt}
 
@@ -41,6 +43,22 @@ searched o same es name (Err i) h bound parted =
       within = bound;
       low = λ k d lt. o.antisymm name _ ∙ ap ordering_reverse (parts.0 k d (omega arith) lt);
       high = λ d lt. o.antisymm name _ ∙ ap ordering_reverse (parts.1 i d (omega arith) lt);
+    }
+
+-- above the last, a name would stand at the end
+pub past_last : {K : Type 0} {R : K → K → Ordering} → IsTotalOrder R → (es : List (K × ℕ)) (name : K) (last : K × ℕ) → T (is_sorted R es)
+    → slice_get es (length es - 1) ≡ Some last → R last.0 name ≡ Less → FitsAt R es name (length es)
+past_last {R = R} o es name last h at less =
+    let bound = slice_get_within es _ last at in
+    let below : (k : ℕ) (d : _) → k < length es → R (get_or es k d).0 name ≡ Less =
+    λ k d lt. let end = ap (λ e. R e.0 name) (get_or_from_slice_get es _ last d at) ∙ less in elim (below_or_same k (length es - 1) (omega arith)) [
+      | inl before ↦ o.trans _ _ _ (rises o es h k (length es - 1) d before bound) end
+      | inr same ↦ ap (λ n. R (get_or es n d).0 name) same ∙ end
+    ] in
+    record {
+      within = omega arith;
+      low = λ k d lt. o.antisymm name _ ∙ ap ordering_reverse (below k d lt);
+      high = λ d lt. absurd (omega arith);
     }
 
 no_less : {K : Type 0} {R : K → K → Ordering} → IsTotalOrder R → (n a b : K) (r s : Ordering) → R n a ≡ r → R n b ≡ s → R a b ≡ Less → is_ge s ≡ true

@@ -1,8 +1,10 @@
+pub mod Behind
 pub mod Fields
 pub mod Index
 pub mod Joined
 pub mod Numbers
 pub mod Rising
+pub mod Rows
 pub mod Timings
 pub mod Triads
 pub mod Words

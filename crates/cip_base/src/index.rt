@@ -5,15 +5,15 @@ ghost use Rattle.std.specs.FinMap as map;
 ghost use Rattle.cip_base.specs.Rising.{IsRising, IsPlaceOf};
 ghost use Rattle.cip_base.specs.Index.{noted, forgot};
 
+use crate::row::Row;
 use std::alloc::{AllocError, Global};
 use std::marker::Model;
 
 /// Under each number the key of a record, in rising number. The room is reserved.
 #[derive(Drop)]
 pub struct NumberIndex {
-    room: usize,
     // In rising number.
-    pairs: Vec<(u32, usize)>,
+    pairs: Row<(u32, usize)>,
 }
 
 impl Model for NumberIndex {
@@ -39,8 +39,7 @@ impl NumberIndex {
         ensures { IfOk result (λ m. m ≡ record { room = room; keys = map.empty }) }
     {
         Ok(NumberIndex {
-            room,
-            pairs: Vec::with_capacity(alloc, room)?,
+            pairs: Row::with_room(alloc, room)?,
         })
     }
 
@@ -48,7 +47,7 @@ impl NumberIndex {
     pub fn len(&self) -> usize
         ensures { result ≡ map.len self.now.keys }
     {
-        self.pairs.len()
+        self.pairs.as_slice().len()
     }
 
     /// The numbers with their keys, in rising number.
@@ -56,15 +55,16 @@ impl NumberIndex {
         ensures all { result.now ≡ map.entries self.now.keys }
         ensures rising { IsRising nat_cmp result.now }
     {
-        &self.pairs
+        self.pairs.as_slice()
     }
 
     /// The key under a number.
     pub fn find(&self, number: u32) -> Option<usize>
         ensures { result ≡ map.get self.now.keys number }
     {
-        match place_of(&self.pairs, number) {
-            Ok(at) => Some(self.pairs[at].1),
+        let pairs = self.pairs.as_slice();
+        match place_of(pairs, number) {
+            Ok(at) => Some(pairs[at].1),
             Err(_) => None,
         }
     }
@@ -76,12 +76,10 @@ impl NumberIndex {
         ensures { self.new ≡ noted self.old number key }
     {
         if let Some(number) = number {
-            let Err(at) = place_of(&self.pairs, number) else {
+            let Err(at) = place_of(self.pairs.as_slice(), number) else {
                 unreachable!()
             };
-            let Ok(()) = self.pairs.insert(at, (number, key)) else {
-                unreachable!()
-            };
+            self.pairs.insert(at, (number, key));
         }
     }
 
@@ -91,7 +89,7 @@ impl NumberIndex {
         ensures { self.new ≡ forgot self.old number }
     {
         if let Some(number) = number {
-            let Ok(at) = place_of(&self.pairs, number) else {
+            let Ok(at) = place_of(self.pairs.as_slice(), number) else {
                 unreachable!()
             };
             self.pairs.remove(at);
@@ -99,10 +97,14 @@ impl NumberIndex {
     }
 }
 
-// Where the number stands, or where it would, by binary search.
+// Where the number stands, or where it would: numbers mostly rise, so the last is tried before a
+// binary search.
 fn place_of(pairs: &[(u32, usize)], number: u32) -> Result<usize, usize>
     requires { IsRising nat_cmp pairs.now }
     ensures { IsPlaceOf nat_cmp pairs.now number result }
 {
-    pairs.binary_search_by_key(&number, |&(number, _)| number)
+    match pairs.last() {
+        Some(&(last, _)) if last < number => Err(pairs.len()),
+        _ => pairs.binary_search_by_key(&number, |&(number, _)| number),
+    }
 }

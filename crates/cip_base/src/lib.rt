@@ -15,6 +15,7 @@ mod laws;
 mod limits;
 mod memory;
 mod numbers;
+mod row;
 mod timing;
 mod triad;
 
@@ -30,6 +31,7 @@ pub use limits::{
 };
 pub use memory::NoMemory;
 pub use numbers::{ModuleId, Ms, PortNumber};
+pub use row::Row;
 pub use timing::{Status, Timing};
 pub use triad::Triad;
 

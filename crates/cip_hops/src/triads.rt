@@ -7,16 +7,16 @@ ghost use Rattle.cip_hops.specs.Hops.{is_after};
 ghost use Rattle.cip_base.specs.Rising.{IsRising, IsPlaceOf, Divides};
 ghost use Rattle.cip_base.specs.Index.{noted, forgot};
 
-use cip_base::Triad;
+use cip_base::{Row, Triad};
 use std::alloc::{AllocError, Global};
+use std::cmp::Ordering;
 use std::marker::Model;
 
 /// Under each triad the key of its record. The room is reserved.
 #[derive(Drop)]
 pub(crate) struct TriadIndex {
-    room: usize,
     // In rising triad.
-    pairs: Vec<(Triad, usize)>,
+    pairs: Row<(Triad, usize)>,
 }
 
 impl Model for TriadIndex {
@@ -41,15 +41,14 @@ impl TriadIndex {
         ensures { IfOk result (λ m. m ≡ record { room = room; keys = map.empty }) }
     {
         Ok(TriadIndex {
-            room,
-            pairs: Vec::with_capacity(alloc, room)?,
+            pairs: Row::with_room(alloc, room)?,
         })
     }
 
     pub(crate) fn len(&self) -> usize
         ensures { result ≡ map.len self.now.keys }
     {
-        self.pairs.len()
+        self.pairs.as_slice().len()
     }
 
     /// The triads with their keys, in rising triad.
@@ -57,14 +56,15 @@ impl TriadIndex {
         ensures all { result.now ≡ map.entries self.now.keys }
         ensures rising { IsRising triad_cmp result.now }
     {
-        &self.pairs
+        self.pairs.as_slice()
     }
 
     pub(crate) fn find(&self, triad: &Triad) -> Option<usize>
         ensures { result ≡ map.get self.now.keys triad.now }
     {
-        match place_of(&self.pairs, triad) {
-            Ok(at) => Some(self.pairs[at].1),
+        let pairs = self.pairs.as_slice();
+        match place_of(pairs, triad) {
+            Ok(at) => Some(pairs[at].1),
             Err(_) => None,
         }
     }
@@ -75,12 +75,10 @@ impl TriadIndex {
         requires room { map.len self.old.keys < self.old.room }
         ensures { self.new ≡ noted self.old (Some triad) key }
     {
-        let Err(at) = place_of(&self.pairs, &triad) else {
+        let Err(at) = place_of(self.pairs.as_slice(), &triad) else {
             unreachable!()
         };
-        let Ok(()) = self.pairs.insert(at, (triad, key)) else {
-            unreachable!()
-        };
+        self.pairs.insert(at, (triad, key));
     }
 
     /// Forgets a triad.
@@ -88,19 +86,27 @@ impl TriadIndex {
         requires { IsSome (map.get self.old.keys triad.now) }
         ensures { self.new ≡ forgot self.old (Some triad.now) }
     {
-        let Ok(at) = place_of(&self.pairs, triad) else {
+        let Ok(at) = place_of(self.pairs.as_slice(), triad) else {
             unreachable!()
         };
         self.pairs.remove(at);
     }
 }
 
-// Where the triad stands, or where it would, by binary search.
+// Where the triad stands, or where it would: serial numbers mostly rise, so the last is tried
+// before a binary search.
 fn place_of(pairs: &[(Triad, usize)], triad: &Triad) -> Result<usize, usize>
     requires { IsRising triad_cmp pairs.now }
     ensures { IsPlaceOf triad_cmp pairs.now triad.now result }
 {
-    pairs.binary_search_by_key(triad, |&(triad, _)| triad)
+    let Some((last, _)) = pairs.last() else {
+        return Err(0);
+    };
+    match last.cmp(triad) {
+        Ordering::Less => Err(pairs.len()),
+        Ordering::Equal => Ok(pairs.len() - 1),
+        Ordering::Greater => pairs.binary_search_by_key(triad, |&(triad, _)| triad),
+    }
 }
 
 /// Where the triads above begin, by binary search.

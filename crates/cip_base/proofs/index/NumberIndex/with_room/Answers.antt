@@ -1,11 +1,13 @@
-use Rattle.std.proofs.Common.{◌≡◌, ap, ◌∙◌}
+use Rattle.std.proofs.Common.{ℕ, ap, ◌∙◌}
 use Rattle.std.specs.FinMap as map
 use Rattle.std.specs.Ordering.{nat_cmp}
+use Rattle.cip_base.specs.Rows.{Row}
+use Rattle.cip_base.specs.Index.{Index}
 use Rattle.cip_base.proofs.Sorted.{from_sorted-none}
 use Rattle.cip_base.proofs.index.NumberIndex.with_room.Goals as goal
 
 pub returns : goal.returns
 returns c =
-    let none : map.from_sorted {R = nat_cmp} c.in_ok-with_capacity.field-0.items ≡ map.empty =
-    ap (map.from_sorted {R = nat_cmp}) c.in_ok-with_capacity.ensures.items ∙ from_sorted-none _ in
-    λ i. record { room = c.args.room; keys = none i }
+    let view : Row (ℕ × ℕ) → Index nat_cmp = λ r. record { room = r.room; keys = map.from_sorted r.items } in
+    let with : map.FinMap nat_cmp ℕ → Index nat_cmp = λ keys. record { room = c.args.room; keys = keys } in
+    ap view c.in_ok-with_room.ensures ∙ ap with (from_sorted-none _)

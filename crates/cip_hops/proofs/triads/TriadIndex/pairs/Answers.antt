@@ -5,5 +5,5 @@ use Rattle.cip_base.specs.Index.{Index}
 use Rattle.cip_hops.proofs.triads.TriadIndex.pairs.Goals as goal
 
 pub returns-clause-all : goal.returns-clause-all
-returns-clause-all c = c.deref.ensures.value ∙ sym (map.entries-from_sorted triad_cmp c.self.inside.pairs.items c.self.invariant.rising)
+returns-clause-all c = c.as_slice.ensures ∙ sym (map.entries-from_sorted triad_cmp c.self.inside.pairs.items c.self.invariant)
     ∙ ap (λ (m : Index triad_cmp). map.entries m.keys) c.self.view_is
