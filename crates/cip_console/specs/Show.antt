@@ -1,5 +1,5 @@
 -- The lines of a transcript. Numbers are decimal; bytes are upper-case pairs, `-` for none.
-use Rattle.std.specs.Prelude.{ℕ, ◌+◌, ◌==◌, List, [], ◌∷◌, ◌++◌, length, codes, decimal, if◌then◌else◌, unwrap_or, slice_get, Option, Some, None, Ok, Err}
+use Rattle.std.specs.Prelude.{ℕ, ◌+◌, ◌==◌, List, [], ◌∷◌, ◌/◌, ◌%◌, ◌++◌, length, codes, decimal, if◌then◌else◌, unwrap_or, slice_get, Option, Some, None, Ok, Err}
 use Rattle.hex.specs.Hex.{encode_upper}
 use Rattle.cip_base.specs.declared.numbers.ModuleId.{ModuleId}
 use Rattle.cip_base.specs.declared.triad.Triad.{Triad}
@@ -21,6 +21,10 @@ use Rattle.cip_world.specs.declared.journal.Input.TheVariants as inputs
 use Rattle.cip_world.specs.declared.journal.Entry.{Entry}
 use Rattle.cip_world.specs.declared.journal.Entry.TheVariants.{Step, Lost}
 use Rattle.cip_console.specs.Chained.{Chained}
+
+-- a number below 10,000, with zeros before it
+abbrev pub four_digits : ℕ → List ℕ
+four_digits n = (48 + n / 1000) ∷ (48 + n / 100 % 10) ∷ (48 + n / 10 % 10) ∷ (48 + n % 10) ∷ []
 
 abbrev pub bytes_text : List ℕ → List ℕ
 bytes_text bytes = if length bytes == 0 then codes "-" else encode_upper bytes

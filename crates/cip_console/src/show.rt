@@ -2,30 +2,31 @@
 ghost use Rattle.std.specs.Prelude.{◌≡◌, ◌++◌, OnOk, Ok, codes, decimal};
 ghost use Rattle.cip_console.specs.Show.{bytes_text, body_text, triad_text, refusal_text, drop_text, output_text, output_line, outputs_text, frame_text, arrived_text, command_text, input_text, name_of, numbers_text, trail_text, names_text, chain_text, head_text, lost_text, entry_text};
 
-use crate::put::{put, put_bytes, put_number};
+use crate::put::{put, put_bytes, put_number, put_number_then};
 use cip_base::{Address, Bytes, ModuleId, NoMemory, PortNumber, Triad};
 use cip_chain::ChainView;
 use cip_module::{Body, Command, Dropped, Output, Refused};
 use cip_world::{Entry, FrameName, Input};
 
 // A word, a number, and bytes.
+#[inline(always)]
 fn put_message(text: &mut Vec<u8>, word: &[u8], number: u32, bytes: &Bytes) -> Result<(), NoMemory>
     ensures { OnOk result (text.new.items
         ≡ text.old.items ++ word.now ++ decimal number ++ codes " " ++ bytes_text bytes.now) }
 {
     put(text, word)?;
-    put_number(text, u64::from(number))?;
-    put(text, b" ")?;
+    put_number_then(text, u64::from(number), b' ')?;
     put_bytes(text, bytes.as_slice())
 }
 
+// A body behind a space.
 fn put_body(text: &mut Vec<u8>, body: &Body) -> Result<(), NoMemory>
-    ensures { OnOk result (text.new.items ≡ text.old.items ++ body_text body.now) }
+    ensures { OnOk result (text.new.items ≡ text.old.items ++ codes " " ++ body_text body.now) }
 {
     match body {
-        Body::Request { number, bytes } => put_message(text, b"request ", *number, bytes),
-        Body::Reply { number, bytes } => put_message(text, b"reply ", *number, bytes),
-        Body::Data { id, bytes } => put_message(text, b"data ", *id, bytes),
+        Body::Request { number, bytes } => put_message(text, b" request ", *number, bytes),
+        Body::Reply { number, bytes } => put_message(text, b" reply ", *number, bytes),
+        Body::Data { id, bytes } => put_message(text, b" data ", *id, bytes),
     }
 }
 
@@ -68,10 +69,8 @@ fn put_send(text: &mut Vec<u8>, port: PortNumber, to: &Address, body: &Body) -> 
         ≡ text.old.items ++ output_text (Output.Send port to.now body.now)) }
 {
     put(text, b"send ")?;
-    put_number(text, u64::from(port.get()))?;
-    put(text, b" ")?;
+    put_number_then(text, u64::from(port.get()), b' ')?;
     put_bytes(text, to.as_slice())?;
-    put(text, b" ")?;
     put_body(text, body)
 }
 
@@ -124,13 +123,24 @@ fn put_output(text: &mut Vec<u8>, output: &Output) -> Result<(), NoMemory>
     }
 }
 
+// The number of an output, between spaces.
+#[inline(always)]
+fn put_index(text: &mut Vec<u8>, index: usize) -> Result<(), NoMemory>
+    ensures { OnOk result (text.new.items
+        ≡ text.old.items ++ codes "  " ++ decimal index ++ codes " ") }
+{
+    if index < 10 {
+        return put(text, &[b' ', b' ', b'0' + index as u8, b' ']);
+    }
+    put(text, b"  ")?;
+    put_number_then(text, index as u64, b' ')
+}
+
 // The line of an output, numbered from 0 within its entry.
 fn put_line(text: &mut Vec<u8>, index: usize, output: &Output) -> Result<(), NoMemory>
     ensures { OnOk result (text.new.items ≡ text.old.items ++ output_line index output.now) }
 {
-    put(text, b"  ")?;
-    put_number(text, index as u64)?;
-    put(text, b" ")?;
+    put_index(text, index)?;
     put_output(text, output)?;
     put(text, b"\n")
 }
@@ -145,50 +155,57 @@ fn put_outputs(text: &mut Vec<u8>, outputs: &[Output]) -> Result<(), NoMemory>
     Ok(())
 }
 
-// A frame by its name.
+// A frame by its name, and the end of the line.
 fn put_frame(text: &mut Vec<u8>, name: FrameName) -> Result<(), NoMemory>
-    ensures { OnOk result (text.new.items ≡ text.old.items ++ frame_text name) }
+    ensures { OnOk result (text.new.items ≡ text.old.items ++ frame_text name ++ codes "\n") }
 {
-    put_number(text, name.entry as u64)?;
-    put(text, b".")?;
-    put_number(text, name.output as u64)
+    put_number_then(text, name.entry as u64, b'.')?;
+    put_number_then(text, name.output as u64, b'\n')
 }
 
-// A word and a number.
+// A word, a number, and the end of the line.
+#[inline(always)]
 fn put_numbered(text: &mut Vec<u8>, word: &[u8], number: u64) -> Result<(), NoMemory>
-    ensures { OnOk result (text.new.items ≡ text.old.items ++ word.now ++ decimal number) }
+    ensures { OnOk result (text.new.items
+        ≡ text.old.items ++ word.now ++ decimal number ++ codes "\n") }
 {
     put(text, word)?;
-    put_number(text, number)
+    put_number_then(text, number, b'\n')
 }
 
+// A command behind a space, and the end of the line.
 fn put_command(text: &mut Vec<u8>, command: &Command) -> Result<(), NoMemory>
-    ensures { OnOk result (text.new.items ≡ text.old.items ++ command_text command.now) }
+    ensures { OnOk result (text.new.items
+        ≡ text.old.items ++ codes " " ++ command_text command.now ++ codes "\n") }
 {
     match command {
-        Command::Open { op, .. } => put_numbered(text, b"open ", u64::from(*op)),
-        Command::Close { op, .. } => put_numbered(text, b"close ", u64::from(*op)),
-        Command::Send { op, .. } => put_numbered(text, b"send ", u64::from(*op)),
-        Command::Enter { of, .. } => put_numbered(text, b"enter ", u64::from(*of)),
-        Command::Set { instance, .. } => put_numbered(text, b"set ", u64::from(*instance)),
-        Command::Produce { instance } => put_numbered(text, b"produce ", u64::from(*instance)),
+        Command::Open { op, .. } => put_numbered(text, b" open ", u64::from(*op)),
+        Command::Close { op, .. } => put_numbered(text, b" close ", u64::from(*op)),
+        Command::Send { op, .. } => put_numbered(text, b" send ", u64::from(*op)),
+        Command::Enter { of, .. } => put_numbered(text, b" enter ", u64::from(*of)),
+        Command::Set { instance, .. } => put_numbered(text, b" set ", u64::from(*instance)),
+        Command::Produce { instance } => put_numbered(text, b" produce ", u64::from(*instance)),
     }
 }
 
+// The arrival of a frame behind a space, and the end of the line.
 fn put_arrived(text: &mut Vec<u8>, name: FrameName) -> Result<(), NoMemory>
-    ensures { OnOk result (text.new.items ≡ text.old.items ++ arrived_text name) }
+    ensures { OnOk result (text.new.items
+        ≡ text.old.items ++ codes " " ++ arrived_text name ++ codes "\n") }
 {
-    put(text, b"frame ")?;
+    put(text, b" frame ")?;
     put_frame(text, name)
 }
 
-// What a module was given: a command or a tick by what it asks for, a frame by its name.
+// What a module was given, behind a space, and the end of the line: a command or a tick by what it
+// asks for, a frame by its name.
 fn put_input(text: &mut Vec<u8>, input: &Input) -> Result<(), NoMemory>
-    ensures { OnOk result (text.new.items ≡ text.old.items ++ input_text input.now) }
+    ensures { OnOk result (text.new.items
+        ≡ text.old.items ++ codes " " ++ input_text input.now ++ codes "\n") }
 {
     match input {
         Input::Command(command) => put_command(text, command),
-        Input::Tick(by) => put_numbered(text, b"tick ", u64::from(by.get())),
+        Input::Tick(by) => put_numbered(text, b" tick ", u64::from(by.get())),
         Input::Frame { name, .. } => put_arrived(text, *name),
     }
 }
@@ -203,17 +220,25 @@ pub(crate) fn name_in(names: &[Bytes], place: usize) -> &[u8]
     }
 }
 
+// A name: one letter is not worth a copy by the library.
+#[inline(always)]
+fn put_name(text: &mut Vec<u8>, name: &[u8]) -> Result<(), NoMemory>
+    ensures { OnOk result (text.new.items ≡ text.old.items ++ name.now) }
+{
+    match name {
+        [letter] => put(text, &[*letter]),
+        _ => put(text, name),
+    }
+}
+
 // The first line of an entry.
 fn put_head(text: &mut Vec<u8>, number: usize, name: &[u8], input: &Input) -> Result<(), NoMemory>
     ensures { OnOk result (text.new.items
         ≡ text.old.items ++ head_text number name.now (input_text input.now)) }
 {
-    put_number(text, number as u64)?;
-    put(text, b" ")?;
-    put(text, name)?;
-    put(text, b" ")?;
-    put_input(text, input)?;
-    put(text, b"\n")
+    put_number_then(text, number as u64, b' ')?;
+    put_name(text, name)?;
+    put_input(text, input)
 }
 
 fn put_lost(text: &mut Vec<u8>, number: usize, frame: FrameName) -> Result<(), NoMemory>
@@ -221,8 +246,7 @@ fn put_lost(text: &mut Vec<u8>, number: usize, frame: FrameName) -> Result<(), N
 {
     put_number(text, number as u64)?;
     put(text, b" lost ")?;
-    put_frame(text, frame)?;
-    put(text, b"\n")
+    put_frame(text, frame)
 }
 
 /// An entry of a journal, by its number, behind a text.
