@@ -1,8 +1,7 @@
--- Lines and words, one part at a time.
+-- Lines, one part at a time.
 use Rattle.std.proofs.Common.{◌≡◌, ℕ, ◌<◌, ◌≤◌, ◌+◌, true, false, List, [], ◌∷◌, ◌++◌, map, length, get_or, drop, refl, ap, arith, ◌==◌, append_assoc, append-nil, Bor}
 use Rattle.std.proofs.lemmas.List.{drop_more, drop_all}
 use Rattle.std.specs.Str.Lines.{lines_of_parts, strip_carriage_return}
-use Rattle.cip_console.specs.Text.{kept_words}
 
 -- what references lead to
 abbrev pub texts : List (Bor (List ℕ)) → List (List ℕ)
@@ -15,18 +14,6 @@ unread = record { ref_ptr = (0, 0); now = [] }
 pub texts_push : (xs : List (Bor (List ℕ))) (x : Bor (List ℕ)) → texts (xs ++ x ∷ []) ≡ texts xs ++ x.now ∷ []
 texts_push [] x = refl
 texts_push (y ∷ xs) x = ap (λ l. y.now ∷ l) (texts_push xs x)
-
--- a word that is kept
-pub word_kept : (items found : List (Bor (List ℕ))) (i : ℕ) (all : List (List ℕ)) → i < length items → (length (get_or items i unread).now == 0) ≡ false
-    → texts found ++ kept_words (texts (drop i items)) ≡ all → texts (found ++ get_or items i unread ∷ []) ++ kept_words (texts (drop (i + 1) items)) ≡ all
-word_kept items found i all h full e =
-    let before = rw (drop_more items i unread h, full) at e in
-    rw (texts_push found (get_or items i unread), append_assoc) before
-
--- an empty part
-pub word_skipped : (items found : List (Bor (List ℕ))) (i : ℕ) (all : List (List ℕ)) → i < length items → (length (get_or items i unread).now == 0) ≡ true
-    → texts found ++ kept_words (texts (drop i items)) ≡ all → texts found ++ kept_words (texts (drop (i + 1) items)) ≡ all
-word_skipped items found i all h empty e = rw (drop_more items i unread h, empty) at e
 
 -- a part before another one
 pub line_more : (items found : List (Bor (List ℕ))) (i : ℕ) (y : Bor (List ℕ)) (all : List (List ℕ)) → i + 1 < length items

@@ -185,9 +185,8 @@ fn explain_words(
         let word = excerpt(word);
         return Ok(Explained::NotWithThreads { word });
     }
-    let mut parts = Vec::new(alloc);
     let mut fields = Vec::new(alloc);
-    text::words(usage, &mut parts, &mut fields)?;
+    text::words(usage, &mut fields)?;
     if fault == ScriptFault::Count {
         return Ok(Explained::Count {
             word: excerpt(word),
@@ -227,9 +226,8 @@ fn explain_line(alloc: Global, line: &[u8], fault: ScriptFault) -> Result<Explai
     let Some(line) = text::ascii(line) else {
         return Ok(explain_byte(line));
     };
-    let mut parts = Vec::new(alloc);
     let mut words = Vec::new(alloc);
-    text::words(line, &mut parts, &mut words)?;
+    text::words(line, &mut words)?;
     match words.split_first() {
         None => Ok(Explained::Fault(fault)),
         Some((word, args)) => explain_words(alloc, word, args, fault),

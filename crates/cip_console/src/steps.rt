@@ -400,7 +400,6 @@ fn line_step<'a>(
     mode: Mode,
     names: &[Bytes],
     line: &'a [u8],
-    parts: &mut Vec<&'a str>,
     words: &mut Vec<&'a str>,
 ) -> Result<Option<Step>, StepFault>
     ensures { Gives result (line_step mode names.now line.now) }
@@ -412,7 +411,7 @@ fn line_step<'a>(
     if text::is_comment(line) {
         return Ok(None);
     }
-    text::words(line, parts, words)?;
+    text::words(line, words)?;
     match words.split_first() {
         None => Ok(None),
         Some((word, args)) => Ok(Some(step_of(alloc, mode, names, word, args)?)),
@@ -438,10 +437,9 @@ pub(crate) fn read_steps(
 {
     let lines = text::lines_of(alloc, script)?;
     let mut found = Vec::new(alloc);
-    let mut parts = Vec::new(alloc);
     let mut words = Vec::new(alloc);
     for (i, line) in lines.iter().enumerate() {
-        match line_step(alloc, mode, names, *line, &mut parts, &mut words) {
+        match line_step(alloc, mode, names, *line, &mut words) {
             Ok(None) => {}
             Ok(Some(step)) => push(&mut found, Numbered { line: i + 1, step })?,
             Err(StepFault::Fault(fault)) => return Err(StepsFault::Script(i + 1, fault)),

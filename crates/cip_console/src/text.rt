@@ -3,7 +3,7 @@
 ghost use Rattle.std.specs.Prelude.{◌≡◌, ◌==◌, ◌^◌, ◌↔◌, ◌≤◌, map, IfOk, OnOk, IfSome, IsTrue, slice_index, IsSome, option_map};
 ghost use Rattle.std.specs.Str.{IsAscii};
 ghost use Rattle.std.specs.Str.Lines.{lines, lines_of_parts, strip_carriage_return};
-ghost use Rattle.cip_console.specs.Text.{words_of, numeral, number_of, below, bytes_of, is_space, is_newline};
+ghost use Rattle.cip_console.specs.Text.{words_of, numeral, number_of, below, bytes_of, is_newline};
 
 use std::alloc::{AllocError, Global};
 
@@ -54,29 +54,14 @@ fn parts_of(alloc: Global, script: &[u8]) -> Result<Vec<&[u8]>, AllocError>
     script.split(|byte| *byte == b'\n').collect(alloc)
 }
 
-// The parts of a line between its spaces, in place of those before.
-fn spaced<'a>(line: &'a str, parts: &mut Vec<&'a str>) -> Result<(), AllocError>
-    ensures { OnOk result (map (λ part. part.now) parts.new.items
-        ≡ slice_split is_space line.now) }
-{
-    parts.clear();
-    parts.extend(line.split(' '))?;
-    Ok(())
-}
-
-/// The words of a line, in place of those before. The room of the parts is kept for the next line.
-pub(crate) fn words<'a>(
-    line: &'a str,
-    parts: &mut Vec<&'a str>,
-    found: &mut Vec<&'a str>,
-) -> Result<(), AllocError>
+/// The words of a line, in place of those before, whose room is kept.
+pub(crate) fn words<'a>(line: &'a str, found: &mut Vec<&'a str>) -> Result<(), AllocError>
     ensures { OnOk result (map (λ word. word.now) found.new.items ≡ words_of line.now) }
 {
-    spaced(line, parts)?;
     found.clear();
-    for part in parts.iter() {
+    for part in line.split(' ') {
         if !part.is_empty() {
-            found.push(*part)?;
+            found.push(part)?;
         }
     }
     Ok(())

@@ -1,13 +1,13 @@
-use Rattle.std.proofs.Common.{sym}
-use Rattle.cip_console.proofs.LinesLaws.{word_kept, word_skipped}
+use Rattle.std.proofs.Common.{lit<, ap, ◌∙◌}
+use Rattle.std.proofs.lemmas.Iterator.Consumers.{YieldsList-at, YieldsList-end}
+use Rattle.std.proofs.lemmas.Iterator.Splits.{YieldsList-from_str_split}
+use Rattle.cip_console.specs.Text.{kept_words}
 use Rattle.cip_console.proofs.text.words.Goals as goal
-use Rattle.cip_console.proofs.text.words.Goals.{then-not-is_empty+in_ok-push, else-not-is_empty}
 
-pub loop-part-preserved : goal.loop-part-preserved
-loop-part-preserved c =
-    elim c.if-not-is_empty.branch [
-      | then-not-is_empty+in_ok-push w ↦ rw (w.found-is, w.in_ok-push.ensures.items)
-          (word_kept _ c.loop-part.found.items c.loop-part.part-index _ c.loop-part-test.true (sym w.if-not-is_empty.ensures) c.loop-part.invariant)
-      | else-not-is_empty w ↦ rw w.found-is (word_skipped _ c.loop-part.found.items c.loop-part.part-index _ c.loop-part-test.true
-          (sym w.if-not-is_empty.ensures) c.loop-part.invariant)
-    ]
+pub returns : goal.returns
+returns c =
+    let s = c.split-part-items.ensures in
+    let seen = YieldsList-end
+    (YieldsList-at c.into_iter-part-iterator.ensures.into_iter_gives (YieldsList-from_str_split 32 c.args.line.now (lit< tt) s.text s.has_more s.pattern))
+    c.loop-part.yielded _ c.loop-part.yielded_by _ _ c.in-None.is c.next.ensures.steps in
+    c.loop-part.invariant ∙ ap kept_words seen.0
