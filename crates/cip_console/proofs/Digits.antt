@@ -1,5 +1,5 @@
 -- The texts of numbers, some digits at a time, and the tables that hold them.
-use Rattle.std.proofs.Common.{◌≡◌, ℕ, zero, suc, ◌+◌, ◌-◌, ◌*◌, ◌/◌, ◌%◌, ◌^◌, ◌<◌, ◌≤◌, Bool, true, ◌&&◌, T, eqb, List, [], ◌∷◌, ◌++◌, length, take, drop, get_or, slice_index, slice_set, refl, inl, inr, arith, eq-zero-or-pos, eqb→eq, append_assoc}
+use Rattle.std.proofs.Common.{◌≡◌, ℕ, zero, suc, ◌+◌, ◌-◌, ◌*◌, ◌/◌, ◌%◌, ◌^◌, ◌<◌, ◌≤◌, Bool, true, ◌&&◌, T, eqb, List, [], ◌∷◌, ◌++◌, length, take, drop, get_or, slice_index, slice_set, refl, ap, inl, inr, arith, eq-zero-or-pos, eqb→eq, append_assoc}
 use Rattle.std.proofs.lemmas.Fmt.{decimal_digit, decimal_step}
 use Rattle.std.proofs.lemmas.List.{append-nil, drop_all, drop_more, take_all, take_more_set, length-set}
 use Rattle.std.specs.Fmt.{decimal}
@@ -96,6 +96,13 @@ four_at n t h =
     let b : n % 100 / 10 ≡ n / 10 % 10 = omega arith in
     let c : n % 100 % 10 ≡ n % 10 = omega arith in
     rw (p.0, p.1, q.0, q.1, a, b, c) refl
+
+pub five_at : (n t : ℕ) → 10000 ≤ n → n < 100000
+    → (48 + n / 10000) ∷ get_or TENS (2 * (n % 10000 / 100)) 0 ∷ get_or TENS (2 * (n % 10000 / 100) + 1) 0 ∷ get_or TENS (2 * (n % 10000 % 100)) 0
+    ∷ get_or TENS (2 * (n % 10000 % 100) + 1) 0 ∷ t ∷ []
+    ≡ decimal n ++ t ∷ []
+five_at n t lo hi =
+    rw (decimal_long n lo (omega arith), decimal_digit (n / 10000) (omega arith)) (ap (λ l. (48 + n / 10000) ∷ l) (four_at (n % 10000) t (omega arith)))
 
 -- two writes in a row, seen from the front
 take_two_writes : (xs : List ℕ) (o x y : ℕ) → o + 1 < length xs

@@ -73,6 +73,27 @@ fn put_short(text: &mut Vec<u8>, number: u64, then: u8) -> Result<(), NoMemory>
     put(text, &[first, TENS[low], TENS[low + 1], then])
 }
 
+// A number of five digits, and a byte after it.
+fn put_five(text: &mut Vec<u8>, number: u64, then: u8) -> Result<(), NoMemory>
+    requires { (10000 ≤ number) × (number < 100000) }
+    ensures { OnOk result (text.new.items ≡ text.old.items ++ decimal number ++ then ∷ []) }
+{
+    let first = b'0' + (number / 10_000) as u8;
+    let high = 2 * (number % 10_000 / 100) as usize;
+    let low = 2 * (number % 10_000 % 100) as usize;
+    put(
+        text,
+        &[
+            first,
+            TENS[high],
+            TENS[high + 1],
+            TENS[low],
+            TENS[low + 1],
+            then,
+        ],
+    )
+}
+
 // A number of two digits or more, and a byte after it.
 fn put_long(text: &mut Vec<u8>, number: u64, then: u8) -> Result<(), NoMemory>
     requires { 10 ≤ number }
@@ -83,6 +104,9 @@ fn put_long(text: &mut Vec<u8>, number: u64, then: u8) -> Result<(), NoMemory>
     }
     if number < 10_000 {
         return put_four(text, number, then);
+    }
+    if number < 100_000 {
+        return put_five(text, number, then);
     }
     put_number(text, number / 10_000)?;
     put_four(text, number % 10_000, then)

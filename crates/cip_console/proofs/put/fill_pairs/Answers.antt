@@ -1,4 +1,4 @@
-use Rattle.std.proofs.Common.{ℕ, arith, slice_index}
+use Rattle.std.proofs.Common.{arith, slice_index}
 use Rattle.hex.specs.Hex.{upper_digits}
 use Rattle.cip_console.proofs.Digits.{PAIRS_at, encode_step, encode_done}
 use Rattle.cip_console.proofs.put.fill_pairs.Goals as goal

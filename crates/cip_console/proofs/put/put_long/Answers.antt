@@ -1,4 +1,4 @@
-use Rattle.std.proofs.Common.{◌/◌, append_assoc, arith}
+use Rattle.std.proofs.Common.{append_assoc, arith}
 use Rattle.cip_console.proofs.Digits.{decimal_four, decimal_long}
 use Rattle.cip_console.proofs.put.put_long.Goals as goal
 
