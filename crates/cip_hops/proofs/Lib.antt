@@ -3,6 +3,7 @@ pub mod Indexing
 pub mod Ids
 pub mod Steps
 pub mod Named
+pub mod Onwards
 pub mod Answering
 pub mod Changes
 pub mod Touching

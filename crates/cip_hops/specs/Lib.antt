@@ -1,5 +1,6 @@
-pub mod Sides
-pub mod Hops
 pub mod Changes
-pub mod TriadPairs
+pub mod Hops
 pub mod Kept
+pub mod Onwards
+pub mod Sides
+pub mod TriadPairs

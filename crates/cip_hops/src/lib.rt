@@ -2,10 +2,12 @@
 #![tactic(auto)]
 
 mod hop;
+mod onward;
 mod opening;
 mod table;
 mod triads;
 
 pub use hop::{Held, Hop, Side};
+pub use onward::Onward;
 pub use opening::{BeginFault, BeginReason, HopDown, HopUp, Opening, OwnIds};
 pub use table::HopTable;

@@ -11,8 +11,10 @@ ghost use Rattle.cip_hops.specs.declared.hop.Side.TheVariants.{Up, Down};
 ghost use Rattle.cip_hops.specs.Sides.{op_of};
 ghost use Rattle.cip_hops.specs.Changes.{Suits, IsChanged};
 ghost use Rattle.cip_hops.specs.Hops.{refusal, begin_gives, begun, IsOpFree, opening_at, hop_at, without, without_if, IsWithout, finished, changed, is_link, ends_here, touched, counted, hop_by_up, hop_by_down, hop_by_op, HasId, up_id_of, down_id_of, first_due, due, rest, first_after, as_hop, is_hop_due, is_entry_due, is_entry_open, IsWithin};
+ghost use Rattle.cip_hops.specs.Onwards.{on_side, hop_by, onward_of, after_onward};
 
 use crate::hop::{Change, Held, Hop, Side};
+use crate::onward::Onward;
 use crate::opening::{BeginFault, BeginReason, Opening, OwnIds};
 use crate::triads::{TriadIndex, place_after};
 use cip_base::{Address, LAST_COUNT, NoMemory, NumberIndex, PortNumber, Triad};
@@ -201,6 +203,39 @@ impl HopTable {
         }
     }
 
+    /// Where a datum of `size` bytes goes on that comes in by this side of a hop: from this port
+    /// and address, under the own id of that side. The side is then watched anew from `now` on, in
+    /// microseconds. None where there is no such hop, where the datum goes no further than here, or
+    /// where it has not the size of its direction: nothing changes.
+    #[inline(always)]
+    pub fn forward(
+        &mut self,
+        side: Side,
+        id: u32,
+        port: PortNumber,
+        address: &Address,
+        size: usize,
+        now: u64,
+    ) -> Option<Onward>
+        requires { now < 2 ^ 63 }
+        ensures value { result ≡ onward_of side size
+            (hop_by side self.old id port address.now) }
+        ensures after { self.new ≡ after_onward self.old side now
+            (hop_by side self.old id port address.now) result }
+    {
+        let key = key_of(&self.ups, &self.downs, side, id)?;
+        let hop = self.records.get(key)?.hop()?;
+        if !hop.is_at(side, port, address) {
+            return None;
+        }
+        let onward = hop.onward(side, size)?;
+        let Some(held) = self.records.get_mut(key) else {
+            unreachable!()
+        };
+        held.change(Change::Touch { side, now });
+        Some(onward)
+    }
+
     /// Watches a side of a hop anew from `now` on, in microseconds.
     pub fn touch(&mut self, triad: &Triad, side: Side, now: u64)
         requires link { IsSomeAnd (hop_at self.old triad.now) (λ hop. IsTrue (is_link side hop)) }
@@ -344,6 +379,17 @@ impl HopTable {
         self.downs.forget(ids.down);
         self.ops.forget(op);
         held
+    }
+}
+
+// Under an own id on this side the key of its record.
+#[inline(always)]
+fn key_of(ups: &NumberIndex, downs: &NumberIndex, side: Side, id: u32) -> Option<usize>
+    ensures { result ≡ map.get (on_side side ups.now.keys downs.now.keys) id }
+{
+    match side {
+        Side::Up => ups.find(id),
+        Side::Down => downs.find(id),
     }
 }
 

@@ -1,12 +1,15 @@
 //! What goes on or goes up of a message, in the buffer in which it came.
 ghost use Rattle.std.specs.Prelude.{◌≡◌};
 ghost use Rattle.cip_base.specs.Words.{Octets};
+ghost use Rattle.cip_module.specs.declared.event.Body.TheVariants as bodies;
 ghost use Rattle.cip_module.specs.declared.event.Output.{Output as Outputs};
+ghost use Rattle.cip_module.specs.declared.event.Output.TheVariants as outputs;
 ghost use Rattle.cip_module.specs.Reactions.{Becomes};
 ghost use Rattle.cip_indexed.specs.PutOut.{CanPutOut, IsPutOut};
 
 use cip_base::Bytes;
-use cip_module::{Edit, Output, Reaction};
+use cip_hops::Onward;
+use cip_module::{Body, Edit, Output, Reaction};
 use cip_rewrite::{
     forward_close_bytes, forward_open_bytes, forward_unconnected_bytes, success_up_bytes,
     unwrap_bytes,
@@ -39,5 +42,20 @@ pub(crate) fn put_out(reaction: Reaction, came: Bytes) -> Output
     match reaction {
         Reaction::Whole(output) => output,
         Reaction::Edited { output, edit } => output.filled(edited(came, edit)),
+    }
+}
+
+/// A datum, sent on.
+#[inline(always)]
+pub(crate) fn sent(onward: Onward, bytes: Bytes) -> Output
+    ensures { result ≡ outputs.Send onward.port onward.address (bodies.Data onward.id bytes) }
+{
+    Output::Send {
+        port: onward.port,
+        to: onward.address,
+        body: Body::Data {
+            id: onward.id,
+            bytes,
+        },
     }
 }

@@ -1,6 +1,7 @@
 //! A module that originates, routes and answers. What goes on of a message, and what goes up, is
 //! the buffer in which it came.
-ghost use Rattle.std.specs.Prelude.{◌≡◌, IfOk};
+ghost use Rattle.std.specs.Prelude.{◌≡◌, ◌<◌, [], IfOk};
+ghost use Rattle.std.specs.Vec.{vec_capacity};
 ghost use Rattle.cip_module.specs.declared.config.ModuleKind.{ModuleKind as Kind};
 ghost use Rattle.cip_module.specs.declared.event.Body.TheVariants as bodies;
 ghost use Rattle.cip_module.specs.declared.event.Event.TheVariants as events;
@@ -9,9 +10,9 @@ ghost use Rattle.cip_module.specs.State.{initial_state};
 ghost use Rattle.cip_module.specs.Steps.{IsStep, IsStepFault};
 ghost use Rattle.cip_indexed.specs.Indexed.{config_of_indexed, state_of_indexed};
 
-use crate::edited::put_out;
+use crate::edited::{put_out, sent};
 use cip_base::{Address, Bytes, NoMemory, PortNumber};
-use cip_hops::Hop;
+use cip_hops::{Hop, Side};
 use cip_module::{
     Body, Command, Event, Module, ModuleConfig, ModuleKind, Node, Output, StepFault, Tables,
 };
@@ -37,6 +38,7 @@ impl IndexedModule {
     }
 
     // A request: its bytes go on, edited, or it comes back whole.
+    #[inline(never)]
     fn request(
         &mut self,
         port: PortNumber,
@@ -72,6 +74,7 @@ impl IndexedModule {
     }
 
     // A reply: its bytes go up, edited, or it comes back whole.
+    #[inline(never)]
     fn reply(
         &mut self,
         port: PortNumber,
@@ -99,6 +102,7 @@ impl IndexedModule {
     }
 
     // A datum: its bytes go on, or it comes back whole.
+    #[inline(always)]
     fn datum(
         &mut self,
         port: PortNumber,
@@ -117,8 +121,44 @@ impl IndexedModule {
             let body = Body::Data { id, bytes };
             return Err(StepFault::NoMemory(Event::Frame { port, from, body }));
         };
-        outputs.push_reserved(self.node.pass(port, &from, id, bytes));
-        Ok(outputs)
+        let onward = self
+            .node
+            .forward(Side::Up, port, &from, id, bytes.as_slice());
+        match onward {
+            Some(onward) => {
+                outputs.push_reserved(sent(onward, bytes));
+                Ok(outputs)
+            }
+            None => Ok(self.datum_up(outputs, port, &from, id, bytes)),
+        }
+    }
+
+    // A datum that does not go down: it goes up, or ends here. There is room for what it puts out.
+    #[inline(never)]
+    fn datum_up(
+        &mut self,
+        mut outputs: Vec<Output>,
+        port: PortNumber,
+        from: &Address,
+        id: u32,
+        bytes: Bytes,
+    ) -> Vec<Output>
+        requires none { outputs.items ≡ [] }
+        requires room { 0 < vec_capacity outputs }
+        ensures step { IsStep (config_of_indexed self.old) (state_of_indexed self.old)
+            (events.Frame port from.now (bodies.Data id bytes)) (state_of_indexed self.new)
+            result.items }
+        ensures config { config_of_indexed self.new ≡ config_of_indexed self.old }
+    {
+        let onward = self
+            .node
+            .forward(Side::Down, port, from, id, bytes.as_slice());
+        let output = match onward {
+            Some(onward) => sent(onward, bytes),
+            None => self.node.pass(port, from, id, bytes),
+        };
+        outputs.push_reserved(output);
+        outputs
     }
 }
 
@@ -140,19 +180,18 @@ impl IndexedModule {
         Ok(outputs)
     }
 
-    // A command.
+    // What is no frame.
     #[inline(never)]
-    fn command(&mut self, command: Command) -> Result<Vec<Output>, StepFault>
+    fn own(&mut self, event: Event) -> Result<Vec<Output>, StepFault>
         ensures ok { IfOk result (λ outputs. IsStep (config_of_indexed self.old)
-            (state_of_indexed self.old) (events.Command command) (state_of_indexed self.new)
-            outputs.items) }
+            (state_of_indexed self.old) event (state_of_indexed self.new) outputs.items) }
         ensures fault { IsStepFault (config_of_indexed self.old) (state_of_indexed self.old)
-            (events.Command command) (state_of_indexed self.new) result }
+            event (state_of_indexed self.new) result }
         ensures config { config_of_indexed self.new ≡ config_of_indexed self.old }
     {
-        match command {
-            Command::Enter { of, bytes } => self.enter(of, bytes),
-            other => self.node.step(Event::Command(other)),
+        match event {
+            Event::Command(Command::Enter { of, bytes }) => self.enter(of, bytes),
+            other => self.node.step(other),
         }
     }
 }
@@ -175,13 +214,22 @@ impl Module for IndexedModule {
 
     fn step(&mut self, event: Event) -> Result<Vec<Output>, StepFault> {
         match event {
-            Event::Frame { port, from, body } => match body {
-                Body::Request { number, bytes } => self.request(port, from, number, bytes),
-                Body::Reply { number, bytes } => self.reply(port, from, number, bytes),
-                Body::Data { id, bytes } => self.datum(port, from, id, bytes),
-            },
-            Event::Command(command) => self.command(command),
-            Event::Tick(by) => self.node.step(Event::Tick(by)),
+            Event::Frame {
+                port,
+                from,
+                body: Body::Data { id, bytes },
+            } => self.datum(port, from, id, bytes),
+            Event::Frame {
+                port,
+                from,
+                body: Body::Request { number, bytes },
+            } => self.request(port, from, number, bytes),
+            Event::Frame {
+                port,
+                from,
+                body: Body::Reply { number, bytes },
+            } => self.reply(port, from, number, bytes),
+            other => self.own(other),
         }
     }
 

@@ -3,6 +3,7 @@ pub mod OpsLemmas
 pub mod Walks
 pub mod TimeOuts
 pub mod SettingsLemmas
+pub mod Forwards
 pub mod Found
 pub mod Outputs
 pub mod Fits

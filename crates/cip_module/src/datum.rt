@@ -1,6 +1,7 @@
 //! The data group: a datum of a connection on its way.
-ghost use Rattle.std.specs.Prelude.{◌≡◌, ◌∷◌, [], Some};
+ghost use Rattle.std.specs.Prelude.{◌≡◌, ◌∷◌, [], None, Some, IfSome};
 ghost use Rattle.cip_hops.specs.Hops.{hop_by_up, hop_by_down};
+ghost use Rattle.cip_module.specs.declared.event.Body.TheVariants as bodies;
 ghost use Rattle.cip_module.specs.declared.event.Output.TheVariants as outputs;
 ghost use Rattle.cip_module.specs.Effects.{applied};
 ghost use Rattle.cip_module.specs.DataRows.{id_row, data_row};
@@ -14,7 +15,7 @@ use crate::event::{Dropped, Output};
 use crate::node::Node;
 use crate::ports::port_of;
 use cip_base::{Address, Bytes, PortNumber, Triad};
-use cip_hops::{HopDown, Side};
+use cip_hops::{HopDown, Onward, Side};
 
 impl Node {
     // An end writes a datum without its sequence count, and keeps the count.
@@ -92,6 +93,32 @@ impl Node {
             }
             None => Output::Dropped(Dropped::UnknownId),
         }
+    }
+
+    /// Where a datum goes on that comes in by this side of a connection; None where it does not go
+    /// on from there.
+    #[tactic(auto, unfolding(crate::specs::DataRows::data_row))]
+    #[inline(always)]
+    pub(crate) fn sends_on(
+        &mut self,
+        side: Side,
+        port: PortNumber,
+        from: &Address,
+        id: u32,
+        bytes: &[u8],
+    ) -> Option<Onward>
+        ensures on { IfSome result (λ onward. Handled self.old self.new (datum_effects bytes.now
+            (data_row self.old.config (state_of_node self.old) port from.now id bytes.now))
+            (outputs.Send onward.port onward.address (bodies.Data onward.id bytes.now) ∷ [])) }
+        ensures stays { result ≡ None → state_of_node self.new ≡ state_of_node self.old }
+        ensures config { self.new.config ≡ self.old.config }
+    {
+        if port_of(self.config.settings(), port).is_none() {
+            return None;
+        }
+        self.hops.is_within();
+        let now = self.clock.now();
+        self.hops.forward(side, id, port, from, bytes.len(), now)
     }
 
     /// A datum that came in by a port from an address, under an id: what goes on has its bytes. It

@@ -1,5 +1,5 @@
 //! The step of a module of any kind.
-ghost use Rattle.std.specs.Prelude.{◌≡◌, ◌∷◌, [], IfOk, OnErr};
+ghost use Rattle.std.specs.Prelude.{◌≡◌, ◌∷◌, [], None, IfOk, IfSome, OnErr};
 ghost use Rattle.std.specs.Option.{option_to_list};
 ghost use Rattle.cip_module.specs.Code.Ticks.{IsNoTick, IsSingle};
 ghost use Rattle.cip_module.specs.Steps.{IsStep, IsStepFault};
@@ -10,6 +10,7 @@ ghost use Rattle.cip_module.specs.Code.Reacts.{Reacts};
 ghost use Rattle.cip_module.specs.Reactions.{bytes_in, PutsOut};
 ghost use Rattle.cip_module.specs.declared.event.Body.TheVariants as bodies;
 ghost use Rattle.cip_module.specs.declared.event.Event.TheVariants as events;
+ghost use Rattle.cip_module.specs.declared.event.Output.TheVariants as outputs;
 ghost use Rattle.cip_module.specs.declared.event.Command.TheVariants.{Enter};
 
 use crate::contract::StepFault;
@@ -18,6 +19,7 @@ use crate::node::Node;
 use crate::reaction::{Edit, Reaction};
 use crate::ticks::TickFault;
 use cip_base::{Address, Bytes, NoMemory, PortNumber};
+use cip_hops::{Onward, Side};
 use cip_unconnected::UnconnectedView;
 
 impl Node {
@@ -130,9 +132,30 @@ impl Node {
         self.reply_in_place(port, from, number, bytes)
     }
 
+    /// Where a datum goes on that comes in by this side of a connection. The new state is that of
+    /// the routing table, and its one output is this datum, sent so. None where it does not go on
+    /// from this side: nothing changes. It takes no memory.
+    #[inline(always)]
+    pub fn forward(
+        &mut self,
+        side: Side,
+        port: PortNumber,
+        from: &Address,
+        id: u32,
+        bytes: &[u8],
+    ) -> Option<Onward>
+        ensures on { IfSome result (λ onward. IsStep self.old.config (state_of_node self.old)
+            (events.Frame port from.now (bodies.Data id bytes.now)) (state_of_node self.new)
+            (outputs.Send onward.port onward.address (bodies.Data onward.id bytes.now) ∷ [])) }
+        ensures stays { result ≡ None → state_of_node self.new ≡ state_of_node self.old }
+        ensures config { self.new.config ≡ self.old.config }
+    {
+        self.sends_on(side, port, from, id, bytes)
+    }
+
     /// A datum: the new state and the output are those of the routing table. What goes on has the
     /// bytes that came. It takes no memory.
-    #[inline(always)]
+    #[inline(never)]
     pub fn pass(&mut self, port: PortNumber, from: &Address, id: u32, bytes: Bytes) -> Output
         ensures done { IsStep self.old.config (state_of_node self.old)
             (events.Frame port from.now (bodies.Data id bytes)) (state_of_node self.new)

@@ -1,5 +1,4 @@
-use Rattle.std.proofs.Common.{◌≡◌, ◌<◌, length, sym, ap, ◌∙◌, arith}
-use Rattle.std.specs.Prelude.{slice_index}
+use Rattle.std.proofs.Common.{◌≡◌, length, sym, ap, arith}
 use Rattle.cip_segment.proofs.PathsRead.{segments_of-empty}
 use Rattle.cip_module.specs.Keys.{leading_mismatch}
 use Rattle.cip_module.proofs.KeysRead.{no_key}
