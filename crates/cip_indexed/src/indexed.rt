@@ -38,7 +38,7 @@ impl IndexedModule {
     }
 
     // A request: its bytes go on, edited, or it comes back whole.
-    #[inline(never)]
+    #[inline(always)]
     fn request(
         &mut self,
         port: PortNumber,
@@ -74,7 +74,7 @@ impl IndexedModule {
     }
 
     // A reply: its bytes go up, edited, or it comes back whole.
-    #[inline(never)]
+    #[inline(always)]
     fn reply(
         &mut self,
         port: PortNumber,
@@ -214,21 +214,11 @@ impl Module for IndexedModule {
 
     fn step(&mut self, event: Event) -> Result<Vec<Output>, StepFault> {
         match event {
-            Event::Frame {
-                port,
-                from,
-                body: Body::Data { id, bytes },
-            } => self.datum(port, from, id, bytes),
-            Event::Frame {
-                port,
-                from,
-                body: Body::Request { number, bytes },
-            } => self.request(port, from, number, bytes),
-            Event::Frame {
-                port,
-                from,
-                body: Body::Reply { number, bytes },
-            } => self.reply(port, from, number, bytes),
+            Event::Frame { port, from, body } => match body {
+                Body::Request { number, bytes } => self.request(port, from, number, bytes),
+                Body::Reply { number, bytes } => self.reply(port, from, number, bytes),
+                Body::Data { id, bytes } => self.datum(port, from, id, bytes),
+            },
             other => self.own(other),
         }
     }
