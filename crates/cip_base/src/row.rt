@@ -55,7 +55,10 @@ impl<T: Copy> Row<T> {
     pub fn insert(&mut self, at: usize, item: T)
         requires within { at ≤ length self.old.items }
         requires room { length self.old.items < self.old.room }
-        ensures { self.new ≡ record { room = self.old.room; items = insert self.old.items at item } }
+        ensures { self.new ≡ record {
+          room = self.old.room;
+          items = insert self.old.items at item;
+        } }
     {
         if self.items.len() == self.items.capacity() {
             move_up(&mut self.items, self.gone);
@@ -69,7 +72,10 @@ impl<T: Copy> Row<T> {
     /// Takes the item at this place out.
     pub fn remove(&mut self, at: usize)
         requires { at < length self.old.items }
-        ensures { self.new ≡ record { room = self.old.room; items = remove self.old.items at } }
+        ensures { self.new ≡ record {
+          room = self.old.room;
+          items = remove self.old.items at;
+        } }
     {
         if at == 0 {
             self.gone += 1;

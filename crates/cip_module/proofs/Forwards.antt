@@ -79,7 +79,8 @@ module _ (config config' : ModuleSettings) (s new : State) (w : IsWithin s.hops)
       (after ∙ ap (λ h. record s { hops = h }) (sym (renewed_is s.hops w id hop.opening.triad side s.now named)))))
 
   by_side : (side : Side) (o : Option Hop) → hop_by side s.hops id port from ≡ o → Some onward ≡ onward_of side (length bytes) o
-      → new ≡ record s { hops = after_onward s.hops side s.now o (Some onward) } → HasDone config s config' new (datum_effects bytes row) (sent_on onward bytes ∷ [])
+      → new ≡ record s { hops = after_onward s.hops side s.now o (Some onward) }
+      → HasDone config s config' new (datum_effects bytes row) (sent_on onward bytes ∷ [])
   by_side side None e is after = absurd cc
   by_side Up (Some hop) e is after =
       let fit = fits (length bytes) hop.opening.ot_size _ (onward_down hop.their_id hop.opening.down) onward refl is in
