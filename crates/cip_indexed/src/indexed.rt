@@ -212,6 +212,7 @@ impl Module for IndexedModule {
         self.node.config()
     }
 
+    #[inline(always)]
     fn step(&mut self, event: Event) -> Result<Vec<Output>, StepFault> {
         match event {
             Event::Frame { port, from, body } => match body {

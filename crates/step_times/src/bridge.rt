@@ -3,9 +3,8 @@ ghost use Rattle.std.specs.Prelude.{◌<◌};
 
 use crate::fault::Fault;
 use crate::frames::{ANSWER, DATUM, SEND, close, closed, open, opened};
-use bench::{AnyModule, Kinds, device_of, make};
 use cip_base::{Address, Bytes, PortNumber};
-use cip_module::{Body, Event, Output};
+use cip_module::{Body, Event, Module, Output};
 use std::alloc::Global;
 
 /// The first id that the bridge draws.
@@ -44,19 +43,17 @@ fn from_below(body: Body) -> Event {
     }
 }
 
-/// The bridge A of the bench, between a node above and a node below. The clock stands still.
+/// A bridge between a node above and a node below. The clock stands still.
 #[derive(Drop)]
-pub struct Bridge {
+pub struct Bridge<M: Module> {
     alloc: Global,
-    module_: AnyModule,
+    module_: M,
 }
 
-impl Bridge {
-    /// With room for 256 requests that wait, and for 256 connections.
-    pub fn new(alloc: Global, kinds: Kinds) -> Result<Bridge, Fault> {
-        let bridge = device_of("A", kinds).ok_or(Fault::Unexpected)?;
-        let module_ = make(alloc, &bridge).ok_or(Fault::NoMemory)?;
-        Ok(Bridge { alloc, module_ })
+impl<M: Module> Bridge<M> {
+    /// The bridge that this module is.
+    pub fn of(alloc: Global, module_: M) -> Bridge<M> {
+        Bridge { alloc, module_ }
     }
 
     fn bytes(&self, bytes: &[u8]) -> Result<Bytes, Fault> {
@@ -64,6 +61,7 @@ impl Bridge {
     }
 
     // The one frame that the bridge sends at an event.
+    #[inline(always)]
     fn step(&mut self, event: Event) -> Result<Body, Fault> {
         let mut outputs = self.module_.step(event)?;
         match outputs.pop() {

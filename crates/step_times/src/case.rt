@@ -2,7 +2,8 @@
 
 use crate::bridge::Bridge;
 use crate::fault::Fault;
-use bench::Kinds;
+use bench::{AnyModule, Kinds, device_of, make};
+use cip_module::Module;
 use std::alloc::Global;
 
 /// What is done in a turn.
@@ -64,7 +65,7 @@ pub fn case_of(name: &str) -> Option<Case> {
 }
 
 // Opens connections with serial numbers from 0 on.
-fn open_all(bridge: &mut Bridge, count: u16) -> Result<(), Fault> {
+fn open_all<M: Module>(bridge: &mut Bridge<M>, count: u16) -> Result<(), Fault> {
     for serial in 0..count {
         bridge.open(serial)?;
     }
@@ -72,14 +73,14 @@ fn open_all(bridge: &mut Bridge, count: u16) -> Result<(), Fault> {
 }
 
 // Has so many requests wait.
-fn send_all(bridge: &mut Bridge, count: u16) -> Result<(), Fault> {
+fn send_all<M: Module>(bridge: &mut Bridge<M>, count: u16) -> Result<(), Fault> {
     for _ in 0..count {
         bridge.send()?;
     }
     Ok(())
 }
 
-fn send_turns(bridge: &mut Bridge, others: u16, times: u32) -> Result<(), Fault> {
+fn send_turns<M: Module>(bridge: &mut Bridge<M>, others: u16, times: u32) -> Result<(), Fault> {
     for _ in 0..times {
         let number = bridge.send()?;
         bridge.answer(number.wrapping_sub(u32::from(others)))?;
@@ -87,7 +88,7 @@ fn send_turns(bridge: &mut Bridge, others: u16, times: u32) -> Result<(), Fault>
     Ok(())
 }
 
-fn open_turns(bridge: &mut Bridge, others: u16, times: u32) -> Result<(), Fault> {
+fn open_turns<M: Module>(bridge: &mut Bridge<M>, others: u16, times: u32) -> Result<(), Fault> {
     for turn in 0..times {
         let oldest = (turn % 65_536) as u16;
         bridge.open(oldest.wrapping_add(others))?;
@@ -96,7 +97,7 @@ fn open_turns(bridge: &mut Bridge, others: u16, times: u32) -> Result<(), Fault>
     Ok(())
 }
 
-fn datum_turns(bridge: &mut Bridge, others: u16, times: u32) -> Result<(), Fault> {
+fn datum_turns<M: Module>(bridge: &mut Bridge<M>, others: u16, times: u32) -> Result<(), Fault> {
     bridge.open(others)?;
     for turn in 0..times {
         let before = (turn % (u32::from(others) + 1)) as u16;
@@ -107,19 +108,24 @@ fn datum_turns(bridge: &mut Bridge, others: u16, times: u32) -> Result<(), Fault
 
 impl Case {
     // So many turns, once the tables are filled.
-    fn turns(&self, bridge: &mut Bridge, times: u32) -> Result<(), Fault> {
-        open_all(bridge, self.others)?;
-        send_all(bridge, self.others)?;
+    fn turns<M: Module>(&self, alloc: Global, module_: M, times: u32) -> Result<(), Fault> {
+        let mut bridge = Bridge::of(alloc, module_);
+        open_all(&mut bridge, self.others)?;
+        send_all(&mut bridge, self.others)?;
         match self.turn {
-            Turn::Send => send_turns(bridge, self.others, times),
-            Turn::Open => open_turns(bridge, self.others, times),
-            Turn::Datum => datum_turns(bridge, self.others, times),
+            Turn::Send => send_turns(&mut bridge, self.others, times),
+            Turn::Open => open_turns(&mut bridge, self.others, times),
+            Turn::Datum => datum_turns(&mut bridge, self.others, times),
         }
     }
 
     /// So many turns at a bridge of their own, of this kind.
     pub fn run(&self, alloc: Global, kinds: Kinds, times: u32) -> Result<(), Fault> {
-        let mut bridge = Bridge::new(alloc, kinds)?;
-        self.turns(&mut bridge, times)
+        let bridge = device_of("A", kinds).ok_or(Fault::Unexpected)?;
+        match make(alloc, &bridge).ok_or(Fault::NoMemory)? {
+            AnyModule::Plain(module_) => self.turns(alloc, module_, times),
+            AnyModule::Indexed(module_) => self.turns(alloc, module_, times),
+            AnyModule::Adapter(_) => Err(Fault::Unexpected),
+        }
     }
 }
