@@ -64,6 +64,33 @@ fn put_newest(names: &[Bytes], journal: &[Entry], text: &mut Vec<u8>) -> Result<
     }
 }
 
+// How far the run is, where that is due.
+fn tell<W: Sink>(world: &World, writer: &mut W)
+    ensures { W.contents writer.new ≡ W.contents writer.old }
+{
+    if writer.is_due() {
+        if let Ok(waiting) = world.waiting() {
+            writer.tell(world.journal().len(), waiting.len());
+        }
+    }
+}
+
+// Once enough text was gathered it is written, and how far the run is may be told.
+fn hand_on<W: Sink>(world: &World, writer: &mut W, text: &mut Vec<u8>) -> Result<(), WriteFault>
+    ensures ok { OnOk result (Prints (W.contents writer.old) (W.contents writer.new) text.old.items
+        text.new.items []) }
+    ensures err { OnErr result (AppendsFront (W.contents writer.old) (W.contents writer.new)
+        text.old.items) }
+    ensures refused { OnErr result (W.has_refused writer.new) }
+{
+    if text.len() < FULL {
+        return Ok(());
+    }
+    flush(writer, text, FULL)?;
+    tell(world, writer);
+    Ok(())
+}
+
 // The newest entry is printed, and what was gathered is written once there is enough of it.
 fn show<W: Sink>(
     world: &World,
@@ -80,7 +107,7 @@ fn show<W: Sink>(
     ensures write { result ≡ Err PlayFault.Write → W.has_refused writer.new }
 {
     match put_newest(names, world.journal(), text) {
-        Ok(()) => match flush(writer, text, FULL) {
+        Ok(()) => match hand_on(world, writer, text) {
             Ok(()) => Ok(()),
             Err(WriteFault) => Err(PlayFault::Write),
         },

@@ -125,6 +125,19 @@ pub trait Sink {
         ensures bytes { WriteAppends (contents self.old) (contents self.new) result buf.now }
         ensures failed { OnErr result (has_refused self.new) }
         ensures no_byte { result ≡ Ok 0 → 0 < length buf.now → has_refused self.new };
+
+    /// Whether to tell now how far the run is.
+    fn is_due(&mut self) -> bool
+        ensures { contents self.new ≡ contents self.old }
+    {
+        false
+    }
+
+    /// How far the run is: so many entries are done, and so many frames wait. Nothing of it goes
+    /// where the transcript goes.
+    fn tell(&mut self, _done: usize, _waiting: usize)
+        ensures { contents self.new ≡ contents self.old }
+    {}
 }
 
 /// Any writer. Nothing is known of its refusals.

@@ -3,6 +3,7 @@
 
 mod fault;
 mod program;
+mod terminal;
 
 use std::process::ExitCode;
 

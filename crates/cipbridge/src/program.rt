@@ -1,10 +1,11 @@
 //! What the program does: it reads its options, the topology file and the script, in this order,
 //! runs the script over new modules of the topology, and writes the transcript.
 use crate::fault::Fault;
+use crate::terminal::Terminal;
 use cip_base::NoMemory;
 use cip_console::{
-    ConsoleFault, Options, OptionsFault, Out, Plain, ReadFault, Script, Source, chassis, explain,
-    read_options, read_script, run_new, run_new_live,
+    ConsoleFault, Options, OptionsFault, Out, Plain, ReadFault, Script, Source, Watched, chassis,
+    explain, read_options, read_script, run_new, run_new_live,
 };
 use cip_threads::OpenGate;
 use cip_topology::{LoadFault, Topology, load};
@@ -126,9 +127,10 @@ fn play<T: Threads + Wait + Sync, S: Source>(
     let mut reader = Script {
         rest: script.as_slice(),
     };
-    let mut writer = Out {
+    let out = Out {
         inner: io::writer(rt),
     };
+    let mut writer = Watched::of(out, Terminal::new(rt));
     let result = if options.threads {
         let turns = options.turns as usize;
         run_new_live(
@@ -143,6 +145,7 @@ fn play<T: Threads + Wait + Sync, S: Source>(
     } else {
         run_new(alloc, &mut reader, &mut writer, topology)
     };
+    writer.clear();
     match result {
         Ok(()) => Ok(()),
         Err(fault) => Err(told(alloc, name, script.as_slice(), fault)),

@@ -23,6 +23,8 @@ mod opening;
 #[cfg(test)]
 mod opening_at_the_adapter;
 #[cfg(test)]
+mod progress_lines;
+#[cfg(test)]
 mod refused_commands;
 #[cfg(test)]
 mod refused_opens;
