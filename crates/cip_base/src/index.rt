@@ -97,14 +97,15 @@ impl NumberIndex {
     }
 }
 
-// Where the number stands, or where it would: numbers mostly rise, so the last is tried before a
-// binary search.
+// Where the number stands, or where it would. Numbers mostly rise, and the oldest mostly goes: so the
+// last is tried, and then the first, before a binary search.
 fn place_of(pairs: &[(u32, usize)], number: u32) -> Result<usize, usize>
     requires { IsRising nat_cmp pairs.now }
     ensures { IsPlaceOf nat_cmp pairs.now number result }
 {
-    match pairs.last() {
-        Some(&(last, _)) if last < number => Err(pairs.len()),
+    match (pairs.first(), pairs.last()) {
+        (_, Some(&(last, _))) if last < number => Err(pairs.len()),
+        (Some(&(first, _)), _) if first == number => Ok(0),
         _ => pairs.binary_search_by_key(&number, |&(number, _)| number),
     }
 }

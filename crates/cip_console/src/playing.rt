@@ -76,6 +76,7 @@ fn tell<W: Sink>(world: &World, writer: &mut W)
 }
 
 // Once enough text was gathered it is written, and how far the run is may be told.
+#[inline(always)]
 fn hand_on<W: Sink>(world: &World, writer: &mut W, text: &mut Vec<u8>) -> Result<(), WriteFault>
     ensures ok { OnOk result (Prints (W.contents writer.old) (W.contents writer.new) text.old.items
         text.new.items []) }

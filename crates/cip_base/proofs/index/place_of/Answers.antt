@@ -5,9 +5,9 @@ use Rattle.std.proofs.lemmas.List.Sorted.{answers_always}
 use Rattle.cip_base.proofs.Search.{searched, past_last}
 use Rattle.cip_base.proofs.index.place_of.Goals as goal
 
-pub returns-in-Some : goal.returns-in-Some
-returns-in-Some c =
-    past_last nat_cmp_total c.args.pairs.now c.args.number c.in-Some.field-0.now c.requires (search rules) (search rules)
+pub returns-in_default-Some : goal.returns-in_default-Some
+returns-in_default-Some c =
+    past_last nat_cmp_total c.args.pairs.now c.args.number c.in_default-Some.field-0-1.now c.requires (search rules) (search rules)
 
 pub returns-in_default : goal.returns-in_default
 returns-in_default c =
