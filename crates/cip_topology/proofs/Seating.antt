@@ -1,14 +1,16 @@
 -- The order of spots is total, and tells any two apart; where a search by it ends.
-use Rattle.std.proofs.Common.{◌≡◌, ℕ, List, length, get_or, ap, sym, ◌∙◌, arith, Result, Ok, Err, Some, None, MatchResult}
+use Rattle.std.proofs.Common.{◌≡◌, ℕ, ◌+◌, ◌<◌, List, length, get_or, ap, sym, ◌∙◌, arith, inl, inr, Some, None}
 use Rattle.std.specs.Ordering.{nat_cmp, ordering_reverse}
 use Rattle.std.specs.Cmp.{IsTotalOrder, nat_cmp_total}
 use Rattle.std.specs.Cmp.Lexicographic.{slice_cmp, nat_list_cmp_total}
-use Rattle.std.specs.List.Sorted.{IsSearchInRange, IsBinarySearchResult}
+use Rattle.std.specs.declared.cmp.Ordering.{Ordering}
+use Rattle.std.specs.declared.cmp.Ordering.TheVariants.{Less, Equal, Greater}
 use Rattle.std.proofs.lemmas.Cmp.{on_total, then_total}
+use Rattle.std.proofs.lemmas.List.{get_or_default}
 use Rattle.std.proofs.lemmas.Map.Lookups.{CmpEqualImpliesEq, exact_pairs, exact_unsigned, exact_bytes}
 use Rattle.std.specs.List as lists
 use Rattle.std.specs.FinMap.Entries as entries
-use Rattle.cip_base.proofs.Search.{search_premise}
+use Rattle.cip_base.proofs.Search.{rises, below_or_same}
 use Rattle.cip_base.proofs.Sorted.{find-at, find-gap, put-gap, sorted_insert}
 use Rattle.cip_topology.specs.declared.seats.Spot.{Spot}
 use Rattle.cip_topology.specs.declared.seats.Seat.{Seat}
@@ -22,17 +24,36 @@ exact_spots a b h =
     ap (λ (p : ℕ × List ℕ). record { link = p.0; address = p.1 })
     (exact_pairs nat_cmp (slice_cmp nat_cmp) exact_unsigned exact_bytes (a.link, a.address) (b.link, b.address) h)
 
--- a binary search finds the place of the spot, or the one where it would stand
-pub searched : (es : List (Spot × Seat)) (name : Spot) (r : Result ℕ ℕ) → AreRising es
-    → IsSearchInRange r (length es) → IsBinarySearchResult (λ (y : Spot × Seat). spot_cmp y.0 name) es r → MatchResult r (StandsAt es name) (FitsAt es name)
-searched es name (Ok i) h bound at = record { within = bound; spot = λ d. exact_spots _ _ (at d) }
-searched es name (Err i) h bound parted =
-    let parts = parted (search_premise spots_total es name h) in
-    record {
-      within = bound;
-      low = λ k d lt. spots_total.antisymm name _ ∙ ap ordering_reverse (parts.0 k d (omega arith) lt);
-      high = λ d lt. spots_total.antisymm name _ ∙ ap ordering_reverse (parts.1 i d (omega arith) lt);
-    }
+-- ---- a binary search
+
+-- the spot is above all before this place
+abbrev pub IsAboveAll : List (Spot × Seat) → Spot → ℕ → Type 0
+IsAboveAll es name i = (k : ℕ) (d : Spot × Seat) → k < i → spot_cmp name (get_or es k d).0 ≡ Greater
+
+-- the spot is below the one at this place, if one stands there
+abbrev pub IsBelowAt : List (Spot × Seat) → Spot → ℕ → Type 0
+IsBelowAt es name i = (d : Spot × Seat) → i < length es → spot_cmp name (get_or es i d).0 ≡ Less
+
+compared : (es : List (Spot × Seat)) (name : Spot) (i : ℕ) (d e : Spot × Seat) (r : Ordering) → i < length es → r ≡ spot_cmp (get_or es i e).0 name
+    → spot_cmp (get_or es i d).0 name ≡ r
+compared es name i d e r lt is = ap (λ (x : Spot × Seat). spot_cmp x.0 name) (get_or_default es i d e lt) ∙ sym is
+
+pub goes_above : (es : List (Spot × Seat)) (name : Spot) (i : ℕ) (e : Spot × Seat) → AreRising es → i < length es → Less ≡ spot_cmp (get_or es i e).0 name
+    → IsAboveAll es name (i + 1)
+goes_above es name i e h lt is = λ k d before.
+    let here : spot_cmp (get_or es i d).0 name ≡ Less = compared es name i d e Less lt is in
+    let below : spot_cmp (get_or es k d).0 name ≡ Less =
+    elim (below_or_same k i (omega (arith, before))) [
+      | inl low ↦ spots_total.trans (get_or es k d).0 (get_or es i d).0 name (rises spots_total es h k i d low lt) here
+      | inr same ↦ ap (λ (n : ℕ). spot_cmp (get_or es n d).0 name) same ∙ here
+    ] in
+    spots_total.antisymm name _ ∙ ap ordering_reverse below
+
+pub goes_below : (es : List (Spot × Seat)) (name : Spot) (i : ℕ) (e : Spot × Seat) → i < length es → Greater ≡ spot_cmp (get_or es i e).0 name → IsBelowAt es name i
+goes_below es name i e lt is = λ d _. spots_total.antisymm name _ ∙ ap ordering_reverse (compared es name i d e Greater lt is)
+
+pub stands_at : (es : List (Spot × Seat)) (name : Spot) (i : ℕ) (e : Spot × Seat) → i < length es → Equal ≡ spot_cmp (get_or es i e).0 name → StandsAt es name i
+stands_at es name i e lt is = record { within = lt; spot = λ d. exact_spots _ _ (compared es name i d e Equal lt is) }
 
 -- ---- what a place says of the index
 

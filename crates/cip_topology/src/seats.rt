@@ -1,5 +1,7 @@
 //! Where the ports stand: an index by link and address.
 ghost use Rattle.std.specs.Prelude.{◌≡◌, [], None, IfOk, MatchResult, OnOk};
+ghost use Rattle.std.specs.Ordering.{nat_cmp};
+ghost use Rattle.std.specs.Cmp.Lexicographic.{slice_cmp};
 ghost use Rattle.cip_topology.specs.Seats.{spot_cmp, spot, AreRising, StandsAt, FitsAt, seat_at, seated};
 
 use cip_base::{Address, NoMemory, PortNumber};
@@ -80,7 +82,7 @@ impl Seats {
         })
     }
 
-    /// The port at an address of a link, by binary search.
+    /// The port at an address of a link.
     pub(crate) fn find(&self, link: usize, address: &Address) -> Option<Seat>
         ensures { result ≡ seat_at self.now link address.now }
     {
@@ -103,20 +105,52 @@ impl Seats {
     }
 }
 
-fn compare(found: &Spot, link: usize, address: &Address) -> Ordering
+// Kept out of the search, where it is rarely needed.
+#[inline(never)]
+fn compare_bytes(left: &[u8], right: &[u8]) -> Ordering
+    ensures { result ≡ slice_cmp nat_cmp left.now right.now }
+{
+    left.cmp(right)
+}
+
+// Addresses of one byte each are compared where the search stands.
+#[inline(always)]
+fn compare_addresses(left: &[u8], right: &[u8]) -> Ordering
+    ensures { result ≡ slice_cmp nat_cmp left.now right.now }
+{
+    if left.len() == 1 && right.len() == 1 {
+        left[0].cmp(&right[0])
+    } else {
+        compare_bytes(left, right)
+    }
+}
+
+#[inline(always)]
+fn compare(found: &Spot, link: usize, address: &[u8]) -> Ordering
     ensures { result ≡ spot_cmp found.now (spot link address.now) }
 {
     match found.link.cmp(&link) {
-        Ordering::Equal => found.address.as_slice().cmp(address.as_slice()),
+        Ordering::Equal => compare_addresses(found.address.as_slice(), address),
         unequal => unequal,
     }
 }
 
-// Where the spot stands, or where it would.
+// Where the spot stands, or where it would, by binary search.
 fn place_of(seats: &[(Spot, Seat)], link: usize, address: &Address) -> Result<usize, usize>
     requires { AreRising seats.now }
     ensures { MatchResult result (StandsAt seats.now (spot link address.now))
         (FitsAt seats.now (spot link address.now)) }
 {
-    seats.binary_search_by(|(found, _)| compare(found, link, address))
+    let address = address.as_slice();
+    let mut low = 0;
+    let mut high = seats.len();
+    while low < high {
+        let middle = low + (high - low) / 2;
+        match compare(&seats[middle].0, link, address) {
+            Ordering::Less => low = middle + 1,
+            Ordering::Equal => return Ok(middle),
+            Ordering::Greater => high = middle,
+        }
+    }
+    Err(low)
 }

@@ -1,6 +1,6 @@
 -- What a ledger finds of a frame: where it comes in, just where it waits.
-use Rattle.std.proofs.Common.{◌≡◌, ℕ, Bool, true, false, List, length, Option, Some, None, sym, ap, ◌∙◌}
-use Rattle.std.specs.Prelude.{option_map, IfSome}
+use Rattle.std.proofs.Common.{◌≡◌, ℕ, Bool, true, false, List, length, Option, Some, None, refl, sym, ap, ◌∙◌}
+use Rattle.std.specs.Prelude.{◌↔◌, IsTrue, option_map, IfSome}
 use Rattle.std.specs.List.{list_any}
 use Rattle.cip_topology.specs.Plan.{Plan}
 use Rattle.cip_topology.specs.Nodes.{across as goes}
@@ -24,6 +24,10 @@ module _ (t : Plan) (j : Journal) (listed : List FrameName) (looked : ℕ) (l : 
 
   pub is_listed : (b : Bool) → b ≡ list_any (λ g. same_name g f) listed → b ≡ true → IsWaiting t j f
   is_listed b is has = listed_waits t j f (same ∙ sym is ∙ has)
+
+  pub just_listed : (b : Bool) → b ≡ list_any (λ g. same_name g f) listed → IsTrue b ↔ IsWaiting t j f
+  just_listed true is = (λ _. is_listed true is refl, λ _. refl)
+  just_listed false is = (λ e. absurd (cc), λ w. absurd (not_listed false is refl w))
 
 some_same : {A : Type 0} (a b : A) → Some a ≡ Some b → a ≡ b
 some_same a b e = cc

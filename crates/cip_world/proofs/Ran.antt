@@ -1,6 +1,7 @@
 -- Frames that arrive one by one, each of least name.
-use Rattle.std.proofs.Common.{◌≡◌, ◌≢◌, ℕ, zero, suc, ◌+◌, Bool, true, List, [], ◌∷◌, map, Some, None, refl, sym, ap, subst, ◌∙◌, arith}
+use Rattle.std.proofs.Common.{◌≡◌, ◌≢◌, ℕ, zero, suc, ◌+◌, Bool, true, ◌||◌, List, [], ◌∷◌, map, Some, None, refl, sym, ap, subst, ◌∙◌, arith}
 use Rattle.std.specs.Prelude.{slice_get, Option}
+use Rattle.std.specs.List.{list_any}
 use Rattle.std.specs.Option.{option_and_then}
 use Rattle.cip_hops.specs.declared.hop.Hop.{Hop}
 use Rattle.cip_hops.specs.Hops.{Hops}
@@ -10,13 +11,15 @@ use Rattle.cip_module.specs.State.{State}
 use Rattle.cip_module.specs.Views.{ShowsState}
 use Rattle.cip_topology.specs.Plan.{Plan}
 use Rattle.cip_world.specs.declared.journal.FrameName.{FrameName}
-use Rattle.cip_world.specs.Journals.{Journal}
+use Rattle.cip_world.specs.Journals.{Journal, same_name}
 use Rattle.cip_world.specs.Ledgers.{Told}
-use Rattle.cip_world.specs.Runs.{IsModule, state_in}
+use Rattle.cip_world.specs.Runs.{IsModule, IsWaiting, state_in}
 use Rattle.cip_world.specs.Waiting.{waiting}
 use Rattle.cip_world.specs.Worlds.{Stand, DeliversOne, Delivers, IsOneMore, IsShownAt, looked_up}
 use Rattle.cip_world.proofs.Delivered.{some_same}
+use Rattle.cip_world.proofs.Named.{same_self}
 use Rattle.cip_world.proofs.StepAt.{slice_get-map}
+use Rattle.cip_world.proofs.Waits.{listed_waits}
 
 pub none_first : (t : Plan) (j : Journal) (r : Option FrameName) → r ≡ slice_get (waiting t j) 0 → r ≡ None → waiting t j ≡ []
 none_first t j r is none = by (waiting t j) (sym none ∙ is)
@@ -27,6 +30,13 @@ none_first t j r is none = by (waiting t j) (sym none ∙ is)
 
 pub some_first : (t : Plan) (j : Journal) (r : Option FrameName) (f : FrameName) → r ≡ slice_get (waiting t j) 0 → r ≡ Some f → waiting t j ≢ []
 some_first t j r f is some e = let none : Some f ≡ None = sym some ∙ is ∙ ap (λ (xs : List FrameName). slice_get xs 0) e in cc
+
+pub first_waits : (t : Plan) (j : Journal) (r : Option FrameName) (f : FrameName) → r ≡ slice_get (waiting t j) 0 → r ≡ Some f → IsWaiting t j f
+first_waits t j r f is some = listed_waits t j f (by (waiting t j) (sym some ∙ is))
+  where
+    by : (xs : List FrameName) → Some f ≡ slice_get xs 0 → list_any (λ g. same_name g f) xs ≡ true
+    by [] e = absurd (cc)
+    by (x ∷ xs) e = ap (λ b. b || list_any (λ g. same_name g f) xs) (ap (λ g. same_name g f) (some_same x f (sym e)) ∙ same_self f)
 
 pub one_more : (t : Plan) (old new : Journal) (b : Bool) → b ≡ true → IsOneMore t old new b → DeliversOne t old new
 one_more t old new b is h = subst (IsOneMore t old new) is h

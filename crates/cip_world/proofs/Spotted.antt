@@ -1,6 +1,6 @@
 -- Names in rising order, each with whether it waits: what is found there, what is put in and taken out, and how the ends are given up.
 use Rattle.std.proofs.Common.{◌≡◌, ◌≢◌, ℕ, zero, suc, ◌+◌, ◌<◌, Bool, true, false, cond, not, ◌&&◌, ◌||◌, T, List, [], ◌∷◌, ◌++◌, length, get_or, refl, sym, ap, subst, ◌∙◌, arith, Option, Some, None, Result, Ok, Err, MatchResult, filter}
-use Rattle.std.specs.Prelude.{slice_get, slice_set, option_to_list, is_some}
+use Rattle.std.specs.Prelude.{slice_get, slice_set, option_to_list, is_some, drop}
 use Rattle.std.specs.List.{AllByRecursion, list_any}
 use Rattle.std.specs.List.Sorted.{IsSearchInRange, IsBinarySearchResult}
 use Rattle.std.specs.Ordering.{is_eq, is_lt, eq_by_cmp, ordering_reverse}
@@ -13,7 +13,7 @@ use Rattle.cip_world.specs.declared.journal.FrameName.{FrameName}
 use Rattle.cip_world.specs.Journals.{same_name}
 use Rattle.cip_world.specs.Names.{name_cmp, AllBefore}
 use Rattle.cip_world.specs.Waiting.{or_none}
-use Rattle.cip_world.specs.Spots.{names_in, AreInOrder, AreSpots, IsPlaceOf, value_of, is_first_gone, is_last_gone}
+use Rattle.cip_world.specs.Spots.{names_in, AreInOrder, AreSpots, IsPlaceOf, value_of, is_first, is_first_gone, is_last_gone}
 use Rattle.cip_world.proofs.Named.{names_total, name_eq, same_self, same_sym, at_same, all_stay, less_differ}
 
 abbrev Spot : Type 0
@@ -120,6 +120,14 @@ goes_at (x ∷ es) (suc i) d name h lt e =
     let below = subst (λ (n : FrameName). name_cmp x.0 n ≡ Less) e (below-at name_cmp x.0 es i d (first _ _ h) (omega arith)) in
     ap (or_none x.1 x.0) (goes_at es i d name (second _ _ h) (omega arith) e)
     ∙ sym (or_none_kept (λ f. not (same_name f name)) x.1 x.0 (names_in es) (ap not (above_differs x.0 name below)))
+
+pub first_goes : (es : List Spot) (name : FrameName) → AreSpots es → is_first es name ≡ true → names_in (drop 1 es) ≡ filter (λ f. not (same_name f name)) (names_in es)
+first_goes [] name s t = absurd (true_false (sym t))
+first_goes (x ∷ es) name s t =
+    let e : x.0 ≡ name = name_eq x.0 name t in
+    let above = subst (λ (n : FrameName). AllByRecursion (λ g. name_cmp n g ≡ Less) (names_in es)) e (above_all x.0 es (first _ _ s.rising)) in
+    sym (all_stay name (names_in es) above)
+    ∙ sym (or_none_gone (λ f. not (same_name f name)) x.1 x.0 (names_in es) (ap not t))
 
 below_set : (f : FrameName) (es : List Spot) (i : ℕ) (d : Spot) (b : Bool) → entries.below_all name_cmp f (slice_set es i ((get_or es i d).0, b)) ≡ entries.below_all name_cmp f es
 below_set f [] i d b = refl

@@ -2,6 +2,7 @@
 use Rattle.std.specs.Prelude.{◌≡◌, ℕ, ◌<◌, Bool, false, not, Option, List, [], ◌∷◌, T, length, slice_index_or}
 use Rattle.std.specs.FinMap.Entries as entries
 use Rattle.cip_world.specs.declared.journal.FrameName.{FrameName}
+use Rattle.cip_world.specs.Journals.{same_name}
 use Rattle.cip_world.specs.Names.{name_cmp}
 use Rattle.cip_world.specs.Waiting.{or_none}
 
@@ -16,6 +17,11 @@ AreInOrder spots = T (entries.is_sorted name_cmp spots)
 -- whether the name waits, where it stands there
 abbrev pub value_of : FrameName → List (FrameName × Bool) → Option Bool
 value_of = entries.find name_cmp
+
+-- whether the name stands first
+abbrev pub is_first : List (FrameName × Bool) → FrameName → Bool
+is_first [] name = false
+is_first (spot ∷ spots) name = same_name spot.0 name
 
 -- whether the first does not wait
 abbrev pub is_first_gone : List (FrameName × Bool) → Bool

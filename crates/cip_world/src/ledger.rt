@@ -1,5 +1,5 @@
 //! A topology, the journal of what happened in it, and the frames that wait.
-ghost use Rattle.std.specs.Prelude.{◌≡◌, ◌∷◌, ◌++◌, ◌≤◌, [], true, drop, filter, length, not, reverse, is_some, option_map, slice_get, OnOk, IfOk, IfSome, IfNone, Some};
+ghost use Rattle.std.specs.Prelude.{◌≡◌, ◌↔◌, ◌∷◌, ◌++◌, ◌≤◌, [], true, drop, filter, length, not, reverse, is_some, option_map, slice_get, IsTrue, OnOk, IfOk, IfSome, IfNone, Some};
 ghost use Rattle.std.specs.List.{list_any};
 ghost use Rattle.cip_topology.specs.Nodes.{across};
 ghost use Rattle.cip_world.specs.Journals.{named_by, flight_of, same_name, is_that};
@@ -237,6 +237,7 @@ impl Ledger {
     }
 
     /// Adds an entry.
+    #[inline(always)]
     pub(crate) fn add(&mut self, entry: Entry)
         requires ready { self.old.ready ≡ true }
         requires next { IsNext self.old.plan self.old.journal entry }
@@ -248,15 +249,20 @@ impl Ledger {
         self.entries.push_reserved(entry);
     }
 
-    /// Where a frame comes in, if it waits.
-    pub(crate) fn coming(&self, name: FrameName) -> Option<Coming<'_>>
+    /// Whether a frame waits.
+    pub(crate) fn waits(&self, name: FrameName) -> bool
         requires ready { self.now.ready ≡ true }
+        ensures { IsTrue result ↔ IsWaiting self.now.plan self.now.journal name }
+    {
+        self.listed.has(name)
+    }
+
+    /// Where a waiting frame comes in.
+    pub(crate) fn coming(&self, name: FrameName) -> Option<Coming<'_>>
+        requires waits { IsWaiting self.now.plan self.now.journal name }
         ensures some { IfSome result (λ c. IsComing self.now.plan self.now.journal name c) }
         ensures none { IfNone result (IsWaiting self.now.plan self.now.journal name → ⊥) }
     {
-        if !self.listed.has(name) {
-            return None;
-        }
         match frame_at(self.entries.as_slice(), name) {
             Some(flying) => comes_in(&self.topology, flying),
             None => None,

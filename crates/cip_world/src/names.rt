@@ -1,9 +1,9 @@
 //! Names of frames, in rising order.
-ghost use Rattle.std.specs.Prelude.{◌≡◌, ◌∷◌, ◌++◌, [], None, not, filter, slice_get, MatchOption, MatchResult, OnOk, OnErr, IfOk};
+ghost use Rattle.std.specs.Prelude.{◌≡◌, ◌∷◌, ◌++◌, [], None, false, not, filter, slice_get, MatchOption, MatchResult, OnOk, OnErr, IfOk};
 ghost use Rattle.std.specs.List.{list_any};
 ghost use Rattle.cip_world.specs.Journals.{same_name};
 ghost use Rattle.cip_world.specs.Names.{AllBefore};
-ghost use Rattle.cip_world.specs.Spots.{names_in, AreInOrder, AreSpots, IsPlaceOf, value_of, is_first_gone, is_last_gone};
+ghost use Rattle.cip_world.specs.Spots.{names_in, AreInOrder, AreSpots, IsPlaceOf, value_of, is_first, is_first_gone, is_last_gone};
 
 use crate::journal::FrameName;
 use cip_base::NoMemory;
@@ -74,17 +74,54 @@ fn is_last_gone(spots: &VecDeque<(FrameName, bool)>) -> bool
     }
 }
 
-// The names at both ends that are gone leave their places.
-fn give_up_gone(spots: &mut VecDeque<(FrameName, bool)>)
+fn is_first(spots: &VecDeque<(FrameName, bool)>, name: FrameName) -> bool
+    ensures { result ≡ is_first spots.now.items name }
+{
+    match spots.front() {
+        Some((first, _)) => *first == name,
+        None => false,
+    }
+}
+
+// The names at the end that are gone leave their places.
+fn give_up_last(spots: &mut VecDeque<(FrameName, bool)>)
     requires { AreInOrder spots.old.items }
-    ensures spots { AreSpots spots.new.items }
+    ensures rising { AreInOrder spots.new.items }
+    ensures last { is_last_gone spots.new.items ≡ false }
     ensures same { names_in spots.new.items ≡ names_in spots.old.items }
 {
     while is_last_gone(spots) {
         spots.pop_back();
     }
+}
+
+// The names at the front that are gone leave their places.
+fn give_up_first(spots: &mut VecDeque<(FrameName, bool)>)
+    requires rising { AreInOrder spots.old.items }
+    requires last { is_last_gone spots.old.items ≡ false }
+    ensures spots { AreSpots spots.new.items }
+    ensures same { names_in spots.new.items ≡ names_in spots.old.items }
+{
     while is_first_gone(spots) {
         spots.pop_front();
+    }
+}
+
+// A name that is not the first is taken out, if it is there.
+#[inline(never)]
+fn remove_amid(spots: &mut VecDeque<(FrameName, bool)>, name: FrameName)
+    requires { AreSpots spots.old.items }
+    ensures spots { AreSpots spots.new.items }
+    ensures gone { names_in spots.new.items
+        ≡ filter (λ f. not (same_name f name)) (names_in spots.old.items) }
+{
+    match place_of(spots, name) {
+        Some(place) => {
+            spots[place].1 = false;
+            give_up_last(spots);
+            give_up_first(spots);
+        }
+        None => {}
     }
 }
 
@@ -150,12 +187,11 @@ impl Names {
     pub(crate) fn remove(&mut self, name: FrameName)
         ensures { self.new ≡ filter (λ f. not (same_name f name)) self.old }
     {
-        match place_of(&self.spots, name) {
-            Some(place) => {
-                self.spots[place].1 = false;
-                give_up_gone(&mut self.spots);
-            }
-            None => {}
+        if is_first(&self.spots, name) {
+            self.spots.pop_front();
+            give_up_first(&mut self.spots);
+        } else {
+            remove_amid(&mut self.spots, name);
         }
     }
 

@@ -5,7 +5,7 @@ ghost use Rattle.std.specs.Option.{option_copied};
 ghost use Rattle.cip_hops.specs.Hops.{hop_by_op, hop_by_up};
 ghost use Rattle.cip_module.specs.Views.{ShowsState};
 ghost use Rattle.cip_world.specs.declared.journal.Input.TheVariants as inputs;
-ghost use Rattle.cip_world.specs.Runs.{IsGiven, IsRun, state_in};
+ghost use Rattle.cip_world.specs.Runs.{IsGiven, IsRun, IsWaiting, state_in};
 ghost use Rattle.cip_world.specs.Waiting.{waiting};
 ghost use Rattle.cip_world.specs.Worlds.{Stand, AddsStep, AddsArrival, AddsLoss, IsFeedFault, IsFrameFault, IsOneMore, RunsTo, IsShownAt, looked_up};
 ghost use Rattle.cip_world.specs.Fresh.{AreFresh, IsNewFault};
@@ -32,6 +32,7 @@ pub struct World {
 }
 
 // A module that the topology has takes a step, and the journal has one more entry.
+#[inline(always)]
 fn step_module(
     modules: &mut Vec<Box<dyn Module + Send>>,
     ledger: &mut Ledger,
@@ -186,11 +187,13 @@ impl World {
         )
     }
 
-    /// Brings a waiting frame to the module that it goes to, and answers the number of the new
-    /// entry. NoFrame where no such frame waits, and NoMemory; nothing is changed then.
-    pub fn deliver(&mut self, name: FrameName) -> Result<usize, WorldFault>
+    // Brings a waiting frame to the module that it goes to.
+    #[inline(always)]
+    fn bring(&mut self, name: FrameName) -> Result<usize, WorldFault>
         requires stand { Stand self.old.ledger (map (λ b. config_of b) self.old.modules.items)
             (map (λ b. state_of b) self.old.modules.items) }
+        requires ready { self.old.ledger.ready ≡ true }
+        requires waits { IsWaiting self.old.ledger.plan self.old.ledger.journal name }
         ensures stand { Stand self.new.ledger (map (λ b. config_of b) self.new.modules.items)
             (map (λ b. state_of b) self.new.modules.items) }
         ensures plan { self.new.ledger.plan ≡ self.old.ledger.plan }
@@ -200,7 +203,6 @@ impl World {
         ensures fault { IfErr result
             (IsFrameFault self.old.ledger.plan self.old.ledger.journal name) }
     {
-        self.ledger.prepare()?;
         let Some(coming) = self.ledger.coming(name) else {
             return Err(WorldFault::NoFrame);
         };
@@ -222,6 +224,27 @@ impl World {
         )
     }
 
+    /// Brings a waiting frame to the module that it goes to, and answers the number of the new
+    /// entry. NoFrame where no such frame waits, and NoMemory; nothing is changed then.
+    pub fn deliver(&mut self, name: FrameName) -> Result<usize, WorldFault>
+        requires stand { Stand self.old.ledger (map (λ b. config_of b) self.old.modules.items)
+            (map (λ b. state_of b) self.old.modules.items) }
+        ensures stand { Stand self.new.ledger (map (λ b. config_of b) self.new.modules.items)
+            (map (λ b. state_of b) self.new.modules.items) }
+        ensures plan { self.new.ledger.plan ≡ self.old.ledger.plan }
+        ensures ok { IfOk result
+            (AddsArrival self.old.ledger.journal self.new.ledger.journal name) }
+        ensures err { OnErr result (self.new.ledger.journal ≡ self.old.ledger.journal) }
+        ensures fault { IfErr result
+            (IsFrameFault self.old.ledger.plan self.old.ledger.journal name) }
+    {
+        self.ledger.prepare()?;
+        if !self.ledger.waits(name) {
+            return Err(WorldFault::NoFrame);
+        }
+        self.bring(name)
+    }
+
     /// Loses a waiting frame on its link, and answers the number of the new entry. NoFrame where no
     /// such frame waits, and NoMemory; nothing is changed then.
     pub fn lose(&mut self, name: FrameName) -> Result<usize, WorldFault>
@@ -236,7 +259,7 @@ impl World {
             (IsFrameFault self.old.ledger.plan self.old.ledger.journal name) }
     {
         self.ledger.prepare()?;
-        if self.ledger.coming(name).is_none() {
+        if !self.ledger.waits(name) {
             return Err(WorldFault::NoFrame);
         }
         let number = self.ledger.entries().len();
@@ -260,7 +283,7 @@ impl World {
         self.ledger.prepare()?;
         match self.ledger.least() {
             None => Ok(false),
-            Some(name) => match self.deliver(name) {
+            Some(name) => match self.bring(name) {
                 Ok(_) => Ok(true),
                 Err(_) => Err(WorldFault::NoMemory),
             },
