@@ -1,11 +1,11 @@
 //! Lines, words, numbers and bytes as they stand in a script.
 
-ghost use Rattle.std.specs.Prelude.{◌≡◌, ◌==◌, ◌^◌, ◌↔◌, ◌≤◌, ◌*◌, length, take, map, IfOk, OnOk, IfSome, IsTrue, slice_index, IsSome, option_map, if◌then◌else◌};
+ghost use Rattle.std.specs.Prelude.{◌≡◌, ◌==◌, ◌^◌, ◌↔◌, ◌≤◌, ◌*◌, ◌++◌, ◌∷◌, [], length, take, map, IfOk, OnOk, IfSome, IsTrue, slice_index, IsSome, option_map, if◌then◌else◌};
 ghost use Rattle.std.specs.Char.{digit_value};
 ghost use Rattle.std.specs.Str.{IsAscii};
 ghost use Rattle.std.specs.Str.Lines.{lines, lines_of_parts, strip_carriage_return};
 ghost use Rattle.hex.specs.Hex.{decode_of};
-ghost use Rattle.cip_console.specs.Text.{words_of, numeral, number_of, below, bytes_of, ok_bytes, is_newline};
+ghost use Rattle.cip_console.specs.Text.{words_of, kept_words, numeral, number_of, below, bytes_of, ok_bytes, is_newline};
 
 use std::alloc::{AllocError, Global};
 
@@ -56,17 +56,32 @@ fn parts_of(alloc: Global, script: &[u8]) -> Result<Vec<&[u8]>, AllocError>
     script.split(|byte| *byte == b'\n').collect(alloc)
 }
 
+// One more word at the end, if it is not empty.
+#[inline(always)]
+fn push_word<'a>(word: &'a str, found: &mut Vec<&'a str>) -> Result<(), AllocError>
+    ensures { OnOk result (map (λ word. word.now) found.new.items
+        ≡ map (λ word. word.now) found.old.items ++ kept_words (word.now ∷ [])) }
+{
+    if !word.is_empty() {
+        found.push(word)?;
+    }
+    Ok(())
+}
+
 /// The words of a line, in place of those before, whose room is kept.
 pub(crate) fn words<'a>(line: &'a str, found: &mut Vec<&'a str>) -> Result<(), AllocError>
     ensures { OnOk result (map (λ word. word.now) found.new.items ≡ words_of line.now) }
 {
     found.clear();
-    for part in line.split(' ') {
-        if !part.is_empty() {
-            found.push(part)?;
+    let bytes = line.as_bytes();
+    let mut start = 0;
+    for (i, byte) in bytes.iter().enumerate() {
+        if *byte == b' ' {
+            push_word(&line[start..i], found)?;
+            start = i + 1;
         }
     }
-    Ok(())
+    push_word(&line[start..], found)
 }
 
 /// Whether a plus stands first.
