@@ -1,9 +1,9 @@
 //! Lines, words, numbers and bytes as they stand in a script.
 
-ghost use Rattle.std.specs.Prelude.{◌≡◌, ◌==◌, ◌^◌, ◌↔◌, ◌≤◌, ◌*◌, ◌++◌, ◌∷◌, [], length, take, map, IfOk, OnOk, IfSome, IsTrue, slice_index, IsSome, option_map, if◌then◌else◌};
+ghost use Rattle.std.specs.Prelude.{◌≡◌, ◌==◌, ◌^◌, ◌↔◌, ◌≤◌, ◌*◌, ◌++◌, ◌∷◌, [], length, take, map, IfOk, OnOk, IfSome, slice_index, IsSome, option_map, if◌then◌else◌};
 ghost use Rattle.std.specs.Char.{digit_value};
 ghost use Rattle.std.specs.Str.{IsAscii};
-ghost use Rattle.std.specs.Str.Lines.{lines, lines_of_parts, strip_carriage_return};
+ghost use Rattle.std.specs.Str.Lines.{lines, strip_carriage_return};
 ghost use Rattle.hex.specs.Hex.{decode_of};
 ghost use Rattle.cip_console.specs.Text.{words_of, kept_words, numeral, number_of, below, bytes_of, ok_bytes, is_newline};
 
@@ -84,38 +84,6 @@ pub(crate) fn words<'a>(line: &'a str, found: &mut Vec<&'a str>) -> Result<(), A
     push_word(&line[start..], found)
 }
 
-/// Whether a plus stands first.
-fn has_plus(digits: &str) -> bool
-    ensures { IsTrue result ↔ (slice_index digits.now 0 ≡ 43) }
-{
-    match digits.as_bytes() {
-        [first, ..] => *first == b'+',
-        [] => false,
-    }
-}
-
-/// The number that digits of this radix write.
-fn numeral(digits: &str, radix: u32) -> Option<u64>
-    requires low { 2 ≤ radix }
-    requires high { radix ≤ 36 }
-    ensures { result ≡ below (2 ^ 64) (numeral radix digits.now) }
-{
-    if has_plus(digits) {
-        return None;
-    }
-    u64::from_str_radix(digits, radix).ok()
-}
-
-/// A number, in decimal digits or after `0x` in hexadecimal ones.
-pub(crate) fn number(word: &str) -> Option<u64>
-    ensures { result ≡ below (2 ^ 64) (number_of word.now) }
-{
-    match word.strip_prefix("0x") {
-        Some(digits) => numeral(digits, 16),
-        None => numeral(word, 10),
-    }
-}
-
 // The value of a digit in any radix up to 36, and 36 for what is no digit.
 #[inline(always)]
 fn digit(byte: u8) -> u8
@@ -126,6 +94,37 @@ fn digit(byte: u8) -> u8
         b'A'..=b'Z' => byte - b'A' + 10,
         b'a'..=b'z' => byte - b'a' + 10,
         _ => 36,
+    }
+}
+
+// The number that digits of this radix write.
+#[inline(always)]
+fn numeral(digits: &[u8], radix: u8) -> Option<u64>
+    requires { 1 ≤ radix }
+    ensures { result ≡ below (2 ^ 64) (numeral radix digits.now) }
+{
+    if digits.is_empty() {
+        return None;
+    }
+    let mut number: u64 = 0;
+    for byte in digits {
+        let digit = digit(*byte);
+        if radix <= digit {
+            return None;
+        }
+        let tens = number.checked_mul(u64::from(radix))?;
+        number = tens.checked_add(u64::from(digit))?;
+    }
+    Some(number)
+}
+
+/// A number, in decimal digits or after `0x` in hexadecimal ones.
+pub(crate) fn number(word: &str) -> Option<u64>
+    ensures { result ≡ below (2 ^ 64) (number_of word.now) }
+{
+    match word.strip_prefix("0x") {
+        Some(digits) => numeral(digits.as_bytes(), 16),
+        None => numeral(word.as_bytes(), 10),
     }
 }
 
