@@ -1,72 +1,60 @@
--- What `from_str_radix` says, as a number that digits write.
-use Rattle.std.proofs.Common.{◌≡◌, ℕ, ◌<◌, ◌≤◌, ◌^◌, Bool, true, false, List, [], ◌∷◌, ◌++◌, length, take, drop, take-append-drop, Some, None, Result, Ok, Err, refl, sym, ap, ◌∙◌, rules, arith, inl, inr}
-use Rattle.std.proofs.lemmas.Bool.Decides.{nat_tests}
-use Rattle.std.proofs.lemmas.Bool.{cases_Bool, and_parts}
-use Rattle.std.specs.Prelude.{nat_lt, slice_index, ◌⊎◌}
+-- Numbers, one digit after the other.
+use Rattle.std.proofs.Common.{◌≡◌, ℕ, ◌+◌, ◌*◌, ◌<◌, ◌≤◌, ◌^◌, true, false, if◌then◌else◌, List, [], ◌∷◌, ◌++◌, length, get_or, take, drop, take-append-drop, Option, Some, None, refl, sym, ap, ◌∙◌, arith, inl, inr}
+use Rattle.std.specs.Prelude.{nat_lt}
 use Rattle.std.specs.List.{list_all}
-use Rattle.std.specs.Result.{result_ok}
-use Rattle.std.specs.Str.{bytes_eq}
-use Rattle.std.proofs.lemmas.Slice.Eq.{bytes_eq-Decides}
 use Rattle.std.specs.Char.{digit_value}
-use Rattle.std.specs.Str.Parse.{AllDigits, IsNumeral, digits_value, ParsesUnsigned, without_leading_plus}
+use Rattle.std.specs.Str.{bytes_eq}
+use Rattle.std.specs.Str.Parse.{digits_value_after}
+use Rattle.std.proofs.lemmas.Bool.{cases_Bool}
+use Rattle.std.proofs.lemmas.Bool.Decides.{nat_tests}
+use Rattle.std.proofs.lemmas.List.{drop_more, drop_all}
+use Rattle.std.proofs.lemmas.Slice.Eq.{bytes_eq-Decides}
+use Rattle.std.proofs.Math.Nat.{le-mul_of_pos_right}
 use Rattle.cip_console.specs.Text.{numeral, below, number_of}
 
-abbrev test : ℕ → ℕ → Bool
-test radix c = nat_lt (digit_value c) radix
+-- the number that digits write behind those of n, if it is below 2 ^ 64
+abbrev pub read_after : ℕ → ℕ → List ℕ → Option ℕ
+read_after radix n ds = below (2 ^ 64) (if list_all (λ c. nat_lt (digit_value c) radix) ds then Some (digits_value_after radix n ds) else None)
 
 lt_true : (m n : ℕ) → m < n → nat_lt m n ≡ true
 lt_true m n h = grind (arith, nat_tests)
 
-lt_of : (m n : ℕ) → nat_lt m n ≡ true → m < n
-lt_of m n h = grind (arith, nat_tests)
-
-lt_false : (m n : ℕ) → (m < n → ⊥) → nat_lt m n ≡ false
+lt_false : (m n : ℕ) → n ≤ m → nat_lt m n ≡ false
 lt_false m n h = grind (arith, nat_tests)
 
-pub all_digits : (radix : ℕ) (ds : List ℕ) → AllDigits radix ds → list_all (test radix) ds ≡ true
-all_digits radix [] h = refl
-all_digits radix (c ∷ cs) h = rw (lt_true (digit_value c) radix h.0, all_digits radix cs h.1)
+after_le : (radix n : ℕ) (ds : List ℕ) → 1 ≤ radix → n ≤ digits_value_after radix n ds
+after_le radix n [] h = omega arith
+after_le radix n (c ∷ cs) h =
+    let more = after_le radix (n * radix + digit_value c) cs h in
+    omega (arith, more, le-mul_of_pos_right {m = radix} n h)
 
-pub digits_all : (radix : ℕ) (ds : List ℕ) → list_all (test radix) ds ≡ true → AllDigits radix ds
-digits_all radix [] h = tt
-digits_all radix (c ∷ cs) h =
-    let (here, more) = and_parts (test radix c) (list_all (test radix) cs) h in
-    (lt_of (digit_value c) radix here, digits_all radix cs more)
+pub read_start : (radix : ℕ) (ds : List ℕ) → 0 < length ds → below (2 ^ 64) (numeral radix ds) ≡ read_after radix 0 ds
+read_start radix ds h = rw (lt_true 0 (length ds) h) refl
 
-numeral_some : (radix : ℕ) (ds : List ℕ) → IsNumeral radix ds → numeral radix ds ≡ Some (digits_value radix ds)
-numeral_some radix ds h = rw (lt_true 0 (length ds) h.0, all_digits radix ds h.1)
+read_end : (radix n : ℕ) → n < 2 ^ 64 → read_after radix n [] ≡ Some n
+read_end radix n h = rw (lt_true n (2 ^ 64) h) refl
 
-none_first : (radix bound : ℕ) (ds : List ℕ) → nat_lt 0 (length ds) ≡ false → below bound (numeral radix ds) ≡ None
-none_first radix bound ds h = rw h
+read_more : (radix n c : ℕ) (cs : List ℕ) → digit_value c < radix → read_after radix n (c ∷ cs) ≡ read_after radix (n * radix + digit_value c) cs
+read_more radix n c cs h = rw (lt_true (digit_value c) radix h) refl
 
-none_second : (radix bound : ℕ) (ds : List ℕ) → nat_lt 0 (length ds) ≡ true → list_all (test radix) ds ≡ false → below bound (numeral radix ds) ≡ None
-none_second radix bound ds h k = rw (h, k)
-
-none_third : (radix bound : ℕ) (ds : List ℕ) → nat_lt 0 (length ds) ≡ true → list_all (test radix) ds ≡ true → nat_lt (digits_value radix ds) bound ≡ false
-    → below bound (numeral radix ds) ≡ None
-none_third radix bound ds h k l = rw (h, k, l)
-
--- the number is there and below the bound, or there is none
-numeral_cases : (radix bound : ℕ) (ds : List ℕ) → (IsNumeral radix ds × (digits_value radix ds < bound)) ⊎ (below bound (numeral radix ds) ≡ None)
-numeral_cases radix bound ds = elim (cases_Bool (nat_lt 0 (length ds))) [
-  | inr none ↦ inr (none_first radix bound ds none)
-  | inl some ↦ elim (cases_Bool (list_all (test radix) ds)) [
-    | inr bad ↦ inr (none_second radix bound ds some bad)
-    | inl good ↦ elim (cases_Bool (nat_lt (digits_value radix ds) bound)) [
-      | inr over ↦ inr (none_third radix bound ds some good over)
-      | inl fits ↦ inl ((lt_of 0 (length ds) some, digits_all radix ds good), lt_of (digits_value radix ds) bound fits)
+read_over : (radix n : ℕ) (ds : List ℕ) → 1 ≤ radix → 2 ^ 64 ≤ n → read_after radix n ds ≡ None
+read_over radix n ds h k =
+    let over = lt_false (digits_value_after radix n ds) (2 ^ 64) (omega (arith, after_le radix n ds h)) in
+    elim (cases_Bool (list_all (λ c. nat_lt (digit_value c) radix) ds)) [
+      | inl good ↦ rw (good, over) refl
+      | inr bad ↦ rw bad refl
     ]
-  ]
-]
 
-pub from_parse : {E : Type 0} (radix : ℕ) (bs : List ℕ) (r : Result ℕ E) → ParsesUnsigned 64 radix bs r → without_leading_plus bs ≡ bs
-    → result_ok r ≡ below (2 ^ 64) (numeral radix bs)
-from_parse radix bs (Ok x) h plain =
-    let g = rw plain at h in
-    rw (numeral_some radix bs g.0.0, lt_true (digits_value radix bs) (2 ^ 64) g.0.1) (ap Some g.1)
-from_parse radix bs (Err e) h plain =
-    let g = rw plain at h in
-    elim (numeral_cases radix (2 ^ 64) bs) [ inl w ↦ absurd (g w) | inr w ↦ sym w ]
+read_step : (radix n i : ℕ) (ds : List ℕ) (all : Option ℕ) → i < length ds → digit_value (get_or ds i 0) < radix
+    → read_after radix n (drop i ds) ≡ all → read_after radix (n * radix + digit_value (get_or ds i 0)) (drop (i + 1) ds) ≡ all
+read_step radix n i ds all h k e = sym (read_more radix n (get_or ds i 0) (drop (i + 1) ds) k) ∙ ap (read_after radix n) (sym (drop_more ds i 0 h)) ∙ e
+
+pub read_full : (radix n i : ℕ) (ds : List ℕ) (all : Option ℕ) → 1 ≤ radix → i < length ds → digit_value (get_or ds i 0) < radix
+    → 2 ^ 64 ≤ n * radix + digit_value (get_or ds i 0) → read_after radix n (drop i ds) ≡ all → all ≡ None
+read_full radix n i ds all some h k over e = sym (read_step radix n i ds all h k e) ∙ read_over radix _ (drop (i + 1) ds) some over
+
+pub read_done : (radix n i : ℕ) (ds : List ℕ) (all : Option ℕ) → length ds ≤ i → n < 2 ^ 64 → read_after radix n (drop i ds) ≡ all → all ≡ Some n
+read_done radix n i ds all h k e = sym e ∙ ap (read_after radix n) (drop_all i ds h) ∙ read_end radix n k
 
 -- a word with no 0x in front
 pub number_decimal : (word : List ℕ) → ((rest : List ℕ) → word ≡ 48 ∷ 120 ∷ rest → ⊥) → below (2 ^ 64) (number_of word) ≡ below (2 ^ 64) (numeral 10 word)
@@ -82,11 +70,3 @@ number_decimal word h =
 pub number_hex : (word rest : List ℕ) → word ≡ 48 ∷ 120 ∷ rest → below (2 ^ 64) (number_of word) ≡ below (2 ^ 64) (numeral 16 rest)
 unfolding number_of
 number_hex word rest e = rw e refl
-
-plus_test : (radix : ℕ) (cs : List ℕ) → radix ≤ 36 → list_all (test radix) (43 ∷ cs) ≡ false
-plus_test radix cs h = rw (lt_false 36 radix (λ l. omega (arith, l))) refl
-
--- no digit is a plus
-pub plus_none : (radix : ℕ) (bs : List ℕ) → radix ≤ 36 → slice_index bs 0 ≡ 43 → below (2 ^ 64) (numeral radix bs) ≡ None
-plus_none radix [] h e = absurd (omega arith)
-plus_none radix (c ∷ cs) h e = none_second radix (2 ^ 64) (c ∷ cs) (lt_true 0 (length (c ∷ cs)) (search rules)) (rw e (plus_test radix cs h))

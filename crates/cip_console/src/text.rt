@@ -1,9 +1,11 @@
 //! Lines, words, numbers and bytes as they stand in a script.
 
-ghost use Rattle.std.specs.Prelude.{◌≡◌, ◌==◌, ◌^◌, ◌↔◌, ◌≤◌, map, IfOk, OnOk, IfSome, IsTrue, slice_index, IsSome, option_map};
+ghost use Rattle.std.specs.Prelude.{◌≡◌, ◌==◌, ◌^◌, ◌↔◌, ◌≤◌, ◌*◌, ◌++◌, ◌∷◌, [], length, take, map, IfOk, OnOk, IfSome, slice_index, IsSome, option_map, if◌then◌else◌};
+ghost use Rattle.std.specs.Char.{digit_value};
 ghost use Rattle.std.specs.Str.{IsAscii};
-ghost use Rattle.std.specs.Str.Lines.{lines, lines_of_parts, strip_carriage_return};
-ghost use Rattle.cip_console.specs.Text.{words_of, numeral, number_of, below, bytes_of, is_newline};
+ghost use Rattle.std.specs.Str.Lines.{lines, strip_carriage_return};
+ghost use Rattle.hex.specs.Hex.{decode_of};
+ghost use Rattle.cip_console.specs.Text.{words_of, kept_words, numeral, number_of, below, bytes_of, ok_bytes, is_newline};
 
 use std::alloc::{AllocError, Global};
 
@@ -54,39 +56,66 @@ fn parts_of(alloc: Global, script: &[u8]) -> Result<Vec<&[u8]>, AllocError>
     script.split(|byte| *byte == b'\n').collect(alloc)
 }
 
+// One more word at the end, if it is not empty.
+#[inline(always)]
+fn push_word<'a>(word: &'a str, found: &mut Vec<&'a str>) -> Result<(), AllocError>
+    ensures { OnOk result (map (λ word. word.now) found.new.items
+        ≡ map (λ word. word.now) found.old.items ++ kept_words (word.now ∷ [])) }
+{
+    if !word.is_empty() {
+        found.push(word)?;
+    }
+    Ok(())
+}
+
 /// The words of a line, in place of those before, whose room is kept.
 pub(crate) fn words<'a>(line: &'a str, found: &mut Vec<&'a str>) -> Result<(), AllocError>
     ensures { OnOk result (map (λ word. word.now) found.new.items ≡ words_of line.now) }
 {
     found.clear();
-    for part in line.split(' ') {
-        if !part.is_empty() {
-            found.push(part)?;
+    let bytes = line.as_bytes();
+    let mut start = 0;
+    for (i, byte) in bytes.iter().enumerate() {
+        if *byte == b' ' {
+            push_word(&line[start..i], found)?;
+            start = i + 1;
         }
     }
-    Ok(())
+    push_word(&line[start..], found)
 }
 
-/// Whether a plus stands first.
-fn has_plus(digits: &str) -> bool
-    ensures { IsTrue result ↔ (slice_index digits.now 0 ≡ 43) }
+// The value of a digit in any radix up to 36, and 36 for what is no digit.
+#[inline(always)]
+fn digit(byte: u8) -> u8
+    ensures { result ≡ digit_value byte }
 {
-    match digits.as_bytes() {
-        [first, ..] => *first == b'+',
-        [] => false,
+    match byte {
+        b'0'..=b'9' => byte - b'0',
+        b'A'..=b'Z' => byte - b'A' + 10,
+        b'a'..=b'z' => byte - b'a' + 10,
+        _ => 36,
     }
 }
 
-/// The number that digits of this radix write.
-fn numeral(digits: &str, radix: u32) -> Option<u64>
-    requires low { 2 ≤ radix }
-    requires high { radix ≤ 36 }
+// The number that digits of this radix write.
+#[inline(always)]
+fn numeral(digits: &[u8], radix: u8) -> Option<u64>
+    requires { 1 ≤ radix }
     ensures { result ≡ below (2 ^ 64) (numeral radix digits.now) }
 {
-    if has_plus(digits) {
+    if digits.is_empty() {
         return None;
     }
-    u64::from_str_radix(digits, radix).ok()
+    let mut number: u64 = 0;
+    for byte in digits {
+        let digit = digit(*byte);
+        if radix <= digit {
+            return None;
+        }
+        let tens = number.checked_mul(u64::from(radix))?;
+        number = tens.checked_add(u64::from(digit))?;
+    }
+    Some(number)
 }
 
 /// A number, in decimal digits or after `0x` in hexadecimal ones.
@@ -94,26 +123,61 @@ pub(crate) fn number(word: &str) -> Option<u64>
     ensures { result ≡ below (2 ^ 64) (number_of word.now) }
 {
     match word.strip_prefix("0x") {
-        Some(digits) => numeral(digits, 16),
-        None => numeral(word, 10),
+        Some(digits) => numeral(digits.as_bytes(), 16),
+        None => numeral(word.as_bytes(), 10),
     }
 }
 
+// The bytes of pairs of hexadecimal digits; false where one is no digit.
+fn fill_bytes(digits: &[u8], output: &mut [u8]) -> bool
+    requires { length digits.now ≡ 2 * length output.old }
+    ensures { ok_bytes (decode_of digits.now) ≡ (if result then Some output.new else None) }
+{
+    'pairs: for i in 0..output.len() {
+        let high = digit(digits[2 * i]);
+        let low = digit(digits[2 * i + 1]);
+        if 16 <= high || 16 <= low {
+            return false;
+        }
+        output[i] = 16 * high + low;
+    }
+    true
+}
+
 /// Bytes as pairs of hexadecimal digits, or a dash for none. Only memory is an error.
-#[tactic(auto, unfolding(crate::specs::Text::bytes_of))]
 pub(crate) fn bytes(alloc: Global, word: &str) -> Result<Option<Vec<u8>>, AllocError>
     ensures { IfOk result (λ found. option_map (λ v. v.items) found ≡ bytes_of word.now) }
 {
     if word == "-" {
         return Ok(Some(Vec::new(alloc)));
     }
-    if word.is_empty() {
+    let digits = word.as_bytes();
+    if digits.is_empty() || digits.len() % 2 == 1 {
         return Ok(None);
     }
-    match hex::decode(alloc, word) {
-        Ok(bytes) => Ok(Some(bytes)),
-        Err(hex::FromHexError::OutOfMemory) => Err(AllocError),
-        Err(_) => Ok(None),
+    let mut found = vec![in alloc; 0u8; digits.len() / 2]?;
+    if fill_bytes(digits, found.as_mut_slice()) {
+        Ok(Some(found))
+    } else {
+        Ok(None)
+    }
+}
+
+/// The bytes of pairs of hexadecimal digits, written at the front of a room, and how many they are;
+/// None for a dash too, and for more than have room.
+pub(crate) fn bytes_into(word: &str, room: &mut [u8]) -> Option<usize>
+    ensures within { IfSome result (λ count. count ≤ length room.new) }
+    ensures found { IfSome result (λ count. bytes_of word.now ≡ Some (take count room.new)) }
+{
+    let digits = word.as_bytes();
+    let count = digits.len() / 2;
+    if count == 0 || digits.len() % 2 == 1 || room.len() < count {
+        return None;
+    }
+    if fill_bytes(digits, &mut room[..count]) {
+        Some(count)
+    } else {
+        None
     }
 }
 

@@ -2,8 +2,9 @@
 ghost use Rattle.std.specs.Prelude.{◌≡◌, ◌<◌, ◌^◌, length, map, IfOk};
 ghost use Rattle.std.specs.List.{position, slice_split};
 ghost use Rattle.std.specs.Str.{bytes_eq};
-ghost use Rattle.cip_console.specs.Steps.{Gives, module_of, bounded, bytes_at, path_of, timing_of, ms_of, frame_of, name_of, nth, texts};
+ghost use Rattle.cip_console.specs.Steps.{Gives, module_of, bounded, bytes_at, path_of, if_path, timing_of, ms_of, frame_of, name_of, nth, texts};
 ghost use Rattle.cip_console.specs.Text.{is_dot};
+ghost use Rattle.cip_segment.specs.Reading.{path_at};
 
 use crate::steps::{ScriptFault, StepFault};
 use crate::text;
@@ -89,18 +90,32 @@ pub(crate) fn bytes_at(alloc: Global, word: &str) -> Result<Bytes, StepFault>
     }
 }
 
-/// The bytes of a path.
-pub(crate) fn path_at(alloc: Global, word: &str) -> Result<Path, StepFault>
-    ensures { Gives result (path_of word.now) }
+// The path that the bytes spell.
+fn path_in(alloc: Global, bytes: &[u8]) -> Result<Path, StepFault>
+    ensures { Gives result (if_path (path_at bytes.now) bytes.now) }
 {
-    let bytes = bytes_at(alloc, word)?;
-    match view_path(bytes.as_slice()) {
+    match view_path(bytes) {
         Err(_) => Err(StepFault::Fault(ScriptFault::BadPath)),
         Ok(path) => match path.to_path(alloc) {
             Ok(path) => Ok(path),
             Err(NoMemory) => Err(StepFault::NoMemory),
         },
     }
+}
+
+// The bytes of a path that need no allocation before they are found to be one.
+const SHORT: usize = 64;
+
+/// The bytes of a path.
+pub(crate) fn path_at(alloc: Global, word: &str) -> Result<Path, StepFault>
+    ensures { Gives result (path_of word.now) }
+{
+    let mut room = [0; SHORT];
+    if let Some(count) = text::bytes_into(word, &mut room) {
+        return path_in(alloc, &room[..count]);
+    }
+    let bytes = bytes_at(alloc, word)?;
+    path_in(alloc, bytes.as_slice())
 }
 
 /// `TICK TICKS`
