@@ -6,7 +6,9 @@ use Rattle.std.specs.Fmt.{decimal}
 use Rattle.hex.specs.Hex.{encode_upper, encode_with, upper_digits}
 use lib.Ieee.Fits.{and_l, and_r}
 use Rattle.cip_console.specs.Show.{four_digits}
+use Rattle.std.specs.Char.{digit_value}
 use Rattle.cip_console.specs.declared.put.TheConstants.{TENS, PAIRS}
+use Rattle.cip_console.specs.declared.text.TheConstants.{DIGITS}
 
 abbrev are_tens : ℕ → Bool
 are_tens zero = true
@@ -103,6 +105,21 @@ pub five_at : (n t : ℕ) → 10000 ≤ n → n < 100000
     ≡ decimal n ++ t ∷ []
 five_at n t lo hi =
     rw (decimal_long n lo (omega arith), decimal_digit (n / 10000) (omega arith)) (ap (λ l. (48 + n / 10000) ∷ l) (four_at (n % 10000) t (omega arith)))
+
+abbrev are_digits : ℕ → Bool
+are_digits zero = true
+are_digits (suc b) = eqb (get_or DIGITS b 0) (digit_value b) && are_digits b
+
+digits_below : (n b : ℕ) → T (are_digits n) → b < n → get_or DIGITS b 0 ≡ digit_value b
+digits_below zero b t h = absurd (omega arith)
+digits_below (suc n) b t h =
+    elim (eq-zero-or-pos (n - b)) [
+      | inl z ↦ let e : b ≡ n = omega arith in rw e (eqb→eq _ _ (and_l _ (are_digits n) t))
+      | inr g ↦ digits_below n b (and_r _ (are_digits n) t) (omega arith)
+    ]
+
+pub DIGITS_at : (b : ℕ) → b < 256 → get_or DIGITS b 0 ≡ digit_value b
+DIGITS_at b h = digits_below 256 b tt h
 
 -- two writes in a row, seen from the front
 take_two_writes : (xs : List ℕ) (o x y : ℕ) → o + 1 < length xs
