@@ -93,6 +93,7 @@ fn hand_on<W: Sink>(world: &World, writer: &mut W, text: &mut Vec<u8>) -> Result
 }
 
 // The newest entry is printed, and what was gathered is written once there is enough of it.
+#[inline(always)]
 fn show<W: Sink>(
     world: &World,
     names: &[Bytes],

@@ -73,6 +73,7 @@ impl ModuleConfig {
 
 impl Body {
     /// The same body once more; NoMemory where an allocation is refused.
+    #[inline(always)]
     pub fn copy(&self, alloc: Global) -> Result<Body, NoMemory>
         ensures { IfOk result (λ b. b ≡ self.now) }
     {
