@@ -19,6 +19,7 @@ use cip_pending::UpSide;
 
 impl Node {
     /// A request of which the row was found.
+    #[inline(always)]
     pub(crate) fn by_request_row(
         &mut self,
         up: UpSide,

@@ -66,6 +66,7 @@ impl Node {
     ghost use Rattle.cip_module.specs.Table.{unconnected_effects, unconnected_data_effects};
 
     /// An Unconnected_Send of which the row was found.
+    #[inline(always)]
     pub(crate) fn by_unconnected_row(
         &mut self,
         up: UpSide,
