@@ -27,7 +27,7 @@ impl Screen for Terminal<'_> {
     fn elapsed(&mut self) -> u64 {
         match self.begun {
             Some(begun) => match begun.elapsed(self.rt) {
-                Ok(elapsed) => elapsed.as_millis() as u64,
+                Ok(elapsed) => u64::try_from(elapsed.as_millis()).unwrap_or(u64::MAX),
                 Err(_) => 0,
             },
             None => 0,
