@@ -97,8 +97,8 @@ impl NumberIndex {
     }
 }
 
-// Where the number stands, or where it would. Numbers mostly rise, and the oldest mostly goes: so the
-// last is tried, and then the first, before a binary search.
+// Where the number stands, or where it would. Numbers mostly rise, and the oldest mostly goes: so
+// the last is tried, and then the first, before a binary search.
 fn place_of(pairs: &[(u32, usize)], number: u32) -> Result<usize, usize>
     requires { IsRising nat_cmp pairs.now }
     ensures { IsPlaceOf nat_cmp pairs.now number result }

@@ -7,8 +7,8 @@ ghost use Rattle.cip_module.specs.Rising.{IsRising, IsPlace};
 use cip_base::NoMemory;
 use std::alloc::Global;
 
-// Where the op stands, or where it would go in. Ops mostly rise, so the last is tried before a binary
-// search.
+// Where the op stands, or where it would go in. Ops mostly rise, so the last is tried before a
+// binary search.
 fn place_of(ops: &[u32], op: u32) -> Result<usize, usize>
     requires { IsRising ops.now }
     ensures { IsPlace op ops.now result }
