@@ -14,7 +14,7 @@ use Rattle.cip_hops.specs.Hops.{Hops, as_hop, first_hop, hop_by_op, is_hop_by_op
 use Rattle.cip_hops.specs.Sides.{op_of}
 use Rattle.cip_module.specs.declared.config.ModuleSettings.{ModuleSettings}
 use Rattle.cip_module.proofs.Found.{found_own}
-use Rattle.cip_module.proofs.Triads.{own_triads}
+use Rattle.cip_laws.proofs.Triads.{own_triads}
 use Rattle.cip_topology.specs.Plan.{Plan}
 use Rattle.cip_world.specs.Chains.{HasHop}
 use Rattle.cip_world.specs.Journals.{Journal, part}

@@ -211,11 +211,11 @@ abbrev pub is_past : Microseconds → Option Microseconds → Bool
 is_past now deadline = option_map_or (λ time. nat_le time now) deadline false
 
 -- either side has been silent for too long
-abbrev pub is_late : Microseconds → Hop → Bool
-is_late now hop = is_past now hop.up_deadline || is_past now hop.down_deadline
+abbrev pub is_timed_out : Microseconds → Hop → Bool
+is_timed_out now hop = is_past now hop.up_deadline || is_past now hop.down_deadline
 
 abbrev pub is_hop_due : Microseconds → Held → Bool
-is_hop_due now x = is_hop (is_late now) x
+is_hop_due now x = is_hop (is_timed_out now) x
 
 abbrev pub is_entry_due : Microseconds → Triad × Held → Bool
 is_entry_due now e = is_hop_due now e.1
@@ -225,7 +225,7 @@ is_entry_open e = is_some (as_hop e.1)
 
 -- the due hop of the least triad
 abbrev pub first_due : Microseconds → Hops → Option Hop
-first_due now h = first_hop (is_late now) h
+first_due now h = first_hop (is_timed_out now) h
 
 -- without the hop that went, if one did
 abbrev pub IsWithout : Option Hop → Hops → Hops → Type 0
@@ -272,12 +272,17 @@ TellsApart number_of h =
     (a b : Triad) (x y : Held) (n : ℕ) → map.get h.held a ≡ Some x → map.get h.held b ≡ Some y
     → number_of x ≡ Some n → number_of y ≡ Some n → a ≡ b
 
+-- each connection stands under its own triad
+abbrev pub AreOwnTriads : Hops → Type 0
+AreOwnTriads h =
+    (triad : Triad) (x : Held) → map.get h.held triad ≡ Some x → triad_of x ≡ triad
+
 -- each stands under its own triad, below the next id, and shares no id and no op with another
 pub record IsWithin (h : Hops) : Type 0 where
   pub some : 0 < h.next
   pub spent : h.next ≤ LAST_COUNT + 1
   pub fits : map.len h.held ≤ h.room
-  pub triads : (triad : Triad) (x : Held) → map.get h.held triad ≡ Some x → triad_of x ≡ triad
+  pub triads : AreOwnTriads h
   pub each : (triad : Triad) (x : Held) → map.get h.held triad ≡ Some x → IsHeld h.next x
   pub ups : TellsApart up_id_of h
   pub downs : TellsApart down_id_of h

@@ -90,7 +90,7 @@ impl Held {
     {
         match self {
             Held::Opening(_, _) => false,
-            Held::Open(hop) => hop.is_late(now),
+            Held::Open(hop) => hop.is_timed_out(now),
         }
     }
 
@@ -141,11 +141,11 @@ fn is_past(deadline: Option<u64>, now: u64) -> bool
 }
 
 impl Hop {
-    ghost use Rattle.cip_hops.specs.Hops.{is_late, opened, touched, counted};
+    ghost use Rattle.cip_hops.specs.Hops.{is_timed_out, opened, touched, counted};
 
     /// Whether either side has been silent for too long at `now`, in microseconds.
-    pub fn is_late(&self, now: u64) -> bool
-        ensures { result ≡ is_late now self.now }
+    pub fn is_timed_out(&self, now: u64) -> bool
+        ensures { result ≡ is_timed_out now self.now }
     {
         is_past(self.up_deadline, now) || is_past(self.down_deadline, now)
     }

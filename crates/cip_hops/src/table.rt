@@ -208,7 +208,7 @@ impl HopTable {
     /// microseconds. None where there is no such hop, where the datum goes no further than here, or
     /// where it has not the size of its direction: nothing changes.
     #[inline(always)]
-    pub fn forward(
+    pub fn pass_on(
         &mut self,
         side: Side,
         id: u32,

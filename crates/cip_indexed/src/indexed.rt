@@ -14,7 +14,7 @@ use crate::edited::{put_out, sent};
 use cip_base::{Address, Bytes, NoMemory, PortNumber};
 use cip_hops::{Hop, Side};
 use cip_module::{
-    Body, Command, Event, Module, ModuleConfig, ModuleKind, Node, Output, StepFault, Tables,
+    Body, Command, Device, Event, Module, ModuleConfig, ModuleKind, Output, StepFault, Tables,
 };
 use std::alloc::Global;
 
@@ -22,7 +22,7 @@ use std::alloc::Global;
 /// the buffer in which it came, edited and handed on.
 #[derive(Drop)]
 pub struct IndexedModule {
-    node: Node,
+    device: Device,
     alloc: Global,
 }
 
@@ -33,8 +33,8 @@ impl IndexedModule {
         ensures config { IfOk result (λ m. config_of_indexed m ≡ config) }
         ensures state { IfOk result (λ m. state_of_indexed m ≡ initial_state config) }
     {
-        let node = Node::new(alloc, config)?;
-        Ok(IndexedModule { node, alloc })
+        let device = Device::new(alloc, config)?;
+        Ok(IndexedModule { device, alloc })
     }
 
     // A request: its bytes go on, edited, or it comes back whole.
@@ -59,7 +59,7 @@ impl IndexedModule {
             return Err(StepFault::NoMemory(Event::Frame { port, from, body }));
         };
         match self
-            .node
+            .device
             .react_to_request(port, &from, number, bytes.as_slice())
         {
             Ok(reaction) => {
@@ -95,7 +95,7 @@ impl IndexedModule {
             return Err(StepFault::NoMemory(Event::Frame { port, from, body }));
         };
         let reaction = self
-            .node
+            .device
             .react_to_reply(port, &from, number, bytes.as_slice());
         outputs.push_reserved(put_out(reaction, bytes));
         Ok(outputs)
@@ -122,20 +122,20 @@ impl IndexedModule {
             return Err(StepFault::NoMemory(Event::Frame { port, from, body }));
         };
         let onward = self
-            .node
-            .forward(Side::Up, port, &from, id, bytes.as_slice());
+            .device
+            .pass_on(Side::Up, port, &from, id, bytes.as_slice());
         match onward {
             Some(onward) => {
                 outputs.push_reserved(sent(onward, bytes));
                 Ok(outputs)
             }
-            None => Ok(self.datum_up(outputs, port, &from, id, bytes)),
+            None => Ok(self.datum_up_or_here(outputs, port, &from, id, bytes)),
         }
     }
 
     // A datum that does not go down: it goes up, or ends here. There is room for what it puts out.
     #[inline(never)]
-    fn datum_up(
+    fn datum_up_or_here(
         &mut self,
         mut outputs: Vec<Output>,
         port: PortNumber,
@@ -151,11 +151,11 @@ impl IndexedModule {
         ensures config { config_of_indexed self.new ≡ config_of_indexed self.old }
     {
         let onward = self
-            .node
-            .forward(Side::Down, port, from, id, bytes.as_slice());
+            .device
+            .pass_on(Side::Down, port, from, id, bytes.as_slice());
         let output = match onward {
             Some(onward) => sent(onward, bytes),
-            None => self.node.pass(port, from, id, bytes),
+            None => self.device.take_datum(port, from, id, bytes),
         };
         outputs.push_reserved(output);
         outputs
@@ -175,7 +175,7 @@ impl IndexedModule {
         let Ok(mut outputs) = Vec::with_capacity(self.alloc, 1) else {
             return Err(StepFault::NoMemory(Event::Command(Command::Enter { of, bytes })));
         };
-        let reaction = self.node.react_to_enter(of, bytes.as_slice());
+        let reaction = self.device.react_to_enter(of, bytes.as_slice());
         outputs.push_reserved(put_out(reaction, bytes));
         Ok(outputs)
     }
@@ -191,7 +191,7 @@ impl IndexedModule {
     {
         match event {
             Event::Command(Command::Enter { of, bytes }) => self.enter(of, bytes),
-            other => self.node.step(other),
+            other => self.device.step(other),
         }
     }
 }
@@ -203,13 +203,13 @@ impl Module for IndexedModule {
 
     ghost state_of = { state_of_indexed };
 
-    ghost paired = { λ m. m.node.fit.paired };
+    ghost paired = { λ m. m.device.fit.paired };
 
     ghost rooms = { λ m. record
-        { pendings = m.node.fit.pending_room; hops = m.node.fit.hop_room } };
+        { pendings = m.device.fit.pending_room; hops = m.device.fit.hop_room } };
 
     fn config(&self) -> &ModuleConfig {
-        self.node.config()
+        self.device.config()
     }
 
     #[inline(always)]
@@ -225,14 +225,14 @@ impl Module for IndexedModule {
     }
 
     fn tables(&self) -> Result<Tables, NoMemory> {
-        self.node.tables()
+        self.device.tables()
     }
 
     fn hop_by_op(&self, op: u32) -> Option<&Hop> {
-        self.node.hop_by_op(op)
+        self.device.hop_by_op(op)
     }
 
     fn hop_by_up(&self, id: u32, port: PortNumber, address: &Address) -> Option<&Hop> {
-        self.node.hop_by_up(id, port, address)
+        self.device.hop_by_up(id, port, address)
     }
 }

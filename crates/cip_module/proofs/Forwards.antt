@@ -30,7 +30,7 @@ use Rattle.cip_module.specs.State.{State}
 use Rattle.cip_module.specs.Table.{datum_effects, other}
 use Rattle.cip_module.proofs.Kept.{fit_changed, touched_keeps}
 use Rattle.cip_module.proofs.Found.{found_held}
-use Rattle.cip_module.proofs.Data.{up_named, down_named, renewed_is, up_row, down_row, above_effects, passed_on, by_row}
+use Rattle.cip_module.proofs.DatumRows.{up_named, down_named, renewed_is, up_row, down_row, above_effects, passed_on, by_row}
 
 abbrev pub sent_on : Onward → List ℕ → Output
 sent_on onward bytes = outputs.Send onward.port onward.address (bodies.Data onward.id bytes)

@@ -13,7 +13,7 @@ use Rattle.cip_hops.specs.Hops.{Hops, as_hop, is_hop, first_hop, hop_at, triad_o
 use Rattle.cip_hops.proofs.Steps.{triads_apart}
 use Rattle.cip_base.proofs.Views.{found-gives}
 use Rattle.cip_hops.proofs.Named.{is_open}
-use Rattle.cip_module.specs.OwnTriads.{AreOwnTriads}
+use Rattle.cip_hops.specs.Hops.{AreOwnTriads}
 
 found_in : (test : Hop → Bool) (h : Hops) (hop : Hop) (e : Option (Triad × Held)) → find (λ e. is_hop test e.1) (map.entries h.held) ≡ e
     → option_and_then (λ e. as_hop e.1) e ≡ Some hop → AreOwnTriads h → (hop_at h hop.opening.triad ≡ Some hop) × (test hop ≡ true)

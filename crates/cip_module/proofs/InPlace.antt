@@ -42,18 +42,18 @@ use Rattle.cip_module.specs.RequestRows.{is_malformed}
 use Rattle.cip_module.specs.ReplyRows.{ReplyRow, UnknownPortOrTooLong, OpenSucceeded, PassedUp, read_row, waiting_row, reply_row}
 use Rattle.cip_module.specs.Reactions.{Becomes, filled}
 use Rattle.cip_module.specs.State.{State}
-use Rattle.cip_module.specs.Table.{opener, send_below, open_below, close_below, unconnected_effects, open_effects, close_effects, reply_effects, with_spending}
-use Rattle.cip_module.specs.Tells.{LeadsOn}
-use Rattle.cip_module.specs.declared.node.Node.{Node}
-use Rattle.cip_module.specs.Code.Node.{state_of_node}
+use Rattle.cip_module.specs.Table.{up_side_of, send_below, open_below, close_below, unconnected_effects, open_effects, close_effects, reply_effects, with_spending}
+use Rattle.cip_module.specs.Links.{LeadsOn}
+use Rattle.cip_module.specs.declared.device.Device.{Device}
+use Rattle.cip_module.specs.Code.Device.{state_of_device}
 use Rattle.cip_module.specs.Code.Does.{HasDone}
 use Rattle.cip_module.specs.Code.Reacts.{with_bytes, send_edit}
 use Rattle.cip_module.specs.Code.Ready.{IsAsked}
 use Rattle.cip_module.proofs.CameIn.{SaysSuccess, success_came}
 use Rattle.cip_module.proofs.Waiting.{waits_at}
-use Rattle.cip_module.proofs.TellsSends.{sent_on}
-use Rattle.cip_module.proofs.TellsOpens.{open_forwards}
-use Rattle.cip_module.proofs.TellsCloses.{close_forwards}
+use Rattle.cip_module.proofs.SendsForwarded.{sent_on}
+use Rattle.cip_module.proofs.OpensForwarded.{open_forwards}
+use Rattle.cip_module.proofs.ClosesForwarded.{close_forwards}
 
 -- ---- the bytes that go on
 
@@ -115,12 +115,12 @@ module _ (config : ModuleSettings) (s : State) (after : ModuleSettings) (new : S
 
 -- ---- what the functions react that take a request on
 
-module _ (old new : Node) (came d : List ℕ) (o : Output) (port : ℕ) (address rest lacking : List ℕ) where
+module _ (old new : Device) (came d : List ℕ) (o : Output) (port : ℕ) (address rest lacking : List ℕ) where
   abbrev s : State
-  s = state_of_node old
+  s = state_of_device old
 
   abbrev Did : List Effect → List Output → Type 0
-  Did es os = HasDone old.config s new.config (state_of_node new) es os
+  Did es os = HasDone old.config s new.config (state_of_device new) es os
 
   abbrev Puts : Edit → List Effect → Type 0
   Puts edit es = (b : List ℕ) × Becomes came edit b × Did es (filled o b ∷ [])
@@ -134,25 +134,25 @@ module _ (old new : Node) (came d : List ℕ) (o : Output) (port : ℕ) (address
       (subst (λ (row : UnconnectedRow). Puts (send_edit rest) (unconnected_effects up u row)) e (
         message_on u rest,
         send_becomes came d old.config s u port address rest received read (sym e),
-        filled_done old.config s new.config (state_of_node new) o (message_on u rest)
+        filled_done old.config s new.config (state_of_device new) o (message_on u rest)
             (Forwards (with_bytes (send_below up u port address []) lacking) UnconnectedKind ∷ [])
             (Forwards (send_below up u port address rest) UnconnectedKind ∷ []) refl refl done,
       ))
 
   pub opened : (up : UpSide) (q : Open) (id : ℕ) → id ≡ old.hops.next → IsAsked up → IsReceived FORWARD_OPEN d came → open_at d ≡ Ok q
-      → opens.Forwarded port address rest ≡ open_row old.config s (opener up q.fields.to_id) q
+      → opens.Forwarded port address rest ≡ open_row old.config s (up_side_of up q.fields.to_id) q
       → Did (with_spending up (Begins (with_bytes (open_below s up q port address []) lacking)
-      (opening_with (opener up q.fields.to_id) (DownLink port address) q) ∷ [])) (o ∷ [])
-      → Puts (OpenedOn id) (open_effects s up q (open_row old.config s (opener up q.fields.to_id) q))
+      (opening_with (up_side_of up q.fields.to_id) (DownLink port address) q) ∷ [])) (o ∷ [])
+      → Puts (OpenedOn id) (open_effects s up q (open_row old.config s (up_side_of up q.fields.to_id) q))
   opened (Link by from number) q id is asked received read e done =
       let up = Link by from number in
-      subst (λ (x : ℕ). Puts (OpenedOn x) (open_effects s up q (open_row old.config s (opener up q.fields.to_id) q))) (sym is)
+      subst (λ (x : ℕ). Puts (OpenedOn x) (open_effects s up q (open_row old.config s (up_side_of up q.fields.to_id) q))) (sym is)
       (subst (λ (row : OpenRow). Puts (OpenedOn s.hops.next) (open_effects s up q row)) e (
         open_on q s.hops.next rest,
-        open_becomes came d old.config s (opener up q.fields.to_id) q port s.hops.next address rest received read (sym e),
-        filled_done old.config s new.config (state_of_node new) o (open_on q s.hops.next rest)
-            (Begins (with_bytes (open_below s up q port address []) lacking) (opening_with (opener up q.fields.to_id) (DownLink port address) q) ∷ [])
-            (Begins (open_below s up q port address rest) (opening_with (opener up q.fields.to_id) (DownLink port address) q) ∷ []) refl refl done,
+        open_becomes came d old.config s (up_side_of up q.fields.to_id) q port s.hops.next address rest received read (sym e),
+        filled_done old.config s new.config (state_of_device new) o (open_on q s.hops.next rest)
+            (Begins (with_bytes (open_below s up q port address []) lacking) (opening_with (up_side_of up q.fields.to_id) (DownLink port address) q) ∷ [])
+            (Begins (open_below s up q port address rest) (opening_with (up_side_of up q.fields.to_id) (DownLink port address) q) ∷ []) refl refl done,
       ))
   opened (Local op) q id is asked received read e done = absurd asked
 
@@ -165,7 +165,7 @@ module _ (old new : Node) (came d : List ℕ) (o : Output) (port : ℕ) (address
       subst (λ (row : CloseRow). Puts ClosedOn (close_effects up c row)) e (
         close_on c rest,
         close_becomes came d s up c port address rest received read (sym e),
-        filled_done old.config s new.config (state_of_node new) o (close_on c rest)
+        filled_done old.config s new.config (state_of_device new) o (close_on c rest)
             (Removes c.fields.triad ∷ Forwards (with_bytes (close_below up c port address []) lacking) (Closing c.fields.triad) ∷ [])
             (Removes c.fields.triad ∷ Forwards (close_below up c port address rest) (Closing c.fields.triad) ∷ []) refl refl done,
       )
@@ -184,12 +184,12 @@ row_is config s port from number b entry fits waits =
     ap (waiting_row b) waits
     ∙ ap (λ (t : Bool). cond t UnknownPortOrTooLong (waiting_row b (waiting_at s.pendings number port from))) (sym fits)
 
-module _ (old new : Node) (port number : ℕ) (from came lacking : List ℕ) (entry : Entry) (up : UpSide) (o : Output)
+module _ (old new : Device) (port number : ℕ) (from came lacking : List ℕ) (entry : Entry) (up : UpSide) (o : Output)
     (waits : Some entry ≡ waiting_at old.pendings number port from)
     (value : Some up ≡ option_map (λ (e : Entry). e.up) (waiting_at old.pendings number port from)) (is : o ≡ reply_up up lacking)
     (kept : new.config ≡ old.config) where
   abbrev before : State
-  before = state_of_node old
+  before = state_of_device old
 
   own : up ≡ entry.up
   own = let both : Some up ≡ Some entry.up = value ∙ ap (option_map (λ (e : Entry). e.up)) (sym waits) in cc
@@ -203,30 +203,30 @@ module _ (old new : Node) (port number : ℕ) (from came lacking : List ℕ) (en
       ∙ ap (λ (x : Output). x ∷ []) (ap (λ (v : UpSide). reply_up v b) (sym own) ∙ sym (reply_with up lacking b) ∙ ap (λ (x : Output). filled x b) (sym is))
 
   abbrev Answered : Edit → Type 0
-  Answered edit = (b : List ℕ) × Becomes came edit b × HasDone old.config before new.config (state_of_node new)
+  Answered edit = (b : List ℕ) × Becomes came edit b × HasDone old.config before new.config (state_of_device new)
       (reply_effects number came (reply_row old.config before port from number came)) (filled o b ∷ [])
 
   pub finished_up : (triad : Triad) (success : OpenSuccess) (edit : Edit)
       → OpenSucceeded triad success ≡ reply_row old.config before port from number came
       → ((b : List ℕ) (s : OpenSuccess) → IsOpenSuccess b s → Becomes b edit (succeeded (map.get old.hops.held triad) b s))
-      → state_of_node new
+      → state_of_device new
       ≡ record before { pendings = without before.pendings number; hops = finished before.hops triad success.ot_id before.now }
       → Answered edit
   finished_up triad success edit row becomes after =
       let b = succeeded (map.get old.hops.held triad) came success in (
         b,
         becomes came success (subst (SaysSuccess came) (sym row) (success_came old.config before port from number came)),
-        subst (λ (r : ReplyRow). HasDone old.config before new.config (state_of_node new) (reply_effects number came r) (filled o b ∷ [])) row
+        subst (λ (r : ReplyRow). HasDone old.config before new.config (state_of_device new) (reply_effects number came r) (filled o b ∷ [])) row
             (record { does = record { state = sym after; out = goes_up b }; same_config = kept }),
       )
 
   pub passed_up : PassedUp ≡ reply_row old.config before port from number came
-      → state_of_node new
+      → state_of_device new
       ≡ record before { pendings = without before.pendings number; hops = given_up (map.get before.pendings.entries number) before.hops }
       → Answered AsTheyCame
   passed_up row after = (
     came,
     refl,
-    subst (λ (r : ReplyRow). HasDone old.config before new.config (state_of_node new) (reply_effects number came r) (filled o came ∷ [])) row
+    subst (λ (r : ReplyRow). HasDone old.config before new.config (state_of_device new) (reply_effects number came r) (filled o came ∷ [])) row
         (record { does = record { state = sym after; out = goes_up came }; same_config = kept }),
   )

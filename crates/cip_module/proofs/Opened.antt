@@ -13,23 +13,23 @@ use Rattle.cip_hops.specs.declared.opening.Opening.{Opening}
 use Rattle.cip_hops.specs.Hops.{Hops, IsOpFree, refusal}
 use Rattle.cip_segment.specs.Reading.{segments_of}
 use Rattle.cip_module.specs.declared.config.ModuleSettings.{ModuleSettings}
-use Rattle.cip_module.specs.declared.node.Node.{Node}
+use Rattle.cip_module.specs.declared.device.Device.{Device}
 use Rattle.cip_module.specs.declared.refusals.OpenRefusal.{OpenRefusal}
 use Rattle.cip_module.specs.declared.refusals.OpenRefusal.TheVariants.{ConnectionTypeNotSupported, RpiOfZero, TriadInUse}
 use Rattle.cip_module.specs.Effects.{applied}
 use Rattle.cip_module.specs.Keys.{leading_mismatch}
-use Rattle.cip_module.specs.Code.Node.{state_of_node}
-use Rattle.cip_module.specs.OpenRows.{OpenRow, Refuses, open_row, opening_with, ids_on, is_supported, is_direction, key_row}
+use Rattle.cip_module.specs.Code.Device.{state_of_device}
+use Rattle.cip_module.specs.OpenRows.{OpenRow, Refuses, open_row, opening_with, ids_if_forwarded, is_supported, is_supported_direction, key_row}
 use Rattle.cip_module.specs.Code.Ready.{IsReady, CanSpend}
 use Rattle.cip_module.specs.State.{State, is_spent}
-use Rattle.cip_module.specs.Table.{opener, with_spending}
+use Rattle.cip_module.specs.Table.{up_side_of, with_spending}
 use Rattle.cip_module.proofs.Kept.{spent_now}
 use Rattle.cip_module.proofs.Spending.{new_op, no_op}
 
-ready_by : (old new : Node) (up : UpSide) (id port : ℕ) (address : List ℕ) (o : Open)
-    → state_of_node new ≡ applied old.config (state_of_node old) (with_spending up []) → CanSpend old up
-    → o.fields.multiplier < 8 → refusal old.hops o.fields.triad (ids_on (opener up id)) ≡ None
-    → IsReady new (opening_with (opener up id) (DownLink port address) o)
+ready_by : (old new : Device) (up : UpSide) (id port : ℕ) (address : List ℕ) (o : Open)
+    → state_of_device new ≡ applied old.config (state_of_device old) (with_spending up []) → CanSpend old up
+    → o.fields.multiplier < 8 → refusal old.hops o.fields.triad (ids_if_forwarded (up_side_of up id)) ≡ None
+    → IsReady new (opening_with (up_side_of up id) (DownLink port address) o)
 ready_by old new (Link by to number) id port address o e can multiplier room = record {
   multiplier = multiplier;
   free = no_op new.hops;
@@ -47,9 +47,9 @@ ready_by old new (Local op) id port address o e can multiplier room =
     }
 
 -- an opening that goes on by a link, after its op is spent
-pub ready : (old new : Node) (up : UpSide) (id port : ℕ) (address : List ℕ) (o : Open) (opening : Opening)
-    → state_of_node new ≡ applied old.config (state_of_node old) (with_spending up []) → CanSpend old up
-    → opening ≡ opening_with (opener up id) (DownLink port address) o → o.fields.multiplier < 8 → refusal old.hops o.fields.triad (ids_on (opener up id)) ≡ None
+pub ready : (old new : Device) (up : UpSide) (id port : ℕ) (address : List ℕ) (o : Open) (opening : Opening)
+    → state_of_device new ≡ applied old.config (state_of_device old) (with_spending up []) → CanSpend old up
+    → opening ≡ opening_with (up_side_of up id) (DownLink port address) o → o.fields.multiplier < 8 → refusal old.hops o.fields.triad (ids_if_forwarded (up_side_of up id)) ≡ None
     → IsReady new opening
 ready old new up id port address o opening e can is multiplier room = subst (IsReady new) (sym is) (ready_by old new up id port address o e can multiplier room)
 
@@ -62,7 +62,7 @@ at_most : (n : ℕ) → leb n 7 ≡ true → n < 8
 at_most n e = grind (arith, nat_tests)
 
 pub supported_below : (o : Open) → is_supported o ≡ true → o.fields.multiplier < 8
-supported_below o e = at_most o.fields.multiplier (both_last (is_direction (params_of o.fields.ot_params)) (is_direction (params_of o.fields.to_params))
+supported_below o e = at_most o.fields.multiplier (both_last (is_supported_direction (params_of o.fields.ot_params)) (is_supported_direction (params_of o.fields.to_params))
     (leb o.fields.multiplier 7) e)
 
 unless_refused : (b : Bool) (row other : OpenRow) → row ≡ cond (not b) (Refuses ConnectionTypeNotSupported) other

@@ -11,7 +11,7 @@ use Rattle.cip_hops.specs.declared.hop.Hop.{Hop}
 use Rattle.cip_hops.specs.Hops.{hop_at}
 use Rattle.cip_module.specs.declared.config.ModuleSettings.{ModuleSettings}
 use Rattle.cip_module.specs.declared.event.Output.{Output}
-use Rattle.cip_module.specs.declared.command_rows.CommandRow.TheVariants.{OpUsed, WrongSize, Taken}
+use Rattle.cip_module.specs.declared.command.rows.CommandRow.TheVariants.{OpUsed, WrongSize, Taken}
 use Rattle.cip_module.specs.OpenRows.{open_row}
 use Rattle.cip_module.specs.Effects.{Effect, Passes, datum_by, datum_down, passed}
 use Rattle.cip_module.specs.Reactions.{filled}

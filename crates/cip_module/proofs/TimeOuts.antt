@@ -20,7 +20,7 @@ use Rattle.cip_pending.proofs.Ticks.{due_goes, none_due}
 use Rattle.cip_hops.specs.declared.hop.Hop.{Hop}
 use Rattle.cip_hops.specs.declared.hop.Held.{Held}
 use Rattle.cip_hops.specs.declared.hop.Held.TheVariants.{Opening as IsOpening, Open}
-use Rattle.cip_hops.specs.Hops.{Hops, as_hop, as_opening, hop_at, is_late, is_hop_due, IsWithin}
+use Rattle.cip_hops.specs.Hops.{Hops, as_hop, as_opening, hop_at, is_timed_out, is_hop_due, IsWithin}
 use Rattle.cip_hops.specs.Hops as hops
 use Rattle.cip_hops.proofs.Steps.{triads_apart}
 use Rattle.cip_base.proofs.Views.{found-gives, find-only, tied_name}
@@ -167,7 +167,7 @@ pub hop_time_out_is : (config : ModuleSettings) (t : ℕ) (s : State) (h : Hops)
     → record s { hops = h } ≡ applied config s (hop_time_out (hops.first_due t s.hops))
 hop_time_out_is config t s h hop w e gone =
     ap (λ (q : Hops). record s { hops = q }) (gone
-    ∙ sym (ap (λ (o : Option Hop). cond (is_some o) (hops.without s.hops hop.opening.triad) s.hops) (found_held (is_late t) s.hops hop (sym e) w)))
+    ∙ sym (ap (λ (o : Option Hop). cond (is_some o) (hops.without s.hops hop.opening.triad) s.hops) (found_held (is_timed_out t) s.hops hop (sym e) w)))
     ∙ ap (λ (o : Option Hop). applied config s (hop_time_out o)) e
 
 pub hop_time_out_goes : (config : ModuleSettings) (t : ℕ) (o : Option Hop) (s new : State) → hops.due t s.hops ≡ option_to_list o ++ hops.due t new.hops
@@ -179,7 +179,7 @@ hop_time_out_goes config t (Some hop) s new d e = ap (λ (hs : List Hop). applie
     ∙ ap (λ (z : State). applied config z (hop_time_outs t new.hops)) (sym e)
 
 none_late : (t : ℕ) (h : Hops) → hops.first_due t h ≡ None → hops.due t h ≡ []
-none_late t h none = due_open t h ∙ none_left (is_late t) (opens h) (sym (first_open (is_late t) (finite.entries h.held)) ∙ none)
+none_late t h none = due_open t h ∙ none_left (is_timed_out t) (opens h) (sym (first_open (is_timed_out t) (finite.entries h.held)) ∙ none)
 
 pub hop_time_outs_end : (config : ModuleSettings) (t : ℕ) (s new : State) → is_some (hops.first_due t s.hops) ≡ false
     → new ≡ applied config s (hop_time_out (hops.first_due t s.hops)) → applied config s (hop_time_outs t s.hops) ≡ new

@@ -19,7 +19,7 @@ use Rattle.cip_pending.specs.Pendings.{Pendings, is_after, first_after}
 use Rattle.cip_hops.specs.declared.hop.Hop.{Hop}
 use Rattle.cip_hops.specs.declared.hop.Held.{Held}
 use Rattle.cip_hops.specs.declared.hop.Held.TheVariants.{Opening as IsOpening, Open}
-use Rattle.cip_hops.specs.Hops.{Hops, IsWithin, triad_of, as_hop, is_hop, is_hop_due, is_late, due}
+use Rattle.cip_hops.specs.Hops.{Hops, IsWithin, triad_of, as_hop, is_hop, is_hop_due, is_timed_out, due}
 use Rattle.cip_hops.specs.Hops as hops
 use Rattle.cip_hops.proofs.Steps.{triads_apart}
 use Rattle.cip_base.proofs.Views.{get-at}
@@ -273,21 +273,21 @@ hop_fewer h w after hop e = shorter triad_cmp triads_total triad_at hops.is_afte
 
 -- those that are due are the late ones of those that are open
 put_due : (now : ℕ) (x : Held) (b : Bool) (k : Triad) (es : List (Triad × Held)) → is_hop_due now x ≡ b
-    → open_in (filter (λ (e : Triad × Held). is_hop_due now e.1) es) ≡ filter (is_late now) (open_in es)
+    → open_in (filter (λ (e : Triad × Held). is_hop_due now e.1) es) ≡ filter (is_timed_out now) (open_in es)
     → open_in (cond b ((k, x) ∷ filter (λ (e : Triad × Held). is_hop_due now e.1) es) (filter (λ (e : Triad × Held). is_hop_due now e.1) es))
-    ≡ filter (is_late now) (cons_option (as_hop x) (open_in es))
+    ≡ filter (is_timed_out now) (cons_option (as_hop x) (open_in es))
 put_due now (IsOpening o ids) true k es t same = absurd (cc)
 put_due now (IsOpening o ids) false k es t same = same
 put_due now (Open hop) true k es t same =
-    ap (λ (z : List Hop). hop ∷ z) same ∙ ap (λ c. cond c (hop ∷ filter (is_late now) (open_in es)) (filter (is_late now) (open_in es))) (sym t)
+    ap (λ (z : List Hop). hop ∷ z) same ∙ ap (λ c. cond c (hop ∷ filter (is_timed_out now) (open_in es)) (filter (is_timed_out now) (open_in es))) (sym t)
 put_due now (Open hop) false k es t same =
-    same ∙ ap (λ c. cond c (hop ∷ filter (is_late now) (open_in es)) (filter (is_late now) (open_in es))) (sym t)
+    same ∙ ap (λ c. cond c (hop ∷ filter (is_timed_out now) (open_in es)) (filter (is_timed_out now) (open_in es))) (sym t)
 
-due_in : (now : ℕ) (es : List (Triad × Held)) → open_in (filter (λ (e : Triad × Held). is_hop_due now e.1) es) ≡ filter (is_late now) (open_in es)
+due_in : (now : ℕ) (es : List (Triad × Held)) → open_in (filter (λ (e : Triad × Held). is_hop_due now e.1) es) ≡ filter (is_timed_out now) (open_in es)
 due_in now [] = refl
 due_in now (e ∷ es) = put_due now e.1 (is_hop_due now e.1) e.0 es refl (due_in now es)
 
-pub due_open : (now : ℕ) (h : Hops) → due now h ≡ filter (is_late now) (opens h)
+pub due_open : (now : ℕ) (h : Hops) → due now h ≡ filter (is_timed_out now) (opens h)
 due_open now h = due_in now (map.entries h.held)
 
 -- ---- a row for each

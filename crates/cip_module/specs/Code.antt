@@ -2,7 +2,7 @@
 -- out.
 pub mod Does
 pub mod Reacts
-pub mod Node
+pub mod Device
 pub mod Ready
 pub mod Fit
 pub mod Decisions

@@ -14,8 +14,8 @@ use Rattle.cip_unconnected.specs.declared.unconnected.TheConstants.{UNCONNECTED_
 use Rattle.cip_unconnected.specs.Unconnected.{Unconnected, unconnected_bytes}
 use Rattle.cip_hops.specs.declared.hop.Hop.{Hop}
 use Rattle.cip_hops.specs.Hops.{hop_by_op}
-use Rattle.cip_module.specs.declared.command_rows.CommandRow.{CommandRow}
-use Rattle.cip_module.specs.declared.command_rows.CommandRow.TheVariants.{OpUsed, NotOpen, ReservedService, WrongSize, NoInstance, Taken}
+use Rattle.cip_module.specs.declared.command.rows.CommandRow.{CommandRow}
+use Rattle.cip_module.specs.declared.command.rows.CommandRow.TheVariants.{OpUsed, NotOpen, ReservedService, WrongSize, NoInstance, Taken}
 use Rattle.cip_module.specs.State.{State, is_spent}
 
 -- the row of an Open

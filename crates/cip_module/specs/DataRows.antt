@@ -55,12 +55,12 @@ abbrev pub above_row : Hop → HopUp → DataRow
 above_row hop (UpLink port address their_id) = PassedOn hop.opening.triad Down
 above_row hop (UpLocal op) = Arrived hop.opening.triad
 
--- from the node above
+-- from the device above
 abbrev pub from_up_row : Octets → Hop → DataRow
 from_up_row bytes hop = if not (length bytes == hop.opening.ot_size) then WrongSize
     else below_row hop bytes hop.opening.down
 
--- from the node below
+-- from the device below
 abbrev pub from_down_row : Octets → Option Hop → DataRow
 from_down_row bytes None = UnknownId
 from_down_row bytes (Some hop) = if not (length bytes == hop.opening.to_size) then WrongSize

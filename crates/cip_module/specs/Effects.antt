@@ -194,7 +194,7 @@ apply config s (Advances by) = record s { now = s.now + by }
 
 -- ---- the outputs of an effect
 
--- a request to the node below, under the next number
+-- a request to the device below, under the next number
 abbrev pub request_below : State → Sending → Output
 request_below s sending =
     outputs.Send sending.port sending.address (bodies.Request s.pendings.next sending.bytes)
@@ -205,7 +205,7 @@ abbrev pub reply_up : UpSide → Octets → Output
 reply_up (Link port address number) bytes = outputs.Send port address (bodies.Reply number bytes)
 reply_up (Local op) bytes = outputs.Done op bytes
 
--- a success as it goes up: with the own up id, and the T→O id of the node above; a command gets the
+-- a success as it goes up: with the own up id, and the T→O id of the device above; a command gets the
 -- bytes as received
 abbrev pub success_up : HopUp → OwnIds → Octets → OpenSuccess → Octets
 success_up (UpLink port address their_id) ids bytes success =
@@ -221,22 +221,22 @@ replied None bytes = []
 replied (Some entry) bytes = reply_up entry.up bytes ∷ []
 
 -- no answer came in time, with the words of the path as received
-abbrev pub late_bytes : Kind → WordCount → Octets
-late_bytes Unconnected words = unconnected_failed (link_status TicksSpent) (Some words)
-late_bytes (OpeningOf triad) words = open_failed (link_status TicksSpent) triad words
-late_bytes (ClosingOf triad) words = close_failed (link_status TicksSpent) triad words
+abbrev pub timed_out_bytes : Kind → WordCount → Octets
+timed_out_bytes Unconnected words = unconnected_failed (link_status TicksSpent) (Some words)
+timed_out_bytes (OpeningOf triad) words = open_failed (link_status TicksSpent) triad words
+timed_out_bytes (ClosingOf triad) words = close_failed (link_status TicksSpent) triad words
 
 abbrev pub timed_out_reply : Option Entry → List Output
 timed_out_reply None = []
-timed_out_reply (Some entry) = reply_up entry.up (late_bytes entry.kind entry.words) ∷ []
+timed_out_reply (Some entry) = reply_up entry.up (timed_out_bytes entry.kind entry.words) ∷ []
 
--- a datum by the up side: to the node above under its id, or to the command that opened
+-- a datum by the up side: to the device above under its id, or to the command that opened
 abbrev pub datum_up : HopUp → Octets → Output
 datum_up (UpLink port address their_id) bytes =
     outputs.Send port address (bodies.Data their_id bytes)
 datum_up (UpLocal op) bytes = outputs.Arrived op bytes
 
--- a datum by the down side: to the node below under its id, or to an assembly here
+-- a datum by the down side: to the device below under its id, or to an assembly here
 abbrev pub datum_down : Hop → HopDown → Octets → Output
 datum_down hop (DownLink port address) bytes =
     outputs.Send port address (bodies.Data (option_map_or (λ id. id) hop.their_id 0) bytes)

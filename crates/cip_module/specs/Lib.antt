@@ -15,7 +15,6 @@ pub mod DataRows
 pub mod CommandRows
 pub mod Produced
 pub mod Table
-pub mod Tells
 pub mod Steps
 pub mod Paired
 pub mod Rooms
@@ -23,12 +22,3 @@ pub mod Rising
 pub mod Views
 pub mod Reactions
 pub mod Code
-pub mod Histories
-pub mod Births
-pub mod Weights
-pub mod Words
-pub mod EffectLists
-pub mod Changes
-pub mod Outputs
-pub mod OwnTriads
-pub mod Openings

@@ -1,13 +1,15 @@
 -- Whether a message can be sent on by a link, which the groups of requests share.
 use Rattle.std.specs.Prelude.{◌≡◌, ◌≤◌, nat_lt, not, if◌then◌else◌, Option, Some, None, is_some}
-use Rattle.cip_base.specs.Words.{LinkAddress, PortIdentifier}
+use Rattle.cip_base.specs.Words.{LinkAddress, Octets, PortIdentifier}
 use Rattle.cip_base.specs.declared.timing.Timing.{Timing}
+use Rattle.cip_segment.specs.Reading.{HopAt, hop_of}
 use Rattle.cip_pending.specs.Pendings.{Pendings, refusal}
 use Rattle.cip_module.specs.declared.config.PortConfig.{PortConfig}
 use Rattle.cip_module.specs.declared.config.ModuleSettings.{ModuleSettings}
 use Rattle.cip_module.specs.declared.refusals.LinkRefusal.{LinkRefusal}
 use Rattle.cip_module.specs.declared.refusals.LinkRefusal.TheVariants.{NoSuchPort, LinkAddressNotLegal, TicksSpent, NoPendingLeft}
 use Rattle.cip_module.specs.Config.{port_of, is_adapter, is_legal}
+use Rattle.cip_module.specs.State.{State}
 
 -- ticks for it and for the module below, and a place among the requests that wait
 abbrev pub wait_refusal : Pendings → Timing → Option LinkRefusal
@@ -34,3 +36,15 @@ link_refusal config p timing port address =
 abbrev pub CanWait : Pendings → Timing → Option LinkRefusal → Type 0
 CanWait p timing (Some fault) = Unit {0}
 CanWait p timing None = (2 ≤ timing.ticks) × (refusal p ≡ None)
+
+-- the first hop of a path, which leads on by this link: the module may send there, and ticks are
+-- left
+pub record LeadsOn (config : ModuleSettings) (s : State) (timing : Timing) (path : Octets)
+    (port : PortIdentifier) (address : LinkAddress) (rest : Octets) : Type 0 where
+  pub hop : HopAt
+  pub first : hop_of path ≡ Some hop
+  pub port_is : port ≡ hop.port
+  pub address_is : address ≡ hop.address
+  pub rest_is : rest ≡ hop.rest
+  pub link : link_refusal config s.pendings timing port address ≡ None
+  pub ticks : 2 ≤ timing.ticks

@@ -85,14 +85,14 @@ here_row s up o =
 
 -- ---- a port segment first: a connection that goes on
 
--- a node that routes draws two ids, an originator one
-abbrev pub ids_on : HopUp → ℕ
-ids_on up = if up_is_link up then 2 else 1
+-- a device that routes draws two ids, an originator one
+abbrev pub ids_if_forwarded : HopUp → ℕ
+ids_if_forwarded up = if up_is_link up then 2 else 1
 
 abbrev pub on_row : State → HopUp → Open → HopAt → Option LinkRefusal → OpenRow
 on_row s up o hop (Some fault) = Refuses (NotSentOn fault)
 on_row s up o hop None =
-    if is_some (refusal s.hops o.fields.triad (ids_on up)) then Refuses NoRoomToPassOn
+    if is_some (refusal s.hops o.fields.triad (ids_if_forwarded up)) then Refuses NoRoomToPassOn
     else Forwarded hop.port hop.address hop.rest
 
 abbrev pub hop_row : ModuleSettings → State → HopUp → Open → Option HopAt → OpenRow
@@ -113,12 +113,12 @@ is_point_to_point PointToPoint = true
 is_point_to_point Reserved = false
 
 -- point to point, and no redundant owner
-abbrev pub is_direction : Params → Bool
-is_direction p = is_point_to_point p.kind && not p.redundant
+abbrev pub is_supported_direction : Params → Bool
+is_supported_direction p = is_point_to_point p.kind && not p.redundant
 
 abbrev pub is_supported : Open → Bool
-is_supported o = is_direction (params_of o.fields.ot_params)
-    && (is_direction (params_of o.fields.to_params) && nat_le o.fields.multiplier 7)
+is_supported o = is_supported_direction (params_of o.fields.ot_params)
+    && (is_supported_direction (params_of o.fields.to_params) && nat_le o.fields.multiplier 7)
 
 -- the row of a Forward_Open that was read
 unfoldable pub open_row : ModuleSettings → State → HopUp → Open → OpenRow

@@ -49,8 +49,8 @@ use Rattle.cip_module.specs.declared.event.Body.TheVariants as bodies
 use Rattle.cip_module.specs.declared.event.Output.{Output}
 use Rattle.cip_module.specs.declared.event.Refused.TheVariants as refused
 use Rattle.cip_module.specs.declared.event.Dropped.TheVariants as dropped
-use Rattle.cip_module.specs.declared.command_rows.CommandRow.{CommandRow}
-use Rattle.cip_module.specs.declared.command_rows.CommandRow.TheVariants as command
+use Rattle.cip_module.specs.declared.command.rows.CommandRow.{CommandRow}
+use Rattle.cip_module.specs.declared.command.rows.CommandRow.TheVariants as command
 use Rattle.cip_module.specs.Answers.{failure_bytes, unconnected_failure, failed_unread, open_failed, close_failed}
 use Rattle.cip_module.specs.Statuses.{request_status, open_status, close_status}
 use Rattle.cip_module.specs.RequestRows.{RequestRow, request_row}
@@ -112,11 +112,11 @@ unconnected_data_effects config s up sent (Ok u) =
 
 -- ---- open
 
--- the up side of a connection: the node that asked, which is sent data under its own T→O id, or the
+-- the up side of a connection: the device that asked, which is sent data under its own T→O id, or the
 -- op of a command
-abbrev pub opener : UpSide → ConnectionId → HopUp
-opener (Link port address number) to_id = UpLink port address to_id
-opener (Local op) to_id = UpLocal op
+abbrev pub up_side_of : UpSide → ConnectionId → HopUp
+up_side_of (Link port address number) to_id = UpLink port address to_id
+up_side_of (Local op) to_id = UpLocal op
 
 -- the success of an end: its own up id as O→T id, the intervals as they were asked, no application
 -- reply
@@ -145,9 +145,9 @@ open_effects s up o (opens.Refuses refusal) =
     Replies up (open_failed (open_status refusal) o.fields.triad (words_of o.path)) ∷ []
 open_effects s up o (opens.Forwarded port address rest) =
     Begins (open_below s up o port address rest)
-    (opening_with (opener up o.fields.to_id) (DownLink port address) o) ∷ []
+    (opening_with (up_side_of up o.fields.to_id) (DownLink port address) o) ∷ []
 open_effects s up o (opens.Accepted link) =
-    Accepts (opening_with (opener up o.fields.to_id) (end_down link) o) o link
+    Accepts (opening_with (up_side_of up o.fields.to_id) (end_down link) o) o link
     ∷ Replies up (accepted_bytes o s.hops.next) ∷ []
 
 -- where the fixed part is cut, the failure tells nothing; else the triad and the path size byte
@@ -163,7 +163,7 @@ abbrev pub open_data_effects : ModuleSettings → State → UpSide → Octets �
     → List Effect
 open_data_effects config s up d (Err fault) = Replies up (unread_open_bytes d fault) ∷ []
 open_data_effects config s up d (Ok o) =
-    open_effects s up o (open_row config s (opener up o.fields.to_id) o)
+    open_effects s up o (open_row config s (up_side_of up o.fields.to_id) o)
 
 -- ---- close
 

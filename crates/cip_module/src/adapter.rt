@@ -2,12 +2,12 @@
 ghost use Rattle.std.specs.Prelude.{◌≡◌, IfOk};
 ghost use Rattle.cip_module.specs.declared.config.ModuleKind.{ModuleKind as Kind};
 ghost use Rattle.cip_module.specs.State.{initial_state};
-ghost use Rattle.cip_module.specs.Code.Node.{config_of_adapter, state_of_adapter};
+ghost use Rattle.cip_module.specs.Code.Device.{config_of_adapter, state_of_adapter};
 
 use crate::config::{ModuleConfig, ModuleKind};
 use crate::contract::{Module, StepFault};
+use crate::device::Device;
 use crate::event::{Event, Output};
-use crate::node::Node;
 use crate::tables::Tables;
 use cip_base::{Address, NoMemory, PortNumber};
 use cip_hops::Hop;
@@ -16,7 +16,7 @@ use std::alloc::Global;
 /// A module with one port that answers, and sends no request on.
 #[derive(Drop)]
 pub struct AdapterModule {
-    pub(crate) node: Node,
+    pub(crate) device: Device,
 }
 
 impl AdapterModule {
@@ -26,40 +26,40 @@ impl AdapterModule {
         ensures config { IfOk result (λ m. config_of_adapter m ≡ config) }
         ensures state { IfOk result (λ m. state_of_adapter m ≡ initial_state config) }
     {
-        let node = Node::new(alloc, config)?;
-        Ok(AdapterModule { node })
+        let device = Device::new(alloc, config)?;
+        Ok(AdapterModule { device })
     }
 }
 
 impl Module for AdapterModule {
-    ghost use Rattle.cip_module.specs.Code.Node.{config_of_adapter, state_of_adapter};
+    ghost use Rattle.cip_module.specs.Code.Device.{config_of_adapter, state_of_adapter};
 
     ghost config_of = { config_of_adapter };
 
     ghost state_of = { state_of_adapter };
 
-    ghost paired = { λ m. m.node.fit.paired };
+    ghost paired = { λ m. m.device.fit.paired };
 
     ghost rooms = { λ m. record
-        { pendings = m.node.fit.pending_room; hops = m.node.fit.hop_room } };
+        { pendings = m.device.fit.pending_room; hops = m.device.fit.hop_room } };
 
     fn config(&self) -> &ModuleConfig {
-        &self.node.config
+        &self.device.config
     }
 
     fn step(&mut self, event: Event) -> Result<Vec<Output>, StepFault> {
-        self.node.step(event)
+        self.device.step(event)
     }
 
     fn tables(&self) -> Result<Tables, NoMemory> {
-        self.node.tables()
+        self.device.tables()
     }
 
     fn hop_by_op(&self, op: u32) -> Option<&Hop> {
-        self.node.hop_by_op(op)
+        self.device.hop_by_op(op)
     }
 
     fn hop_by_up(&self, id: u32, port: PortNumber, address: &Address) -> Option<&Hop> {
-        self.node.hop_by_up(id, port, address)
+        self.device.hop_by_up(id, port, address)
     }
 }

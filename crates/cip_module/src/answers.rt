@@ -1,10 +1,18 @@
-//! The replies that rows answer.
+//! The replies that rows answer: each failure, by its status and what it tells of the request.
 ghost use Rattle.std.specs.Prelude.{◌≡◌, ◌≤◌, ◌<◌, ◌+◌, length, IfOk};
-ghost use Rattle.cip_module.specs.Answers.{answered, failure_bytes, unconnected_failed, unconnected_failure};
+ghost use Rattle.cip_module.specs.Answers.{answered, failure_bytes, unconnected_failed, unconnected_failure, open_failed, close_failed};
+ghost use Rattle.cip_module.specs.Effects.{timed_out_bytes};
+ghost use Rattle.cip_module.specs.Table.{unread_open_bytes, unread_close_bytes};
 
-use crate::refusals::UnconnectedRefusal;
-use cip_base::{Bytes, NoMemory, Status};
-use cip_message::{WriteFault, write_reply};
+use crate::refusals::{LinkRefusal, UnconnectedRefusal};
+use crate::{close, open};
+use cip_base::{Bytes, NoMemory, Status, Triad};
+use cip_close::{
+    CLOSE_FIXED_PART, CloseFailure, close_triad_at, close_words_at, write_close_failure,
+};
+use cip_message::{DataFault, WriteFault, write_reply};
+use cip_open::{OPEN_FIXED_PART, OpenFailure, triad_at, words_at, write_open_failure};
+use cip_pending::Kind;
 use cip_unconnected::UNCONNECTED_SEND;
 use std::alloc::Global;
 
@@ -58,4 +66,88 @@ pub(crate) fn unconnected_failure(
     ensures { IfOk result (λ b. b ≡ unconnected_failure refusal words) }
 {
     unconnected_failed(alloc, refusal.status(), words)
+}
+
+/// The failure of a Forward_Open that was read: its triad, and the words of its path as received.
+pub(crate) fn open_failed(
+    alloc: Global,
+    status: Status,
+    triad: Triad,
+    words: u8,
+) -> Result<Bytes, NoMemory>
+    ensures { IfOk result (λ b. b ≡ open_failed status triad words) }
+{
+    let failure = OpenFailure {
+        triad: Some(triad),
+        words: Some(words),
+    };
+    write_open_failure(alloc, status, &failure)
+}
+
+/// The failure of a Forward_Open that cannot be read: nothing where its fixed part is cut, else its
+/// triad and its path size.
+pub(crate) fn unread_open(alloc: Global, data_: &[u8], fault: DataFault) -> Result<Bytes, NoMemory>
+    ensures { IfOk result (λ b. b ≡ unread_open_bytes data_.now fault) }
+{
+    let status = open::rows::unread_row(data_, fault).status();
+    let failure = if data_.len() < OPEN_FIXED_PART {
+        OpenFailure {
+            triad: None,
+            words: None,
+        }
+    } else {
+        OpenFailure {
+            triad: triad_at(data_),
+            words: words_at(data_),
+        }
+    };
+    write_open_failure(alloc, status, &failure)
+}
+
+/// The failure of a Forward_Close that was read: its triad, and the words of its path as received.
+pub(crate) fn close_failed(
+    alloc: Global,
+    status: Status,
+    triad: Triad,
+    words: u8,
+) -> Result<Bytes, NoMemory>
+    ensures { IfOk result (λ b. b ≡ close_failed status triad words) }
+{
+    let failure = CloseFailure {
+        triad: Some(triad),
+        words: Some(words),
+    };
+    write_close_failure(alloc, status, &failure)
+}
+
+/// The failure of a Forward_Close that cannot be read: nothing where its fixed part is cut, else its
+/// triad and its path size.
+pub(crate) fn unread_close(alloc: Global, data_: &[u8], fault: DataFault) -> Result<Bytes, NoMemory>
+    ensures { IfOk result (λ b. b ≡ unread_close_bytes data_.now fault) }
+{
+    let status = close::rows::unread_row(data_, fault).status();
+    let failure = if data_.len() < CLOSE_FIXED_PART {
+        CloseFailure {
+            triad: None,
+            words: None,
+        }
+    } else {
+        CloseFailure {
+            triad: close_triad_at(data_),
+            words: close_words_at(data_),
+        }
+    };
+    write_close_failure(alloc, status, &failure)
+}
+
+/// The failure of a request whose answer did not come in time.
+pub(crate) fn timed_out_failure(alloc: Global, kind: Kind, words: u8) -> Result<Bytes, NoMemory>
+    ensures { IfOk result (λ b. b ≡ timed_out_bytes kind words) }
+{
+    let status = LinkRefusal::TicksSpent.status();
+    match kind {
+        Kind::Unconnected => unconnected_failed(alloc, status, Some(words)),
+        Kind::Opening(triad) => open_failed(alloc, status, triad, words),
+        Kind::Closing(triad) => close_failed(alloc, status, triad, words),
+    }
 }

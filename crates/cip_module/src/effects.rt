@@ -14,13 +14,13 @@ ghost use Rattle.cip_target.specs.Ends.{row_at, configured};
 ghost use Rattle.cip_module.specs.State.{is_spent, spent_with};
 ghost use Rattle.cip_module.specs.Effects.{applied, given_up_of, given_up, removed, renewed, recounted, overwritten};
 ghost use Rattle.cip_module.specs.Code.Fit.{given_back};
-ghost use Rattle.cip_module.specs.Code.Node.{state_of_node};
+ghost use Rattle.cip_module.specs.Code.Device.{state_of_device};
 ghost use Rattle.cip_module.specs.Table.{with_spending};
 ghost use Rattle.cip_module.specs.Code.Ready.{IsReady, CanSpend};
 ghost use Rattle.cip_module.specs.OpenRows.{end_down};
 ghost use Rattle.cip_module.specs.Paired.{IsOther};
 
-use crate::node::Node;
+use crate::device::Device;
 use cip_base::{Address, PortNumber, Triad};
 use cip_hops::{HopDown, HopTable, Opening, Side};
 use cip_open::OpenView;
@@ -48,11 +48,11 @@ fn give_up(hops: &mut HopTable, kind: Kind)
     }
 }
 
-impl Node {
+impl Device {
     /// What a command does uses its op up.
     pub(crate) fn spend_for(&mut self, up: &UpSide)
         requires { CanSpend self.old up.now }
-        ensures after { state_of_node self.new ≡ applied self.old.config (state_of_node self.old)
+        ensures after { state_of_device self.new ≡ applied self.old.config (state_of_device self.old)
             (with_spending up.now []) }
         ensures config { self.new.config ≡ self.old.config }
         ensures target { self.new.target ≡ self.old.target }
@@ -66,7 +66,7 @@ impl Node {
     pub(crate) fn spends(&mut self, op: u32)
         requires room { vec_len self.old.ops.ops < vec_capacity self.old.ops.ops }
         requires absent { is_spent op self.old.ops.ops.items ≡ false }
-        ensures after { state_of_node self.new ≡ record (state_of_node self.old)
+        ensures after { state_of_device self.new ≡ record (state_of_device self.old)
             { ops = spent_with op self.old.ops.ops.items } }
         ensures config { self.new.config ≡ self.old.config }
         ensures target { self.new.target ≡ self.old.target }
@@ -80,7 +80,7 @@ impl Node {
         requires room { refusal self.old.pendings ≡ None }
         requires other { IsOther entry.kind }
         ensures value { result ≡ self.old.pendings.next }
-        ensures after { state_of_node self.new ≡ record (state_of_node self.old)
+        ensures after { state_of_device self.new ≡ record (state_of_device self.old)
             { pendings = added self.old.pendings entry } }
         ensures config { self.new.config ≡ self.old.config }
         ensures ops { self.new.ops ≡ self.old.ops }
@@ -99,7 +99,7 @@ impl Node {
         requires link { down_is_link opening.down ≡ true }
         requires ready { IsReady self.old opening }
         ensures value { result ≡ self.old.pendings.next }
-        ensures after { state_of_node self.new ≡ record (state_of_node self.old)
+        ensures after { state_of_device self.new ≡ record (state_of_device self.old)
             { pendings = added self.old.pendings entry; hops = begun self.old.hops opening } }
         ensures config { self.new.config ≡ self.old.config }
     {
@@ -120,7 +120,7 @@ impl Node {
         requires down { opening.down ≡ end_down link.now }
         requires ready { IsReady self.old opening }
         requires fits { row_at self.old.target (open_of view.now) ≡ Ok link.now }
-        ensures after { state_of_node self.new ≡ record (state_of_node self.old) {
+        ensures after { state_of_device self.new ≡ record (state_of_device self.old) {
           hops = finished (begun self.old.hops opening) opening.triad 0 self.old.clock;
           assemblies = configured self.old.target.objects.assemblies (open_of view.now)
               link.now;
@@ -149,13 +149,13 @@ impl Node {
             (λ entry. entry.kind ≡ kinds.Opening triad.now) }
         ensures value { result ≡ option_map (λ entry. entry.up)
             (waiting_at self.old.pendings number port from.now) }
-        ensures after { state_of_node self.new ≡ (if is_some result then
-            record (state_of_node self.old) {
+        ensures after { state_of_device self.new ≡ (if is_some result then
+            record (state_of_device self.old) {
               pendings = without self.old.pendings number;
               hops =
                   finished self.old.hops triad.now their_id self.old.clock;
             }
-            else state_of_node self.old) }
+            else state_of_device self.old) }
         ensures config { self.new.config ≡ self.old.config }
     {
         let now = self.clock.now();
@@ -168,13 +168,13 @@ impl Node {
     pub(crate) fn takes(&mut self, number: u32, port: PortNumber, from: &Address) -> Option<UpSide>
         ensures value { result ≡ option_map (λ entry. entry.up)
             (waiting_at self.old.pendings number port from.now) }
-        ensures after { state_of_node self.new ≡ (if is_some result then
-            record (state_of_node self.old) {
+        ensures after { state_of_device self.new ≡ (if is_some result then
+            record (state_of_device self.old) {
               pendings = without self.old.pendings number;
               hops =
                   given_up (map.get self.old.pendings.entries number) self.old.hops;
             }
-            else state_of_node self.old) }
+            else state_of_device self.old) }
         ensures config { self.new.config ≡ self.old.config }
     {
         let entry = self.pendings.take(number, port, from)?;
@@ -184,7 +184,7 @@ impl Node {
 
     /// The connection of a triad, if one is open, is gone; what it owned here is given back.
     pub(crate) fn removes(&mut self, triad: &Triad)
-        ensures after { state_of_node self.new ≡ record (state_of_node self.old)
+        ensures after { state_of_device self.new ≡ record (state_of_device self.old)
             { hops = removed self.old.hops triad.now } }
         ensures config { self.new.config ≡ self.old.config }
         ensures pendings { self.new.pendings ≡ self.old.pendings }
@@ -199,7 +199,7 @@ impl Node {
     pub(crate) fn renews(&mut self, side: Side, id: u32)
         requires named { (triad : Triads) × HasId (own_id side) self.old.hops id triad }
         ensures after { (triad : Triads) → HasId (own_id side) self.old.hops id triad
-            → state_of_node self.new ≡ record (state_of_node self.old)
+            → state_of_device self.new ≡ record (state_of_device self.old)
             { hops = renewed self.old.hops triad side self.old.clock } }
         ensures config { self.new.config ≡ self.old.config }
     {
@@ -213,7 +213,7 @@ impl Node {
 
     /// The count of the last datum, at an end.
     pub(crate) fn counts(&mut self, triad: &Triad, side: Side, count: u16)
-        ensures after { state_of_node self.new ≡ record (state_of_node self.old)
+        ensures after { state_of_device self.new ≡ record (state_of_device self.old)
             { hops = recounted self.old.hops triad.now side count } }
         ensures config { self.new.config ≡ self.old.config }
     {
@@ -228,7 +228,7 @@ impl Node {
 
     /// An assembly gets these bytes, if it has as many.
     pub(crate) fn writes(&mut self, instance: u32, bytes: &[u8])
-        ensures after { state_of_node self.new ≡ record (state_of_node self.old)
+        ensures after { state_of_device self.new ≡ record (state_of_device self.old)
             { assemblies = overwritten self.old.target.objects.assemblies instance bytes.now } }
         ensures config { self.new.config ≡ self.old.config }
     {
@@ -240,7 +240,7 @@ impl Node {
     }
 }
 
-impl Node {
+impl Device {
     ghost use Rattle.std.specs.Prelude.{◌++◌};
     ghost use Rattle.std.specs.Option.{option_to_list};
     ghost use Rattle.cip_pending.specs.Pendings.{first_due, due};
@@ -250,7 +250,7 @@ impl Node {
     /// One due pending goes, that of the least number; whether there was one.
     pub(crate) fn time_out_pending(&mut self, now: u64) -> bool
         ensures value { result ≡ is_some (first_due now self.old.pendings) }
-        ensures after { state_of_node self.new ≡ applied self.old.config (state_of_node self.old)
+        ensures after { state_of_device self.new ≡ applied self.old.config (state_of_device self.old)
             (pending_time_out (first_due now self.old.pendings)) }
         ensures due { due now self.old.pendings ≡ option_to_list (first_due now self.old.pendings)
             ++ due now self.new.pendings }
@@ -269,7 +269,7 @@ impl Node {
     /// One due connection goes, that of the least triad; whether there was one.
     pub(crate) fn time_out_hop(&mut self, now: u64) -> bool
         ensures value { result ≡ is_some (hop.first_due now self.old.hops) }
-        ensures after { state_of_node self.new ≡ applied self.old.config (state_of_node self.old)
+        ensures after { state_of_device self.new ≡ applied self.old.config (state_of_device self.old)
             (hop_time_out (hop.first_due now self.old.hops)) }
         ensures due { hop.due now self.old.hops ≡ option_to_list (hop.first_due now self.old.hops)
             ++ hop.due now self.new.hops }

@@ -73,7 +73,7 @@ fn look_first(tables: &Tables, config: &ModuleConfig, assemblies: &[AssemblyRow]
 impl Tables {
     /// Whether the tables are those of the first state of a config; NoMemory where an allocation is
     /// refused.
-    pub fn are_first(&self, alloc: Global, config: &ModuleConfig) -> Result<bool, NoMemory>
+    pub fn are_initial(&self, alloc: Global, config: &ModuleConfig) -> Result<bool, NoMemory>
         ensures { IfOk result
             (λ first. IsTrue first ↔ ShowsState (initial_state config.now) self.entry.now) }
     {

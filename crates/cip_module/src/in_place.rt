@@ -26,23 +26,22 @@ ghost use Rattle.cip_module.specs.ReplyRows.{reply_row};
 ghost use Rattle.cip_module.specs.DataRows.{data_row};
 ghost use Rattle.cip_module.specs.Effects.{succeeded};
 ghost use Rattle.cip_module.specs.Reactions.{Becomes};
-ghost use Rattle.cip_module.specs.Table.{opener, unconnected_effects, unconnected_data_effects, open_effects, open_data_effects, close_effects, close_data_effects, request_effects, reply_effects, datum_effects};
-ghost use Rattle.cip_module.specs.Code.Node.{state_of_node};
+ghost use Rattle.cip_module.specs.Table.{up_side_of, unconnected_effects, unconnected_data_effects, open_effects, open_data_effects, close_effects, close_data_effects, request_effects, reply_effects, datum_effects};
+ghost use Rattle.cip_module.specs.Code.Device.{state_of_device};
 ghost use Rattle.cip_module.specs.Code.Reacts.{Reacts, Reacted, send_edit};
 ghost use Rattle.cip_module.specs.Code.Ready.{IsAsked};
 
-use crate::answers::unconnected_failure;
-use crate::close_rows::CloseDecision;
-use crate::closes::unread_close;
+use crate::answers::{unconnected_failure, unread_close, unread_open};
+use crate::close::rows::CloseDecision;
+use crate::device::Device;
 use crate::event::{Dropped, Output};
 use crate::messages::{no_bytes, reply_to};
-use crate::node::Node;
-use crate::open_rows::OpenDecision;
-use crate::opens::{opener, unread_open};
+use crate::open::rows::OpenDecision;
+use crate::open::steps::up_side_of;
 use crate::reaction::{Edit, Reaction};
-use crate::reply_rows::{ReplyDecision, reply_row};
-use crate::request_rows::{RequestDecision, is_malformed, request_row};
-use crate::unconnected_rows::{UnconnectedDecision, unconnected_row, unread_row};
+use crate::reply::rows::{ReplyDecision, reply_row};
+use crate::request::rows::{RequestDecision, is_malformed, request_row};
+use crate::unconnected_send::rows::{UnconnectedDecision, unconnected_row, unread_row};
 use cip_base::{Address, NoMemory, PortNumber, Triad};
 use cip_close::{CloseView, read_close};
 use cip_hops::HopUp;
@@ -62,7 +61,7 @@ fn send_edit(rest: PathView<'_>) -> Edit
     }
 }
 
-impl Node {
+impl Device {
     // An Unconnected_Send that was read.
     fn unconnected_in_place(
         &mut self,
@@ -87,7 +86,7 @@ impl Node {
                 Ok(Reaction::Edited { output, edit })
             }
             decision => {
-                let output = self.by_unconnected_row(up, view, decision)?;
+                let output = self.carry_out_unconnected(up, view, decision)?;
                 Ok(Reaction::Whole(output))
             }
         }
@@ -98,7 +97,7 @@ impl Node {
         requires { length data_.now ≤ 1394 }
         ensures { (came : Octets) → IsReceived UNCONNECTED_SEND data_.now came
             → Reacts came self.old self.new (unconnected_data_effects self.old.config
-            (state_of_node self.old) up data_.now (unconnected_at data_.now)) result }
+            (state_of_device self.old) up data_.now (unconnected_at data_.now)) result }
     {
         match read_unconnected(data_) {
             Ok(view) => self.unconnected_in_place(up, view),
@@ -115,11 +114,11 @@ impl Node {
         requires { IsAsked up }
         ensures { (came d : Octets) → IsReceived FORWARD_OPEN d came
             → open_at d ≡ Ok (open_of view.now)
-            → Reacts came self.old self.new (open_effects (state_of_node self.old) up
-            (open_of view.now) (open_row self.old.config (state_of_node self.old)
-            (opener up view.now.fields.to_id) (open_of view.now))) result }
+            → Reacts came self.old self.new (open_effects (state_of_device self.old) up
+            (open_of view.now) (open_row self.old.config (state_of_device self.old)
+            (up_side_of up view.now.fields.to_id) (open_of view.now))) result }
     {
-        let asker = opener(&up, view.fields.to_id);
+        let asker = up_side_of(&up, view.fields.to_id);
         match self.open_row(&asker, view) {
             OpenDecision::Forwarded {
                 port,
@@ -133,7 +132,7 @@ impl Node {
                     edit: Edit::OpenedOn { down_id },
                 })
             }
-            decision => Ok(Reaction::Whole(self.by_open_row(up, view, decision)?)),
+            decision => Ok(Reaction::Whole(self.carry_out_open(up, view, decision)?)),
         }
     }
 
@@ -142,7 +141,7 @@ impl Node {
         requires { IsAsked up }
         ensures { (came : Octets) → IsReceived FORWARD_OPEN data_.now came
             → Reacts came self.old self.new (open_data_effects self.old.config
-            (state_of_node self.old) up data_.now (open_at data_.now)) result }
+            (state_of_device self.old) up data_.now (open_at data_.now)) result }
     {
         match read_open(data_) {
             Ok(view) => self.open_in_place(up, &view),
@@ -159,7 +158,7 @@ impl Node {
         ensures { (came d : Octets) → IsReceived FORWARD_CLOSE d came
             → close_at d ≡ Ok (close_of view.now)
             → Reacts came self.old self.new (close_effects up (close_of view.now)
-            (close_row (state_of_node self.old) up (close_of view.now))) result }
+            (close_row (state_of_device self.old) up (close_of view.now))) result }
     {
         let sender = up.copy();
         match self.close_row(&sender, view) {
@@ -174,7 +173,7 @@ impl Node {
                     edit: Edit::ClosedOn,
                 })
             }
-            decision => Ok(Reaction::Whole(self.by_close_row(up, view, decision)?)),
+            decision => Ok(Reaction::Whole(self.carry_out_close(up, view, decision)?)),
         }
     }
 
@@ -182,7 +181,7 @@ impl Node {
     fn forward_close_in_place(&mut self, up: UpSide, data_: &[u8]) -> Result<Reaction, NoMemory>
         requires { IsAsked up }
         ensures { (came : Octets) → IsReceived FORWARD_CLOSE data_.now came
-            → Reacts came self.old self.new (close_data_effects (state_of_node self.old) up
+            → Reacts came self.old self.new (close_data_effects (state_of_device self.old) up
             data_.now (close_at data_.now)) result }
     {
         match read_close(data_) {
@@ -203,7 +202,7 @@ impl Node {
         bytes: &[u8],
     ) -> Result<Reaction, NoMemory>
         ensures { Reacts bytes.now self.old self.new (request_effects self.old.config
-            (state_of_node self.old) (Link port from.now number)
+            (state_of_device self.old) (Link port from.now number)
             (request_row self.old.config port bytes.now)) result }
     {
         let up = UpSide::Link {
@@ -215,13 +214,13 @@ impl Node {
             RequestDecision::UnconnectedSend(data_) => self.unconnected_send_in_place(up, data_),
             RequestDecision::ForwardOpen(data_) => self.forward_open_in_place(up, data_),
             RequestDecision::ForwardClose(data_) => self.forward_close_in_place(up, data_),
-            decision => Ok(Reaction::Whole(self.by_request_row(up, decision)?)),
+            decision => Ok(Reaction::Whole(self.carry_out_request(up, decision)?)),
         }
     }
 }
 
-impl Node {
-    // What goes up of a success: with the own up id, and the T to O id of the node above; a command
+impl Device {
+    // What goes up of a success: with the own up id, and the T to O id of the device above; a command
     // gets the bytes as they came.
     fn success_edit(&self, triad: &Triad) -> Edit
         ensures { (came : Octets) (s : OpenSuccess) → IsOpenSuccess came s
@@ -248,7 +247,7 @@ impl Node {
         bytes: &[u8],
     ) -> Reaction
         ensures { Reacted bytes.now self.old self.new (reply_effects number bytes.now
-            (reply_row self.old.config (state_of_node self.old) port from.now number bytes.now))
+            (reply_row self.old.config (state_of_device self.old) port from.now number bytes.now))
             result }
     {
         if is_malformed(self.config.settings(), port, bytes) {

@@ -3,12 +3,12 @@
 ghost use Rattle.std.specs.Prelude.{◌≡◌, IfOk};
 ghost use Rattle.cip_module.specs.declared.config.ModuleKind.{ModuleKind as Kind};
 ghost use Rattle.cip_module.specs.State.{initial_state};
-ghost use Rattle.cip_module.specs.Code.Node.{config_of_plain, state_of_plain};
+ghost use Rattle.cip_module.specs.Code.Device.{config_of_plain, state_of_plain};
 
 use crate::config::{ModuleConfig, ModuleKind};
 use crate::contract::{Module, StepFault};
+use crate::device::Device;
 use crate::event::{Event, Output};
-use crate::node::Node;
 use crate::tables::Tables;
 use cip_base::{Address, NoMemory, PortNumber};
 use cip_hops::Hop;
@@ -18,7 +18,7 @@ use std::alloc::Global;
 /// anew.
 #[derive(Drop)]
 pub struct PlainModule {
-    pub(crate) node: Node,
+    pub(crate) device: Device,
 }
 
 impl PlainModule {
@@ -28,40 +28,40 @@ impl PlainModule {
         ensures config { IfOk result (λ m. config_of_plain m ≡ config) }
         ensures state { IfOk result (λ m. state_of_plain m ≡ initial_state config) }
     {
-        let node = Node::new(alloc, config)?;
-        Ok(PlainModule { node })
+        let device = Device::new(alloc, config)?;
+        Ok(PlainModule { device })
     }
 }
 
 impl Module for PlainModule {
-    ghost use Rattle.cip_module.specs.Code.Node.{config_of_plain, state_of_plain};
+    ghost use Rattle.cip_module.specs.Code.Device.{config_of_plain, state_of_plain};
 
     ghost config_of = { config_of_plain };
 
     ghost state_of = { state_of_plain };
 
-    ghost paired = { λ m. m.node.fit.paired };
+    ghost paired = { λ m. m.device.fit.paired };
 
     ghost rooms = { λ m. record
-        { pendings = m.node.fit.pending_room; hops = m.node.fit.hop_room } };
+        { pendings = m.device.fit.pending_room; hops = m.device.fit.hop_room } };
 
     fn config(&self) -> &ModuleConfig {
-        &self.node.config
+        &self.device.config
     }
 
     fn step(&mut self, event: Event) -> Result<Vec<Output>, StepFault> {
-        self.node.step(event)
+        self.device.step(event)
     }
 
     fn tables(&self) -> Result<Tables, NoMemory> {
-        self.node.tables()
+        self.device.tables()
     }
 
     fn hop_by_op(&self, op: u32) -> Option<&Hop> {
-        self.node.hop_by_op(op)
+        self.device.hop_by_op(op)
     }
 
     fn hop_by_up(&self, id: u32, port: PortNumber, address: &Address) -> Option<&Hop> {
-        self.node.hop_by_up(id, port, address)
+        self.device.hop_by_up(id, port, address)
     }
 }

@@ -3,9 +3,9 @@ ghost use Rattle.std.specs.Prelude.{◌≡◌, map, filter_map, IfOk};
 ghost use Rattle.std.specs.FinMap as finite;
 ghost use Rattle.cip_hops.specs.Hops.{as_hop};
 ghost use Rattle.cip_module.specs.Views.{row_of, hop_row_of, assembly_row_of, ShowsState};
-ghost use Rattle.cip_module.specs.Code.Node.{state_of_node};
+ghost use Rattle.cip_module.specs.Code.Device.{state_of_device};
 
-use crate::node::Node;
+use crate::device::Device;
 use crate::tables::{
     AssemblyRow, AssemblyRows, HopRow, HopRows, Ops, PendingRow, PendingRows, Tables,
 };
@@ -80,10 +80,10 @@ pub(crate) fn assembly_rows(alloc: Global, target: &Target) -> Result<Vec<Assemb
     Ok(rows)
 }
 
-impl Node {
+impl Device {
     /// The state, as lists in rising key.
     pub fn tables(&self) -> Result<Tables, NoMemory>
-        ensures { IfOk result (ShowsState (state_of_node self.now)) }
+        ensures { IfOk result (ShowsState (state_of_device self.now)) }
     {
         let pendings = PendingRows::of(pending_rows(self.alloc, &self.pendings)?);
         let hops = HopRows::of(hop_rows(self.alloc, &self.hops)?);

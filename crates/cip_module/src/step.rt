@@ -4,7 +4,7 @@ ghost use Rattle.std.specs.Option.{option_to_list};
 ghost use Rattle.cip_module.specs.Code.Ticks.{IsNoTick, IsSingle};
 ghost use Rattle.cip_module.specs.Steps.{IsStep, IsStepFault};
 ghost use Rattle.cip_module.specs.Table.{command_effects, frame_effects};
-ghost use Rattle.cip_module.specs.Code.Node.{state_of_node};
+ghost use Rattle.cip_module.specs.Code.Device.{state_of_device};
 ghost use Rattle.cip_module.specs.Code.Does.{Handles, HandlesAs};
 ghost use Rattle.cip_module.specs.Code.Reacts.{Reacts};
 ghost use Rattle.cip_module.specs.Reactions.{bytes_in, PutsOut};
@@ -14,19 +14,19 @@ ghost use Rattle.cip_module.specs.declared.event.Output.TheVariants as outputs;
 ghost use Rattle.cip_module.specs.declared.event.Command.TheVariants.{Enter};
 
 use crate::contract::StepFault;
+use crate::device::Device;
 use crate::event::{Body, Command, Event, Output};
-use crate::node::Node;
 use crate::reaction::{Edit, Reaction};
-use crate::ticks::TickFault;
+use crate::tick::steps::TickFault;
 use cip_base::{Address, Bytes, NoMemory, PortNumber};
 use cip_hops::{Onward, Side};
 use cip_unconnected::UnconnectedView;
 
-impl Node {
+impl Device {
     // A frame.
     fn frame(&mut self, port: PortNumber, from: &Address, body: &Body) -> Result<Output, NoMemory>
         ensures { Handles self.old self.new
-            (frame_effects self.old.config (state_of_node self.old) port
+            (frame_effects self.old.config (state_of_device self.old) port
             from.now body.now) result }
     {
         match body {
@@ -43,7 +43,7 @@ impl Node {
     fn command(&mut self, command: &Command) -> Result<Option<Output>, NoMemory>
         requires { IsSingle command.now }
         ensures { HandlesAs option_to_list self.old self.new
-            (command_effects self.old.config (state_of_node self.old) command.now) result }
+            (command_effects self.old.config (state_of_device self.old) command.now) result }
     {
         match command {
             Command::Open {
@@ -75,9 +75,9 @@ impl Node {
     // A command or a frame.
     fn occur(&mut self, event: &Event) -> Result<Vec<Output>, NoMemory>
         requires { IsNoTick event.now }
-        ensures done { IfOk result (λ o. IsStep self.old.config (state_of_node self.old) event.now
-            (state_of_node self.new) o.items) }
-        ensures same { OnErr result (state_of_node self.new ≡ state_of_node self.old) }
+        ensures done { IfOk result (λ o. IsStep self.old.config (state_of_device self.old) event.now
+            (state_of_device self.new) o.items) }
+        ensures same { OnErr result (state_of_device self.new ≡ state_of_device self.old) }
         ensures config { self.new.config ≡ self.old.config }
     {
         if let Event::Command(Command::Produce { instance }) = event {
@@ -106,10 +106,10 @@ impl Node {
         bytes: &[u8],
     ) -> Result<Reaction, NoMemory>
         ensures done { IfOk result (λ reaction. PutsOut bytes.now reaction (λ output.
-            IsStep self.old.config (state_of_node self.old)
+            IsStep self.old.config (state_of_device self.old)
             (events.Frame port from.now (bodies.Request number bytes.now))
-            (state_of_node self.new) (output ∷ []))) }
-        ensures same { OnErr result (state_of_node self.new ≡ state_of_node self.old) }
+            (state_of_device self.new) (output ∷ []))) }
+        ensures same { OnErr result (state_of_device self.new ≡ state_of_device self.old) }
         ensures config { self.new.config ≡ self.old.config }
     {
         self.request_in_place(port, from, number, bytes)
@@ -124,9 +124,9 @@ impl Node {
         bytes: &[u8],
     ) -> Reaction
         ensures done { PutsOut bytes.now result (λ output.
-            IsStep self.old.config (state_of_node self.old)
+            IsStep self.old.config (state_of_device self.old)
             (events.Frame port from.now (bodies.Reply number bytes.now))
-            (state_of_node self.new) (output ∷ [])) }
+            (state_of_device self.new) (output ∷ [])) }
         ensures config { self.new.config ≡ self.old.config }
     {
         self.reply_in_place(port, from, number, bytes)
@@ -136,7 +136,7 @@ impl Node {
     /// the routing table, and its one output is this datum, sent so. None where it does not go on
     /// from this side: nothing changes. It takes no memory.
     #[inline(always)]
-    pub fn forward(
+    pub fn pass_on(
         &mut self,
         side: Side,
         port: PortNumber,
@@ -144,21 +144,21 @@ impl Node {
         id: u32,
         bytes: &[u8],
     ) -> Option<Onward>
-        ensures on { IfSome result (λ onward. IsStep self.old.config (state_of_node self.old)
-            (events.Frame port from.now (bodies.Data id bytes.now)) (state_of_node self.new)
+        ensures on { IfSome result (λ onward. IsStep self.old.config (state_of_device self.old)
+            (events.Frame port from.now (bodies.Data id bytes.now)) (state_of_device self.new)
             (outputs.Send onward.port onward.address (bodies.Data onward.id bytes.now) ∷ [])) }
-        ensures stays { result ≡ None → state_of_node self.new ≡ state_of_node self.old }
+        ensures stays { result ≡ None → state_of_device self.new ≡ state_of_device self.old }
         ensures config { self.new.config ≡ self.old.config }
     {
-        self.sends_on(side, port, from, id, bytes)
+        self.passed_on(side, port, from, id, bytes)
     }
 
     /// A datum: the new state and the output are those of the routing table. What goes on has the
     /// bytes that came. It takes no memory.
     #[inline(never)]
-    pub fn pass(&mut self, port: PortNumber, from: &Address, id: u32, bytes: Bytes) -> Output
-        ensures done { IsStep self.old.config (state_of_node self.old)
-            (events.Frame port from.now (bodies.Data id bytes)) (state_of_node self.new)
+    pub fn take_datum(&mut self, port: PortNumber, from: &Address, id: u32, bytes: Bytes) -> Output
+        ensures done { IsStep self.old.config (state_of_device self.old)
+            (events.Frame port from.now (bodies.Data id bytes)) (state_of_device self.new)
             (result ∷ []) }
         ensures config { self.new.config ≡ self.old.config }
     {
@@ -169,8 +169,8 @@ impl Node {
     /// routing table, once the bytes of the command stand in it.
     pub fn react_to_enter(&self, of: u32, bytes: &[u8]) -> Reaction
         ensures { PutsOut bytes.now result (λ output. IsStep self.now.config
-            (state_of_node self.now) (events.Command
-            (Enter of bytes.now)) (state_of_node self.now)
+            (state_of_device self.now) (events.Command
+            (Enter of bytes.now)) (state_of_device self.now)
             (output ∷ [])) }
     {
         match self.entered(of, bytes) {
@@ -185,10 +185,10 @@ impl Node {
     /// One event, as the contract of a module says.
     #[inline(never)]
     pub fn step(&mut self, event: Event) -> Result<Vec<Output>, StepFault>
-        ensures ok { IfOk result (λ outputs. IsStep self.old.config (state_of_node self.old) event
-            (state_of_node self.new) outputs.items) }
-        ensures fault { IsStepFault self.old.config (state_of_node self.old) event
-            (state_of_node self.new)
+        ensures ok { IfOk result (λ outputs. IsStep self.old.config (state_of_device self.old) event
+            (state_of_device self.new) outputs.items) }
+        ensures fault { IsStepFault self.old.config (state_of_device self.old) event
+            (state_of_device self.new)
             result }
         ensures config { self.new.config ≡ self.old.config }
     {

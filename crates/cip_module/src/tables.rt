@@ -82,7 +82,7 @@ pub struct HopRow {
     pub up: HopUp,
     pub down: HopDown,
     pub ids: OwnIds,
-    /// The O to T id of the node below; None at an end.
+    /// The O to T id of the device below; None at an end.
     pub their_id: Option<u32>,
     /// The path as it was received.
     pub path: Path,

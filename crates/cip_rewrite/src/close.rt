@@ -11,7 +11,7 @@ use cip_close::{CLOSE_FIXED_PART, CLOSE_RESERVED, CLOSE_TICKS, CLOSE_WORDS};
 use cip_message::{MANAGER_HEADER, data_place};
 
 // The fixed part as it goes on, before a path of so many words.
-fn lower(message: &mut [u8], words: u8)
+fn edit_forwarded(message: &mut [u8], words: u8)
     requires fixed { MANAGER_HEADER + CLOSE_FIXED_PART ≤ length message.old }
     requires ticks { 1 ≤ slice_index message.old (MANAGER_HEADER + CLOSE_TICKS) }
     ensures { (s w x : ℕ) (c : Close) → message.old ≡ manager_bytes s (close_layout w x c)
@@ -38,5 +38,5 @@ pub fn forward_close_bytes(bytes: &mut Vec<u8>)
 {
     let start = data_place(bytes);
     let words = shorten(bytes, start, CLOSE_FIXED_PART);
-    lower(bytes, words);
+    edit_forwarded(bytes, words);
 }

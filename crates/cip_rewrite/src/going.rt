@@ -22,7 +22,7 @@ fn left_behind(bytes: &[u8], start: usize, fixed: usize) -> usize
 }
 
 /// Brings so many bytes from one place to another before it.
-pub(crate) fn bring(bytes: &mut [u8], from: usize, count: usize, to: usize)
+pub(crate) fn move_forward(bytes: &mut [u8], from: usize, count: usize, to: usize)
     requires before { to ≤ from }
     requires within { from + count ≤ length bytes.old }
     ensures { bytes.new ≡ copy_within bytes.old from (from + count) to }
@@ -34,7 +34,7 @@ pub(crate) fn bring(bytes: &mut [u8], from: usize, count: usize, to: usize)
 
 // Brings what goes on to the front: the header, `fixed` bytes from `start`, and the last `left`
 // bytes. Each byte moves once at most.
-fn close_up(bytes: &mut [u8], start: usize, fixed: usize, left: usize)
+fn compact(bytes: &mut [u8], start: usize, fixed: usize, left: usize)
     requires header { MANAGER_HEADER ≤ start }
     requires within { start + fixed + left ≤ length bytes.old }
     ensures len { length bytes.new ≡ length bytes.old }
@@ -42,7 +42,7 @@ fn close_up(bytes: &mut [u8], start: usize, fixed: usize, left: usize)
         ≡ manager_bytes (slice_index bytes.old 0) (take fixed (drop start bytes.old)
         ++ drop (length bytes.old - left) bytes.old) }
 {
-    bring(bytes, start, fixed, MANAGER_HEADER);
+    move_forward(bytes, start, fixed, MANAGER_HEADER);
     let rest = bytes.len() - left;
     bytes.copy_within(rest.., MANAGER_HEADER + fixed);
     set_manager_header(bytes);
@@ -61,7 +61,7 @@ pub(crate) fn shorten(bytes: &mut Vec<u8>, start: usize, fixed: usize) -> u8
     ensures room { vec_capacity bytes.new ≡ vec_capacity bytes.old }
 {
     let left = left_behind(bytes, start, fixed);
-    close_up(bytes, start, fixed, left);
+    compact(bytes, start, fixed, left);
     bytes.truncate(MANAGER_HEADER + fixed + left);
     (left / 2) as u8
 }

@@ -12,7 +12,7 @@ use cip_message::{MANAGER_HEADER, data_place};
 use cip_open::{OPEN_FIXED_PART, OPEN_RESERVED, OPEN_TICKS, OPEN_TO_ID, OPEN_WORDS};
 
 // The fixed part as it goes on, before a path of so many words.
-fn lower(message: &mut [u8], down_id: u32, words: u8)
+fn edit_forwarded(message: &mut [u8], down_id: u32, words: u8)
     requires fixed { MANAGER_HEADER + OPEN_FIXED_PART ≤ length message.old }
     requires ticks { 1 ≤ slice_index message.old (MANAGER_HEADER + OPEN_TICKS) }
     ensures { (s x y z w : ℕ) (o : Open) → message.old ≡ manager_bytes s (open_layout x y z w o)
@@ -42,5 +42,5 @@ pub fn forward_open_bytes(bytes: &mut Vec<u8>, down_id: u32)
 {
     let start = data_place(bytes);
     let words = shorten(bytes, start, OPEN_FIXED_PART);
-    lower(bytes, down_id, words);
+    edit_forwarded(bytes, down_id, words);
 }

@@ -11,7 +11,7 @@ use cip_message::{REPLY_HEADER, REPLY_RESERVED};
 use cip_open::{SUCCESS_FIXED_PART, SUCCESS_OT_ID, SUCCESS_RESERVED, SUCCESS_TO_ID};
 
 // The same reply with these ids.
-fn raise(message: &mut [u8], up_id: u32, their_id: u32)
+fn edit_returned(message: &mut [u8], up_id: u32, their_id: u32)
     requires { REPLY_HEADER + SUCCESS_FIXED_PART ≤ length message.old }
     ensures { (x y w : ℕ) (s : OpenSuccess)
         → message.old ≡ reply_layout x (done_with FORWARD_OPEN_REPLY (open_reply_layout w y s))
@@ -35,5 +35,5 @@ pub fn success_up_bytes(bytes: &mut Vec<u8>, up_id: u32, their_id: u32)
         → bytes.new.items ≡ success_with s up_id their_id }
     ensures room { vec_capacity bytes.new ≡ vec_capacity bytes.old }
 {
-    raise(bytes, up_id, their_id);
+    edit_returned(bytes, up_id, their_id);
 }

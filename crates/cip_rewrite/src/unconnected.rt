@@ -9,7 +9,7 @@ ghost use Rattle.cip_message.specs.Numbers.{word_in};
 ghost use Rattle.cip_unconnected.specs.Unconnected.{Unconnected, unconnected_layout, unconnected_bytes};
 ghost use Rattle.cip_unconnected.specs.GoesOn.{lowered, IsSendGoingOn};
 
-use crate::going::{bring, shorten};
+use crate::going::{move_forward, shorten};
 use cip_message::{MANAGER_HEADER, data_place};
 use cip_unconnected::{UNCONNECTED_REQUEST, UNCONNECTED_TICKS, request_size};
 
@@ -39,7 +39,7 @@ fn lower_end(end: &mut [u8], size: usize, words: u8)
 
 // All before the route as it goes on, around a request of so many bytes and before a route of so
 // many words.
-fn lower(message: &mut [u8], size: usize, words: u8)
+fn edit_forwarded(message: &mut [u8], size: usize, words: u8)
     requires whole { MANAGER_HEADER + UNCONNECTED_REQUEST + size + size % 2 + 2
         ≤ length message.old }
     requires ticks { 1 ≤ slice_index message.old (MANAGER_HEADER + UNCONNECTED_TICKS) }
@@ -74,7 +74,7 @@ pub fn forward_unconnected_bytes(bytes: &mut Vec<u8>)
     let start = data_place(bytes);
     let size = embedded_size(bytes, start);
     let words = shorten(bytes, start, UNCONNECTED_REQUEST + size + size % 2 + 2);
-    lower(bytes, size, words);
+    edit_forwarded(bytes, size, words);
 }
 
 /// The request that an Unconnected_Send carries, its bytes as they stand, in the buffer in which
@@ -92,6 +92,6 @@ pub fn unwrap_bytes(bytes: &mut Vec<u8>)
 {
     let start = data_place(bytes);
     let size = embedded_size(bytes, start);
-    bring(bytes, start + UNCONNECTED_REQUEST, size, 0);
+    move_forward(bytes, start + UNCONNECTED_REQUEST, size, 0);
     bytes.truncate(size);
 }

@@ -8,7 +8,7 @@ use Rattle.cip_base.specs.declared.numbers.ModuleId.{ModuleId}
 use Rattle.cip_module.specs.declared.config.ModuleSettings.{ModuleSettings}
 use Rattle.cip_module.specs.declared.event.Event.{Event}
 use Rattle.cip_module.specs.declared.event.Output.{Output}
-use Rattle.cip_module.specs.Histories.{Turn, IsHistory, state_after, next_state}
+use Rattle.cip_laws.specs.Histories.{Turn, IsHistory, state_after, next_state}
 use Rattle.cip_module.specs.Table.{table_step}
 use Rattle.cip_topology.specs.Plan.{Plan}
 use Rattle.cip_topology.specs.Nodes.{Way, across as goes}

@@ -7,7 +7,7 @@ use Rattle.cip_base.specs.declared.numbers.ModuleId.{ModuleId}
 use Rattle.cip_module.specs.declared.config.ModuleSettings.{ModuleSettings}
 use Rattle.cip_module.specs.declared.event.Output.{Output}
 use Rattle.cip_module.specs.declared.tables.Tables.{Tables}
-use Rattle.cip_module.specs.Histories.{Turn, IsHistory, state_after}
+use Rattle.cip_laws.specs.Histories.{Turn, IsHistory, state_after}
 use Rattle.cip_module.specs.Views.{ShowsState}
 use Rattle.cip_topology.specs.Plan.{Plan}
 use Rattle.cip_world.specs.declared.journal.Entry.{Entry}

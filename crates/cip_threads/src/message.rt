@@ -1,6 +1,6 @@
 //! What a worker sends at its end.
 ghost use Rattle.std.specs.Prelude.{◌≡◌, IfSome, IsTrue, reverse, map};
-ghost use Rattle.cip_module.specs.Histories.{IsHistory, state_after};
+ghost use Rattle.cip_laws.specs.Histories.{IsHistory, state_after};
 ghost use Rattle.cip_module.specs.Views.{ShowsState};
 ghost use Rattle.cip_world.specs.Journals.{part};
 ghost use Rattle.cip_threads.specs.Messages.{turns_of};

@@ -12,7 +12,7 @@ use crate::report::{CompareFault, Report, RunFault, Waiting};
 use crate::state::{BookState, Finished, copy_feeds};
 use crate::worker::{Ended, Post, Shared};
 use cip_base::{ModuleId, NoMemory};
-use cip_clock::ClockFull;
+use cip_clock::{ClockFull, LAST};
 use cip_module::{Module, ModuleConfig, Tables};
 use cip_topology::Topology;
 use cip_world::{Entry, NewFault, check_fresh};
@@ -21,9 +21,6 @@ use std::alloc::Global;
 use std::sync::Wait;
 use std::thread;
 use std::thread::Threads;
-
-// The time stays below this, in microseconds.
-const LAST: u64 = 1 << 63;
 
 // Starts a worker for each module, and waits for all of them. The first of them that failed says
 // how it ended.
@@ -178,12 +175,12 @@ fn time_after(config: &ModuleConfig, feeds: &[(ModuleId, Feed)], m: usize) -> Op
 {
     let mut now = config.settings().clock;
     for i in 0..feeds.len() {
-        if now >= LAST {
+        if now > LAST {
             return None;
         }
         now = time_with(now, &feeds[i], m);
     }
-    if now >= LAST {
+    if now > LAST {
         return None;
     }
     Some(now)

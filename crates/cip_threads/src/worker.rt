@@ -10,7 +10,7 @@ use crate::shelf::Done;
 use crate::state::CommitFault;
 use cip_base::{ModuleId, NoMemory};
 use cip_module::{Event, Module, Output, StepFault};
-use cip_world::Outputs;
+use cip_world::{Outputs, is_fresh};
 use crossbeam_channel::Sender;
 use std::alloc::Global;
 use std::sync::Wait;
@@ -35,15 +35,6 @@ fn copy_outputs(alloc: Global, outputs: &[Output]) -> Result<Vec<Output>, NoMemo
         copies.push(copy)?;
     }
     Ok(copies)
-}
-
-// Whether the module is in its first state.
-fn is_fresh(alloc: Global, boxed: &Box<dyn Module + Send>) -> Result<bool, NoMemory>
-    ensures { IfOk result
-        (λ fresh. IsTrue fresh ↔ (state_of boxed.now ≡ initial_state (config_of boxed.now))) }
-{
-    let tables = boxed.tables()?;
-    tables.are_first(alloc, boxed.config())
 }
 
 // One step of the module, kept in the history. Its outputs come back as a copy.

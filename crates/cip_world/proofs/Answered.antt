@@ -13,23 +13,23 @@ use Rattle.cip_module.specs.declared.event.Output.{Output}
 use Rattle.cip_module.specs.declared.event.Output.TheVariants as outputs
 use Rattle.cip_module.specs.declared.event.Body.{Body}
 use Rattle.cip_module.specs.Table.{table_step}
-use Rattle.cip_module.proofs.AskedBy.{Waits, taken_waits}
+use Rattle.cip_laws.proofs.AskedBy.{Waits, taken_waits}
 use Rattle.cip_world.specs.declared.journal.Input.{Input}
 use Rattle.cip_world.specs.declared.journal.FrameName.{FrameName}
-use Rattle.cip_module.specs.Histories.{next_state}
+use Rattle.cip_laws.specs.Histories.{next_state}
 use Rattle.cip_topology.specs.Nodes.{Way, across as goes}
 use Rattle.cip_world.specs.Journals.{Journal, Flight, part}
 use Rattle.cip_world.specs.Answers.{Answered}
 use Rattle.cip_world.specs.Runs.{IsModule, IsArrival, state_in, IsStepAt, IsRun}
 use Rattle.cip_world.proofs.Chassis.{Chassis}
-use Rattle.cip_module.specs.Weights.{mark, is_reply, weight}
-use Rattle.cip_module.specs.Words.{Has, Came, Gave}
+use Rattle.cip_laws.specs.Weights.{mark, is_reply, weight}
+use Rattle.cip_laws.specs.Turns.{Has, Came, Gave}
 use Rattle.cip_world.proofs.Arrivals.{way_in, Brought, arrives, came_brought, counted_came, one_request, name_eq}
 use Rattle.cip_world.proofs.Frames.{out_of, frame_gave, sender, one_frame}
 use Rattle.cip_world.proofs.Parts.{step_here}
 use Rattle.cip_world.proofs.Replies.{replied_once, replied_after}
-use Rattle.cip_module.proofs.Turns.{turned}
-use Rattle.cip_module.proofs.Weighing.{weight_gave}
+use Rattle.cip_laws.proofs.Turns.{turned}
+use Rattle.cip_laws.proofs.Weighing.{weight_gave}
 
 -- what a module takes waited: it does not drop the reply
 pub taken_waited : (t : Chassis) (j : Journal) (m port n : ℕ) (from bytes : List ℕ) (input : Input) (outs : List Output) (s : IsStepAt t.plan j m input outs)

@@ -11,23 +11,23 @@ use Rattle.cip_module.specs.declared.event.Command.TheVariants as commands
 use Rattle.cip_module.specs.declared.event.Event.{Event}
 use Rattle.cip_module.specs.declared.event.Event.TheVariants as events
 use Rattle.cip_module.specs.declared.event.Output.{Output}
-use Rattle.cip_module.specs.Tells.{asker}
+use Rattle.cip_laws.specs.Tells.{asker}
 use Rattle.cip_base.specs.declared.numbers.ModuleId.{ModuleId}
 use Rattle.cip_world.specs.declared.journal.Input.{Input}
 use Rattle.cip_world.specs.declared.journal.Input.TheVariants as inputs
 use Rattle.cip_world.specs.declared.journal.Entry.{Entry}
 use Rattle.cip_world.specs.declared.journal.Entry.TheVariants.{Step, Lost}
 use Rattle.cip_world.specs.declared.journal.FrameName.{FrameName}
-use Rattle.cip_module.specs.Histories.{Turn}
+use Rattle.cip_laws.specs.Histories.{Turn}
 use Rattle.cip_topology.specs.Nodes.{Way, across as goes}
 use Rattle.cip_world.specs.Journals.{Journal, Flight, frame_at, same_name, names, is_named, part}
 use Rattle.cip_world.specs.Runs.{IsArrival, IsGiven, IsStepAt, IsRun}
 use Rattle.cip_world.proofs.Chassis.{Chassis}
-use Rattle.cip_module.specs.Weights.{mark, same_up, is_to, is_asked_by, is_request, came}
-use Rattle.cip_module.specs.Words.{Came}
+use Rattle.cip_laws.specs.Weights.{mark, same_up, is_to, is_asked_by, is_request, came}
+use Rattle.cip_laws.specs.Turns.{Came}
 use Rattle.cip_world.proofs.Parts.{part_step, some_here, run_history}
 use Rattle.cip_world.proofs.Frames.{out_of, frame_older, sender, one_frame}
-use Rattle.cip_module.proofs.Numbers.{sent_once}
+use Rattle.cip_laws.proofs.Numbers.{sent_once}
 
 -- the way by which frames come to a module by a port from an address
 abbrev pub way_in : ℕ → ℕ → List ℕ → Way

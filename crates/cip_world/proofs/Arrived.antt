@@ -26,17 +26,17 @@ use Rattle.cip_module.specs.declared.event.Event.{Event}
 use Rattle.cip_module.specs.declared.event.Event.TheVariants as events
 use Rattle.cip_module.specs.declared.event.Output.{Output}
 use Rattle.cip_module.specs.declared.event.Output.TheVariants as outputs
-use Rattle.cip_module.specs.Births.{Past, IsBirth}
-use Rattle.cip_module.specs.Histories.{IsHistory}
-use Rattle.cip_module.specs.Outputs.{DatumOf, GoesUp, Arrives, GoesDown, IsConsumed}
+use Rattle.cip_laws.specs.Births.{Past, IsBirth}
+use Rattle.cip_laws.specs.Histories.{IsHistory}
+use Rattle.cip_laws.specs.Outputs.{DatumOf, GoesUp, Arrives, GoesDown, IsConsumed}
 use Rattle.cip_module.specs.Produced.{reads_from}
 use Rattle.cip_module.specs.State.{State}
 use Rattle.cip_module.specs.Table.{table_step}
-use Rattle.cip_module.specs.Weights.{mark, weight_in}
-use Rattle.cip_module.proofs.Births.{born_once}
-use Rattle.cip_module.proofs.Triads.{HasOwnTriads, own_triads}
-use Rattle.cip_module.proofs.Turns.{turned}
-use Rattle.cip_module.proofs.Weighing.{one_place}
+use Rattle.cip_laws.specs.Weights.{mark, weight_in}
+use Rattle.cip_laws.proofs.Births.{born_once}
+use Rattle.cip_laws.proofs.Triads.{HasOwnTriads, own_triads}
+use Rattle.cip_laws.proofs.Turns.{turned}
+use Rattle.cip_laws.proofs.Weighing.{one_place}
 use Rattle.cip_topology.specs.Nodes.{Way}
 use Rattle.cip_world.specs.declared.journal.Entry.TheVariants.{Step}
 use Rattle.cip_world.specs.declared.journal.FrameName.{FrameName}

@@ -11,13 +11,13 @@ use Rattle.cip_hops.specs.Hops.{opening_of, ids_of}
 use Rattle.cip_target.specs.declared.link.EndLink.{EndLink}
 use Rattle.cip_module.specs.declared.config.ModuleSettings.{ModuleSettings}
 use Rattle.cip_module.specs.declared.event.Event.{Event}
-use Rattle.cip_module.specs.Births.{opened_by, or_else, first_opened, Past, IsBirth}
+use Rattle.cip_laws.specs.Births.{opened_by, or_else, first_opened, Past, IsBirth}
 use Rattle.cip_module.specs.Effects.{Effect, Sending, Begins, Accepts}
-use Rattle.cip_module.specs.Histories.{Turn, state_after, IsHistory}
+use Rattle.cip_laws.specs.Histories.{Turn, state_after, IsHistory}
 use Rattle.cip_module.specs.State.{State}
-use Rattle.cip_module.specs.Tells.{Tells, AllTell, BeginsAs, AcceptsAs}
-use Rattle.cip_module.proofs.Births.{held_born}
-use Rattle.cip_module.proofs.Turns.{newest}
+use Rattle.cip_laws.specs.Tells.{Tells, AllTell, BeginsAs, AcceptsAs}
+use Rattle.cip_laws.proofs.Births.{held_born}
+use Rattle.cip_laws.proofs.Turns.{newest}
 
 -- an event that it was born by
 pub data BornAs (config : ModuleSettings) (s : State) (event : Event) (o : Opening) : Type 0 where

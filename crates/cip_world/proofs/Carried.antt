@@ -24,7 +24,7 @@ use Rattle.cip_hops.specs.Sides.{up_is}
 use Rattle.cip_hops.specs.Hops.{as_hop, is_hop, is_id, is_hop_by_up, hop_by_up, hop_by_op}
 use Rattle.cip_hops.proofs.Steps.{triads_apart}
 use Rattle.cip_module.specs.declared.config.ModuleSettings.{ModuleSettings}
-use Rattle.cip_module.specs.declared.command_rows.CommandRow.TheVariants as rows
+use Rattle.cip_module.specs.declared.command.rows.CommandRow.TheVariants as rows
 use Rattle.cip_module.specs.declared.event.Body.{Body}
 use Rattle.cip_module.specs.declared.event.Body.TheVariants as bodies
 use Rattle.cip_module.specs.declared.event.Command.TheVariants as commands
@@ -32,16 +32,16 @@ use Rattle.cip_module.specs.declared.event.Event.TheVariants as events
 use Rattle.cip_module.specs.declared.event.Output.{Output}
 use Rattle.cip_module.specs.declared.event.Output.TheVariants as outputs
 use Rattle.cip_module.specs.declared.event.Refused.TheVariants as refused
-use Rattle.cip_module.specs.Changes.{SameCore}
+use Rattle.cip_laws.specs.Changes.{SameCore}
 use Rattle.cip_module.specs.Config.{port_of}
 use Rattle.cip_module.specs.Effects.{outputs_of, datum_down, datum_by}
 use Rattle.cip_module.specs.State.{State}
 use Rattle.cip_module.specs.Table.{refused_effects, entered_effects, enter_effects, table_step}
-use Rattle.cip_module.specs.Words.{Has}
-use Rattle.cip_module.proofs.Births.{held_born, born_once}
-use Rattle.cip_module.proofs.DataMet.{goes_down, goes_entered}
-use Rattle.cip_module.proofs.Triads.{HasOwnTriads, own_triads}
-use Rattle.cip_module.proofs.Turns.{Turned, turned}
+use Rattle.cip_laws.specs.Turns.{Has}
+use Rattle.cip_laws.proofs.Births.{held_born, born_once}
+use Rattle.cip_laws.proofs.DataMet.{goes_down, goes_entered}
+use Rattle.cip_laws.proofs.Triads.{HasOwnTriads, own_triads}
+use Rattle.cip_laws.proofs.Turns.{Turned, turned}
 use Rattle.cip_topology.specs.Plan.{Plan}
 use Rattle.cip_topology.specs.Nodes.{Way, across as goes}
 use Rattle.cip_world.specs.declared.journal.Entry.TheVariants.{Step}

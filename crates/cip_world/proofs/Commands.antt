@@ -14,7 +14,7 @@ use Rattle.cip_hops.specs.declared.hop.Held.{Held}
 use Rattle.cip_hops.specs.declared.hop.Hop.{Hop}
 use Rattle.cip_hops.specs.Hops.{opening_of, ids_of, hop_by_op}
 use Rattle.cip_module.specs.declared.config.ModuleSettings.{ModuleSettings}
-use Rattle.cip_module.specs.declared.command_rows.CommandRow.TheVariants as rows
+use Rattle.cip_module.specs.declared.command.rows.CommandRow.TheVariants as rows
 use Rattle.cip_module.specs.declared.event.Command.{Command}
 use Rattle.cip_module.specs.declared.event.Command.TheVariants as commands
 use Rattle.cip_module.specs.declared.event.Event.{Event}
@@ -23,18 +23,18 @@ use Rattle.cip_module.specs.declared.event.OpenParams.{OpenParams}
 use Rattle.cip_module.specs.declared.event.Output.{Output}
 use Rattle.cip_module.specs.declared.event.Output.TheVariants as outputs
 use Rattle.cip_module.specs.declared.event.Refused.{Refused}
-use Rattle.cip_module.specs.Births.{Past}
+use Rattle.cip_laws.specs.Births.{Past}
 use Rattle.cip_module.specs.CommandRows.{enter_row}
 use Rattle.cip_module.specs.Effects.{applied}
-use Rattle.cip_module.specs.Histories.{Turn, state_after, IsHistory}
+use Rattle.cip_laws.specs.Histories.{Turn, state_after, IsHistory}
 use Rattle.cip_module.specs.OpenRows.{opening_with}
-use Rattle.cip_module.specs.Outputs.{EndedBy, ByTimeOut, ByRefusal, ByDrop}
+use Rattle.cip_laws.specs.Outputs.{EndedBy, ByTimeOut, ByRefusal, ByDrop}
 use Rattle.cip_module.specs.State.{State, is_spent}
-use Rattle.cip_module.specs.Table.{opener, open_of}
-use Rattle.cip_module.specs.Tells.{AsksOpen, command_row, refused_by}
-use Rattle.cip_module.proofs.GaveBy.{gave_by}
-use Rattle.cip_module.proofs.GivenBy.{ended_by}
-use Rattle.cip_module.proofs.Turns.{newest}
+use Rattle.cip_module.specs.Table.{up_side_of, open_of}
+use Rattle.cip_laws.specs.Tells.{AsksOpen, command_row, refused_by}
+use Rattle.cip_laws.proofs.GaveBy.{gave_by}
+use Rattle.cip_laws.proofs.GivenBy.{ended_by}
+use Rattle.cip_laws.proofs.Turns.{newest}
 use Rattle.cip_topology.specs.Plan.{Plan}
 use Rattle.cip_world.specs.declared.journal.Entry.TheVariants.{Step, Lost}
 use Rattle.cip_world.specs.declared.journal.Input.{Input}
@@ -121,13 +121,13 @@ pub record Spelled (config : ModuleSettings) (s : State) (event : Event) (op : �
 
 asked_so : (config : ModuleSettings) (s : State) (event : Event) (op : ℕ) (o : Opening) (up : UpSide) (request : OpenRequest) (down : HopDown)
     → AsksOpen config s event up request
-    → o ≡ opening_with (opener up request.fields.to_id) down request → o.up ≡ UpLocal op → Spelled config s event op o
+    → o ≡ opening_with (up_side_of up request.fields.to_id) down request → o.up ≡ UpLocal op → Spelled config s event op o
 asked_so config s event op o up request down (inl c) is local =
     let no : UpLink c.came.port c.came.from request.fields.to_id ≡ UpLocal op =
-    ap (λ (u : UpSide). opener u request.fields.to_id) (sym c.came.up_is) ∙ sym (ap (λ (x : Opening). x.up) is) ∙ local in
+    ap (λ (u : UpSide). up_side_of u request.fields.to_id) (sym c.came.up_is) ∙ sym (ap (λ (x : Opening). x.up) is) ∙ local in
     absurd (cc)
 asked_so config s event op o up request down (inr c) is local =
-    let both : UpLocal c.op ≡ UpLocal op = ap (λ (u : UpSide). opener u request.fields.to_id) (sym c.up_is) ∙ sym (ap (λ (x : Opening). x.up) is) ∙ local in
+    let both : UpLocal c.op ≡ UpLocal op = ap (λ (u : UpSide). up_side_of u request.fields.to_id) (sym c.up_is) ∙ sym (ap (λ (x : Opening). x.up) is) ∙ local in
     let same : c.op ≡ op = cc in
     record {
       timing = c.timing;

@@ -19,13 +19,13 @@ use Rattle.cip_target.specs.declared.link.EndLink.{EndLink}
 use Rattle.cip_module.specs.declared.event.Command.TheVariants as commands
 use Rattle.cip_module.specs.declared.event.Output.{Output}
 use Rattle.cip_module.specs.declared.event.Output.TheVariants as outputs
-use Rattle.cip_module.specs.Outputs.{is_datum, DatumOf, GoesUp, Arrives, GoesDown, IsConsumed}
-use Rattle.cip_module.specs.Histories.{IsHistory}
+use Rattle.cip_laws.specs.Outputs.{is_datum, DatumOf, GoesUp, Arrives, GoesDown, IsConsumed}
+use Rattle.cip_laws.specs.Histories.{IsHistory}
 use Rattle.cip_module.specs.State.{State}
-use Rattle.cip_module.specs.Words.{Has}
+use Rattle.cip_laws.specs.Turns.{Has}
 use Rattle.cip_module.proofs.Found.{found_own}
 use Rattle.cip_module.proofs.Removed.{open_at}
-use Rattle.cip_module.proofs.Triads.{own_triads}
+use Rattle.cip_laws.proofs.Triads.{own_triads}
 use Rattle.cip_topology.specs.Walk.{walk}
 use Rattle.cip_topology.proofs.Walks.{walk_ends}
 use Rattle.cip_topology.specs.Plan.{Plan}

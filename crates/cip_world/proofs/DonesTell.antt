@@ -16,11 +16,11 @@ use Rattle.cip_module.specs.declared.event.Command.TheVariants as commands
 use Rattle.cip_module.specs.declared.event.Event.{Event}
 use Rattle.cip_module.specs.declared.event.Event.TheVariants as events
 use Rattle.cip_module.specs.declared.event.Output.TheVariants as outputs
-use Rattle.cip_module.specs.Births.{Past}
-use Rattle.cip_module.specs.Histories.{Turn}
+use Rattle.cip_laws.specs.Births.{Past}
+use Rattle.cip_laws.specs.Histories.{Turn}
 use Rattle.cip_module.specs.Table.{open_of, sent, words_of}
-use Rattle.cip_module.specs.Tells.{asker, command_asker}
-use Rattle.cip_module.specs.Words.{Has, Some_turn, Gave}
+use Rattle.cip_laws.specs.Tells.{asker, command_asker}
+use Rattle.cip_laws.specs.Turns.{Has, SomeTurn, Gave}
 use Rattle.cip_topology.specs.Plan.{Plan}
 use Rattle.cip_topology.proofs.Walks.{walk_ends}
 use Rattle.cip_world.specs.Journals.{Journal, entry_at, part}
@@ -41,7 +41,7 @@ use Rattle.cip_world.proofs.WordsFall.{trail_falls, only_one}
 
 -- ---- who asked for a Done
 
-some_past : (P : Turn → Type 0) (turns : List Turn) → Some_turn P turns → Past (λ before turn. P turn) turns
+some_past : (P : Turn → Type 0) (turns : List Turn) → SomeTurn P turns → Past (λ before turn. P turn) turns
 some_past P [] h = absurd h
 some_past P (turn ∷ turns) (inl h) = inl h
 some_past P (turn ∷ turns) (inr h) = inr (some_past P turns h)

@@ -12,9 +12,9 @@ use Rattle.cip_module.specs.declared.event.Body.TheVariants as bodies
 use Rattle.cip_module.specs.declared.event.Command.TheVariants as commands
 use Rattle.cip_module.specs.declared.event.Event.TheVariants as events
 use Rattle.cip_module.specs.declared.event.Output.{Output}
-use Rattle.cip_module.specs.Outputs.{is_data}
-use Rattle.cip_module.specs.Tells.{DatumCame}
-use Rattle.cip_module.proofs.Triads.{own_triads}
+use Rattle.cip_laws.specs.Outputs.{is_data}
+use Rattle.cip_laws.specs.Tells.{DatumCame}
+use Rattle.cip_laws.proofs.Triads.{own_triads}
 use Rattle.cip_topology.specs.Walk.{walk}
 use Rattle.cip_world.specs.declared.journal.Entry.TheVariants.{Step}
 use Rattle.cip_world.specs.declared.journal.FrameName.{FrameName}

@@ -3,9 +3,9 @@ use Rattle.std.proofs.Common.{◌≡◌, ℕ, ◌≤◌, List, [], ◌∷◌, So
 use Rattle.std.specs.Prelude.{slice_get}
 use Rattle.cip_base.specs.declared.numbers.ModuleId.{ModuleId}
 use Rattle.cip_module.specs.declared.event.Output.{Output}
-use Rattle.cip_module.specs.Births.{Past}
-use Rattle.cip_module.specs.Histories.{Turn, state_after, IsHistory}
-use Rattle.cip_module.proofs.Turns.{Turned, newest}
+use Rattle.cip_laws.specs.Births.{Past}
+use Rattle.cip_laws.specs.Histories.{Turn, state_after, IsHistory}
+use Rattle.cip_laws.proofs.Turns.{Turned, newest}
 use Rattle.cip_topology.specs.Plan.{Plan}
 use Rattle.cip_world.specs.declared.journal.Entry.{Entry}
 use Rattle.cip_world.specs.declared.journal.Entry.TheVariants.{Step, Lost}

@@ -11,10 +11,10 @@ use Rattle.cip_world.specs.declared.journal.FrameName.{FrameName}
 use Rattle.cip_topology.specs.Plan.{Plan}
 use Rattle.cip_world.specs.Journals.{Journal, Flight, flight_of, entry_at, sent_by, frame_at, part}
 use Rattle.cip_world.specs.Runs.{IsModule, IsRun}
-use Rattle.cip_module.specs.Weights.{weight}
-use Rattle.cip_module.specs.Words.{Has, Gave}
+use Rattle.cip_laws.specs.Weights.{weight}
+use Rattle.cip_laws.specs.Turns.{Has, Gave}
 use Rattle.cip_world.proofs.Parts.{part_here, older, heavier}
-use Rattle.cip_module.proofs.Weighing.{weight_at, weight_gave, one_place}
+use Rattle.cip_laws.proofs.Weighing.{weight_at, weight_gave, one_place}
 
 -- the output that a frame was
 abbrev pub out_of : Flight → Output

@@ -8,7 +8,7 @@ use Rattle.cip_module.specs.Paired.{IsPaired}
 use Rattle.cip_module.specs.Rooms.{HasRooms}
 use Rattle.cip_module.specs.State.{State, initial_state}
 use Rattle.cip_module.specs.Views.{ShowsState}
-use Rattle.cip_module.proofs.Shown.{fresh}
+use Rattle.cip_laws.proofs.Shown.{fresh}
 use Rattle.cip_world.specs.Fresh.{DifferFirst}
 use Rattle.cip_world.proofs.Delivered.{got_within, some_same}
 use Rattle.cip_world.proofs.StepAt.{slice_get-map}

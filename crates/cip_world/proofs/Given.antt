@@ -23,25 +23,25 @@ use Rattle.cip_module.specs.declared.event.Command.TheVariants as commands
 use Rattle.cip_module.specs.declared.event.Event.{Event}
 use Rattle.cip_module.specs.declared.event.Event.TheVariants as events
 use Rattle.cip_module.specs.declared.event.Output.{Output}
-use Rattle.cip_module.specs.Changes.{SameCore}
-use Rattle.cip_module.specs.EffectLists.{Stands}
+use Rattle.cip_laws.specs.Changes.{SameCore}
+use Rattle.cip_laws.specs.EffectLists.{Stands}
 use Rattle.cip_module.specs.Effects.{Passes, applied, datum_up, datum_by}
-use Rattle.cip_module.specs.Histories.{Turn, state_after, IsHistory}
-use Rattle.cip_module.specs.Outputs.{GaveBy, is_datum, PassedBy, DatumOf}
+use Rattle.cip_laws.specs.Histories.{Turn, state_after, IsHistory}
+use Rattle.cip_laws.specs.Outputs.{GaveBy, is_datum, PassedBy, DatumOf}
 use Rattle.cip_module.specs.Produced.{datum_bytes}
 use Rattle.cip_module.specs.State.{State}
 use Rattle.cip_module.specs.Table.{other}
-use Rattle.cip_module.specs.Tells.{Tells, DatumCame, Produced, PassesAs, PassedOn, Entered, Made}
-use Rattle.cip_module.specs.Words.{Has}
-use Rattle.cip_module.proofs.DataOnce.{datum_of}
+use Rattle.cip_laws.specs.Tells.{Tells, DatumCame, Produced, PassesAs, PassedOn, Entered, Made}
+use Rattle.cip_laws.specs.Turns.{Has}
+use Rattle.cip_laws.proofs.DataOnce.{datum_of}
 use Rattle.cip_module.proofs.Found.{found_own}
-use Rattle.cip_module.proofs.GaveBy.{gave_by}
-use Rattle.cip_module.proofs.PassedBy.{passed_by}
+use Rattle.cip_laws.proofs.GaveBy.{gave_by}
+use Rattle.cip_laws.proofs.PassedBy.{passed_by}
 use Rattle.cip_module.proofs.Removed.{open_at}
-use Rattle.cip_module.proofs.Standing.{all_stand}
-use Rattle.cip_module.proofs.TellsStand.{passing, passes_stands}
-use Rattle.cip_module.proofs.Triads.{HasOwnTriads, own_triads}
-use Rattle.cip_module.proofs.Turns.{Turned, newest}
+use Rattle.cip_laws.proofs.Standing.{all_stand}
+use Rattle.cip_laws.proofs.TellsStand.{passing, passes_stands}
+use Rattle.cip_laws.proofs.Triads.{HasOwnTriads, own_triads}
+use Rattle.cip_laws.proofs.Turns.{Turned, newest}
 
 -- from where a datum is given by a side of a connection: it came by the other side, it was entered by the op that opened, or an assembly made it
 pub data Source (s : State) (event : Event) (side : Side) (hop : Hop) (bytes : List ℕ) : Type 0 where

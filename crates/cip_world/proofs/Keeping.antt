@@ -8,13 +8,13 @@ use Rattle.cip_hops.specs.declared.hop.Held.{Held}
 use Rattle.cip_hops.specs.declared.hop.Held.TheVariants.{Opening as IsOpening, Open}
 use Rattle.cip_module.specs.declared.config.ModuleSettings.{ModuleSettings}
 use Rattle.cip_module.specs.declared.event.Output.{Output}
-use Rattle.cip_module.specs.Changes.{SameCore, HeldCase, Stands, Begun, Ended, Finished}
+use Rattle.cip_laws.specs.Changes.{SameCore, HeldCase, Stands, Begun, Ended, Finished}
 use Rattle.cip_module.specs.Effects.{Effect, apply, applied}
-use Rattle.cip_module.specs.Histories.{Turn, state_after, IsHistory}
+use Rattle.cip_laws.specs.Histories.{Turn, state_after, IsHistory}
 use Rattle.cip_module.specs.State.{State}
-use Rattle.cip_module.specs.Tells.{Tells}
-use Rattle.cip_module.proofs.Stands.{held_cases, same_self}
-use Rattle.cip_module.proofs.Turns.{Turned, newest, by_places}
+use Rattle.cip_laws.specs.Tells.{Tells}
+use Rattle.cip_laws.proofs.Stands.{held_cases, same_self}
+use Rattle.cip_laws.proofs.Turns.{Turned, newest, by_places}
 use Rattle.cip_topology.specs.Plan.{Plan}
 use Rattle.cip_world.specs.declared.journal.Entry.{Entry}
 use Rattle.cip_world.specs.declared.journal.Entry.TheVariants.{Step, Lost}

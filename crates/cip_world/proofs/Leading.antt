@@ -17,7 +17,7 @@ use Rattle.cip_module.specs.declared.config.ModuleSettings.{ModuleSettings}
 use Rattle.cip_module.specs.declared.config.PortConfig.{PortConfig}
 use Rattle.cip_module.specs.declared.event.Event.{Event}
 use Rattle.cip_module.specs.Config.{port_of}
-use Rattle.cip_module.specs.Histories.{Turn, state_after, IsHistory}
+use Rattle.cip_laws.specs.Histories.{Turn, state_after, IsHistory}
 use Rattle.cip_module.specs.OpenRows.{is_consumed}
 use Rattle.cip_module.specs.State.{State}
 use Rattle.cip_topology.specs.Plan.{Plan}

@@ -46,7 +46,6 @@ pub mod PutIn
 pub mod WaysBack
 pub mod OpensGo
 pub mod TrailSteps
-pub mod HopsShorten
 pub mod OpenTrails
 pub mod WordsFall
 pub mod SendsGo

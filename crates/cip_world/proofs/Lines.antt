@@ -10,14 +10,14 @@ use Rattle.cip_module.specs.declared.event.Command.TheVariants as commands
 use Rattle.cip_module.specs.declared.event.Event.{Event}
 use Rattle.cip_module.specs.declared.event.Event.TheVariants as events
 use Rattle.cip_module.specs.declared.event.Output.{Output}
-use Rattle.cip_module.specs.Outputs.{is_data, is_datum, one_datum}
+use Rattle.cip_laws.specs.Outputs.{is_data, is_datum, one_datum}
 use Rattle.cip_module.specs.State.{State}
 use Rattle.cip_module.specs.Table.{table_step}
-use Rattle.cip_module.specs.Weights.{mark, weight_in}
-use Rattle.cip_module.specs.Words.{Has}
-use Rattle.cip_module.proofs.DataOnce.{frame_once, enter_once}
-use Rattle.cip_module.proofs.Turns.{turned}
-use Rattle.cip_module.proofs.Weighing.{one_place}
+use Rattle.cip_laws.specs.Weights.{mark, weight_in}
+use Rattle.cip_laws.specs.Turns.{Has}
+use Rattle.cip_laws.proofs.DataOnce.{frame_once, enter_once}
+use Rattle.cip_laws.proofs.Turns.{turned}
+use Rattle.cip_laws.proofs.Weighing.{one_place}
 use Rattle.cip_topology.specs.Plan.{Plan}
 use Rattle.cip_world.specs.declared.journal.Entry.{Entry}
 use Rattle.cip_world.specs.declared.journal.Entry.TheVariants.{Step}

@@ -18,29 +18,29 @@ use Rattle.cip_module.specs.declared.event.Body.TheVariants as bodies
 use Rattle.cip_module.specs.declared.event.Event.TheVariants as events
 use Rattle.cip_module.specs.declared.event.Output.{Output}
 use Rattle.cip_module.specs.declared.event.Output.TheVariants as outputs
-use Rattle.cip_module.specs.Births.{Past, IsBirth}
-use Rattle.cip_module.specs.Histories.{Turn, state_after, IsHistory}
+use Rattle.cip_laws.specs.Births.{Past, IsBirth}
+use Rattle.cip_laws.specs.Histories.{Turn, state_after, IsHistory}
 use Rattle.cip_world.specs.Mirrors.{IsOlder, Mirrors, IsMirrored}
 use Rattle.cip_topology.specs.Nodes.{Way, across as goes}
 use Rattle.cip_world.specs.Journals.{Journal, Flight, part}
 use Rattle.cip_world.specs.Runs.{IsModule, state_in, IsRun}
-use Rattle.cip_module.specs.Weights.{is_request, weight_in, weight}
-use Rattle.cip_module.specs.Words.{Has, Some_turn, Came, Gave}
+use Rattle.cip_laws.specs.Weights.{is_request, weight_in, weight}
+use Rattle.cip_laws.specs.Turns.{Has, SomeTurn, Came, Gave}
 use Rattle.cip_world.proofs.Arrivals.{way_in, Brought, came_brought, request_weighs}
-use Rattle.cip_module.proofs.Births.{held_born, born_once}
+use Rattle.cip_laws.proofs.Births.{held_born, born_once}
 use Rattle.cip_world.proofs.Frames.{out_of, frame_gave, sender}
-use Rattle.cip_module.proofs.Joined.{OpenSent}
-use Rattle.cip_module.proofs.Numbers.{sent_once}
-use Rattle.cip_module.proofs.OpenedBelow.{HopOpened, hop_opened}
+use Rattle.cip_laws.proofs.Joined.{OpenSent}
+use Rattle.cip_laws.proofs.Numbers.{sent_once}
+use Rattle.cip_laws.proofs.OpenedBelow.{HopOpened, hop_opened}
 use Rattle.cip_world.proofs.Chassis.{Chassis}
 use Rattle.cip_world.proofs.Moments.{run_older, past_older}
 use Rattle.cip_world.proofs.Parts.{run_history}
 use Rattle.cip_world.proofs.Successes.{AllAsk, Below, below}
-use Rattle.cip_module.proofs.Weighing.{weight_has, weight_gave}
+use Rattle.cip_laws.proofs.Weighing.{weight_has, weight_gave}
 
 -- a past turn, with the way back to the whole
 pub past_in : (P : List Turn → Turn → Type 0) (F : Type 0) (turns : List Turn) → Past P turns
-    → ((earlier : List Turn) (turn : Turn) → P earlier turn → ((Q : Turn → Type 0) → Q turn → Some_turn Q turns)
+    → ((earlier : List Turn) (turn : Turn) → P earlier turn → ((Q : Turn → Type 0) → Q turn → SomeTurn Q turns)
     → ((R : List Turn → Turn → Type 0) → Past R earlier → Past R turns) → F) → F
 past_in P F [] h f = absurd h
 past_in P F (turn ∷ turns) (inl h) f = f turns turn h (λ Q q. inl q) (λ R r. inr r)
@@ -112,9 +112,9 @@ module _ (t : Chassis) (j k : Journal) (m : ℕ) (config : ModuleSettings) (run 
 
   -- with the turns of the request and of its success
   module _ (earlier : List Turn) (turn : Turn) (opened : HopOpened config h.opening h.ids h.their_id earlier turn)
-      (one : (Q : Turn → Type 0) → Q turn → Some_turn Q (part m j))
+      (one : (Q : Turn → Type 0) → Q turn → SomeTurn Q (part m j))
       (first : List Turn) (asking : Turn) (sent : OpenSent config opened.number opened.entry h.opening h.ids first asking)
-      (too : (Q : Turn → Type 0) → Q asking → Some_turn Q (part m j)) where
+      (too : (Q : Turn → Type 0) → Q asking → SomeTurn Q (part m j)) where
     abbrev n : ℕ
     n = opened.number
 

@@ -3,9 +3,9 @@ use Rattle.std.proofs.Common.{◌≡◌, ℕ, ◌<◌, ◌≤◌, true, false, c
 use Rattle.std.proofs.lemmas.Bool.{eqb-true, eq-eqb, ne_eqb}
 use Rattle.cip_base.specs.declared.numbers.ModuleId.{ModuleId}
 use Rattle.cip_module.specs.declared.event.Output.{Output}
-use Rattle.cip_module.specs.Births.{Past}
-use Rattle.cip_module.specs.Histories.{Turn}
-use Rattle.cip_module.specs.Words.{Has}
+use Rattle.cip_laws.specs.Births.{Past}
+use Rattle.cip_laws.specs.Histories.{Turn}
+use Rattle.cip_laws.specs.Turns.{Has}
 use Rattle.cip_topology.specs.Plan.{Plan}
 use Rattle.cip_world.specs.declared.journal.Entry.{Entry}
 use Rattle.cip_world.specs.declared.journal.Entry.TheVariants.{Step, Lost}

@@ -18,18 +18,18 @@ use Rattle.cip_target.specs.Objects.{target_answer}
 use Rattle.cip_module.specs.declared.config.ModuleSettings.{ModuleSettings}
 use Rattle.cip_module.specs.declared.event.Event.{Event}
 use Rattle.cip_module.specs.declared.event.Output.{Output}
-use Rattle.cip_module.specs.EffectLists.{gain, IsLight, IsBounded}
-use Rattle.cip_module.specs.Effects.{Effect, Replies, Answers, Forwards, Begins, Finishes, Takes, PendingTimesOut, Passes, objects_of, reply_up, replied, timed_out_reply, late_bytes, succeeded, datum_up, datum_down, passed, apply, output_of, outputs_of}
+use Rattle.cip_laws.specs.EffectLists.{gain, IsLight, IsBounded}
+use Rattle.cip_module.specs.Effects.{Effect, Replies, Answers, Forwards, Begins, Finishes, Takes, PendingTimesOut, Passes, objects_of, reply_up, replied, timed_out_reply, timed_out_bytes, succeeded, datum_up, datum_down, passed, apply, output_of, outputs_of}
 use Rattle.cip_module.specs.State.{State}
 use Rattle.cip_module.specs.Table.{decide}
-use Rattle.cip_module.specs.Tells.{asker, Tells, AllTell}
-use Rattle.cip_module.specs.Weights.{mark, weight_in}
-use Rattle.cip_module.specs.Words.{Has}
-use Rattle.cip_module.proofs.Light.{light_once}
-use Rattle.cip_module.proofs.Tells.{decide_tells}
-use Rattle.cip_module.proofs.TellsAskers.{forwards_asker, begins_asker}
-use Rattle.cip_module.proofs.Turns.{Turned}
-use Rattle.cip_module.proofs.Weighing.{weight_in-append, weight_has}
+use Rattle.cip_laws.specs.Tells.{asker, Tells, AllTell}
+use Rattle.cip_laws.specs.Weights.{mark, weight_in}
+use Rattle.cip_laws.specs.Turns.{Has}
+use Rattle.cip_laws.proofs.Light.{light_once}
+use Rattle.cip_laws.proofs.Tells.{decide_tells}
+use Rattle.cip_laws.proofs.TellsAskers.{forwards_asker, begins_asker}
+use Rattle.cip_laws.proofs.Turns.{Turned}
+use Rattle.cip_laws.proofs.Weighing.{weight_in-append, weight_has}
 use Rattle.cip_world.specs.Trails.{is_request_sent, request_from}
 
 abbrev any_request : Output → ℕ
@@ -88,7 +88,7 @@ replied_none (Some p) b = up_none p.up b
 
 late_none : (x : Option Entry) → weight_in any_request (timed_out_reply x) ≡ 0
 late_none None = refl
-late_none (Some p) = up_none p.up (late_bytes p.kind p.words)
+late_none (Some p) = up_none p.up (timed_out_bytes p.kind p.words)
 
 datum_up_none : (up : HopUp) (b : List ℕ) → weight_in any_request (datum_up up b ∷ []) ≡ 0
 datum_up_none (UpLink port address id) b = refl

@@ -29,12 +29,12 @@ use Rattle.cip_module.specs.declared.event.Output.{Output}
 use Rattle.cip_module.specs.declared.event.Output.TheVariants as outputs
 use Rattle.cip_module.specs.declared.refusals.LinkRefusal.TheVariants.{TicksSpent}
 use Rattle.cip_module.specs.Answers.{failed_at}
-use Rattle.cip_module.specs.Effects.{Sending, late_bytes, succeeded, success_up}
+use Rattle.cip_module.specs.Effects.{Sending, timed_out_bytes, succeeded, success_up}
 use Rattle.cip_module.specs.Statuses.{link_status, open_status}
 use Rattle.cip_module.specs.Table.{words_of, accepted_bytes}
-use Rattle.cip_module.specs.Tells.{PendingTimesOutAs}
-use Rattle.cip_module.specs.Words.{Has}
-use Rattle.cip_module.proofs.Failures.{open_fails, link_fails}
+use Rattle.cip_laws.specs.Tells.{PendingTimesOutAs}
+use Rattle.cip_laws.specs.Turns.{Has}
+use Rattle.cip_laws.proofs.Failures.{open_fails, link_fails}
 use Rattle.cip_topology.specs.Plan.{Plan}
 use Rattle.cip_topology.specs.Nodes.{Node, Way, own_port, node_on, node_from, comes_in, leaves_by, node, across as goes}
 use Rattle.cip_topology.specs.Walk.{walk}
@@ -48,7 +48,7 @@ use Rattle.cip_world.specs.Runs.{IsRun}
 use Rattle.cip_world.specs.StepsIn.{StepIn, state_before}
 use Rattle.cip_world.specs.TrailTells.{request_words, open_words, event_in, words_at, FailedAt, ByRow as FailedByRow, ByTick as FailedByTick}
 use Rattle.cip_world.proofs.Arrivals.{way_in}
-use Rattle.cip_world.proofs.HopsShorten.{words_fall}
+use Rattle.cip_segment.proofs.PathsShorten.{words_fall}
 use Rattle.cip_world.proofs.Moments.{number_at, before_that}
 use Rattle.cip_world.proofs.OpensGo.{AsksThat, Spelled, CameSo, OpenRefused, OpenAccepted, OpenGoes, open_goes, no_answer, open_replied}
 use Rattle.cip_world.proofs.Parts.{given_event}
@@ -190,14 +190,14 @@ module _ (t : Plan) (j : Journal) (run : IsRun t j) (m op : ℕ) where
 
   by_tick : (k : ℕ) (s : StepIn t j k) (n : ℕ) (p : entries.Entry) (put : PutAt s n p) (l : ℕ) (tick : StepIn t j l) → tick.at.0 ≡ s.at.0
       → PendingTimesOutAs (state_before tick) tick.taken.event n → map.get (state_before tick).pendings.entries n ≡ Some p → k < l → (bytes : List ℕ)
-      → bytes ≡ late_bytes p.kind p.words
+      → bytes ≡ timed_out_bytes p.kind p.words
       → (o : Open) → AsksThat s.taken.config s.taken.event o → TrailTo t j m op k s → (r : Reply) → reply_at bytes ≡ Ok r
       → OpenGoes s.taken.config (state_before s) s.taken.event o put.sending p.kind → Outcome t j m op s.at.0 o.path r
   by_tick k s n p put l tick here ends waits later bytes bytes_are o asks to r read g =
       let words_is : p.words ≡ words_of o.path = put.words_is ∙ g.words_are in
       Failed k s o to asks (link_status TicksSpent) (failed_at g.triad p.words)
       (reply_is (reply_with 0xD4 (link_status TicksSpent) (failure_data (failed_at g.triad p.words))) r bytes (omega arith)
-      (bytes_are ∙ ap (λ (x : Kind). late_bytes x p.words) g.kind_is) read)
+      (bytes_are ∙ ap (λ (x : Kind). timed_out_bytes x p.words) g.kind_is) read)
       (ap (λ (w : ℕ). Some w) words_is) (λ none. absurd (cc)) (link_fails TicksSpent)
       (FailedByTick (record {
         number = n;

@@ -6,7 +6,7 @@ use Rattle.cip_hops.specs.declared.opening.HopUp.TheVariants.{Local as UpLocal}
 use Rattle.cip_pending.specs.declared.entry.UpSide.TheVariants.{Local}
 use Rattle.cip_open.specs.Open.{Open as OpenRequest}
 use Rattle.cip_module.specs.declared.config.ModuleSettings.{ModuleSettings}
-use Rattle.cip_module.specs.declared.command_rows.CommandRow.TheVariants as rows
+use Rattle.cip_module.specs.declared.command.rows.CommandRow.TheVariants as rows
 use Rattle.cip_module.specs.declared.event.Command.TheVariants as commands
 use Rattle.cip_module.specs.declared.event.Event.TheVariants as events
 use Rattle.cip_module.specs.declared.event.OpenParams.{OpenParams}
@@ -14,13 +14,13 @@ use Rattle.cip_module.specs.declared.event.Output.{Output}
 use Rattle.cip_module.specs.declared.event.Output.TheVariants as outputs
 use Rattle.cip_module.specs.declared.event.Refused.TheVariants as refused
 use Rattle.cip_module.specs.Effects.{Effect, Spends, apply, applied, outputs_of}
-use Rattle.cip_module.specs.Histories.{Turn, state_after, IsHistory}
+use Rattle.cip_laws.specs.Histories.{Turn, state_after, IsHistory}
 use Rattle.cip_module.specs.OpenRows.{open_row}
 use Rattle.cip_module.specs.State.{State, is_spent}
 use Rattle.cip_module.specs.Table.{open_effects, refused_effects, open_of, decide}
-use Rattle.cip_module.specs.Words.{Has}
+use Rattle.cip_laws.specs.Turns.{Has}
 use Rattle.cip_module.proofs.Kept.{spent_now, spent_still}
-use Rattle.cip_module.proofs.Turns.{Turned, newest}
+use Rattle.cip_laws.proofs.Turns.{Turned, newest}
 use Rattle.cip_topology.specs.Plan.{Plan}
 use Rattle.cip_world.specs.declared.journal.Entry.{Entry}
 use Rattle.cip_world.specs.declared.journal.Entry.TheVariants.{Step, Lost}

@@ -37,15 +37,15 @@ use Rattle.cip_module.specs.declared.refusals.OpenRefusal.TheVariants.{Connectio
 use Rattle.cip_module.specs.Answers.{failed_at}
 use Rattle.cip_module.specs.Effects.{Sending}
 use Rattle.cip_module.specs.Keys.{leading_mismatch}
-use Rattle.cip_module.specs.Links.{link_refusal}
+use Rattle.cip_module.specs.Links.{link_refusal, LeadsOn}
 use Rattle.cip_module.specs.OpenRows.{OpenRow, Refuses, Forwarded, Accepted, on_row, hop_row, key_row, is_supported, open_row, unread_row}
 use Rattle.cip_module.specs.RequestRows.{RequestRow, request_row}
 use Rattle.cip_module.specs.RequestRows as request
 use Rattle.cip_module.specs.State.{State}
 use Rattle.cip_module.specs.Statuses.{open_status}
-use Rattle.cip_module.specs.Table.{opener, open_of, open_on, words_of, unread_open_bytes, accepted_bytes}
-use Rattle.cip_module.specs.Tells.{Came, AsksSend, AsksOpen, AsksClose, RepliesAs, RequestFails, SendUnread, SendFails, OpenUnread, OpenFails, OpenEnds, CloseUnread, CloseFails, CloseEnds, AnswersAs, Itself, Embedded, ForwardsAs, LeadsOn}
-use Rattle.cip_module.proofs.NextRows.{open_row_is}
+use Rattle.cip_module.specs.Table.{up_side_of, open_of, open_on, words_of, unread_open_bytes, accepted_bytes}
+use Rattle.cip_laws.specs.Tells.{Came, AsksSend, AsksOpen, AsksClose, RepliesAs, RequestFails, SendUnread, SendFails, OpenUnread, OpenFails, OpenEnds, CloseUnread, CloseFails, CloseEnds, AnswersAs, Itself, Embedded, ForwardsAs}
+use Rattle.cip_laws.proofs.NextRows.{open_row_is}
 use Rattle.cip_world.specs.TrailTells.{RefusedBy, Unread, Read}
 use Rattle.cip_world.proofs.PutIn.{SentFor, Forwarded as SentForward, Begun}
 
@@ -131,7 +131,7 @@ pub record OpenAccepted (config : ModuleSettings) (s : State) (event : Event) (o
   pub up : UpSide
   pub link : EndLink
   pub asks : AsksOpen config s event up o
-  pub meets : open_row config s (opener up o.fields.to_id) o ≡ Accepted link
+  pub meets : open_row config s (up_side_of up o.fields.to_id) o ≡ Accepted link
   pub ends : hop_of o.path ≡ None
   pub bytes_are : bytes ≡ accepted_bytes o s.hops.next
 
@@ -145,7 +145,7 @@ pub record OpenGoes (config : ModuleSettings) (s : State) (event : Event) (o : O
   pub leads : LeadsOn config s o.fields.timing o.path sending.port sending.address rest
   pub bytes_are : sending.bytes ≡ open_bytes (lowered o own rest)
   pub words_are : sending.words ≡ words_of o.path
-  pub meets : open_row config s (opener up o.fields.to_id) o ≡ Forwarded sending.port sending.address rest
+  pub meets : open_row config s (up_side_of up o.fields.to_id) o ≡ Forwarded sending.port sending.address rest
   pub asks : AsksOpen config s event up o
 
 frame_is : (p q : ℕ) (a b : List ℕ) (k n : ℕ) (c d : List ℕ) → events.Frame p a (bodies.Request k c) ≡ events.Frame q b (bodies.Request n d)
@@ -233,7 +233,7 @@ module _ (config : ModuleSettings) (s : State) (event : Event) (o : Open) (is : 
         leads = subst (λ (x : Open). LeadsOn config s x.fields.timing x.path sending.port sending.address h.rest) same h.leads;
         bytes_are = h.bytes_are ∙ ap (λ (x : Open). open_on x s.hops.next h.rest) same;
         words_are = h.words_are ∙ ap (λ (x : Open). words_of x.path) same;
-        meets = subst (λ (x : Open). open_row config s (opener sending.up x.fields.to_id) x ≡ Forwarded sending.port sending.address h.rest) same h.meets;
+        meets = subst (λ (x : Open). open_row config s (up_side_of sending.up x.fields.to_id) x ≡ Forwarded sending.port sending.address h.rest) same h.meets;
         asks = subst (AsksOpen config s event sending.up) same h.asks;
       }
 
@@ -280,8 +280,8 @@ module _ (config : ModuleSettings) (s : State) (event : Event) (o : Open) (is : 
         up = up;
         link = link;
         asks = subst (AsksOpen config s event up) same asks;
-        meets = subst (λ (x : Open). open_row config s (opener up x.fields.to_id) x ≡ Accepted link) same meets;
-        ends = accepted_ends config s (opener up o.fields.to_id) o link
-            (subst (λ (x : Open). open_row config s (opener up x.fields.to_id) x ≡ Accepted link) same meets);
+        meets = subst (λ (x : Open). open_row config s (up_side_of up x.fields.to_id) x ≡ Accepted link) same meets;
+        ends = accepted_ends config s (up_side_of up o.fields.to_id) o link
+            (subst (λ (x : Open). open_row config s (up_side_of up x.fields.to_id) x ≡ Accepted link) same meets);
         bytes_are = e ∙ ap (λ (x : Open). accepted_bytes x s.hops.next) same;
       })

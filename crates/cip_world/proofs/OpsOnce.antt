@@ -10,11 +10,11 @@ use Rattle.cip_hops.specs.declared.hop.Hop.{Hop}
 use Rattle.cip_hops.specs.Hops.{hop_by_op}
 use Rattle.cip_module.specs.CloseRows.{CloseRow, close_row}
 use Rattle.cip_module.specs.CloseRows as closes
-use Rattle.cip_module.specs.Tells.{command_asker}
+use Rattle.cip_laws.specs.Tells.{command_asker}
 use Rattle.cip_unconnected.specs.Unconnected.{Unconnected, unconnected_bytes}
 use Rattle.cip_open.specs.Open.{Open}
-use Rattle.cip_module.specs.declared.command_rows.CommandRow.{CommandRow}
-use Rattle.cip_module.specs.declared.command_rows.CommandRow.TheVariants as command
+use Rattle.cip_module.specs.declared.command.rows.CommandRow.{CommandRow}
+use Rattle.cip_module.specs.declared.command.rows.CommandRow.TheVariants as command
 use Rattle.cip_module.specs.declared.config.ModuleSettings.{ModuleSettings}
 use Rattle.cip_module.specs.declared.event.Command.{Command}
 use Rattle.cip_module.specs.declared.event.Command.TheVariants as commands
@@ -22,11 +22,11 @@ use Rattle.cip_module.specs.declared.event.Event.{Event}
 use Rattle.cip_module.specs.declared.event.Event.TheVariants as events
 use Rattle.cip_module.specs.declared.event.Output.{Output}
 use Rattle.cip_module.specs.declared.event.Output.TheVariants as outputs
-use Rattle.cip_module.specs.Words.{Has}
+use Rattle.cip_laws.specs.Turns.{Has}
 use Rattle.cip_module.specs.declared.event.Refused.{Refused}
 use Rattle.cip_module.specs.CommandRows.{op_row, send_row}
 use Rattle.cip_module.specs.Effects.{Effect, Spends, RefusesCommand, apply, applied, outputs_of}
-use Rattle.cip_module.specs.Histories.{Turn, state_after, IsHistory}
+use Rattle.cip_laws.specs.Histories.{Turn, state_after, IsHistory}
 use Rattle.cip_module.specs.OpenRows.{OpenRow, open_row}
 use Rattle.cip_module.specs.OpenRows as opens
 use Rattle.cip_module.specs.State.{State, is_spent}
@@ -34,7 +34,7 @@ use Rattle.cip_module.specs.Table.{decide, refused_effects, open_effects, close_
 use Rattle.cip_module.specs.UnconnectedRows.{UnconnectedRow, unconnected_row}
 use Rattle.cip_module.specs.UnconnectedRows as unconnected
 use Rattle.cip_module.proofs.Kept.{spent_now, spent_still}
-use Rattle.cip_module.proofs.Turns.{Turned, newest}
+use Rattle.cip_laws.proofs.Turns.{Turned, newest}
 use Rattle.cip_hops.specs.declared.opening.HopUp.TheVariants.{Local as UpLocal}
 use Rattle.cip_topology.specs.Plan.{Plan}
 use Rattle.cip_world.specs.declared.journal.Entry.{Entry}

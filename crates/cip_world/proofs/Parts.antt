@@ -12,12 +12,12 @@ use Rattle.cip_world.specs.declared.journal.Input.TheVariants.{Command, Tick, Fr
 use Rattle.cip_base.specs.declared.numbers.ModuleId.{ModuleId}
 use Rattle.cip_world.specs.declared.journal.Entry.{Entry}
 use Rattle.cip_world.specs.declared.journal.Entry.TheVariants.{Step, Lost}
-use Rattle.cip_module.specs.Histories.{Turn, stepped, next_state, IsHistory}
+use Rattle.cip_laws.specs.Histories.{Turn, stepped, next_state, IsHistory}
 use Rattle.cip_topology.specs.Plan.{Plan}
 use Rattle.cip_world.specs.Journals.{Journal, arrival, event_of, with_turn, part}
 use Rattle.cip_world.specs.Runs.{IsModule, state_in, IsGiven, IsStepAt, IsRun}
-use Rattle.cip_module.specs.Weights.{weight}
-use Rattle.cip_module.specs.Words.{Some_turn}
+use Rattle.cip_laws.specs.Weights.{weight}
+use Rattle.cip_laws.specs.Turns.{SomeTurn}
 
 abbrev pub turn_of : Event → List Output → Turn
 turn_of event outs = record { event = event; outputs = outs }
@@ -57,8 +57,8 @@ part_any P m n input outs j here old =
     ]
 
 -- what came or was given still is
-pub older : (P : Turn → Type 0) (m : ℕ) (e : Entry) (j : Journal) → Some_turn P (part m j) → Some_turn P (part m (e ∷ j))
-older P m (Step n input outs) j h = part_any (Some_turn P) m n input outs j (λ event. inr h) h
+pub older : (P : Turn → Type 0) (m : ℕ) (e : Entry) (j : Journal) → SomeTurn P (part m j) → SomeTurn P (part m (e ∷ j))
+older P m (Step n input outs) j h = part_any (SomeTurn P) m n input outs j (λ event. inr h) h
 older P m (Lost frame) j h = h
 
 pub heavier : (w : Output → ℕ) (m : ℕ) (e : Entry) (j : Journal) → weight w (part m j) ≤ weight w (part m (e ∷ j))
@@ -67,13 +67,13 @@ heavier w m (Lost frame) j = omega arith
 
 -- a turn in a part is an entry, with an older journal below
 pub some_here : (P : Turn → Type 0) (t : Plan) (m : ℕ) (n : ModuleId) (input : Input) (outs : List Output) (j : Journal) (s : IsStepAt t j n.0 input outs)
-    → Some_turn P (part m (Step n input outs ∷ j)) → ((n.0 ≡ m) × P (turn_of s.event outs)) ⊎ Some_turn P (part m j)
+    → SomeTurn P (part m (Step n input outs ∷ j)) → ((n.0 ≡ m) × P (turn_of s.event outs)) ⊎ SomeTurn P (part m j)
 some_here P t m n input outs j s =
-    part_step (λ turns. Some_turn P turns → ((n.0 ≡ m) × P (turn_of s.event outs)) ⊎ Some_turn P (part m j)) t m n input outs j s
+    part_step (λ turns. SomeTurn P turns → ((n.0 ≡ m) × P (turn_of s.event outs)) ⊎ SomeTurn P (part m j)) t m n input outs j s
     (λ same h. elim h [ inl p ↦ inl (same, p) | inr p ↦ inr p ])
     (λ h. inr h)
 
-pub some_map : (P Q : Turn → Type 0) → ((turn : Turn) → P turn → Q turn) → (turns : List Turn) → Some_turn P turns → Some_turn Q turns
+pub some_map : (P Q : Turn → Type 0) → ((turn : Turn) → P turn → Q turn) → (turns : List Turn) → SomeTurn P turns → SomeTurn Q turns
 some_map P Q f [] h = absurd h
 some_map P Q f (turn ∷ turns) (inl h) = inl (f turn h)
 some_map P Q f (turn ∷ turns) (inr h) = inr (some_map P Q f turns h)

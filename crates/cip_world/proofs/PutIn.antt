@@ -11,16 +11,16 @@ use Rattle.cip_module.specs.declared.event.Body.TheVariants as bodies
 use Rattle.cip_module.specs.declared.event.Event.{Event}
 use Rattle.cip_module.specs.declared.event.Output.{Output}
 use Rattle.cip_module.specs.declared.event.Output.TheVariants as outputs
-use Rattle.cip_module.specs.Births.{Past}
+use Rattle.cip_laws.specs.Births.{Past}
 use Rattle.cip_module.specs.Effects.{Sending, Effect, Forwards, Begins, entry_for, apply, output_of, request_below}
-use Rattle.cip_module.specs.Histories.{Turn, state_after, IsHistory}
+use Rattle.cip_laws.specs.Histories.{Turn, state_after, IsHistory}
 use Rattle.cip_module.specs.State.{State}
-use Rattle.cip_module.specs.Tells.{asker, Tells, ForwardsAs, BeginsAs}
-use Rattle.cip_module.specs.Words.{Has}
-use Rattle.cip_module.proofs.Asking.{has_left, has_right}
-use Rattle.cip_module.proofs.Puts.{puts, pending_cases}
-use Rattle.cip_module.proofs.TellsAskers.{forwards_asker, begins_asker}
-use Rattle.cip_module.proofs.Turns.{by_turn, newest}
+use Rattle.cip_laws.specs.Tells.{asker, Tells, ForwardsAs, BeginsAs}
+use Rattle.cip_laws.specs.Turns.{Has}
+use Rattle.cip_laws.proofs.Asking.{has_left, has_right}
+use Rattle.cip_laws.proofs.Puts.{puts, pending_cases}
+use Rattle.cip_laws.proofs.TellsAskers.{forwards_asker, begins_asker}
+use Rattle.cip_laws.proofs.Turns.{by_turn, newest}
 
 -- what was sent on, and why
 pub data SentFor (config : ModuleSettings) (s : State) (event : Event) (sending : Sending) (kind : Kind) : Type 0 where

@@ -4,9 +4,9 @@ use Rattle.std.specs.FinMap as map
 use Rattle.cip_pending.specs.declared.entry.Entry as entries
 use Rattle.cip_pending.specs.declared.entry.UpSide.TheVariants.{Link}
 use Rattle.cip_module.specs.declared.config.ModuleSettings.{ModuleSettings}
-use Rattle.cip_module.specs.Weights.{same_up, is_reply, is_asked_by, weight, came}
-use Rattle.cip_module.proofs.Claims.{waits_for}
-use Rattle.cip_module.proofs.OneReply.{claims, waits_counted}
+use Rattle.cip_laws.specs.Weights.{same_up, is_reply, is_asked_by, weight, came}
+use Rattle.cip_laws.proofs.Claims.{waits_for}
+use Rattle.cip_laws.proofs.OneReply.{claims, waits_counted}
 use Rattle.cip_world.specs.Journals.{Journal, part}
 use Rattle.cip_world.specs.Runs.{IsModule, state_in, IsRun}
 use Rattle.cip_world.proofs.Arrivals.{asked_once}

@@ -17,8 +17,8 @@ use Rattle.cip_module.specs.ReplyRows.{ReplyRow, reply_row}
 use Rattle.cip_module.specs.ReplyRows as reply
 use Rattle.cip_module.specs.State.{State}
 use Rattle.cip_module.specs.Table.{Stepped, reply_effects, table_step}
-use Rattle.cip_module.specs.Words.{Has}
-use Rattle.cip_module.proofs.Dones.{done_once}
+use Rattle.cip_laws.specs.Turns.{Has}
+use Rattle.cip_laws.proofs.Dones.{done_once}
 use Rattle.cip_topology.specs.Plan.{Plan}
 use Rattle.cip_world.specs.declared.journal.FrameName.{FrameName}
 use Rattle.cip_world.specs.declared.journal.Input.{Input}

@@ -16,9 +16,9 @@ use Rattle.cip_module.specs.declared.event.Body.TheVariants as bodies
 use Rattle.cip_module.specs.declared.event.Event.TheVariants as events
 use Rattle.cip_module.specs.declared.event.Output.{Output}
 use Rattle.cip_module.specs.declared.refusals.LinkRefusal.TheVariants.{TicksSpent}
-use Rattle.cip_module.specs.Effects.{Sending, objects_of, late_bytes}
+use Rattle.cip_module.specs.Effects.{Sending, objects_of, timed_out_bytes}
 use Rattle.cip_module.specs.Statuses.{link_status}
-use Rattle.cip_module.specs.Words.{Has}
+use Rattle.cip_laws.specs.Turns.{Has}
 use Rattle.cip_topology.specs.Plan.{Plan}
 use Rattle.cip_topology.specs.Walk.{walk}
 use Rattle.cip_topology.proofs.Walks.{walk_ends}
@@ -26,7 +26,7 @@ use Rattle.cip_world.specs.Journals.{Journal}
 use Rattle.cip_world.specs.Runs.{IsRun}
 use Rattle.cip_world.specs.StepsIn.{StepIn, state_before}
 use Rattle.cip_world.specs.Trails.{request_from}
-use Rattle.cip_world.proofs.HopsShorten.{hop_takes_two}
+use Rattle.cip_segment.proofs.PathsShorten.{hop_takes_two}
 use Rattle.cip_world.proofs.OneRequest.{none_first}
 use Rattle.cip_world.proofs.OpenTrails.{walk_on}
 use Rattle.cip_world.proofs.PutIn.{SentFor}
@@ -144,7 +144,7 @@ module _ (t : Plan) (j : Journal) (run : IsRun t j) (m op : ℕ) where
       is.1 (ap (walk t s.at.0) is.0 ∙ walk_ends t s.at.0 [] no_hop) bytes_are
   send_outcome k s bytes (ByTick _ _ n p put l tick here ends waits later _ bytes_are) u asks to =
       Failed (is_failed (link_status TicksSpent) (Some p.words) bytes (bytes_are
-      ∙ ap (λ (x : Kind). late_bytes x p.words) (goes_there k s n p put u asks).kind_is))
+      ∙ ap (λ (x : Kind). timed_out_bytes x p.words) (goes_there k s n p put u asks).kind_is))
   send_outcome k s bytes (AsItCame _ _ n p put l next arrives _ below) u asks to =
       let g = goes_there k s n p put u asks in
       let on = trail_on t j run m op k l s next n put.sending arrives to in

@@ -43,10 +43,11 @@ use Rattle.cip_module.specs.RequestRows as request
 use Rattle.cip_module.specs.State.{State}
 use Rattle.cip_module.specs.Statuses.{request_status, unconnected_status}
 use Rattle.cip_module.specs.Table.{sent, words_of}
-use Rattle.cip_module.specs.Tells.{Came, AsksSend, AsksOpen, AsksClose, RepliesAs, RequestFails, SendUnread, SendFails, OpenUnread, OpenFails, OpenEnds, CloseUnread, CloseFails, CloseEnds, AnswersAs, Itself, Embedded, ForwardsAs, LeadsOn}
+use Rattle.cip_laws.specs.Tells.{Came, AsksSend, AsksOpen, AsksClose, RepliesAs, RequestFails, SendUnread, SendFails, OpenUnread, OpenFails, OpenEnds, CloseUnread, CloseFails, CloseEnds, AnswersAs, Itself, Embedded, ForwardsAs}
+use Rattle.cip_module.specs.Links.{LeadsOn}
 use Rattle.cip_module.specs.UnconnectedRows as unconnected
-use Rattle.cip_module.proofs.GoesOn.{allowed}
-use Rattle.cip_module.proofs.NextRows.{send_row_is}
+use Rattle.cip_laws.proofs.GoesOn.{allowed}
+use Rattle.cip_laws.proofs.NextRows.{send_row_is}
 use Rattle.cip_world.proofs.PutIn.{SentFor, Forwarded, Begun}
 
 frame_is : (p q : ℕ) (a b : List ℕ) (k n : ℕ) (c d : List ℕ) → events.Frame p a (bodies.Request k c) ≡ events.Frame q b (bodies.Request n d)

@@ -13,8 +13,8 @@ use Rattle.cip_module.specs.declared.event.Command.TheVariants as commands
 use Rattle.cip_module.specs.declared.event.Output.{Output}
 use Rattle.cip_module.specs.declared.event.Output.TheVariants as outputs
 use Rattle.cip_module.specs.Produced.{reads_from}
-use Rattle.cip_module.specs.Tells.{DatumCame, Produced}
-use Rattle.cip_module.proofs.Triads.{own_triads}
+use Rattle.cip_laws.specs.Tells.{DatumCame, Produced}
+use Rattle.cip_laws.proofs.Triads.{own_triads}
 use Rattle.cip_topology.specs.Walk.{walk}
 use Rattle.cip_world.specs.declared.journal.Entry.TheVariants.{Step}
 use Rattle.cip_world.specs.declared.journal.FrameName.{FrameName}
@@ -34,7 +34,7 @@ use Rattle.cip_world.proofs.Moments.{before_that, older_length, older_trans, sen
 use Rattle.cip_world.proofs.Parts.{run_history}
 use Rattle.cip_world.proofs.Rooted.{root_older, root_at}
 use Rattle.cip_world.proofs.Steps.{FromBelow, from_below}
-use Rattle.cip_module.specs.Words.{Has}
+use Rattle.cip_laws.specs.Turns.{Has}
 
 -- the Produce of a datum that came in entry k up to a connection of module g, and the line by which it came
 pub record Sent (t : Chassis) (j : Journal) (k g : ℕ) (o : Opening) (bytes : List ℕ) : Type 0 where

@@ -5,7 +5,7 @@ use Rattle.cip_base.specs.declared.numbers.ModuleId.{ModuleId}
 use Rattle.cip_module.specs.declared.config.ModuleSettings.{ModuleSettings}
 use Rattle.cip_module.specs.declared.event.Event.{Event}
 use Rattle.cip_module.specs.declared.event.Output.{Output}
-use Rattle.cip_module.specs.Histories.{Turn, stepped, state_after}
+use Rattle.cip_laws.specs.Histories.{Turn, stepped, state_after}
 use Rattle.cip_module.specs.State.{State}
 use Rattle.cip_module.specs.Table.{Stepped, table_step}
 use Rattle.cip_topology.specs.Plan.{Plan}

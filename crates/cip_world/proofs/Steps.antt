@@ -19,11 +19,11 @@ use Rattle.cip_module.specs.declared.event.Body.{Body}
 use Rattle.cip_module.specs.declared.event.Body.TheVariants as bodies
 use Rattle.cip_module.specs.declared.event.Output.{Output}
 use Rattle.cip_module.specs.declared.event.Output.TheVariants as outputs
-use Rattle.cip_module.specs.Births.{Past, IsBirth, HasId}
-use Rattle.cip_module.specs.Histories.{Turn, state_after, IsHistory}
-use Rattle.cip_module.specs.Outputs.{is_data, DatumOf, GoesUp, Arrives, GoesDown, IsConsumed}
+use Rattle.cip_laws.specs.Births.{Past, IsBirth, HasId}
+use Rattle.cip_laws.specs.Histories.{Turn, state_after, IsHistory}
+use Rattle.cip_laws.specs.Outputs.{is_data, DatumOf, GoesUp, Arrives, GoesDown, IsConsumed}
 use Rattle.cip_module.specs.State.{State}
-use Rattle.cip_module.proofs.Births.{held_born, born_once}
+use Rattle.cip_laws.proofs.Births.{held_born, born_once}
 use Rattle.cip_topology.specs.Plan.{Plan}
 use Rattle.cip_topology.specs.Nodes.{Way, across as goes}
 use Rattle.cip_topology.specs.Walk.{walk}

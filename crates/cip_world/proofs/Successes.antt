@@ -42,7 +42,7 @@ use Rattle.cip_module.specs.declared.event.Output.TheVariants as outputs
 use Rattle.cip_module.specs.declared.refusals.RequestRefusal.{RequestRefusal}
 use Rattle.cip_module.specs.declared.refusals.LinkRefusal.TheVariants.{TicksSpent}
 use Rattle.cip_module.specs.Answers.{failed_unread, failed_at, route_words_data}
-use Rattle.cip_module.specs.Effects.{Sending, Effect, Forwards, Begins, Finishes, Takes, entry_for, late_bytes, succeeded, success_up, applied}
+use Rattle.cip_module.specs.Effects.{Sending, Effect, Forwards, Begins, Finishes, Takes, entry_for, timed_out_bytes, succeeded, success_up, applied}
 use Rattle.cip_module.specs.OpenRows.{opening_with, end_down, open_row}
 use Rattle.cip_module.specs.OpenRows as opens
 use Rattle.cip_module.specs.ReplyRows.{PassedUp, MalformedForItsKind, OpenSucceeded, kind_row, opening_row, opened_row, failure_row, triad_eq}
@@ -50,23 +50,23 @@ use Rattle.cip_module.specs.RequestRows.{RequestRow, request_row}
 use Rattle.cip_module.specs.RequestRows as request
 use Rattle.cip_module.specs.State.{State}
 use Rattle.cip_module.specs.Statuses.{open_status, link_status}
-use Rattle.cip_module.specs.Table.{opener, open_effects, open_data_effects, accepted_bytes, request_effects, unread_open_bytes, words_of}
-use Rattle.cip_module.specs.Tells.{Tells, Came, AsksSend, AsksOpen, AsksClose, RepliesAs, RequestFails, SendUnread, SendFails, OpenUnread, OpenFails, OpenEnds, CloseUnread, CloseFails, CloseEnds, AnswersAs, Itself, Embedded, ForwardsAs, FinishesAs, TakesAs}
+use Rattle.cip_module.specs.Table.{up_side_of, open_effects, open_data_effects, accepted_bytes, request_effects, unread_open_bytes, words_of}
+use Rattle.cip_laws.specs.Tells.{Tells, Came, AsksSend, AsksOpen, AsksClose, RepliesAs, RequestFails, SendUnread, SendFails, OpenUnread, OpenFails, OpenEnds, CloseUnread, CloseFails, CloseEnds, AnswersAs, Itself, Embedded, ForwardsAs, FinishesAs, TakesAs}
 use Rattle.cip_module.proofs.Waiting.{waits_at}
-use Rattle.cip_module.specs.Births.{first_opened, born, Past, IsBirth}
-use Rattle.cip_module.specs.Histories.{Turn, state_after, IsHistory}
-use Rattle.cip_module.specs.Words.{Has, Gave}
-use Rattle.cip_module.proofs.Births.{held_born}
+use Rattle.cip_laws.specs.Births.{first_opened, born, Past, IsBirth}
+use Rattle.cip_laws.specs.Histories.{Turn, state_after, IsHistory}
+use Rattle.cip_laws.specs.Turns.{Has, Gave}
+use Rattle.cip_laws.proofs.Births.{held_born}
 use Rattle.cip_message.proofs.ReadAgain.{ok_reply, reply_is}
 use Rattle.cip_open.proofs.ReadAgain.{open_data_read, success_back, failure_back}
-use Rattle.cip_module.proofs.Failures.{open_fails}
-use Rattle.cip_module.proofs.NextRows.{open_row_is}
-use Rattle.cip_module.proofs.Joined.{OpenSent, Opens, SentIn, joined}
+use Rattle.cip_laws.proofs.Failures.{open_fails}
+use Rattle.cip_laws.proofs.NextRows.{open_row_is}
+use Rattle.cip_laws.proofs.Joined.{OpenSent, Opens, SentIn, joined}
 use Rattle.cip_base.proofs.MapCases.{some_same}
-use Rattle.cip_module.proofs.Puts.{puts, pending_cases}
-use Rattle.cip_module.proofs.Quiet.{reply_alone}
-use Rattle.cip_module.proofs.GaveBy.{GaveBy, gave_by, RepliesBy, AtOnce, Here, Opened, Taken, Late, reply_by}
-use Rattle.cip_module.proofs.Turns.{Turned, newest, by_turn}
+use Rattle.cip_laws.proofs.Puts.{puts, pending_cases}
+use Rattle.cip_laws.proofs.Quiet.{reply_alone}
+use Rattle.cip_laws.proofs.GaveBy.{GaveBy, gave_by, RepliesBy, AtOnce, Here, Opened, Taken, Late, reply_by}
+use Rattle.cip_laws.proofs.Turns.{Turned, newest, by_turn}
 
 -- ---- where each request that waits was put
 
@@ -112,7 +112,7 @@ no_pass triad r e general =
         (failure_row triad (failure_at r.data_))) t) ∙ f)
     by_service false t f = cc
 
-late_general : (kind : Kind) (words : ℕ) (r : Reply) (bytes : List ℕ) → bytes ≡ late_bytes kind words → reply_at bytes ≡ Ok r → r.general ≡ 1
+late_general : (kind : Kind) (words : ℕ) (r : Reply) (bytes : List ℕ) → bytes ≡ timed_out_bytes kind words → reply_at bytes ≡ Ok r → r.general ≡ 1
 late_general UnconnectedKind words r bytes is e = ap (λ (x : Reply). x.general)
     (reply_is (reply_with (128 + 0x52) (link_status TicksSpent) (route_words_data (Some words))) r bytes (omega arith) is e)
 late_general (OpeningKind triad) words r bytes is e = failure_back (link_status TicksSpent) (failed_at triad words) r bytes is e
@@ -236,8 +236,8 @@ module _ (config : ModuleSettings) (port n : ℕ) (from : List ℕ) (oo : Open) 
       record {
         down = DownLink sent.sending.port sent.sending.address;
         opening_is = sent.tells.opening_is
-            ∙ ap (λ (u : UpSide). opening_with (opener u sent.tells.o.fields.to_id) (DownLink sent.sending.port sent.sending.address) sent.tells.o) ups
-            ∙ ap (λ (x : Open). opening_with (opener (Link port from n) x.fields.to_id) (DownLink sent.sending.port sent.sending.address) x) same;
+            ∙ ap (λ (u : UpSide). opening_with (up_side_of u sent.tells.o.fields.to_id) (DownLink sent.sending.port sent.sending.address) sent.tells.o) ups
+            ∙ ap (λ (x : Open). opening_with (up_side_of (Link port from n) x.fields.to_id) (DownLink sent.sending.port sent.sending.address) x) same;
         next = (state_after config before).hops.next;
         ids_are = sent.ids_are;
       }
@@ -274,14 +274,14 @@ module _ (config : ModuleSettings) (port n : ℕ) (from : List ℕ) (oo : Open) 
         (open_fails (opens.unread_row asked fault)))
 
     -- the open ended here
-    ended : (o : Open) (link : EndLink) → AsksOpen config s0 turn.event up o → open_row config s0 (opener up o.fields.to_id) o ≡ opens.Accepted link
+    ended : (o : Open) (link : EndLink) → AsksOpen config s0 turn.event up o → open_row config s0 (up_side_of up o.fields.to_id) o ≡ opens.Accepted link
         → bytes ≡ accepted_bytes o s0.hops.next → Below (turn ∷ turns) success
     ended o link (inr k) meets is = let e : Link port from n ≡ Local k.op = k.up_is in absurd (cc)
     ended o link (inl k) meets is =
         let same : o ≡ oo = open_asked s0 turn.event only o (inl k) in
         let v : UpSide = Link k.came.port k.came.from k.came.number in
-        let opening : Opening = opening_with (opener v o.fields.to_id) (end_down link) o in
-        let row : open_row config s0 (opener v o.fields.to_id) o ≡ opens.Accepted link = ap (λ (u : UpSide). open_row config s0 (opener u o.fields.to_id) o)
+        let opening : Opening = opening_with (up_side_of v o.fields.to_id) (end_down link) o in
+        let row : open_row config s0 (up_side_of v o.fields.to_id) o ≡ opens.Accepted link = ap (λ (u : UpSide). open_row config s0 (up_side_of u o.fields.to_id) o)
         (sym k.came.up_is) ∙ meets in
         let born_is : born config s0 turn.event ≡ Some opening =
         ap (born config s0) k.came.event_is
@@ -296,8 +296,8 @@ module _ (config : ModuleSettings) (port n : ℕ) (from : List ℕ) (oo : Open) 
           ids = own_ids s0.hops.next opening;
           birth = inl (record { is = born_is; ids_are = refl });
           down = end_down link;
-          opening_is = ap (λ (u : UpSide). opening_with (opener u o.fields.to_id) (end_down link) o) (sym k.came.up_is)
-              ∙ ap (λ (x : Open). opening_with (opener (Link port from n) x.fields.to_id) (end_down link) x) same;
+          opening_is = ap (λ (u : UpSide). opening_with (up_side_of u o.fields.to_id) (end_down link) o) (sym k.came.up_is)
+              ∙ ap (λ (x : Open). opening_with (up_side_of (Link port from n) x.fields.to_id) (end_down link) x) same;
           id_is = ap (λ (i : ℕ). Some i) (omega (arith, id));
         }
 

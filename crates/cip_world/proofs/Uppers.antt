@@ -26,32 +26,32 @@ use Rattle.cip_module.specs.declared.event.Output.TheVariants as outputs
 use Rattle.cip_module.specs.Effects.{Sending, Effect, Begins, applied}
 use Rattle.cip_module.specs.RequestRows.{UnknownPortOrTooLong, ForwardOpen, request_row}
 use Rattle.cip_module.specs.State.{State}
-use Rattle.cip_module.specs.Table.{opener}
-use Rattle.cip_module.specs.Tells.{AsksOpen, ForwardsAs, BeginsAs}
-use Rattle.cip_module.specs.Births.{opened_by, Past, IsBirth}
-use Rattle.cip_module.specs.Histories.{Turn, state_after, IsHistory}
+use Rattle.cip_module.specs.Table.{up_side_of}
+use Rattle.cip_laws.specs.Tells.{AsksOpen, ForwardsAs, BeginsAs}
+use Rattle.cip_laws.specs.Births.{opened_by, Past, IsBirth}
+use Rattle.cip_laws.specs.Histories.{Turn, state_after, IsHistory}
 use Rattle.cip_world.specs.Mirrors.{IsOlder}
 use Rattle.cip_topology.specs.Nodes.{Way, across as goes}
 use Rattle.cip_world.specs.Journals.{Journal, part}
 use Rattle.cip_world.specs.Runs.{IsModule, state_in, IsRun}
-use Rattle.cip_module.specs.Words.{Has, Some_turn, Gave}
+use Rattle.cip_laws.specs.Turns.{Has, SomeTurn, Gave}
 use Rattle.cip_world.proofs.Arrivals.{way_in, Brought, came_brought}
-use Rattle.cip_module.proofs.GaveBy.{gave_by}
-use Rattle.cip_module.proofs.Births.{birth, held_born}
+use Rattle.cip_laws.proofs.GaveBy.{gave_by}
+use Rattle.cip_laws.proofs.Births.{birth, held_born}
 use Rattle.cip_open.proofs.ReadAgain.{open_data_read}
-use Rattle.cip_module.proofs.NextRows.{open_row_is}
-use Rattle.cip_module.proofs.RequestBy.{BornBy, born_tells, RequestBy, ByForward, ByBegin, request_by}
+use Rattle.cip_laws.proofs.NextRows.{open_row_is}
+use Rattle.cip_laws.proofs.RequestBy.{BornBy, born_tells, RequestBy, ByForward, ByBegin, request_by}
 use Rattle.cip_world.proofs.Chassis.{Chassis}
 use Rattle.cip_world.proofs.Frames.{frame_gave, sender}
-use Rattle.cip_module.proofs.GoesOn.{close_no_open, message_no_open}
+use Rattle.cip_laws.proofs.GoesOn.{close_no_open, message_no_open}
 use Rattle.cip_world.proofs.Moments.{past_older, run_older}
 use Rattle.cip_world.proofs.Parts.{run_history}
-use Rattle.cip_module.proofs.Turns.{Turned, newest}
+use Rattle.cip_laws.proofs.Turns.{Turned, newest}
 
 -- ---- past turns of a history
 
 pub past_at : (config : ModuleSettings) (P : List Turn → Turn → Type 0) (F : Type 0) (turns : List Turn) → IsHistory config turns → Past P turns
-    → ((earlier : List Turn) (turn : Turn) → IsHistory config (turn ∷ earlier) → P earlier turn → ((Q : Turn → Type 0) → Q turn → Some_turn Q turns)
+    → ((earlier : List Turn) (turn : Turn) → IsHistory config (turn ∷ earlier) → P earlier turn → ((Q : Turn → Type 0) → Q turn → SomeTurn Q turns)
     → ((R : List Turn → Turn → Type 0) → R earlier turn → Past R turns) → F) → F
 past_at config P F [] h past f = absurd past
 past_at config P F (turn ∷ turns) h (inl now) f = f turns turn h now (λ Q q. inl q) (λ R r. inl r)
@@ -173,7 +173,7 @@ module _ (t : Chassis) (j : Journal) (g : ℕ) (config : ModuleSettings) (run : 
         (part above.at j) history (gave_past (part above.at j) _ gave)
         (λ earlier turn h has one all. sent_so earlier turn h all has)
 
-  by_birth : (earlier : List Turn) (turn : Turn) → ((Q : Turn → Type 0) → Q turn → Some_turn Q (part g j))
+  by_birth : (earlier : List Turn) (turn : Turn) → ((Q : Turn → Type 0) → Q turn → SomeTurn Q (part g j))
       → BornBy config (state_after config earlier) turn.event o → Upper
   by_birth earlier turn one by = by_asking by.asks
     where
@@ -181,7 +181,7 @@ module _ (t : Chassis) (j : Journal) (g : ℕ) (config : ModuleSettings) (run : 
       by_asking (inl c) =
           let v = c.came in
           let ups : UpLink v.port v.from by.request.fields.to_id ≡ UpLink port from their_id =
-          ap (λ (u : UpSide). opener u by.request.fields.to_id) (sym v.up_is) ∙ ap (λ (x : Opening). x.up) (sym by.opening_is) ∙ up_is in
+          ap (λ (u : UpSide). up_side_of u by.request.fields.to_id) (sym v.up_is) ∙ ap (λ (x : Opening). x.up) (sym by.opening_is) ∙ up_is in
           let parts = up_parts v.port port v.from from by.request.fields.to_id their_id ups in
           let event_is : turn.event ≡ events.Frame port from (bodies.Request v.number v.bytes) = v.event_is
           ∙ (λ i. events.Frame (parts.0 i) (parts.1 i) (bodies.Request v.number v.bytes)) in
@@ -191,7 +191,7 @@ module _ (t : Chassis) (j : Journal) (g : ℕ) (config : ModuleSettings) (run : 
           (one (λ x. x.event ≡ events.Frame port from (bodies.Request v.number v.bytes)) event_is))
       by_asking (inr c) =
           let no : UpLocal c.op ≡ UpLink port from their_id =
-          ap (λ (u : UpSide). opener u by.request.fields.to_id) (sym c.up_is) ∙ ap (λ (x : Opening). x.up) (sym by.opening_is) ∙ up_is in
+          ap (λ (u : UpSide). up_side_of u by.request.fields.to_id) (sym c.up_is) ∙ ap (λ (x : Opening). x.up) (sym by.opening_is) ∙ up_is in
           absurd (cc)
 
 -- whatever is held at any moment, opening or open, with an up side that is a link

@@ -23,19 +23,19 @@ use Rattle.cip_module.specs.declared.event.Event.{Event}
 use Rattle.cip_module.specs.declared.event.Event.TheVariants as events
 use Rattle.cip_module.specs.declared.event.Output.{Output}
 use Rattle.cip_module.specs.declared.event.Output.TheVariants as outputs
-use Rattle.cip_module.specs.EffectLists.{Stands}
-use Rattle.cip_module.specs.Effects.{Sending, Effect, Answers, Finishes, Takes, objects_of, late_bytes, succeeded, reply_up, apply, applied, Forwards, Begins}
-use Rattle.cip_module.specs.Histories.{state_after}
-use Rattle.cip_module.specs.Outputs.{GaveBy, RepliesBy, AtOnce, Here, Opened, Taken, Late}
+use Rattle.cip_laws.specs.EffectLists.{Stands}
+use Rattle.cip_module.specs.Effects.{Sending, Effect, Answers, Finishes, Takes, objects_of, timed_out_bytes, succeeded, reply_up, apply, applied, Forwards, Begins}
+use Rattle.cip_laws.specs.Histories.{state_after}
+use Rattle.cip_laws.specs.Outputs.{GaveBy, RepliesBy, AtOnce, Here, Opened, Taken, Late}
 use Rattle.cip_module.specs.State.{State}
-use Rattle.cip_module.specs.Tells.{asker, Tells, AllTell, RepliesAs, AnswersAs, FinishesAs, TakesAs, PendingTimesOutAs}
-use Rattle.cip_module.specs.Words.{Has}
-use Rattle.cip_module.proofs.GaveBy.{gave_by}
-use Rattle.cip_module.proofs.GivenBy.{answered_by}
-use Rattle.cip_module.proofs.Puts.{puts, pending_cases}
-use Rattle.cip_module.proofs.Standing.{all_stand}
-use Rattle.cip_module.proofs.TellsAskers.{replies_asker, answers_asker, forwards_asker, begins_asker}
-use Rattle.cip_module.proofs.Turns.{Turned}
+use Rattle.cip_laws.specs.Tells.{asker, Tells, AllTell, RepliesAs, AnswersAs, FinishesAs, TakesAs, PendingTimesOutAs}
+use Rattle.cip_laws.specs.Turns.{Has}
+use Rattle.cip_laws.proofs.GaveBy.{gave_by}
+use Rattle.cip_laws.proofs.GivenBy.{answered_by}
+use Rattle.cip_laws.proofs.Puts.{puts, pending_cases}
+use Rattle.cip_laws.proofs.Standing.{all_stand}
+use Rattle.cip_laws.proofs.TellsAskers.{replies_asker, answers_asker, forwards_asker, begins_asker}
+use Rattle.cip_laws.proofs.Turns.{Turned}
 use Rattle.cip_module.proofs.Waiting.{waits_at}
 use Rattle.cip_topology.specs.Plan.{Plan}
 use Rattle.cip_topology.specs.Nodes.{Way, across as goes}
@@ -85,7 +85,7 @@ pub data Replied (t : Plan) (j : Journal) : (k : ℕ) → StepIn t j k → List 
       → bytes ≡ reply_bytes (target_answer (objects_of s.taken.config (state_before s)) asked) → Replied t j k s bytes
   ByTick : (k : ℕ) (s : StepIn t j k) (n : ℕ) (p : entries.Entry) → PutAt s n p → (l : ℕ) (r : StepIn t j l) → r.at.0 ≡ s.at.0
       → PendingTimesOutAs (state_before r) r.taken.event n → map.get (state_before r).pendings.entries n ≡ Some p → k < l
-      → (bytes : List ℕ) → bytes ≡ late_bytes p.kind p.words → Replied t j k s bytes
+      → (bytes : List ℕ) → bytes ≡ timed_out_bytes p.kind p.words → Replied t j k s bytes
   AsItCame : (k : ℕ) (s : StepIn t j k) (n : ℕ) (p : entries.Entry) (put : PutAt s n p) (l : ℕ) (r : StepIn t j l) → Arrives t j k l s r n put.sending
       → (bytes : List ℕ) → Replied t j l r bytes → Replied t j k s bytes
   AsSuccess : (k : ℕ) (s : StepIn t j k) (n : ℕ) (p : entries.Entry) (put : PutAt s n p) (l : ℕ) (r : StepIn t j l) → Arrives t j k l s r n put.sending

@@ -13,13 +13,13 @@ use Rattle.cip_module.specs.declared.event.Event.TheVariants as events
 use Rattle.cip_module.specs.declared.event.Output.{Output}
 use Rattle.cip_module.specs.declared.event.Output.TheVariants as outputs
 use Rattle.cip_module.specs.Effects.{Sending, applied}
-use Rattle.cip_module.specs.Histories.{state_after}
-use Rattle.cip_module.specs.Outputs.{GaveBy, RequestBy, ByForward, ByBegin}
+use Rattle.cip_laws.specs.Histories.{state_after}
+use Rattle.cip_laws.specs.Outputs.{GaveBy, RequestBy, ByForward, ByBegin}
 use Rattle.cip_module.specs.Table.{words_of}
-use Rattle.cip_module.specs.Words.{Has}
-use Rattle.cip_module.proofs.GaveBy.{gave_by}
-use Rattle.cip_module.proofs.RequestBy.{request_by}
-use Rattle.cip_module.proofs.Turns.{Turned}
+use Rattle.cip_laws.specs.Turns.{Has}
+use Rattle.cip_laws.proofs.GaveBy.{gave_by}
+use Rattle.cip_laws.proofs.RequestBy.{request_by}
+use Rattle.cip_laws.proofs.Turns.{Turned}
 use Rattle.cip_topology.specs.Plan.{Plan}
 use Rattle.cip_topology.specs.Nodes.{Way, across as goes}
 use Rattle.cip_world.specs.declared.journal.Entry.{Entry}

@@ -20,7 +20,7 @@ use Rattle.cip_module.specs.declared.event.Output.{Output}
 use Rattle.cip_module.specs.declared.event.Output.TheVariants as outputs
 use Rattle.cip_module.specs.declared.event.Refused.{Refused}
 use Rattle.cip_module.specs.Table.{open_of}
-use Rattle.cip_module.specs.Words.{Has}
+use Rattle.cip_laws.specs.Turns.{Has}
 use Rattle.cip_topology.specs.Plan.{Plan}
 use Rattle.cip_topology.specs.Walk.{Stop, walk}
 use Rattle.cip_world.specs.declared.journal.Entry.TheVariants.{Step}

@@ -7,8 +7,8 @@ use Rattle.cip_module.specs.declared.event.Body.TheVariants as bodies
 use Rattle.cip_module.specs.declared.event.Dropped.TheVariants as dropped
 use Rattle.cip_module.specs.declared.event.Event.TheVariants as events
 use Rattle.cip_module.specs.declared.event.Output.TheVariants as outputs
-use Rattle.cip_module.specs.Weights.{is_reply, is_asked_by, weight, came}
-use Rattle.cip_module.specs.Words.{Has}
+use Rattle.cip_laws.specs.Weights.{is_reply, is_asked_by, weight, came}
+use Rattle.cip_laws.specs.Turns.{Has}
 use Rattle.cip_topology.specs.Plan.{Plan}
 use Rattle.cip_world.specs.declared.journal.FrameName.{FrameName}
 use Rattle.cip_world.specs.declared.journal.Input.TheVariants as inputs

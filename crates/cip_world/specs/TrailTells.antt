@@ -36,9 +36,9 @@ use Rattle.cip_module.specs.OpenRows.{Refuses, Accepted, open_row, unread_row}
 use Rattle.cip_module.specs.RequestRows.{ForwardOpen}
 use Rattle.cip_module.specs.State.{State}
 use Rattle.cip_module.specs.Statuses.{link_status, open_status}
-use Rattle.cip_module.specs.Table.{opener, words_of}
-use Rattle.cip_module.specs.Tells.{Came, AsksOpen, PendingTimesOutAs}
-use Rattle.cip_module.specs.Words.{Has, Gave}
+use Rattle.cip_module.specs.Table.{up_side_of, words_of}
+use Rattle.cip_laws.specs.Tells.{Came, AsksOpen, PendingTimesOutAs}
+use Rattle.cip_laws.specs.Turns.{Has, Gave}
 use Rattle.cip_topology.specs.Plan.{Plan}
 use Rattle.cip_topology.specs.Walk.{walk}
 use Rattle.cip_world.specs.declared.journal.Entry.{Entry}
@@ -114,7 +114,7 @@ pub data RefusedBy (config : ModuleSettings) (s : State) (event : Event) (refusa
       → Came config event up (ForwardOpen asked) → open_at asked ≡ Err fault
       → refusal ≡ unread_row asked fault → RefusedBy config s event refusal
   Read : (up : UpSide) (o : Open) → AsksOpen config s event up o
-      → open_row config s (opener up o.fields.to_id) o ≡ Refuses refusal
+      → open_row config s (up_side_of up o.fields.to_id) o ≡ Refuses refusal
       → RefusedBy config s event refusal
 
 -- a later tick of the module ended the wait for the reply to the request that entry k sent
@@ -166,7 +166,7 @@ pub record EndsThere (t : Plan) (j : Journal) (ks : List ℕ) (m : ℕ) (path : 
   pub o : Open
   pub link : EndLink
   pub asks : AsksOpen step.taken.config (state_before step) step.taken.event up o
-  pub meets : open_row step.taken.config (state_before step) (opener up o.fields.to_id) o
+  pub meets : open_row step.taken.config (state_before step) (up_side_of up o.fields.to_id) o
       ≡ Accepted link
   pub walks : walk t m path ≡ Some (record { at = step.at.0; path = o.path })
 

@@ -56,12 +56,14 @@ fn first_other(modules: &[Box<dyn Module + Send>], configs: &[ModuleConfig]) -> 
     None
 }
 
-fn is_fresh(alloc: Global, boxed: &Box<dyn Module + Send>) -> Result<bool, NoMemory>
+/// Whether a module is in the first state of its config, as its tables tell. NoMemory where an
+/// allocation is refused.
+pub fn is_fresh(alloc: Global, boxed: &Box<dyn Module + Send>) -> Result<bool, NoMemory>
     ensures { IfOk result
         (λ fresh. IsTrue fresh ↔ (state_of boxed.now ≡ initial_state (config_of boxed.now))) }
 {
     let tables = boxed.tables()?;
-    tables.are_first(alloc, boxed.config())
+    tables.are_initial(alloc, boxed.config())
 }
 
 // The least place where a module is not in the first state of its config.

@@ -13,8 +13,8 @@ ghost use Rattle.cip_module.specs.declared.config.ModuleSettings.{ModuleSettings
 ghost use Rattle.cip_module.specs.declared.event.Body.TheVariants.{Reply};
 ghost use Rattle.cip_module.specs.declared.event.Event.TheVariants as events;
 ghost use Rattle.cip_module.specs.declared.event.Output.TheVariants.{Arrived, Consumed};
-ghost use Rattle.cip_module.specs.Histories.{IsHistory};
-ghost use Rattle.cip_module.specs.Weights.{same_up, is_reply, is_asked_by, weight, came};
+ghost use Rattle.cip_laws.specs.Histories.{IsHistory};
+ghost use Rattle.cip_laws.specs.Weights.{same_up, is_reply, is_asked_by, weight, came};
 ghost use Rattle.cip_topology.specs.Plan.{Plan, IsTopology};
 ghost use Rattle.cip_topology.specs.Nodes.{Way};
 ghost use Rattle.cip_world.specs.declared.journal.FrameName.{FrameName as Name};

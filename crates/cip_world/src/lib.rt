@@ -13,7 +13,7 @@ mod world;
 
 pub use fault::WorldFault;
 pub use flight::{Coming, Flying, frame_at};
-pub use fresh::{NewFault, check_fresh};
+pub use fresh::{NewFault, check_fresh, is_fresh};
 pub use journal::{Entry, FrameName, Input, Outputs};
 pub use laws::{
     a_request_gets_one_reply, an_op_has_one_chain, an_op_opens_once, chains_carry_data,

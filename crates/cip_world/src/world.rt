@@ -1,5 +1,5 @@
 //! The world: modules in boxes, and the journal of what they did.
-ghost use Rattle.std.specs.Prelude.{◌≡◌, ◌∷◌, ◌↔◌, ◌⊎◌, ◌≤◌, ◌<◌, [], true, Err, length, map, reverse, vec_len, IfOk, IfErr, OnOk, OnErr};
+ghost use Rattle.std.specs.Prelude.{◌≡◌, ◌∷◌, ◌↔◌, ◌⊎◌, ◌≤◌, ◌<◌, [], true, Err, length, map, reverse, vec_len, IfOk, IfErr, IsTrue, OnOk, OnErr};
 ghost use Rattle.cip_module.specs.declared.event.Event.TheVariants as events;
 ghost use Rattle.std.specs.Option.{option_copied};
 ghost use Rattle.cip_hops.specs.Hops.{hop_by_op, hop_by_up};
@@ -307,11 +307,27 @@ impl World {
                 return Ok(End::Quiet);
             }
         }
-        self.ledger.prepare()?;
-        match self.ledger.least() {
-            None => Ok(End::Quiet),
-            Some(_) => Ok(End::Limit),
+        if self.is_quiet()? {
+            Ok(End::Quiet)
+        } else {
+            Ok(End::Limit)
         }
+    }
+
+    /// Whether no frame waits. It looks at the newest entry, and changes nothing that a caller
+    /// sees. NoMemory where an allocation is refused.
+    pub fn is_quiet(&mut self) -> Result<bool, NoMemory>
+        requires stand { Stand self.old.ledger (map (λ b. config_of b) self.old.modules.items)
+            (map (λ b. state_of b) self.old.modules.items) }
+        ensures stand { Stand self.new.ledger (map (λ b. config_of b) self.new.modules.items)
+            (map (λ b. state_of b) self.new.modules.items) }
+        ensures plan { self.new.ledger.plan ≡ self.old.ledger.plan }
+        ensures journal { self.new.ledger.journal ≡ self.old.ledger.journal }
+        ensures quiet { IfOk result (λ quiet. IsTrue quiet
+            ↔ (waiting self.new.ledger.plan self.new.ledger.journal ≡ [])) }
+    {
+        self.ledger.prepare()?;
+        Ok(self.ledger.least().is_none())
     }
 
     /// The state of a module. NoModule where the topology has no such module, and NoMemory.

@@ -18,16 +18,16 @@ struct HeldPlain {
 }
 
 impl Module for HeldPlain {
-    ghost use Rattle.cip_module.specs.Code.Node.{config_of_plain, state_of_plain};
+    ghost use Rattle.cip_module.specs.Code.Device.{config_of_plain, state_of_plain};
 
     ghost config_of = { λ m. config_of_plain m.inner };
 
     ghost state_of = { λ m. state_of_plain m.inner };
 
-    ghost paired = { λ m. m.inner.node.fit.paired };
+    ghost paired = { λ m. m.inner.device.fit.paired };
 
     ghost rooms = { λ m. record
-        { pendings = m.inner.node.fit.pending_room; hops = m.inner.node.fit.hop_room } };
+        { pendings = m.inner.device.fit.pending_room; hops = m.inner.device.fit.hop_room } };
 
     fn config(&self) -> &ModuleConfig {
         self.inner.config()
@@ -62,16 +62,16 @@ struct HeldAdapter {
 }
 
 impl Module for HeldAdapter {
-    ghost use Rattle.cip_module.specs.Code.Node.{config_of_adapter, state_of_adapter};
+    ghost use Rattle.cip_module.specs.Code.Device.{config_of_adapter, state_of_adapter};
 
     ghost config_of = { λ m. config_of_adapter m.inner };
 
     ghost state_of = { λ m. state_of_adapter m.inner };
 
-    ghost paired = { λ m. m.inner.node.fit.paired };
+    ghost paired = { λ m. m.inner.device.fit.paired };
 
     ghost rooms = { λ m. record
-        { pendings = m.inner.node.fit.pending_room; hops = m.inner.node.fit.hop_room } };
+        { pendings = m.inner.device.fit.pending_room; hops = m.inner.device.fit.hop_room } };
 
     fn config(&self) -> &ModuleConfig {
         self.inner.config()

@@ -10,21 +10,21 @@ use Rattle.cip_hops.specs.Sides.{up_is_link}
 use Rattle.cip_hops.specs.Hops as hops
 use Rattle.cip_open.specs.Open.{Open}
 use Rattle.cip_target.specs.Ends.{row_at}
-use Rattle.cip_module.specs.declared.unconnected_rows.UnconnectedDecision.{UnconnectedDecision}
-use Rattle.cip_module.specs.declared.unconnected_rows.UnconnectedDecision.TheVariants as decisions
-use Rattle.cip_module.specs.declared.request_rows.RequestDecision.{RequestDecision}
-use Rattle.cip_module.specs.declared.request_rows.RequestDecision.TheVariants as request_decisions
+use Rattle.cip_module.specs.declared.unconnected_send.rows.UnconnectedDecision.{UnconnectedDecision}
+use Rattle.cip_module.specs.declared.unconnected_send.rows.UnconnectedDecision.TheVariants as decisions
+use Rattle.cip_module.specs.declared.request.rows.RequestDecision.{RequestDecision}
+use Rattle.cip_module.specs.declared.request.rows.RequestDecision.TheVariants as request_decisions
 use Rattle.cip_module.specs.RequestRows.{RequestRow}
 use Rattle.cip_module.specs.RequestRows as requests
-use Rattle.cip_module.specs.declared.open_rows.OpenDecision.{OpenDecision}
-use Rattle.cip_module.specs.declared.open_rows.OpenDecision.TheVariants as open_decisions
-use Rattle.cip_module.specs.declared.close_rows.CloseDecision.{CloseDecision}
-use Rattle.cip_module.specs.declared.close_rows.CloseDecision.TheVariants as close_decisions
-use Rattle.cip_module.specs.declared.reply_rows.ReplyDecision.{ReplyDecision}
-use Rattle.cip_module.specs.declared.reply_rows.ReplyDecision.TheVariants as reply_decisions
-use Rattle.cip_module.specs.declared.node.Node.{Node}
+use Rattle.cip_module.specs.declared.open.rows.OpenDecision.{OpenDecision}
+use Rattle.cip_module.specs.declared.open.rows.OpenDecision.TheVariants as open_decisions
+use Rattle.cip_module.specs.declared.close.rows.CloseDecision.{CloseDecision}
+use Rattle.cip_module.specs.declared.close.rows.CloseDecision.TheVariants as close_decisions
+use Rattle.cip_module.specs.declared.reply.rows.ReplyDecision.{ReplyDecision}
+use Rattle.cip_module.specs.declared.reply.rows.ReplyDecision.TheVariants as reply_decisions
+use Rattle.cip_module.specs.declared.device.Device.{Device}
 use Rattle.cip_module.specs.UnconnectedRows.{UnconnectedRow, Refuses, AnsweredHere, Forwarded}
-use Rattle.cip_module.specs.OpenRows.{OpenRow, ids_on}
+use Rattle.cip_module.specs.OpenRows.{OpenRow, ids_if_forwarded}
 use Rattle.cip_module.specs.OpenRows as opens
 use Rattle.cip_module.specs.CloseRows.{CloseRow}
 use Rattle.cip_module.specs.CloseRows as closes
@@ -73,11 +73,11 @@ open_row_of (open_decisions.Accepted link) = opens.Accepted link
 
 -- a connection that goes on has ticks for it, a place among the pendings and room among the hops;
 -- one that ends here fits the target and has room
-abbrev pub OpenLeads : Node → HopUp → Open → OpenDecision → Type 0
+abbrev pub OpenLeads : Device → HopUp → Open → OpenDecision → Type 0
 OpenLeads m up o (open_decisions.Refuses refusal) = Unit {0}
 OpenLeads m up o (open_decisions.Forwarded port address rest) =
     (2 ≤ o.fields.timing.ticks) × (refusal m.pendings ≡ None)
-    × (hops.refusal m.hops o.fields.triad (ids_on up) ≡ None)
+    × (hops.refusal m.hops o.fields.triad (ids_if_forwarded up) ≡ None)
 OpenLeads m up o (open_decisions.Accepted link) =
     (up_is_link up ≡ true) × (hops.refusal m.hops o.fields.triad 1 ≡ None)
     × (row_at m.target o ≡ Ok link)

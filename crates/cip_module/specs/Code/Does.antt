@@ -3,8 +3,8 @@
 use Rattle.std.specs.Prelude.{◌≡◌, List, [], ◌∷◌, Result, Ok, Err}
 use Rattle.cip_module.specs.declared.config.ModuleSettings.{ModuleSettings}
 use Rattle.cip_module.specs.declared.event.Output.{Output}
-use Rattle.cip_module.specs.declared.node.Node.{Node}
-use Rattle.cip_module.specs.Code.Node.{state_of_node}
+use Rattle.cip_module.specs.declared.device.Device.{Device}
+use Rattle.cip_module.specs.Code.Device.{state_of_device}
 use Rattle.cip_module.specs.Effects.{Effect, applied, outputs_of}
 use Rattle.cip_module.specs.State.{State}
 
@@ -35,16 +35,16 @@ DoesOrNot view config s config' new es (Err fault) = IsUnchanged config s config
 abbrev pub one_output : Output → List Output
 one_output output = output ∷ []
 
--- the same of a node, and of one that answers one output
-abbrev pub HandlesAs : {V E : Type 0} → (V → List Output) → Node → Node → List Effect
+-- the same of a device, and of one that answers one output
+abbrev pub HandlesAs : {V E : Type 0} → (V → List Output) → Device → Device → List Effect
     → Result V E → Type 0
 HandlesAs view old new es result =
-    DoesOrNot view old.config (state_of_node old) new.config (state_of_node new) es result
+    DoesOrNot view old.config (state_of_device old) new.config (state_of_device new) es result
 
-abbrev pub Handles : {E : Type 0} → Node → Node → List Effect → Result Output E → Type 0
+abbrev pub Handles : {E : Type 0} → Device → Device → List Effect → Result Output E → Type 0
 Handles old new es result = HandlesAs one_output old new es result
 
 -- what cannot fail
-abbrev pub Handled : Node → Node → List Effect → List Output → Type 0
+abbrev pub Handled : Device → Device → List Effect → List Output → Type 0
 Handled old new es outputs =
-    HasDone old.config (state_of_node old) new.config (state_of_node new) es outputs
+    HasDone old.config (state_of_device old) new.config (state_of_device new) es outputs

@@ -6,7 +6,7 @@ use Rattle.cip_hops.specs.declared.hop.Held.{Held}
 use Rattle.cip_hops.specs.declared.hop.Side.{Side}
 use Rattle.cip_hops.specs.declared.hop.Side.TheVariants.{Up, Down}
 use Rattle.cip_hops.specs.Hops.{up_id_of, down_id_of}
-use Rattle.cip_module.specs.declared.datum_rows.Writing.{Writing}
+use Rattle.cip_module.specs.declared.data.outputs.Writing.{Writing}
 use Rattle.cip_module.specs.DataRows.{DataRow, Consumed, Repeated}
 use Rattle.cip_module.specs.Effects.{Effect, Writes}
 use Rattle.cip_module.specs.Table.{counts}

@@ -4,11 +4,11 @@ use Rattle.cip_base.specs.Words.{Octets}
 use Rattle.cip_module.specs.declared.event.Output.{Output}
 use Rattle.cip_module.specs.declared.event.Output.TheVariants as outputs
 use Rattle.cip_module.specs.declared.event.Refused.{Refused}
-use Rattle.cip_module.specs.declared.node.Node.{Node}
+use Rattle.cip_module.specs.declared.device.Device.{Device}
 use Rattle.cip_module.specs.declared.reaction.Edit.{Edit}
 use Rattle.cip_module.specs.declared.reaction.Edit.TheVariants.{Unwrapped, SentOn}
 use Rattle.cip_module.specs.declared.reaction.Reaction.{Reaction}
-use Rattle.cip_module.specs.Code.Node.{state_of_node}
+use Rattle.cip_module.specs.Code.Device.{state_of_device}
 use Rattle.cip_module.specs.Code.Does.{Handled, IsUnchanged}
 use Rattle.cip_module.specs.Effects.{Effect, Sending}
 use Rattle.cip_module.specs.Reactions.{PutsOut, filled}
@@ -27,11 +27,11 @@ entered_output bytes (Ok lacking) = filled lacking bytes
 entered_output bytes (Err fault) = outputs.Refused fault
 
 -- the effects were done, and their one output is what the reaction puts out where these bytes came
-abbrev pub Reacted : Octets → Node → Node → List Effect → Reaction → Type 0
+abbrev pub Reacted : Octets → Device → Device → List Effect → Reaction → Type 0
 Reacted came old new es reaction = PutsOut came reaction (λ out. Handled old new es (out ∷ []))
 
 -- the same on Ok; else nothing changed
-abbrev pub Reacts : {E : Type 0} → Octets → Node → Node → List Effect → Result Reaction E → Type 0
+abbrev pub Reacts : {E : Type 0} → Octets → Device → Device → List Effect → Result Reaction E → Type 0
 Reacts came old new es (Ok reaction) = Reacted came old new es reaction
 Reacts came old new es (Err fault) =
-    IsUnchanged old.config (state_of_node old) new.config (state_of_node new)
+    IsUnchanged old.config (state_of_device old) new.config (state_of_device new)

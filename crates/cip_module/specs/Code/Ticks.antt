@@ -14,16 +14,16 @@ use Rattle.cip_module.specs.declared.event.Command.TheVariants as commands
 use Rattle.cip_module.specs.declared.event.Output.{Output}
 use Rattle.cip_module.specs.declared.event.Output.TheVariants as outputs
 use Rattle.cip_module.specs.declared.config.ModuleSettings.{ModuleSettings}
-use Rattle.cip_module.specs.declared.ticks.TickFault.{TickFault}
-use Rattle.cip_module.specs.declared.ticks.TickFault.TheVariants.{OutOfMemory, Full}
+use Rattle.cip_module.specs.declared.tick.steps.TickFault.{TickFault}
+use Rattle.cip_module.specs.declared.tick.steps.TickFault.TheVariants.{OutOfMemory, Full}
 use Rattle.cip_module.specs.Code.Does.{Does}
-use Rattle.cip_module.specs.Effects.{Effect, reply_up, late_bytes}
+use Rattle.cip_module.specs.Effects.{Effect, reply_up, timed_out_bytes}
 use Rattle.cip_module.specs.State.{State}
 use Rattle.cip_module.specs.Table.{pending_times_out, hop_times_out, tick_effects}
 
 -- that no answer came in time
 abbrev pub late_reply : Entry → Output
-late_reply entry = reply_up entry.up (late_bytes entry.kind entry.words)
+late_reply entry = reply_up entry.up (timed_out_bytes entry.kind entry.words)
 
 abbrev pub shown : ℕ × Entry → Output
 shown waiting = late_reply waiting.1

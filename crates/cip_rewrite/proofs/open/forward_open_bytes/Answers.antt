@@ -23,8 +23,8 @@ shorten-words-requires c =
     let start : c.data_place-start.result ≡ start_of b = c.data_place-start.ensures ∙ ap (λ (z : List ℕ). start_of z) c.deref.ensures.value in
     (hop, subst (λ (n : ℕ). LeadsOn b n 36 hop) (sym start) came.on)
 
-pub lower-requires-clause-fixed : goal.lower-requires-clause-fixed
-lower-requires-clause-fixed c =
+pub edit_forwarded-requires-clause-fixed : goal.edit_forwarded-requires-clause-fixed
+edit_forwarded-requires-clause-fixed c =
     let (o, hop, g, ticks) = c.requires in
     let b : List ℕ = c.args.bytes.now.items in
     let came = came_open b o hop (octets b (λ i lt. omega arith)) g in
@@ -35,8 +35,8 @@ lower-requires-clause-fixed c =
     let len : length c.deref_mut.result.now ≡ 42 + length hop.rest = ap (λ (z : List ℕ). length z) whole ∙ omega arith in
     omega (arith, len)
 
-pub lower-requires-clause-ticks : goal.lower-requires-clause-ticks
-lower-requires-clause-ticks c =
+pub edit_forwarded-requires-clause-ticks : goal.edit_forwarded-requires-clause-ticks
+edit_forwarded-requires-clause-ticks c =
     let (o, hop, g, ticks) = c.requires in
     let b : List ℕ = c.args.bytes.now.items in
     let came = came_open b o hop (octets b (λ i lt. omega arith)) g in
@@ -51,14 +51,14 @@ pub returns-clause-items : goal.returns-clause-items
 returns-clause-items c =
     λ o hop g.
     let b : List ℕ = c.args.bytes.now.items in
-    let new : List ℕ = c.lower.new.message in
+    let new : List ℕ = c.edit_forwarded.new.message in
     let came = came_open b o hop (octets b (λ i lt. omega arith)) g in
     let start : c.data_place-start.result ≡ start_of b = c.data_place-start.ensures ∙ ap (λ (z : List ℕ). start_of z) c.deref.ensures.value in
     let whole : c.deref_mut.result.now ≡ manager_bytes FORWARD_OPEN (open_layout came.x came.y came.z came.words (open_with o.fields hop.rest)) =
     c.deref_mut.ensures.value
     ∙ closed_open b c.shorten-words.new.bytes.items c.data_place-start.result o hop came start c.shorten-words.ensures.items in
-    let long : length new ≡ c.shorten-words.new.bytes.len = c.lower.auto.message ∙ c.deref_mut.ensures.len in
+    let long : length new ≡ c.shorten-words.new.bytes.len = c.edit_forwarded.auto.message ∙ c.deref_mut.ensures.len in
     let on = subst (λ (n : ℕ). LeadsOn b n 36 hop) (sym start) came.on in
     take_at new (drop (length new) c.shorten-words.new.bytes.items) c.shorten-words.new.bytes.len long
-    ∙ c.lower.ensures FORWARD_OPEN came.x came.y came.z came.words (open_with o.fields hop.rest) whole
+    ∙ c.edit_forwarded.ensures FORWARD_OPEN came.x came.y came.z came.words (open_with o.fields hop.rest) whole
     ∙ ap (λ (n : ℕ). manager_bytes FORWARD_OPEN (open_layout 0 0 0 n (lowered o c.args.down_id hop.rest))) (c.shorten-words.ensures.words hop on)

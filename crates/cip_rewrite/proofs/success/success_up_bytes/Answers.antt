@@ -8,8 +8,8 @@ use Rattle.cip_rewrite.proofs.Paths.{octets}
 use Rattle.cip_rewrite.proofs.CameSuccesses.{came_success}
 use Rattle.cip_rewrite.proofs.success.success_up_bytes.Goals as goal
 
-pub raise-requires : goal.raise-requires
-raise-requires c =
+pub edit_returned-requires : goal.edit_returned-requires
+edit_returned-requires c =
     let (s, g) = c.requires in
     let came = came_success c.args.bytes.now.items s (octets c.args.bytes.now.items (λ i lt. omega arith)) g in
     omega (arith, came.long, ap (λ (z : List ℕ). length z) c.deref_mut.ensures.value)
@@ -18,9 +18,9 @@ pub returns-clause-items : goal.returns-clause-items
 returns-clause-items c =
     λ s g.
     let b : List ℕ = c.args.bytes.now.items in
-    let new : List ℕ = c.raise.new.message in
+    let new : List ℕ = c.edit_returned.new.message in
     let came = came_success b s (octets b (λ i lt. omega arith)) g in
-    let long : length new ≡ c.args.bytes.now.len = c.raise.auto.message ∙ c.deref_mut.ensures.len in
+    let long : length new ≡ c.args.bytes.now.len = c.edit_returned.auto.message ∙ c.deref_mut.ensures.len in
     take_at new (drop (length new) b) c.args.bytes.now.len long
-    ∙ c.raise.ensures came.x came.y came.words s (c.deref_mut.ensures.value ∙ came.is)
+    ∙ c.edit_returned.ensures came.x came.y came.words s (c.deref_mut.ensures.value ∙ came.is)
     ∙ ap (λ (n : ℕ). reply_layout 0 (done_with FORWARD_OPEN_REPLY (open_reply_layout n 0 (with_ids s c.args.up_id c.args.their_id)))) came.words_is

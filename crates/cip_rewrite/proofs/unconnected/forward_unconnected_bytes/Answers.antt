@@ -37,8 +37,8 @@ shorten-words-requires c =
           (subst (λ (n : ℕ). LeadsOn b (start_of b) (fixed_of n) hop) (sym size) came.on),
     )
 
-pub lower-requires-clause-whole : goal.lower-requires-clause-whole
-lower-requires-clause-whole c =
+pub edit_forwarded-requires-clause-whole : goal.edit_forwarded-requires-clause-whole
+edit_forwarded-requires-clause-whole c =
     let (u, hop, g, ticks, some) = c.requires in
     let b : List ℕ = c.args.bytes.now.items in
     let n = c.embedded_size-size.result in
@@ -58,8 +58,8 @@ lower-requires-clause-whole c =
     ) in
     omega (arith, len, size, came.pad_len)
 
-pub lower-requires-clause-ticks : goal.lower-requires-clause-ticks
-lower-requires-clause-ticks c =
+pub edit_forwarded-requires-clause-ticks : goal.edit_forwarded-requires-clause-ticks
+edit_forwarded-requires-clause-ticks c =
     let (u, hop, g, ticks, some) = c.requires in
     let b : List ℕ = c.args.bytes.now.items in
     let n = c.embedded_size-size.result in
@@ -87,13 +87,13 @@ returns-clause-items c =
     ≡ manager_bytes UNCONNECTED_SEND (unconnected_layout came.padding came.words came.x (unconnected_with u.timing u.request hop.rest)) =
     c.deref_mut.ensures.value
     ∙ closed_send b c.shorten-words.new.bytes.items c.data_place-start.result (fixed_of n) u hop came start fixed c.shorten-words.ensures.items in
-    let new : List ℕ = c.lower.new.message in
-    let long : length new ≡ c.shorten-words.new.bytes.len = c.lower.auto.message ∙ c.deref_mut.ensures.len in
+    let new : List ℕ = c.edit_forwarded.new.message in
+    let long : length new ≡ c.shorten-words.new.bytes.len = c.edit_forwarded.auto.message ∙ c.deref_mut.ensures.len in
     let on = subst (λ (i : ℕ). LeadsOn b i (fixed_of n) hop) (sym start)
     (subst (λ (i : ℕ). LeadsOn b (start_of b) (fixed_of i) hop) (sym size) came.on) in
     let padded : length came.padding ≡ n % 2 = omega (arith, came.pad_len, size) in
     take_at new (drop (length new) c.shorten-words.new.bytes.items) c.shorten-words.new.bytes.len long
-    ∙ c.lower.ensures UNCONNECTED_SEND came.words came.x came.padding (unconnected_with u.timing u.request hop.rest) (sym size) padded whole
+    ∙ c.edit_forwarded.ensures UNCONNECTED_SEND came.words came.x came.padding (unconnected_with u.timing u.request hop.rest) (sym size) padded whole
     ∙ ap (λ (i : ℕ). manager_bytes UNCONNECTED_SEND (unconnected_layout (pad i) c.shorten-words.result 0 (lowered u hop.rest))) size
     ∙ ap (λ (i : ℕ). manager_bytes UNCONNECTED_SEND (unconnected_layout (pad (length u.request)) i 0 (lowered u hop.rest)))
     (c.shorten-words.ensures.words hop on)

@@ -19,8 +19,8 @@ embedded_size-size-requires c =
     let start = c.data_place-start.ensures ∙ ap (λ (z : List ℕ). start_of z) c.deref.ensures.value in
     omega (arith, came.within, start, ap (λ (z : List ℕ). length z) c.deref-2.ensures.value)
 
-pub bring-requires-clause-within : goal.bring-requires-clause-within
-bring-requires-clause-within c =
+pub move_forward-requires-clause-within : goal.move_forward-requires-clause-within
+move_forward-requires-clause-within c =
     let (u, hop, g, none) = c.requires in
     let b : List ℕ = c.args.bytes.now.items in
     let came = came_send b u hop (octets b (λ i lt. omega arith)) g in
@@ -33,7 +33,7 @@ pub returns-clause-items : goal.returns-clause-items
 returns-clause-items c =
     λ u hop g.
     let b : List ℕ = c.args.bytes.now.items in
-    let new : List ℕ = c.bring.new.bytes in
+    let new : List ℕ = c.move_forward.new.bytes in
     let n = c.embedded_size-size.result in
     let came = came_send b u hop (octets b (λ i lt. omega arith)) g in
     let start = c.data_place-start.ensures ∙ ap (λ (z : List ℕ). start_of z) c.deref.ensures.value in
@@ -41,9 +41,9 @@ returns-clause-items c =
     let at : ℕ = c.data_place-start.result + 4 in
     let from : at ≡ start_of b + 4 = ap (λ (i : ℕ). i + 4) start in
     let within : at + n ≤ length b = omega (arith, came.within, from, size) in
-    let whole : length new ≡ c.args.bytes.now.len = c.bring.auto.bytes ∙ c.deref_mut.ensures.len in
+    let whole : length new ≡ c.args.bytes.now.len = c.move_forward.auto.bytes ∙ c.deref_mut.ensures.len in
     c.truncate.ensures.items
     ∙ ap (λ (z : List ℕ). take n z) (take_at new (drop (length new) b) c.args.bytes.now.len whole)
-    ∙ ap (λ (z : List ℕ). take n z) (c.bring.ensures ∙ ap (λ (z : List ℕ). copy_within z at (at + n) 0) c.deref_mut.ensures.value)
+    ∙ ap (λ (z : List ℕ). take n z) (c.move_forward.ensures ∙ ap (λ (z : List ℕ). copy_within z at (at + n) 0) c.deref_mut.ensures.value)
     ∙ brought b at n within
     ∙ ap (λ (i : ℕ). take n (drop i b)) from ∙ ap (λ (i : ℕ). take i (drop (start_of b + 4) b)) size ∙ came.request_is

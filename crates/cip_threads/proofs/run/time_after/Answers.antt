@@ -2,8 +2,8 @@ use Rattle.std.proofs.Common.{rules, arith, ◌≤◌, ◌^◌}
 use Rattle.cip_threads.proofs.Feeding.{ticks_more, ticks_begin}
 use Rattle.cip_threads.proofs.run.time_after.Goals as goal
 
-pub returns-then-now-ge-LAST : goal.returns-then-now-ge-LAST
-returns-then-now-ge-LAST c =
+pub returns-then-now-gt-LAST : goal.returns-then-now-gt-LAST
+returns-then-now-gt-LAST c =
     let b = ticks_begin c.args.feeds.now c.loop-i.i c.args.m in
     let v = c.loop-i.invariant in
     let d : 2 ^ 63 ≤ c.loop-i.now = search rules in omega arith

@@ -2,7 +2,7 @@ use Rattle.std.proofs.Common.{ℕ, List, [], ◌∷◌, ◌++◌, sym, ap, subst
 use Rattle.cip_module.specs.declared.event.Body.TheVariants as bodies
 use Rattle.cip_module.specs.declared.event.Event.TheVariants as events
 use Rattle.cip_module.specs.declared.event.Output.{Output}
-use Rattle.cip_module.specs.Code.Node.{state_of_node}
+use Rattle.cip_module.specs.Code.Device.{state_of_device}
 use Rattle.cip_module.specs.Reactions.{PutsOut}
 use Rattle.cip_module.specs.Steps.{IsStep}
 use Rattle.cip_indexed.specs.Indexed.{config_of_indexed, state_of_indexed}
@@ -13,7 +13,7 @@ pub returns-clause-ok : goal.returns-clause-ok
 returns-clause-ok c =
     let m = c.args.self.now in
     let Stepped : List ℕ → List Output → Type 0 = λ bytes outputs. IsStep (config_of_indexed m) (state_of_indexed m)
-    (events.Frame c.args.port c.args.from (bodies.Reply c.args.number bytes)) (state_of_node c.react_to_reply-reaction.new.self) outputs in
+    (events.Frame c.args.port c.args.from (bodies.Reply c.args.number bytes)) (state_of_device c.react_to_reply-reaction.new.self) outputs in
     subst (Stepped c.args.bytes) (sym (c.push_reserved.ensures.items ∙ ap (λ (l : List Output). l ++ (c.put_out.result ∷ [])) c.in-Ok.ensures.items))
     (put c.args.bytes c.react_to_reply-reaction.result (λ out. Stepped c.args.bytes (out ∷ [])) c.put_out.result
     (subst (λ (bytes : List ℕ). PutsOut bytes c.react_to_reply-reaction.result (λ out. Stepped bytes (out ∷ []))) c.as_slice.ensures

@@ -1,0 +1,33 @@
+-- What is held has a number or an id below the next, and the next never falls.
+use Rattle.std.proofs.Common.{◌≡◌, ◌+◌, ◌≤◌, List, [], ◌∷◌, ap, arith}
+use Rattle.cip_laws.specs.EffectLists.{gain}
+use Rattle.cip_module.specs.declared.config.ModuleSettings.{ModuleSettings}
+use Rattle.cip_module.specs.Effects.{Effect, apply, applied}
+use Rattle.cip_module.specs.State.{State}
+use Rattle.cip_laws.specs.Histories.{Turn, state_after, IsHistory}
+use Rattle.cip_laws.proofs.Puts.{numbers_drawn, next_number, drawn_ids, next_id}
+use Rattle.cip_laws.proofs.Turns.{newest}
+
+pub numbers_after : (config : ModuleSettings) (s : State) (es : List Effect) → (applied config s es).pendings.next ≡ s.pendings.next + gain numbers_drawn es
+numbers_after config s [] = omega arith
+numbers_after config s (e ∷ es) = let here = next_number config s e in let there = numbers_after config (apply config s e) es in omega (arith, here, there)
+
+pub ids_after : (config : ModuleSettings) (s : State) (es : List Effect) → (applied config s es).hops.next ≡ s.hops.next + gain drawn_ids es
+ids_after config s [] = omega arith
+ids_after config s (e ∷ es) = let here = next_id config s e in let there = ids_after config (apply config s e) es in omega (arith, here, there)
+
+pub numbers_rise : (config : ModuleSettings) (turn : Turn) (turns : List Turn) → IsHistory config (turn ∷ turns)
+    → (state_after config turns).pendings.next ≤ (state_after config (turn ∷ turns)).pendings.next
+numbers_rise config turn turns h =
+    let now = newest config turn turns h in
+    let next = numbers_after config (state_after config turns) now.effects in
+    let same = ap (λ (s : State). s.pendings.next) now.state in
+    omega (arith, next, same)
+
+pub ids_rise : (config : ModuleSettings) (turn : Turn) (turns : List Turn) → IsHistory config (turn ∷ turns)
+    → (state_after config turns).hops.next ≤ (state_after config (turn ∷ turns)).hops.next
+ids_rise config turn turns h =
+    let now = newest config turn turns h in
+    let next = ids_after config (state_after config turns) now.effects in
+    let same = ap (λ (s : State). s.hops.next) now.state in
+    omega (arith, next, same)

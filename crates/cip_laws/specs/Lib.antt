@@ -1,0 +1,10 @@
+pub mod Tells
+pub mod Histories
+pub mod Births
+pub mod Weights
+pub mod Turns
+pub mod EffectLists
+pub mod Changes
+pub mod Outputs
+pub mod OwnTriads
+pub mod Openings

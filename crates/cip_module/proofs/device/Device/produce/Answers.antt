@@ -1,0 +1,16 @@
+use Rattle.std.proofs.Common.{ap, sym, ◌∙◌}
+use Rattle.std.specs.FinMap as map
+use Rattle.cip_module.specs.Code.Device.{state_of_device}
+use Rattle.cip_module.proofs.Made.{makes, named_instance}
+use Rattle.cip_module.proofs.device.Device.produce.Goals as goal
+
+pub returns : goal.returns
+returns c =
+    let m = c.args.self.now.target.objects.assemblies in record {
+      does = makes c.args.self.now.config (state_of_device c.args.self.now) (state_of_device c.count_data.new.self) c.args.instance c.produce.result.now
+          (map.get m c.args.instance) c.in_ok-outputs-2.outputs.items c.is_within.ensures
+          (ap (map.get m) (sym (named_instance c.args.instance (map.get m c.args.instance) c.in-Some.assembly c.in-Some.ensures.value))
+          ∙ c.produce.ensures.value)
+          c.count_data.ensures.after c.in_ok-outputs-2.ensures;
+      same_config = c.count_data.ensures.config;
+    }

@@ -1,5 +1,0 @@
-use Rattle.cip_module.proofs.Numbers.{sent_once}
-use Rattle.cip_module.proofs.laws.numbers_are_born_once.Goals as goal
-
-pub returns : goal.returns
-returns c = λ config turns h n. sent_once config n turns h

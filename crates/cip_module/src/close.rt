@@ -1,0 +1,4 @@
+//! The close group.
+
+pub(crate) mod rows;
+pub(crate) mod steps;

@@ -1,0 +1,186 @@
+//! The command group: what a module's own application asks for.
+ghost use Rattle.std.specs.Prelude.{◌≡◌, ◌∷◌, [], ℕ, ◌≤◌, List, false, length};
+ghost use Rattle.std.specs.Option.{option_to_list};
+ghost use Rattle.cip_unconnected.specs.Unconnected.{unconnected_bytes};
+ghost use Rattle.cip_unconnected.specs.Reading.{unconnected_of};
+ghost use Rattle.cip_pending.specs.declared.entry.UpSide.TheVariants.{Local};
+ghost use Rattle.cip_hops.specs.Hops.{hop_by_op};
+ghost use Rattle.cip_module.specs.State.{is_spent};
+ghost use Rattle.cip_module.specs.CommandRows.{send_row};
+ghost use Rattle.cip_module.specs.UnconnectedRows.{unconnected_row};
+ghost use Rattle.cip_module.specs.Table.{open_of, send_effects, open_command_effects, close_command_effects, enter_effects, set_effects, unconnected_effects, with_spending};
+ghost use Rattle.cip_module.specs.Code.Device.{state_of_device};
+ghost use Rattle.cip_module.specs.Code.Does.{Handled, Handles};
+ghost use Rattle.cip_module.specs.Code.Reacts.{entered_output};
+
+use crate::command::rows::CommandRow;
+use crate::data::outputs::datum_down;
+use crate::device::Device;
+use crate::event::{OpenParams, Output, Refused};
+use crate::messages::no_bytes;
+use cip_base::{Bytes, NoMemory, Timing, Triad};
+use cip_close::{CloseFields, CloseView};
+use cip_open::{OpenFields, OpenView};
+use cip_pending::UpSide;
+use cip_segment::Path;
+use cip_unconnected::UnconnectedView;
+
+impl Device {
+    // A Send that is taken.
+    fn take(&mut self, op: u32, view: UnconnectedView<'_>) -> Result<Output, NoMemory>
+        requires absent { is_spent op self.old.ops.ops.items ≡ false }
+        requires fits { length (unconnected_bytes (unconnected_of view)) ≤ 1400 }
+        ensures { Handles self.old self.new (with_spending (Local op)
+            (unconnected_effects (Local op) (unconnected_of view.entry)
+            (unconnected_row self.old.config self.old.pendings (unconnected_of view.entry))))
+            result }
+    {
+        self.ops.reserve()?;
+        let output = self.unconnected(UpSide::Local { op }, view)?;
+        self.spends(op);
+        Ok(output)
+    }
+
+    /// A Send: handled as the Unconnected_Send that it spells, with its op as the up side.
+    pub(crate) fn send(&mut self, op: u32, view: UnconnectedView<'_>) -> Result<Output, NoMemory>
+        ensures { Handles self.old self.new
+            (send_effects self.old.config (state_of_device self.old) op
+            (unconnected_of view.entry) (send_row (state_of_device self.old) op
+            (unconnected_of view.entry))) result }
+    {
+        match self.send_row(op, view) {
+            CommandRow::OpUsed => Ok(Output::Refused(Refused::OpUsed)),
+            CommandRow::NotOpen => Ok(Output::Refused(Refused::NotOpen)),
+            CommandRow::ReservedService => Ok(Output::Refused(Refused::ReservedService)),
+            CommandRow::WrongSize => Ok(Output::Refused(Refused::WrongSize)),
+            CommandRow::NoInstance => Ok(Output::Refused(Refused::NoInstance)),
+            CommandRow::Taken => self.take(op, view),
+        }
+    }
+
+    // The fields of the Forward_Open that an Open spells.
+    fn open_fields(&self, timing: Timing, params: &OpenParams) -> OpenFields
+        ensures { (path : List ℕ) → record { fields = result; path = path }
+            ≡ open_of self.now.config.identity timing path params.now }
+    {
+        let identity = self.config.settings().identity.fields();
+        OpenFields {
+            timing,
+            ot_id: 0,
+            to_id: 0,
+            triad: Triad {
+                serial: params.serial,
+                vendor: identity.vendor,
+                originator: identity.serial,
+            },
+            multiplier: params.multiplier,
+            ot_rpi: params.ot_rpi,
+            ot_params: params.ot_params,
+            to_rpi: params.to_rpi,
+            to_params: params.to_params,
+            transport: params.transport,
+        }
+    }
+
+    /// An Open: handled as the Forward_Open that it spells, with its op as the up side.
+    pub(crate) fn open_command(
+        &mut self,
+        op: u32,
+        timing: Timing,
+        path: &Path,
+        params: &OpenParams,
+    ) -> Result<Output, NoMemory>
+        ensures { Handles self.old self.new
+            (open_command_effects self.old.config (state_of_device self.old)
+            op (open_of self.old.config.identity timing path.now params.now)) result }
+    {
+        if self.ops.contains(op) {
+            return Ok(Output::Refused(Refused::OpUsed));
+        }
+        let fields = self.open_fields(timing, params);
+        let view = OpenView {
+            fields,
+            path: path.view(),
+        };
+        self.ops.reserve()?;
+        self.open(UpSide::Local { op }, &view)
+    }
+
+    /// A Close of the connection that the op `of` opened: handled as the Forward_Close that it
+    /// spells.
+    pub(crate) fn close_command(
+        &mut self,
+        op: u32,
+        of: u32,
+        timing: Timing,
+    ) -> Result<Output, NoMemory>
+        ensures { Handles self.old self.new
+            (close_command_effects (state_of_device self.old) op of timing)
+            result }
+    {
+        if self.ops.contains(op) {
+            return Ok(Output::Refused(Refused::OpUsed));
+        }
+        let Some(hop) = self.hops.by_op(of) else {
+            return Ok(Output::Refused(Refused::NotOpen));
+        };
+        let path = hop.opening.path.copy(self.alloc)?;
+        let fields = CloseFields {
+            timing,
+            triad: hop.opening.triad,
+        };
+        self.ops.reserve()?;
+        let view = CloseView {
+            fields,
+            path: path.view(),
+        };
+        let sender = UpSide::Local { op: of };
+        self.close(UpSide::Local { op }, &sender, &view)
+    }
+
+    /// What an Enter puts out, a datum by the connection that the op opened, which lacks its bytes;
+    /// or why it is refused.
+    pub(crate) fn entered(&self, of: u32, bytes: &[u8]) -> Result<Output, Refused>
+        ensures { Handled self.now self.now (enter_effects bytes.now (hop_by_op self.now.hops of))
+            (entered_output bytes.now result ∷ []) }
+    {
+        self.hops.is_within();
+        let Some(hop) = self.hops.by_op(of) else {
+            return Err(Refused::NotOpen);
+        };
+        if bytes.len() != usize::from(hop.opening.ot_size) {
+            return Err(Refused::WrongSize);
+        }
+        Ok(datum_down(hop, no_bytes(self.alloc)))
+    }
+
+    /// An Enter.
+    pub(crate) fn enter(&self, of: u32, bytes: &Bytes) -> Result<Output, NoMemory>
+        ensures { Handles self.now self.now (enter_effects bytes.now (hop_by_op self.now.hops of))
+            result }
+    {
+        match self.entered(of, bytes.as_slice()) {
+            Ok(output) => {
+                let copied = Bytes::of(Vec::from_slice(self.alloc, bytes.as_slice())?);
+                Ok(output.filled(copied))
+            }
+            Err(fault) => Ok(Output::Refused(fault)),
+        }
+    }
+
+    /// A Set of an assembly, which has no output where it is taken.
+    pub(crate) fn set(&mut self, instance: u32, bytes: &Bytes) -> Option<Output>
+        ensures { Handled self.old self.new
+            (set_effects (state_of_device self.old) instance bytes.now)
+            (option_to_list result) }
+    {
+        let Some(assembly) = self.target.assembly(instance) else {
+            return Some(Output::Refused(Refused::NoInstance));
+        };
+        if bytes.as_slice().len() != usize::from(assembly.size) {
+            return Some(Output::Refused(Refused::WrongSize));
+        }
+        self.writes(instance, bytes.as_slice());
+        None
+    }
+}

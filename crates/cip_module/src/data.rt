@@ -1,0 +1,4 @@
+//! The data group.
+
+pub(crate) mod outputs;
+pub(crate) mod steps;

@@ -1,0 +1,87 @@
+//! What the modules of each kind share: their tables, which fit one another.
+ghost use Rattle.std.specs.Prelude.{◌≡◌, IfOk};
+ghost use Rattle.std.specs.Option.{option_copied};
+ghost use Rattle.cip_hops.specs.Hops.{hop_by_op, hop_by_up};
+ghost use Rattle.cip_target.specs.Ends.{fresh};
+ghost use Rattle.cip_module.specs.declared.config.ModuleSettings.{ModuleSettings as Settings};
+ghost use Rattle.cip_module.specs.Code.Fit.{Fit};
+
+use crate::config::ModuleConfig;
+use crate::spent::SpentOps;
+use cip_base::{Address, NoMemory, PortNumber};
+use cip_clock::Clock;
+use cip_hops::{Hop, HopTable};
+use cip_pending::PendingTable;
+use cip_target::Target;
+use std::alloc::Global;
+
+/// What a module of each kind keeps, and what it does at each event. It follows the routing table.
+#[derive(Drop)]
+pub struct Device {
+    pub(crate) config: ModuleConfig,
+    pub(crate) alloc: Global,
+    pub(crate) clock: Clock,
+    pub(crate) pendings: PendingTable,
+    pub(crate) hops: HopTable,
+    pub(crate) target: Target,
+    pub(crate) ops: SpentOps,
+    ghost fit: { Fit config pendings hops target ops.ops.items },
+}
+
+// The target of a config at the beginning.
+fn target_of(alloc: Global, config: &ModuleConfig) -> Result<Target, NoMemory>
+    ensures { IfOk result (λ target. target ≡ fresh config.now.identity config.now.assemblies) }
+{
+    let settings = config.settings();
+    let identity = settings.identity.copy(alloc)?;
+    Target::new(alloc, identity, settings.assemblies.as_slice())
+}
+
+impl Device {
+    ghost use Rattle.cip_module.specs.State.{initial_state};
+    ghost use Rattle.cip_module.specs.Code.Device.{config_of_device, state_of_device};
+
+    /// A module in the initial state of its config; NoMemory where an allocation is refused.
+    pub fn new(alloc: Global, config: ModuleConfig) -> Result<Device, NoMemory>
+        ensures config { IfOk result (λ m. config_of_device m ≡ config) }
+        ensures state { IfOk result (λ m. state_of_device m ≡ initial_state config) }
+    {
+        let target = target_of(alloc, &config)?;
+        let settings = config.settings();
+        let clock = Clock::new(settings.clock);
+        let room = settings.pending_room;
+        let pendings = PendingTable::with_room(alloc, room, settings.first_number)?;
+        let hops = HopTable::with_room(alloc, settings.hop_room, settings.first_id)?;
+        Ok(Device {
+            config,
+            alloc,
+            clock,
+            pendings,
+            hops,
+            target,
+            ops: SpentOps::new(alloc),
+        })
+    }
+
+    /// Its config.
+    pub fn config(&self) -> &ModuleConfig
+        ensures { result.now ≡ self.now.config }
+    {
+        &self.config
+    }
+
+    /// The connection that a command of this op opened.
+    pub fn hop_by_op(&self, op: u32) -> Option<&Hop>
+        ensures { option_copied result ≡ hop_by_op self.now.hops op }
+    {
+        self.hops.by_op(op)
+    }
+
+    /// The connection of which this is the own id towards the originator, on the link by this port
+    /// to this address.
+    pub fn hop_by_up(&self, id: u32, port: PortNumber, address: &Address) -> Option<&Hop>
+        ensures { option_copied result ≡ hop_by_up self.now.hops id port address.now }
+    {
+        self.hops.by_up(id, port, address)
+    }
+}

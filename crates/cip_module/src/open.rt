@@ -1,0 +1,4 @@
+//! The open group.
+
+pub(crate) mod rows;
+pub(crate) mod steps;

@@ -1,0 +1,253 @@
+//! The open group: Forward_Open at a router, at an end and at its originator.
+ghost use Rattle.std.specs.Prelude.{◌≡◌, ◌≤◌, ◌<◌, ◌∷◌, [], length, IfOk, OnErr, None, Some, Ok, true};
+ghost use Rattle.cip_open.specs.Reading.{open_of};
+ghost use Rattle.cip_open.specs.OpenAt.{open_at};
+ghost use Rattle.cip_open.specs.declared.request.OpenView.{OpenView as Views};
+ghost use Rattle.cip_pending.specs.Pendings.{refusal};
+ghost use Rattle.cip_hops.specs.Hops as hops;
+ghost use Rattle.cip_hops.specs.Sides.{up_is_link};
+ghost use Rattle.cip_target.specs.Ends.{row_at};
+ghost use Rattle.cip_module.specs.OpenRows.{open_row, opening_with, ids_if_forwarded, end_down, Forwarded, Accepted};
+ghost use Rattle.cip_hops.specs.declared.opening.HopDown.TheVariants.{Link as DownLink};
+ghost use Rattle.cip_module.specs.Effects.{Begins};
+ghost use Rattle.cip_module.specs.Table.{up_side_of, open_on, open_below, accepted_bytes, open_effects, open_data_effects, with_spending};
+ghost use Rattle.cip_module.specs.Code.Decisions.{open_row_of, OpenLeads};
+ghost use Rattle.cip_module.specs.Code.Reacts.{with_bytes};
+ghost use Rattle.cip_module.specs.Code.Ready.{CanSpend, IsAsked};
+ghost use Rattle.cip_module.specs.Code.Does.{Handles};
+ghost use Rattle.cip_module.specs.Code.Device.{state_of_device};
+
+use crate::answers::{open_failed, unread_open};
+use crate::device::Device;
+use crate::event::{Body, Output};
+use crate::messages::reply_to;
+use crate::open::rows::OpenDecision;
+use cip_base::{Address, Bytes, NoMemory, PortNumber, Timing};
+use cip_hops::{HopDown, HopUp, Opening};
+use cip_open::{OpenFields, OpenReply, OpenView, params, read_open, write_open, write_open_reply};
+use cip_pending::{Entry, Kind, UpSide};
+use cip_segment::{Path, PathView};
+use cip_target::EndLink;
+use std::alloc::Global;
+
+/// The up side of a connection that this side asked for.
+pub(crate) fn up_side_of(up: &UpSide, to_id: u32) -> HopUp
+    ensures { result ≡ up_side_of up.now to_id }
+{
+    match up {
+        UpSide::Link { port, address, .. } => HopUp::Link {
+            port: *port,
+            address: address.copy(),
+            their_id: to_id,
+        },
+        UpSide::Local { op } => HopUp::Local { op: *op },
+    }
+}
+
+// What is opened.
+fn opening_with(up: HopUp, down: HopDown, fields: &OpenFields, path: Path) -> Opening
+    ensures { result ≡ opening_with up down (record { fields = fields.now; path = path }) }
+{
+    Opening {
+        triad: fields.triad,
+        up,
+        down,
+        path,
+        ot_size: params(fields.ot_params).size,
+        to_size: params(fields.to_params).size,
+        ot_rpi: fields.ot_rpi,
+        to_rpi: fields.to_rpi,
+        multiplier: fields.multiplier,
+        class: fields.transport % 16,
+    }
+}
+
+// What goes on: one tick less, the own down id as T to O id, and what is left of the path.
+fn open_on(
+    alloc: Global,
+    view: &OpenView<'_>,
+    down_id: u32,
+    rest: PathView<'_>,
+) -> Result<Bytes, NoMemory>
+    requires { 2 ≤ view.now.fields.timing.ticks }
+    ensures { IfOk result (λ b. b ≡ open_on (open_of view.now) down_id rest.entry.bytes.now) }
+{
+    let mut fields = view.fields;
+    fields.timing.ticks -= 1;
+    fields.to_id = down_id;
+    write_open(alloc, &fields, rest)
+}
+
+// The success of an end: its own up id, and no application reply.
+fn accepted(alloc: Global, fields: &OpenFields, up_id: u32) -> Result<Bytes, NoMemory>
+    ensures { IfOk result (λ b. b ≡ accepted_bytes (record { fields = fields.now; path = [] })
+        up_id) }
+{
+    let reply = OpenReply {
+        ot_id: up_id,
+        to_id: fields.to_id,
+        triad: fields.triad,
+        ot_api: fields.ot_rpi,
+        to_api: fields.to_rpi,
+        reply: &[],
+    };
+    write_open_reply(alloc, &reply)
+}
+
+impl Device {
+    /// The connection goes on by a link, and its Forward_Open as these bytes.
+    pub(crate) fn begin_below(
+        &mut self,
+        up: UpSide,
+        view: &OpenView<'_>,
+        port: PortNumber,
+        address: Address,
+        bytes: Bytes,
+    ) -> Result<Output, NoMemory>
+        requires spend { CanSpend self.old up }
+        requires multiplier { view.now.fields.multiplier < 8 }
+        requires pending { refusal self.old.pendings ≡ None }
+        requires room { hops.refusal self.old.hops view.now.fields.triad
+            (ids_if_forwarded (up_side_of up view.now.fields.to_id)) ≡ None }
+        ensures { Handles self.old self.new (with_spending up (Begins (with_bytes
+            (open_below (state_of_device self.old) up (open_of view.now) port address []) bytes)
+            (opening_with (up_side_of up view.now.fields.to_id) (DownLink port address)
+            (open_of view.now)) ∷ [])) result }
+    {
+        let path = view.path.to_path(self.alloc)?;
+        let timing = view.fields.timing;
+        let deadline = self.clock.after_ticks(timing.tick % 16, timing.ticks);
+        let down = HopDown::Link {
+            port,
+            address: address.copy(),
+        };
+        let opening = opening_with(up_side_of(&up, view.fields.to_id), down, &view.fields, path);
+        self.spend_for(&up);
+        let entry = Entry {
+            up,
+            port,
+            address: address.copy(),
+            deadline,
+            words: view.path.words(),
+            kind: Kind::Opening(view.fields.triad),
+        };
+        let number = self.begins(entry, opening);
+        Ok(Output::Send {
+            port,
+            to: address,
+            body: Body::Request { number, bytes },
+        })
+    }
+
+    // The connection goes on by a link.
+    fn open_by(
+        &mut self,
+        up: UpSide,
+        view: &OpenView<'_>,
+        port: PortNumber,
+        address: Address,
+        rest: PathView<'_>,
+    ) -> Result<Output, NoMemory>
+        requires spend { CanSpend self.old up }
+        requires multiplier { view.now.fields.multiplier < 8 }
+        requires ticks { 2 ≤ view.now.fields.timing.ticks }
+        requires pending { refusal self.old.pendings ≡ None }
+        requires room { hops.refusal self.old.hops view.now.fields.triad
+            (ids_if_forwarded (up_side_of up view.now.fields.to_id)) ≡ None }
+        ensures { Handles self.old self.new (with_spending up
+            (open_effects (state_of_device self.old) up (open_of view.now)
+            (Forwarded port address rest.entry.bytes.now))) result }
+    {
+        let bytes = open_on(self.alloc, view, self.hops.last() + 1, rest)?;
+        self.begin_below(up, view, port, address, bytes)
+    }
+
+    // The connection ends here.
+    fn open_at_end(
+        &mut self,
+        up: UpSide,
+        view: &OpenView<'_>,
+        link: EndLink,
+    ) -> Result<Output, NoMemory>
+        requires spend { CanSpend self.old up }
+        requires multiplier { view.now.fields.multiplier < 8 }
+        requires link { up_is_link (up_side_of up view.now.fields.to_id) ≡ true }
+        requires room { hops.refusal self.old.hops view.now.fields.triad 1 ≡ None }
+        requires fits { row_at self.old.target (open_of view.now) ≡ Ok link }
+        ensures { Handles self.old self.new (with_spending up
+            (open_effects (state_of_device self.old) up (open_of view.now) (Accepted link)))
+            result }
+    {
+        let bytes = accepted(self.alloc, &view.fields, self.hops.last() + 1)?;
+        let path = view.path.to_path(self.alloc)?;
+        let down = HopDown::End {
+            config: u32::from(link.config),
+            consume: u32::from(link.consume),
+            produce: u32::from(link.produce),
+        };
+        let opening = opening_with(up_side_of(&up, view.fields.to_id), down, &view.fields, path);
+        self.accepts(opening, view, &link);
+        Ok(reply_to(up, bytes))
+    }
+
+    /// A Forward_Open of which the row was found.
+    pub(crate) fn carry_out_open(
+        &mut self,
+        up: UpSide,
+        view: &OpenView<'_>,
+        decision: OpenDecision<'_>,
+    ) -> Result<Output, NoMemory>
+        requires spend { CanSpend self.old up }
+        requires row { open_row_of decision ≡ open_row self.old.config (state_of_device self.old)
+            (up_side_of up view.now.fields.to_id) (open_of view.now) }
+        requires leads { OpenLeads self.old (up_side_of up view.now.fields.to_id) (open_of view.now)
+            decision }
+        ensures { Handles self.old self.new (with_spending up
+            (open_effects (state_of_device self.old) up (open_of view.now)
+            (open_row_of decision.entry))) result }
+    {
+        match decision {
+            OpenDecision::Refuses(refusal) => {
+                let words = view.path.words();
+                let bytes = open_failed(self.alloc, refusal.status(), view.fields.triad, words)?;
+                self.spend_for(&up);
+                Ok(reply_to(up, bytes))
+            }
+            OpenDecision::Forwarded {
+                port,
+                address,
+                rest,
+            } => self.open_by(up, view, port, address, rest),
+            OpenDecision::Accepted(link) => self.open_at_end(up, view, link),
+        }
+    }
+
+    /// A Forward_Open that was read.
+    pub(crate) fn open(&mut self, up: UpSide, view: &OpenView<'_>) -> Result<Output, NoMemory>
+        requires spend { CanSpend self.old up }
+        ensures { Handles self.old self.new (with_spending up
+            (open_effects (state_of_device self.old) up (open_of view.now)
+            (open_row self.old.config (state_of_device self.old) (up_side_of up view.now.fields.to_id)
+            (open_of view.now)))) result }
+    {
+        let asker = up_side_of(&up, view.fields.to_id);
+        let decision = self.open_row(&asker, view);
+        self.carry_out_open(up, view, decision)
+    }
+
+    /// A Forward_Open, by its data.
+    pub(crate) fn forward_open(&mut self, up: UpSide, data_: &[u8]) -> Result<Output, NoMemory>
+        requires { IsAsked up }
+        ensures { Handles self.old self.new
+            (open_data_effects self.old.config (state_of_device self.old) up
+            data_.now (open_at data_.now)) result }
+    {
+        match read_open(data_) {
+            Ok(view) => self.open(up, &view),
+            Err(fault) => {
+                let bytes = unread_open(self.alloc, data_, fault)?;
+                Ok(reply_to(up, bytes))
+            }
+        }
+    }
+}

@@ -1,0 +1,4 @@
+//! The reply group.
+
+pub(crate) mod rows;
+pub(crate) mod steps;

@@ -1,0 +1,4 @@
+//! The tick group.
+
+pub(crate) mod rows;
+pub(crate) mod steps;

@@ -1,0 +1,4 @@
+//! The unconnected send group.
+
+pub(crate) mod rows;
+pub(crate) mod steps;

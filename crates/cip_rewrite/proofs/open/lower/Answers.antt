@@ -1,8 +1,0 @@
-use Rattle.std.proofs.Common.{arith}
-use Rattle.cip_rewrite.proofs.Edited.{open_lowered}
-use Rattle.cip_rewrite.proofs.open.lower.Goals as goal
-
-pub returns : goal.returns
-returns c =
-    λ s x y z w o e.
-    open_lowered s x y z w o c.args.down_id c.args.words c.args.message.now c.write_u32.new.buf (omega arith) e c.write_u32.ensures
