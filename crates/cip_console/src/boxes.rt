@@ -25,47 +25,53 @@ pub fn chassis(alloc: Global) -> Result<Topology, NoMemory> {
     }
 }
 
-fn configs_of(alloc: Global, topology: &Topology) -> Result<Vec<ModuleConfig>, NoMemory> {
-    let mut configs = Vec::new(alloc);
-    for config in topology.configs() {
-        configs.push(config.copy(alloc)?)?;
-    }
-    Ok(configs)
+// A new module in its box, of one of the three kinds. A function can hand these out, and no box of
+// any module.
+#[derive(Drop)]
+enum NewModule {
+    Plain(Box<PlainModule>),
+    Adapter(Box<AdapterModule>),
+    Indexed(Box<IndexedModule>),
 }
 
-// One more box at the end.
-macro_rules! push_box {
-    ($alloc:ident, $modules:ident, $made:expr) => {
-        let Ok(module_) = $made else {
-            return Err(ConsoleFault::NoMemory);
-        };
-        let Ok(boxed) = Box::new($alloc, module_) else {
-            return Err(ConsoleFault::NoMemory);
-        };
-        if $modules.push(boxed).is_err() {
-            return Err(ConsoleFault::NoMemory);
+fn new_module(alloc: Global, config: ModuleConfig) -> Result<NewModule, NoMemory> {
+    match config.settings().kind {
+        ModuleKind::Plain => {
+            let module_ = PlainModule::new(alloc, config)?;
+            Ok(NewModule::Plain(Box::new(alloc, module_)?))
         }
-    };
+        ModuleKind::Adapter => {
+            let module_ = AdapterModule::new(alloc, config)?;
+            Ok(NewModule::Adapter(Box::new(alloc, module_)?))
+        }
+        ModuleKind::Indexed => {
+            let module_ = IndexedModule::new(alloc, config)?;
+            Ok(NewModule::Indexed(Box::new(alloc, module_)?))
+        }
+    }
 }
 
-// New modules of a topology, in its order. They are made where they are run: a function that hands
-// them out could not say what they are.
+// New modules of a topology, in its order.
+fn new_modules(alloc: Global, topology: &Topology) -> Result<Vec<NewModule>, NoMemory> {
+    let mut made = Vec::new(alloc);
+    for config in topology.configs() {
+        made.push(new_module(alloc, config.copy(alloc)?)?)?;
+    }
+    Ok(made)
+}
+
+// New modules, each as a box of any module. They become so where they are run: a function that
+// hands such boxes out could not say what they are.
 macro_rules! push_modules {
-    ($alloc:ident, $topology:ident, $modules:ident) => {
-        let Ok(configs) = configs_of($alloc, &$topology) else {
-            return Err(ConsoleFault::NoMemory);
-        };
-        for config in configs {
-            match config.settings().kind {
-                ModuleKind::Plain => {
-                    push_box!($alloc, $modules, PlainModule::new($alloc, config));
-                }
-                ModuleKind::Adapter => {
-                    push_box!($alloc, $modules, AdapterModule::new($alloc, config));
-                }
-                ModuleKind::Indexed => {
-                    push_box!($alloc, $modules, IndexedModule::new($alloc, config));
-                }
+    ($made:ident, $modules:ident) => {
+        for new in $made {
+            let pushed = match new {
+                NewModule::Plain(module_) => $modules.push(module_),
+                NewModule::Adapter(module_) => $modules.push(module_),
+                NewModule::Indexed(module_) => $modules.push(module_),
+            };
+            if pushed.is_err() {
+                return Err(ConsoleFault::NoMemory);
             }
         }
     };
@@ -86,8 +92,9 @@ pub fn run_new<R: Source, W: Sink>(
     ensures write { result ≡ Err ConsoleFault.Write → W.has_refused writer.new }
     ensures asked { R.asks reader.new ≤ R.asks reader.old + 1048577 }
 {
+    let made = new_modules(alloc, &topology)?;
     let mut modules: Vec<Box<dyn Module + Send>> = Vec::new(alloc);
-    push_modules!(alloc, topology, modules);
+    push_modules!(made, modules);
     run(alloc, reader, writer, topology, modules)
 }
 
@@ -110,8 +117,9 @@ pub fn run_new_live<T: Threads + Wait + Sync, R: Source, W: Sink, G: Gate + Sync
     ensures write { result ≡ Err ConsoleFault.Write → W.has_refused writer.new }
     ensures asked { R.asks reader.new ≤ R.asks reader.old + 1048577 }
 {
+    let made = new_modules(alloc, &topology)?;
     let mut modules: Vec<Box<dyn Module + Send>> = Vec::new(alloc);
-    push_modules!(alloc, topology, modules);
+    push_modules!(made, modules);
     run_live(rt, alloc, reader, writer, topology, modules, turns, gate)
 }
 
