@@ -6,12 +6,12 @@ use Rattle.std.proofs.KnownBytes.{Keeps-refl}
 use Rattle.cip_topology.specs.Plan.{Plan}
 use Rattle.cip_world.specs.declared.journal.Entry.{Entry}
 use Rattle.cip_console.specs.declared.console.ConsoleFault.TheVariants.{Read, NoMemory}
-use Rattle.cip_console.specs.declared.steps.Numbered.{Numbered}
-use Rattle.cip_console.specs.declared.steps.ScriptFault.{ScriptFault}
+use Rattle.cip_script.specs.declared.steps.Numbered.{Numbered}
+use Rattle.cip_script.specs.declared.steps.ScriptFault.{ScriptFault}
 use Rattle.cip_console.specs.Known.{AppendsFront}
 use Rattle.cip_console.specs.Live.{Fed, Feeds, Front, WroteLiveOf, entries_text, feed_of, feeds_of, given_by, with_feed}
 use Rattle.cip_console.specs.Playing.{Prints}
-use Rattle.cip_console.specs.Show.{entry_text}
+use Rattle.cip_transcript.specs.Show.{entry_text}
 use Rattle.cip_console.proofs.Outcomes.{left_of, is_left}
 use Rattle.cip_console.proofs.Prints.{prints_nothing, prints_more, prints_then, front_of_prints, front_then, front_more}
 

@@ -23,13 +23,13 @@ use Rattle.cip_world.specs.Worlds.{AddsStep, AddsArrival, AddsLoss, DeliversOne,
 use Rattle.cip_world.proofs.Nexts.{step_is_next, no_next, no_module_next, arrival_is_delivered}
 use Rattle.cip_console.specs.declared.playing.PlayFault.{PlayFault}
 use Rattle.cip_console.specs.declared.playing.PlayFault.TheVariants.{Stopped, Write, NoMemory}
-use Rattle.cip_console.specs.declared.steps.ScriptFault.{ScriptFault}
-use Rattle.cip_console.specs.declared.steps.ScriptFault.TheVariants.{NoFrame, ClockFull}
+use Rattle.cip_script.specs.declared.steps.ScriptFault.{ScriptFault}
+use Rattle.cip_script.specs.declared.steps.ScriptFault.TheVariants.{NoFrame, ClockFull}
 use Rattle.cip_console.specs.Known.{AppendsFront}
 use Rattle.cip_console.specs.Playing.{Prints, Played, Plays}
-use Rattle.cip_console.specs.Show.{name_of}
-use Rattle.cip_console.specs.TablesText.{tables_text}
-use Rattle.cip_console.specs.Transcript.{Part, printed, continued, then_, newest, shown, first_delivered, deliveries, end_text, ended, given, waits, if_waits, brought, lost, ran, tables_of, tables_in, tabled, names_of}
+use Rattle.cip_transcript.specs.Show.{name_of, names_of}
+use Rattle.cip_transcript.specs.TablesText.{tables_text}
+use Rattle.cip_console.specs.Transcript.{Part, printed, continued, then_, newest, shown, first_delivered, deliveries, end_text, ended, given, waits, if_waits, brought, lost, ran, tables_of, tables_in, tabled}
 use Rattle.cip_console.proofs.Prints.{prints_nothing, prints_more, prints_then, front_more, front_of_prints, front_then}
 
 -- what was printed so far, and what the rest prints

@@ -15,17 +15,16 @@ use Rattle.cip_threads.specs.declared.report.RunFault.TheVariants as run_faults
 use Rattle.cip_threads.specs.Reports.{IsReport, Passes}
 use Rattle.cip_console.specs.declared.console.ConsoleFault.{ConsoleFault}
 use Rattle.cip_console.specs.declared.console.ConsoleFault.TheVariants.{Script, Read, Write, NoMemory, New, Run}
-use Rattle.cip_console.specs.declared.steps.Mode.TheVariants.{OnThreads}
-use Rattle.cip_console.specs.declared.steps.Numbered.{Numbered}
-use Rattle.cip_console.specs.declared.steps.ScriptFault.{ScriptFault}
-use Rattle.cip_console.specs.declared.steps.ScriptFault.TheVariants.{NoModule, NotWithThreads}
-use Rattle.cip_console.specs.declared.steps.Step.{Step}
-use Rattle.cip_console.specs.declared.steps.Step.TheVariants as steps
-use Rattle.cip_console.specs.declared.steps.StepsFault.{StepsFault}
+use Rattle.cip_script.specs.declared.steps.Mode.TheVariants.{OnThreads}
+use Rattle.cip_script.specs.declared.steps.Numbered.{Numbered}
+use Rattle.cip_script.specs.declared.steps.ScriptFault.{ScriptFault}
+use Rattle.cip_script.specs.declared.steps.ScriptFault.TheVariants.{NoModule, NotWithThreads}
+use Rattle.cip_script.specs.declared.steps.Step.{Step}
+use Rattle.cip_script.specs.declared.steps.Step.TheVariants as steps
+use Rattle.cip_script.specs.declared.steps.StepsFault.{StepsFault}
 use Rattle.cip_console.specs.Known.{AppendsFront}
-use Rattle.cip_console.specs.Show.{entry_text}
-use Rattle.cip_console.specs.Steps.{StepsFail, steps as steps_of}
-use Rattle.cip_console.specs.Transcript.{names_of}
+use Rattle.cip_transcript.specs.Show.{entry_text, names_of}
+use Rattle.cip_script.specs.Steps.{StepsFail, steps as steps_of}
 
 -- ---- what a script gives
 

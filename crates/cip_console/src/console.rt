@@ -3,18 +3,18 @@ ghost use Rattle.std.specs.Prelude.{◌≡◌, ◌≢◌, ◌⊎◌, ◌+◌, �
 ghost use Rattle.cip_world.specs.Fresh.{IsNewFault};
 ghost use Rattle.cip_world.specs.Worlds.{Stand};
 ghost use Rattle.cip_console.specs.Outcome.{Wrote, WroteOf};
-ghost use Rattle.cip_console.specs.Steps.{steps};
-ghost use Rattle.cip_console.specs.Transcript.{names_of};
+ghost use Rattle.cip_script.specs.Steps.{steps};
+ghost use Rattle.cip_transcript.specs.Show.{names_of};
 ghost use Rattle.cip_console.specs.declared.console.ConsoleFault.TheVariants.{NoMemory as NoConsoleMemory};
 
-use crate::names::names_of;
 use crate::playing::{PlayFault, flush, play};
 use crate::source::{ReadFault, SCRIPT_LIMIT, Sink, Source, WriteFault, read_script};
-use crate::steps::{Mode, Numbered, ScriptFault, StepsFault, read_steps};
 use cip_base::{Bytes, NoMemory};
 use cip_module::Module;
+use cip_script::{Mode, Numbered, ScriptFault, StepsFault, read_steps};
 use cip_threads::RunFault;
 use cip_topology::Topology;
+use cip_transcript::names_of;
 use cip_world::{NewFault, World};
 use std::alloc::{AllocError, Global};
 use std::collections::VecDeque;

@@ -1,7 +1,7 @@
 use Rattle.std.proofs.Common.{◌≡◌, ◌<◌, List, sym, subst}
 use Rattle.std.specs.Prelude.{All}
 use Rattle.std.proofs.lemmas.List.Elements.{All-push}
-use Rattle.cip_console.specs.declared.steps.Numbered.{Numbered}
+use Rattle.cip_script.specs.declared.steps.Numbered.{Numbered}
 use Rattle.cip_console.specs.Live.{Fed, feeds_of}
 use Rattle.cip_console.proofs.LiveLaws.{before, one_fed}
 use Rattle.cip_console.proofs.live.feeds_of.Goals as goal

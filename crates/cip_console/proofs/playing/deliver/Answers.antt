@@ -8,7 +8,8 @@ use Rattle.cip_world.proofs.Ran.{one_more}
 use Rattle.cip_console.specs.declared.playing.PlayFault.{PlayFault}
 use Rattle.cip_console.specs.Known.{AppendsFront}
 use Rattle.cip_console.specs.Playing.{Prints}
-use Rattle.cip_console.specs.Transcript.{deliveries, newest, names_of}
+use Rattle.cip_console.specs.Transcript.{deliveries, newest}
+use Rattle.cip_transcript.specs.Show.{names_of}
 use Rattle.cip_console.proofs.PlayedLaws.{one_played, one_unwritten, unwritten_as, front_so_far, none_waits, all_delivered}
 use Rattle.cip_console.proofs.playing.deliver.Goals as goal
 
