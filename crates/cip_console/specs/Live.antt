@@ -36,12 +36,12 @@ abbrev pub Feeds : Type 0
 Feeds = Result (List Fed) (ℕ × ScriptFault)
 
 -- to one of so many modules
-abbrev pub within : ℕ → ℕ → ModuleId → Feed → Result Fed (ℕ × ScriptFault)
-within modules line m feed = if nat_lt m.0 modules then Ok (m, feed) else Err (line, NoModule)
+abbrev pub feed_for : ℕ → ℕ → ModuleId → Feed → Result Fed (ℕ × ScriptFault)
+feed_for modules line m feed = if nat_lt m.0 modules then Ok (m, feed) else Err (line, NoModule)
 
 abbrev pub feed_of : ℕ → ℕ → Step → Result Fed (ℕ × ScriptFault)
-feed_of modules line (steps.Feed m command) = within modules line m (feeds.Command command)
-feed_of modules line (steps.Tick m by) = within modules line m (feeds.Tick by)
+feed_of modules line (steps.Feed m command) = feed_for modules line m (feeds.Command command)
+feed_of modules line (steps.Tick m by) = feed_for modules line m (feeds.Tick by)
 feed_of modules line (steps.Deliver frame) = Err (line, NotWithThreads)
 feed_of modules line (steps.Lose frame) = Err (line, NotWithThreads)
 feed_of modules line (steps.Run limit) = Err (line, NotWithThreads)

@@ -3,7 +3,7 @@ ghost use Rattle.std.specs.Prelude.{◌≡◌, ◌≢◌, ◌⊎◌, ◌++◌, �
 ghost use Rattle.std.specs.Io.KnownBytes.{Appends};
 ghost use Rattle.cip_world.specs.Fresh.{IsNewFault};
 ghost use Rattle.cip_console.specs.Known.{AppendsFront};
-ghost use Rattle.cip_console.specs.Live.{GivesFeeds, HasRun, WroteLive, WroteLiveOf, entries_text, feed_of, feeds_of, given_by, last_text, live_text, within};
+ghost use Rattle.cip_console.specs.Live.{GivesFeeds, HasRun, WroteLive, WroteLiveOf, entries_text, feed_for, feed_of, feeds_of, given_by, last_text, live_text};
 ghost use Rattle.cip_console.specs.Playing.{Prints};
 ghost use Rattle.cip_transcript.specs.Show.{names_of};
 
@@ -23,13 +23,13 @@ use std::sync::Wait;
 use std::thread::Threads;
 
 // What one of so many modules is given.
-fn within(
+fn feed_for(
     modules: usize,
     line: usize,
     at: ModuleId,
     feed: Feed,
 ) -> Result<(ModuleId, Feed), StepsFault>
-    ensures gives { GivesFeeds (λ fed. fed) result (within modules line at feed) }
+    ensures gives { GivesFeeds (λ fed. fed) result (feed_for modules line at feed) }
     ensures within { IfOk result (λ fed. fed.0.0 < modules) }
 {
     if at.0 < modules {
@@ -44,8 +44,8 @@ fn feed_of(modules: usize, line: usize, step: Step) -> Result<(ModuleId, Feed), 
     ensures within { IfOk result (λ fed. fed.0.0 < modules) }
 {
     match step {
-        Step::Feed { module_, command } => within(modules, line, module_, Feed::Command(command)),
-        Step::Tick { module_, by } => within(modules, line, module_, Feed::Tick(by)),
+        Step::Feed { module_, command } => feed_for(modules, line, module_, Feed::Command(command)),
+        Step::Tick { module_, by } => feed_for(modules, line, module_, Feed::Tick(by)),
         Step::Deliver { frame } => Err(StepsFault::Script(line, ScriptFault::NotWithThreads)),
         Step::Lose { frame } => Err(StepsFault::Script(line, ScriptFault::NotWithThreads)),
         Step::Run { limit } => Err(StepsFault::Script(line, ScriptFault::NotWithThreads)),

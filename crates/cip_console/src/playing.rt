@@ -74,7 +74,11 @@ fn tell<W: Sink>(world: &World, writer: &mut W)
 
 // Once enough text was gathered it is written, and how far the run is may be told.
 #[inline(always)]
-fn hand_on<W: Sink>(world: &World, writer: &mut W, text: &mut Vec<u8>) -> Result<(), WriteFault>
+fn flush_if_full<W: Sink>(
+    world: &World,
+    writer: &mut W,
+    text: &mut Vec<u8>,
+) -> Result<(), WriteFault>
     ensures ok { OnOk result (Prints (W.contents writer.old) (W.contents writer.new) text.old.items
         text.new.items []) }
     ensures err { OnErr result (AppendsFront (W.contents writer.old) (W.contents writer.new)
@@ -106,7 +110,7 @@ fn show<W: Sink>(
     ensures write { result ≡ Err PlayFault.Write → W.has_refused writer.new }
 {
     match put_newest(names, world.journal(), text) {
-        Ok(()) => match hand_on(world, writer, text) {
+        Ok(()) => match flush_if_full(world, writer, text) {
             Ok(()) => Ok(()),
             Err(WriteFault) => Err(PlayFault::Write),
         },
@@ -232,7 +236,7 @@ fn tick<W: Sink>(
 }
 
 // `deliver E.K`
-fn bring<W: Sink>(
+fn deliver_frame<W: Sink>(
     world: &mut World,
     names: &[Bytes],
     frame: FrameName,
@@ -426,7 +430,7 @@ pub(crate) fn play<W: Sink>(
     match step {
         Step::Feed { module_, command } => feed(world, names, module_, command, writer, text),
         Step::Tick { module_, by } => tick(world, names, module_, by, writer, text),
-        Step::Deliver { frame } => bring(world, names, frame, writer, text),
+        Step::Deliver { frame } => deliver_frame(world, names, frame, writer, text),
         Step::Lose { frame } => lose(world, names, frame, writer, text),
         Step::Run { limit } => run_line(world, names, limit, writer, text),
         Step::Tables { module_ } => show_tables(world, names, module_, writer, text),

@@ -208,8 +208,8 @@ chain_words names args = do
   Ok (Chain m op)
 
 -- the words that give a module nothing
-abbrev pub other_step : List (List ℕ) → List ℕ → List (List ℕ) → Result Step ScriptFault
-other_step names word args =
+abbrev pub world_step : List (List ℕ) → List ℕ → List (List ℕ) → Result Step ScriptFault
+world_step names word args =
     if bytes_eq word (codes "deliver") then of_words 1 args (deliver_words args)
     else if bytes_eq word (codes "lose") then of_words 1 args (lose_words args)
     else if bytes_eq word (codes "run") then of_words 1 args (run_words args)
@@ -218,18 +218,18 @@ other_step names word args =
     else if bytes_eq word (codes "chain") then of_words 2 args (chain_words names args)
     else Err UnknownWord
 
-abbrev pub is_other : List ℕ → Bool
-is_other word = bytes_eq word (codes "deliver") || (bytes_eq word (codes "lose")
+abbrev pub is_world_word : List ℕ → Bool
+is_world_word word = bytes_eq word (codes "deliver") || (bytes_eq word (codes "lose")
     || (bytes_eq word (codes "run") || (bytes_eq word (codes "tables")
     || (bytes_eq word (codes "trail") || bytes_eq word (codes "chain")))))
 
 -- where modules run on threads of their own, no other words are taken
-abbrev pub unheard : List ℕ → Result Step ScriptFault
-unheard word = if is_other word then Err NotWithThreads else Err UnknownWord
+abbrev pub not_with_threads : List ℕ → Result Step ScriptFault
+not_with_threads word = if is_world_word word then Err NotWithThreads else Err UnknownWord
 
 abbrev pub last_step : Mode → List (List ℕ) → List ℕ → List (List ℕ) → Result Step ScriptFault
-last_step InTurn names word args = other_step names word args
-last_step OnThreads names word args = unheard word
+last_step InTurn names word args = world_step names word args
+last_step OnThreads names word args = not_with_threads word
 
 -- the first word says what the others are
 abbrev pub step_by : Mode → List (List ℕ) → List ℕ → List (List ℕ) → Result Step ScriptFault

@@ -1,13 +1,13 @@
 //! The steps of a script, or its first faulty line.
 ghost use Rattle.std.specs.Prelude.{◌≡◌, ◌++◌, ◌∷◌, [], length, OnOk};
-ghost use Rattle.cip_script.specs.Steps.{Gives, Fails, Reads, of_words, send_words, params_of, open_words, close_words, enter_words, set_words, produce_words, tick_words, deliver_words, lose_words, run_words, tables_words, trail_words, chain_words, other_step, is_other, unheard, step_by, line_step, steps, texts};
+ghost use Rattle.cip_script.specs.Steps.{Gives, Fails, Reads, of_words, send_words, params_of, open_words, close_words, enter_words, set_words, produce_words, tick_words, deliver_words, lose_words, run_words, tables_words, trail_words, chain_words, world_step, is_world_word, not_with_threads, step_by, line_step, steps, texts};
 ghost use Rattle.cip_script.specs.declared.steps.StepFault.TheVariants.{NoMemory as NoStepMemory};
 ghost use Rattle.cip_script.specs.declared.steps.StepsFault.TheVariants.{NoMemory as NoStepsMemory};
 
 use crate::text;
 use crate::words::{
-    bytes_at, frame_at, module_of, ms_at, nth, number_u8, number_u16, number_u32, number_usize,
-    path_at, timing_at,
+    bytes_at, frame_of, module_of, ms_of, nth, number_u8, number_u16, number_u32, number_usize,
+    path_of, timing_of,
 };
 use cip_base::{Bytes, ModuleId, Ms};
 use cip_module::{Command, OpenParams};
@@ -125,8 +125,8 @@ fn send_step(alloc: Global, names: &[Bytes], args: &[&str]) -> Result<Step, Step
     }
     let module_ = module_of(names, nth(args, 0))?;
     let op = number_u32(nth(args, 1))?;
-    let timing = timing_at(nth(args, 2), nth(args, 3))?;
-    let path = path_at(alloc, nth(args, 4))?;
+    let timing = timing_of(nth(args, 2), nth(args, 3))?;
+    let path = path_of(alloc, nth(args, 4))?;
     let request = bytes_at(alloc, nth(args, 5))?;
     let command = Command::Send {
         op,
@@ -169,8 +169,8 @@ fn open_step(alloc: Global, names: &[Bytes], args: &[&str]) -> Result<Step, Step
     }
     let module_ = module_of(names, nth(args, 0))?;
     let op = number_u32(nth(args, 1))?;
-    let timing = timing_at(nth(args, 2), nth(args, 3))?;
-    let path = path_at(alloc, nth(args, 4))?;
+    let timing = timing_of(nth(args, 2), nth(args, 3))?;
+    let path = path_of(alloc, nth(args, 4))?;
     let params = params_at(args)?;
     let command = Command::Open {
         op,
@@ -191,7 +191,7 @@ fn close_step(names: &[Bytes], args: &[&str]) -> Result<Step, StepFault>
     let module_ = module_of(names, nth(args, 0))?;
     let op = number_u32(nth(args, 1))?;
     let of = number_u32(nth(args, 2))?;
-    let timing = timing_at(nth(args, 3), nth(args, 4))?;
+    let timing = timing_of(nth(args, 3), nth(args, 4))?;
     let command = Command::Close { op, of, timing };
     Ok(Step::Feed { module_, command })
 }
@@ -246,7 +246,7 @@ fn tick_step(names: &[Bytes], args: &[&str]) -> Result<Step, StepFault>
         return Err(StepFault::Fault(ScriptFault::Count));
     }
     let module_ = module_of(names, nth(args, 0))?;
-    let by = ms_at(nth(args, 1))?;
+    let by = ms_of(nth(args, 1))?;
     Ok(Step::Tick { module_, by })
 }
 
@@ -257,7 +257,7 @@ fn deliver_step(alloc: Global, args: &[&str]) -> Result<Step, StepFault>
     if args.len() != 1 {
         return Err(StepFault::Fault(ScriptFault::Count));
     }
-    let frame = frame_at(alloc, nth(args, 0))?;
+    let frame = frame_of(alloc, nth(args, 0))?;
     Ok(Step::Deliver { frame })
 }
 
@@ -268,7 +268,7 @@ fn lose_step(alloc: Global, args: &[&str]) -> Result<Step, StepFault>
     if args.len() != 1 {
         return Err(StepFault::Fault(ScriptFault::Count));
     }
-    let frame = frame_at(alloc, nth(args, 0))?;
+    let frame = frame_of(alloc, nth(args, 0))?;
     Ok(Step::Lose { frame })
 }
 
@@ -319,8 +319,8 @@ fn chain_step(names: &[Bytes], args: &[&str]) -> Result<Step, StepFault>
 }
 
 // The words that give a module nothing.
-fn other_step(alloc: Global, names: &[Bytes], word: &str, args: &[&str]) -> Result<Step, StepFault>
-    ensures { Gives result (other_step names.now word.now (texts args.now)) }
+fn world_step(alloc: Global, names: &[Bytes], word: &str, args: &[&str]) -> Result<Step, StepFault>
+    ensures { Gives result (world_step names.now word.now (texts args.now)) }
 {
     if word == "deliver" {
         deliver_step(alloc, args)
@@ -340,8 +340,8 @@ fn other_step(alloc: Global, names: &[Bytes], word: &str, args: &[&str]) -> Resu
 }
 
 // Whether a word is one that gives a module nothing.
-fn is_other(word: &str) -> bool
-    ensures { result ≡ is_other word.now }
+fn is_world_word(word: &str) -> bool
+    ensures { result ≡ is_world_word word.now }
 {
     word == "deliver"
         || word == "lose"
@@ -352,10 +352,10 @@ fn is_other(word: &str) -> bool
 }
 
 // Where modules run on threads of their own, no other words are taken.
-fn unheard(word: &str) -> StepFault
-    ensures { Fails result (unheard word.now) }
+fn not_with_threads(word: &str) -> StepFault
+    ensures { Fails result (not_with_threads word.now) }
 {
-    if is_other(word) {
+    if is_world_word(word) {
         return StepFault::Fault(ScriptFault::NotWithThreads);
     }
     StepFault::Fault(ScriptFault::UnknownWord)
@@ -387,8 +387,8 @@ fn step_of(
         tick_step(names, args)
     } else {
         match mode {
-            Mode::InTurn => other_step(alloc, names, word, args),
-            Mode::OnThreads => Err(unheard(word)),
+            Mode::InTurn => world_step(alloc, names, word, args),
+            Mode::OnThreads => Err(not_with_threads(word)),
         }
     }
 }

@@ -107,7 +107,7 @@ fn path_in(alloc: Global, bytes: &[u8]) -> Result<Path, StepFault>
 const SHORT: usize = 64;
 
 /// The bytes of a path.
-pub(crate) fn path_at(alloc: Global, word: &str) -> Result<Path, StepFault>
+pub(crate) fn path_of(alloc: Global, word: &str) -> Result<Path, StepFault>
     ensures { Gives result (path_of word.now) }
 {
     let mut room = [0; SHORT];
@@ -119,7 +119,7 @@ pub(crate) fn path_at(alloc: Global, word: &str) -> Result<Path, StepFault>
 }
 
 /// `TICK TICKS`
-pub(crate) fn timing_at(tick: &str, ticks: &str) -> Result<Timing, StepFault>
+pub(crate) fn timing_of(tick: &str, ticks: &str) -> Result<Timing, StepFault>
     ensures { Gives result (timing_of tick.now ticks.now) }
 {
     let tick = number_u8(tick)?;
@@ -128,7 +128,7 @@ pub(crate) fn timing_at(tick: &str, ticks: &str) -> Result<Timing, StepFault>
 }
 
 /// Milliseconds, at least one.
-pub(crate) fn ms_at(word: &str) -> Result<Ms, StepFault>
+pub(crate) fn ms_of(word: &str) -> Result<Ms, StepFault>
     ensures { Gives result (ms_of word.now) }
 {
     let count = number_u16(word)?;
@@ -146,7 +146,7 @@ fn dotted(alloc: Global, word: &str) -> Result<Vec<&str>, AllocError>
 }
 
 // `E` and `K`.
-fn frame_of(entry: &str, output: &str) -> Result<FrameName, StepFault>
+fn name_of(entry: &str, output: &str) -> Result<FrameName, StepFault>
     ensures { Gives result (name_of entry.now output.now) }
 {
     let entry = number_usize(entry)?;
@@ -155,12 +155,12 @@ fn frame_of(entry: &str, output: &str) -> Result<FrameName, StepFault>
 }
 
 /// `E.K`: output K of entry E.
-pub(crate) fn frame_at(alloc: Global, word: &str) -> Result<FrameName, StepFault>
+pub(crate) fn frame_of(alloc: Global, word: &str) -> Result<FrameName, StepFault>
     ensures { Gives result (frame_of word.now) }
 {
     let parts = dotted(alloc, word)?;
     match parts.as_slice() {
-        [entry, output] => frame_of(entry, output),
+        [entry, output] => name_of(entry, output),
         _ => Err(StepFault::Fault(ScriptFault::BadNumber)),
     }
 }

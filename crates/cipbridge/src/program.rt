@@ -32,7 +32,7 @@ fn unread(alloc: Global, name: &str) -> Fault {
 }
 
 // What the console says, with the name of the script, and of a line what is wrong there.
-fn told(alloc: Global, name: &str, script: &[u8], fault: ConsoleFault) -> Fault {
+fn fault_of(alloc: Global, name: &str, script: &[u8], fault: ConsoleFault) -> Fault {
     let name = match named(alloc, name) {
         Ok(name) => name,
         Err(fault) => return fault,
@@ -148,7 +148,7 @@ fn play<T: Threads + Wait + Sync, S: Source>(
     writer.clear();
     match result {
         Ok(()) => Ok(()),
-        Err(fault) => Err(told(alloc, name, script.as_slice(), fault)),
+        Err(fault) => Err(fault_of(alloc, name, script.as_slice(), fault)),
     }
 }
 
