@@ -1,14 +1,17 @@
 //! A run over new modules of a topology, and the topology that stands where none is given.
-ghost use Rattle.std.specs.Prelude.{◌≡◌, ◌+◌, ◌≤◌};
-ghost use Rattle.cip_console.specs.Live.{WroteLiveOf};
-ghost use Rattle.cip_console.specs.Outcome.{WroteOf};
+ghost use Rattle.std.specs.Prelude.{◌≡◌, ◌≢◌, ◌+◌, ◌≤◌};
+ghost use Rattle.cip_script.specs.Steps.{steps};
+ghost use Rattle.cip_transcript.specs.Show.{names_of};
+ghost use Rattle.cip_console.specs.Live.{WroteLive, WroteLiveOf, given_by};
+ghost use Rattle.cip_console.specs.Outcome.{Wrote, WroteOf};
 
-use crate::console::{ConsoleFault, run};
-use crate::live::run_live;
-use crate::source::{Sink, Source};
+use crate::console::{ConsoleFault, run_script};
+use crate::live::play_live;
+use crate::source::{ReadFault, Sink, Source, read_script};
 use cip_base::NoMemory;
 use cip_indexed::IndexedModule;
 use cip_module::{AdapterModule, Module, ModuleConfig, ModuleKind, PlainModule};
+use cip_script::Mode;
 use cip_threads::Gate;
 use cip_topology::{CHASSIS, Topology, load};
 use std::alloc::Global;
@@ -19,10 +22,7 @@ use std::thread::Threads;
 /// is refused.
 // The text keeps every rule, which a test shows: only want of memory stops it from being loaded.
 pub fn chassis(alloc: Global) -> Result<Topology, NoMemory> {
-    match load(alloc, CHASSIS) {
-        Ok(topology) => Ok(topology),
-        Err(_) => Err(NoMemory),
-    }
+    load(alloc, CHASSIS).ok().ok_or(NoMemory)
 }
 
 // A new module in its box, of one of the three kinds. A function can hand these out, and no box of
@@ -77,8 +77,29 @@ macro_rules! push_modules {
     };
 }
 
+/// Runs a script that was read over new modules of a topology; otherwise as `run`.
+#[tactic(auto, using(crate::proofs::Outcomes::nothing_written))]
+pub fn run_new_script<W: Sink>(
+    alloc: Global,
+    script: &[u8],
+    writer: &mut W,
+    topology: Topology,
+) -> Result<(), ConsoleFault>
+    // What was written of the script, by the answer.
+    ensures wrote { Wrote topology (W.contents writer.old) (W.contents writer.new)
+        (steps Mode.InTurn (names_of topology) script.now) result }
+    ensures read { result ≢ Err ConsoleFault.Read }
+    // Write only where the writer failed or took no byte.
+    ensures write { result ≡ Err ConsoleFault.Write → W.has_refused writer.new }
+{
+    let made = new_modules(alloc, &topology)?;
+    let mut modules: Vec<Box<dyn Module + Send>> = Vec::new(alloc);
+    push_modules!(made, modules);
+    run_script(alloc, script, writer, topology, modules)
+}
+
 /// Runs a script over new modules of a topology; otherwise as `run`.
-#[tactic(auto, using(crate::proofs::Outcomes::no_memory_to_read))]
+#[tactic(auto, using(crate::proofs::Outcomes::no_memory_to_read, crate::proofs::Outcomes::none_read))]
 pub fn run_new<R: Source, W: Sink>(
     alloc: Global,
     reader: &mut R,
@@ -92,15 +113,42 @@ pub fn run_new<R: Source, W: Sink>(
     ensures write { result ≡ Err ConsoleFault.Write → W.has_refused writer.new }
     ensures asked { R.asks reader.new ≤ R.asks reader.old + 1048577 }
 {
+    match read_script(alloc, reader) {
+        Ok(script) => run_new_script(alloc, script.as_slice(), writer, topology),
+        Err(ReadFault::NoMemory) => Err(ConsoleFault::NoMemory),
+        Err(ReadFault::Failed) => Err(ConsoleFault::Read),
+        Err(ReadFault::TooLong) => Err(ConsoleFault::Read),
+    }
+}
+
+/// Runs a script that was read over new modules of a topology, each on a thread of its own;
+/// otherwise as `run_live`.
+#[tactic(auto, using(crate::proofs::LiveLaws::nothing_run))]
+pub fn run_new_script_live<T: Threads + Wait + Sync, W: Sink, G: Gate + Sync>(
+    rt: &T,
+    alloc: Global,
+    script: &[u8],
+    writer: &mut W,
+    topology: Topology,
+    turns: usize,
+    gate: &G,
+) -> Result<(), ConsoleFault>
+    // What was written of the script, by the answer.
+    ensures wrote { WroteLive topology turns (W.contents writer.old) (W.contents writer.new)
+        (given_by topology script.now) result }
+    ensures read { result ≢ Err ConsoleFault.Read }
+    // Write only where the writer failed or took no byte.
+    ensures write { result ≡ Err ConsoleFault.Write → W.has_refused writer.new }
+{
     let made = new_modules(alloc, &topology)?;
     let mut modules: Vec<Box<dyn Module + Send>> = Vec::new(alloc);
     push_modules!(made, modules);
-    run(alloc, reader, writer, topology, modules)
+    play_live(rt, alloc, script, writer, topology, modules, turns, gate)
 }
 
 /// Runs a script over new modules of a topology, each on a thread of its own; otherwise as
 /// `run_live`.
-#[tactic(auto, using(crate::proofs::LiveLaws::no_memory_to_run))]
+#[tactic(auto, using(crate::proofs::LiveLaws::no_memory_to_run, crate::proofs::LiveLaws::none_heard))]
 pub fn run_new_live<T: Threads + Wait + Sync, R: Source, W: Sink, G: Gate + Sync>(
     rt: &T,
     alloc: Global,
@@ -117,10 +165,15 @@ pub fn run_new_live<T: Threads + Wait + Sync, R: Source, W: Sink, G: Gate + Sync
     ensures write { result ≡ Err ConsoleFault.Write → W.has_refused writer.new }
     ensures asked { R.asks reader.new ≤ R.asks reader.old + 1048577 }
 {
-    let made = new_modules(alloc, &topology)?;
-    let mut modules: Vec<Box<dyn Module + Send>> = Vec::new(alloc);
-    push_modules!(made, modules);
-    run_live(rt, alloc, reader, writer, topology, modules, turns, gate)
+    match read_script(alloc, reader) {
+        Ok(script) => {
+            let script = script.as_slice();
+            run_new_script_live(rt, alloc, script, writer, topology, turns, gate)
+        }
+        Err(ReadFault::NoMemory) => Err(ConsoleFault::NoMemory),
+        Err(ReadFault::Failed) => Err(ConsoleFault::Read),
+        Err(ReadFault::TooLong) => Err(ConsoleFault::Read),
+    }
 }
 
 /// Runs a script over new modules of the chassis; otherwise as `run`.

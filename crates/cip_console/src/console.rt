@@ -100,8 +100,8 @@ fn run_steps<W: Sink>(
     }
 }
 
-// Reads the steps of a script, and runs them over the modules.
-fn run_script<W: Sink>(
+/// Reads the steps of a script, and runs them over the modules.
+pub(crate) fn run_script<W: Sink>(
     alloc: Global,
     script: &[u8],
     writer: &mut W,

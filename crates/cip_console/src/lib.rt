@@ -9,7 +9,7 @@ mod playing;
 mod progress;
 mod source;
 
-pub use boxes::{chassis, run_chassis, run_new, run_new_live};
+pub use boxes::{chassis, run_chassis, run_new, run_new_live, run_new_script, run_new_script_live};
 pub use cip_script::{Explained, Numbered, ScriptFault, Step, WordFault, explain};
 pub use console::{ConsoleFault, run};
 pub use live::run_live;

@@ -170,8 +170,8 @@ fn write_run<W: Sink>(
     }
 }
 
-// Reads what a script gives to the modules, and runs these on threads of their own.
-fn play_live<T: Threads + Wait + Sync, W: Sink, G: Gate + Sync>(
+/// Reads what a script gives to the modules, and runs these on threads of their own.
+pub(crate) fn play_live<T: Threads + Wait + Sync, W: Sink, G: Gate + Sync>(
     rt: &T,
     alloc: Global,
     script: &[u8],
