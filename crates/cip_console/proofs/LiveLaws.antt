@@ -1,5 +1,6 @@
 -- What a script gives to modules on threads, and the text of their run, one entry at a time.
-use Rattle.std.proofs.Common.{◌≡◌, ◌⊎◌, ℕ, ◌+◌, List, [], ◌∷◌, ◌++◌, Option, Some, None, Result, Ok, Err, drop, length, refl, sym, ap, ◌∙◌, subst, append_assoc, append-nil, inl, inr}
+use Rattle.std.proofs.Common.{◌≡◌, ◌⊎◌, ℕ, ◌+◌, List, [], ◌∷◌, ◌++◌, Option, Some, None, Result, Ok, Err, drop, length, refl, sym, ap, ◌∙◌, subst, append_assoc}
+use Rattle.std.proofs.Common.{append-nil, inl, inr}
 use Rattle.std.specs.Prelude.{All, IfSome}
 use Rattle.std.specs.Io.KnownBytes.{Appends}
 use Rattle.std.proofs.KnownBytes.{Keeps-refl}
@@ -30,6 +31,8 @@ no_memory_to_run t turns left old = record {
   read = is_left left;
   wrote = nothing_run t turns old (given_by t (left_of left));
 }
+
+pub ruleset unheard_laws = (none_heard, no_memory_to_run)
 
 -- ---- what a script gives
 
@@ -78,7 +81,8 @@ pub none_written : (names : List (List ℕ)) (entries : List Entry) (old : Optio
 none_written names entries old text = record { so_far = []; prints = prints_nothing old text; joined = refl }
 
 -- one more is printed
-pub one_written : (names : List (List ℕ)) (entries : List Entry) (old mid new : Option (List ℕ)) (before between gathered after : List ℕ) (k : ℕ) (entry : Entry)
+pub one_written : (names : List (List ℕ)) (entries : List Entry) (old mid new : Option (List ℕ)) (before between gathered after : List ℕ) (k : ℕ)
+    (entry : Entry)
     → Writing names entries old mid before between k
     → drop k entries ≡ entry ∷ drop (k + 1) entries
     → gathered ≡ between ++ entry_text names k entry

@@ -35,3 +35,5 @@ no_memory_to_read t left old = record {
   wrote =
       nothing_written t old (steps InTurn (names_of t) (left_of left));
 }
+
+pub ruleset unread_laws = (none_read, no_memory_to_read)

@@ -20,7 +20,7 @@ use std::thread::Threads;
 
 /// The scanner S, the bridges A and B and the adapter E of `CHASSIS`. NoMemory where an allocation
 /// is refused.
-// The text keeps every rule, which a test shows: only want of memory stops it from being loaded.
+// The text keeps every rule, which a test shows: only a lack of memory stops it from being loaded.
 pub fn chassis(alloc: Global) -> Result<Topology, NoMemory> {
     load(alloc, CHASSIS).ok().ok_or(NoMemory)
 }
@@ -99,7 +99,7 @@ pub fn run_new_script<W: Sink>(
 }
 
 /// Runs a script over new modules of a topology; otherwise as `run`.
-#[tactic(auto, using(crate::proofs::Outcomes::no_memory_to_read, crate::proofs::Outcomes::none_read))]
+#[tactic(auto, using(crate::proofs::Outcomes::unread_laws))]
 pub fn run_new<R: Source, W: Sink>(
     alloc: Global,
     reader: &mut R,
@@ -148,7 +148,7 @@ pub fn run_new_script_live<T: Threads + Wait + Sync, W: Sink, G: Gate + Sync>(
 
 /// Runs a script over new modules of a topology, each on a thread of its own; otherwise as
 /// `run_live`.
-#[tactic(auto, using(crate::proofs::LiveLaws::no_memory_to_run, crate::proofs::LiveLaws::none_heard))]
+#[tactic(auto, using(crate::proofs::LiveLaws::unheard_laws))]
 pub fn run_new_live<T: Threads + Wait + Sync, R: Source, W: Sink, G: Gate + Sync>(
     rt: &T,
     alloc: Global,

@@ -30,10 +30,10 @@ pub enum ConsoleFault {
     /// The script can't be read, or has more than 1,048,576 bytes. Nothing was written.
     #[error("the script can't be read")]
     Read,
-    /// The writer failed or took no byte. A front of the transcript was written.
+    /// The writer failed or took no byte. A prefix of the transcript was written.
     #[error("the transcript can't be written")]
     Write,
-    /// An allocation was refused. A front of the transcript was written.
+    /// An allocation was refused. A prefix of the transcript was written.
     #[error("out of memory")]
     NoMemory,
     /// The modules are not those of the topology, or not as at the beginning. Nothing was written.

@@ -1,9 +1,12 @@
 //! The run of a script by modules on threads of their own.
-ghost use Rattle.std.specs.Prelude.{◌≡◌, ◌≢◌, ◌⊎◌, ◌++◌, ◌∷◌, ◌+◌, ◌<◌, ◌≤◌, [], All, length, map, IfOk, IfSome, OnOk, OnErr};
+ghost use Rattle.std.specs.Prelude.{◌≡◌, ◌≢◌, ◌⊎◌, ◌++◌, ◌∷◌, ◌+◌, ◌<◌, ◌≤◌, [], All, length, map};
+ghost use Rattle.std.specs.Prelude.{IfOk, IfSome, OnOk, OnErr};
 ghost use Rattle.std.specs.Io.KnownBytes.{Appends};
 ghost use Rattle.cip_world.specs.Fresh.{IsNewFault};
 ghost use Rattle.cip_console.specs.Known.{AppendsFront};
-ghost use Rattle.cip_console.specs.Live.{GivesFeeds, HasRun, WroteLive, WroteLiveOf, entries_text, feed_for, feed_of, feeds_of, given_by, last_text, live_text};
+ghost use Rattle.cip_console.specs.Live.{GivesFeeds, HasRun, WroteLive, WroteLiveOf, entries_text};
+ghost use Rattle.cip_console.specs.Live.{feed_for, feed_of, feeds_of, given_by, last_text};
+ghost use Rattle.cip_console.specs.Live.{live_text};
 ghost use Rattle.cip_console.specs.Playing.{Prints};
 ghost use Rattle.cip_transcript.specs.Show.{names_of};
 

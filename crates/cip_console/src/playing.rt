@@ -7,7 +7,8 @@ ghost use Rattle.cip_world.specs.Worlds.{Stand};
 ghost use Rattle.cip_console.specs.Known.{AppendsFront};
 ghost use Rattle.cip_console.specs.Playing.{Prints, Plays};
 ghost use Rattle.cip_transcript.specs.Show.{names_of};
-ghost use Rattle.cip_console.specs.Transcript.{brought, deliveries, end_text, given, lost, newest, ran, played, tabled, trailed, chained};
+ghost use Rattle.cip_console.specs.Transcript.{brought, deliveries, end_text, given, lost, newest};
+ghost use Rattle.cip_console.specs.Transcript.{ran, played, tabled, trailed, chained};
 
 use crate::source::{Sink, WriteFault, write_text};
 use cip_base::{Bytes, ModuleId, Ms, NoMemory};

@@ -1,5 +1,6 @@
 -- Lines, one part at a time.
-use Rattle.std.proofs.Common.{◌≡◌, ℕ, ◌<◌, ◌≤◌, ◌+◌, true, false, List, [], ◌∷◌, ◌++◌, map, length, get_or, drop, refl, ap, arith, ◌==◌, append_assoc, append-nil, Bor}
+use Rattle.std.proofs.Common.{◌≡◌, ℕ, ◌<◌, ◌≤◌, ◌+◌, true, false, List, [], ◌∷◌, ◌++◌, map, length, get_or, drop, refl, ap, arith, ◌==◌, append_assoc}
+use Rattle.std.proofs.Common.{append-nil, Bor}
 use Rattle.std.proofs.lemmas.List.{drop_more, drop_all}
 use Rattle.std.specs.Str.Lines.{lines_of_parts, strip_carriage_return}
 

@@ -1,5 +1,6 @@
 -- Steps, one line at a time.
-use Rattle.std.proofs.Common.{lit<, ◌≡◌, ℕ, ◌<◌, ◌+◌, true, List, [], ◌∷◌, ◌++◌, length, get_or, drop, refl, sym, ap, arith, ◌==◌, if◌then◌else◌, append_assoc, append-nil, Bor, Some, None, Result, Ok, Err, inl, inr, zero, suc}
+use Rattle.std.proofs.Common.{lit<, ◌≡◌, ℕ, ◌<◌, ◌+◌, true, List, [], ◌∷◌, ◌++◌, length, get_or, drop, refl, sym, ap, arith, ◌==◌, if◌then◌else◌, append_assoc}
+use Rattle.std.proofs.Common.{append-nil, Bor, Some, None, Result, Ok, Err, inl, inr, zero, suc}
 use Rattle.std.specs.Prelude.{nat_lt, slice_index}
 use Rattle.std.specs.List.{list_all}
 use Rattle.std.specs.Str.{IsAscii}

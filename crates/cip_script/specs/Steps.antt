@@ -1,6 +1,8 @@
 -- The steps of a script, or its first faulty line. Faults of a line: not text, its first word, the
 -- number of its words, and then its words from the left.
-use Rattle.std.specs.Prelude.{◌≡◌, ◌||◌, Bool, ℕ, ◌+◌, ◌^◌, List, [], ◌∷◌, map, length, codes, nat_lt, ◌==◌, slice_index, slice_index_or, if◌then◌else◌, Option, Some, None, Result, Ok, Err}
+use Rattle.std.specs.Prelude.{◌≡◌, ◌||◌, Bool, ℕ, ◌+◌, ◌^◌, List, [], ◌∷◌, map, length, codes}
+use Rattle.std.specs.Prelude.{nat_lt, ◌==◌, slice_index, slice_index_or, if◌then◌else◌, Option}
+use Rattle.std.specs.Prelude.{Some, None, Result, Ok, Err}
 use Rattle.std.specs.Str.{bytes_eq}
 use Rattle.std.specs.Str.Lines.{lines}
 use Rattle.std.specs.List.{list_all, position, slice_split}
@@ -14,12 +16,15 @@ use Rattle.cip_segment.specs.declared.segment.Segment.{Segment}
 use Rattle.cip_segment.specs.declared.fault.PathFault.{PathFault}
 use Rattle.cip_segment.specs.Reading.{path_at}
 use Rattle.cip_script.specs.declared.steps.Step.{Step}
-use Rattle.cip_script.specs.declared.steps.Step.TheVariants.{Feed, Tick, Deliver, Lose, Run, Tables, Trail, Chain}
+use Rattle.cip_script.specs.declared.steps.Step.TheVariants.{Feed, Tick, Deliver, Lose, Run, Tables}
+use Rattle.cip_script.specs.declared.steps.Step.TheVariants.{Trail, Chain}
 use Rattle.cip_script.specs.declared.steps.Mode.{Mode}
 use Rattle.cip_script.specs.declared.steps.Mode.TheVariants.{InTurn, OnThreads}
 use Rattle.cip_script.specs.declared.steps.Numbered.{Numbered}
 use Rattle.cip_script.specs.declared.steps.ScriptFault.{ScriptFault}
-use Rattle.cip_script.specs.declared.steps.ScriptFault.TheVariants.{UnknownWord, Count, BadNumber, BadBytes, BadPath, NoModule, NotWithThreads, NotText}
+use Rattle.cip_script.specs.declared.steps.ScriptFault.TheVariants.{UnknownWord, Count, BadNumber}
+use Rattle.cip_script.specs.declared.steps.ScriptFault.TheVariants.{BadBytes, BadPath, NoModule}
+use Rattle.cip_script.specs.declared.steps.ScriptFault.TheVariants.{NotWithThreads, NotText}
 use Rattle.cip_script.specs.declared.steps.StepFault.{StepFault}
 use Rattle.cip_script.specs.declared.steps.StepFault.TheVariants as step_fault
 use Rattle.cip_script.specs.declared.steps.StepsFault.{StepsFault}

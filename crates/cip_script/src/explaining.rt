@@ -170,8 +170,50 @@ fn excerpt(word: &str) -> Excerpt {
     Excerpt::of(word.as_bytes())
 }
 
-// The first of the words behind the first that has the fault.
+// How many words must stand behind a word with this usage.
+fn needed_of(alloc: Global, usage: &'static str) -> Result<usize, NoMemory> {
+    let mut fields = Vec::new(alloc);
+    text::words(usage, &mut fields)?;
+    Ok(fields.len())
+}
+
+// The first of the words that has the fault, its field, and why.
+fn first_fault<'a>(
+    alloc: Global,
+    fields: &[&'static str],
+    args: &[&'a str],
+    fault: ScriptFault,
+) -> Result<Option<(&'static str, &'a str, WordFault)>, NoMemory> {
+    for (field, found) in fields.iter().zip(args.iter()) {
+        if let Some(why) = word_fault(alloc, field, found, fault)? {
+            return Ok(Some((*field, *found, why)));
+        }
+    }
+    Ok(None)
+}
+
 fn explain_words(
+    alloc: Global,
+    word: &str,
+    usage: &'static str,
+    args: &[&str],
+    fault: ScriptFault,
+) -> Result<Explained, NoMemory> {
+    let mut fields = Vec::new(alloc);
+    text::words(usage, &mut fields)?;
+    match first_fault(alloc, fields.as_slice(), args, fault)? {
+        Some((field, found, why)) => Ok(Explained::Word {
+            word: excerpt(word),
+            field: excerpt(field),
+            found: excerpt(found),
+            why,
+        }),
+        None => Ok(Explained::Fault(fault)),
+    }
+}
+
+// What is wrong with a line of these words.
+fn explain_text(
     alloc: Global,
     word: &str,
     args: &[&str],
@@ -181,31 +223,22 @@ fn explain_words(
         let word = excerpt(word);
         return Ok(Explained::UnknownWord { word });
     };
-    if fault == ScriptFault::NotWithThreads {
-        let word = excerpt(word);
-        return Ok(Explained::NotWithThreads { word });
-    }
-    let mut fields = Vec::new(alloc);
-    text::words(usage, &mut fields)?;
-    if fault == ScriptFault::Count {
-        return Ok(Explained::Count {
-            word: excerpt(word),
-            found: args.len(),
-            needed: fields.len(),
-            usage,
-        });
-    }
-    for (field, found) in fields.iter().zip(args.iter()) {
-        if let Some(why) = word_fault(alloc, field, found, fault)? {
-            return Ok(Explained::Word {
-                word: excerpt(word),
-                field: excerpt(field),
-                found: excerpt(found),
-                why,
-            });
+    match fault {
+        ScriptFault::NotWithThreads => {
+            let word = excerpt(word);
+            Ok(Explained::NotWithThreads { word })
         }
+        ScriptFault::Count => {
+            let needed = needed_of(alloc, usage)?;
+            Ok(Explained::Count {
+                word: excerpt(word),
+                found: args.len(),
+                needed,
+                usage,
+            })
+        }
+        _ => explain_words(alloc, word, usage, args, fault),
     }
-    Ok(Explained::Fault(fault))
 }
 
 // The first byte that is not ASCII.
@@ -230,7 +263,7 @@ fn explain_line(alloc: Global, line: &[u8], fault: ScriptFault) -> Result<Explai
     text::words(line, &mut words)?;
     match words.split_first() {
         None => Ok(Explained::Fault(fault)),
-        Some((word, args)) => explain_words(alloc, word, args, fault),
+        Some((word, args)) => explain_text(alloc, word, args, fault),
     }
 }
 

@@ -1,6 +1,11 @@
 //! The steps of a script, or its first faulty line.
 ghost use Rattle.std.specs.Prelude.{◌≡◌, ◌++◌, ◌∷◌, [], length, OnOk};
-ghost use Rattle.cip_script.specs.Steps.{Gives, Fails, Reads, of_words, send_words, params_of, open_words, close_words, enter_words, set_words, produce_words, tick_words, deliver_words, lose_words, run_words, tables_words, trail_words, chain_words, world_step, is_world_word, not_with_threads, step_by, line_step, steps, texts};
+ghost use Rattle.cip_script.specs.Steps.{Gives, Fails, Reads, of_words, send_words, params_of};
+ghost use Rattle.cip_script.specs.Steps.{open_words, close_words, enter_words, set_words};
+ghost use Rattle.cip_script.specs.Steps.{produce_words, tick_words, deliver_words, lose_words};
+ghost use Rattle.cip_script.specs.Steps.{run_words, tables_words, trail_words, chain_words};
+ghost use Rattle.cip_script.specs.Steps.{world_step, is_world_word, not_with_threads, step_by};
+ghost use Rattle.cip_script.specs.Steps.{line_step, steps, texts};
 ghost use Rattle.cip_script.specs.declared.steps.StepFault.TheVariants.{NoMemory as NoStepMemory};
 ghost use Rattle.cip_script.specs.declared.steps.StepsFault.TheVariants.{NoMemory as NoStepsMemory};
 
@@ -101,7 +106,7 @@ impl From<AllocError> for StepFault {
     }
 }
 
-/// Why a script gave no steps: its first faulty line, or want of memory.
+/// Why a script gave no steps: its first faulty line, or out of memory.
 #[derive(Clone, Copy, Debug, PartialEq, Eq)]
 pub enum StepsFault {
     Script(usize, ScriptFault),
@@ -426,8 +431,8 @@ fn push(found: &mut Vec<Numbered>, step: Numbered) -> Result<(), AllocError>
     Ok(())
 }
 
-/// Reads all steps of a script, for modules of these names. Script is its first faulty line, from 1,
-/// and the fault; NoMemory where an allocation is refused.
+/// Reads all steps of a script, for modules of these names. Script is its first faulty line, from
+/// 1, and the fault; NoMemory where an allocation is refused.
 pub fn read_steps(
     alloc: Global,
     mode: Mode,

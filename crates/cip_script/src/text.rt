@@ -1,11 +1,14 @@
 //! Lines, words, numbers and bytes as they stand in a script.
 
-ghost use Rattle.std.specs.Prelude.{◌≡◌, ◌==◌, ◌^◌, ◌↔◌, ◌≤◌, ◌*◌, ◌++◌, ◌∷◌, [], length, take, map, IfOk, OnOk, IfSome, slice_index, IsSome, option_map, if◌then◌else◌};
+ghost use Rattle.std.specs.Prelude.{◌≡◌, ◌==◌, ◌^◌, ◌↔◌, ◌≤◌, ◌*◌, ◌++◌, ◌∷◌, [], length, take};
+ghost use Rattle.std.specs.Prelude.{map, IfOk, OnOk, IfSome, slice_index, IsSome, option_map};
+ghost use Rattle.std.specs.Prelude.{if◌then◌else◌};
 ghost use Rattle.std.specs.Char.{digit_value};
 ghost use Rattle.std.specs.Str.{IsAscii};
 ghost use Rattle.std.specs.Str.Lines.{lines, strip_carriage_return};
 ghost use Rattle.hex.specs.Hex.{decode_of};
-ghost use Rattle.cip_script.specs.Text.{words_of, kept_words, numeral, number_of, below, bytes_of, ok_bytes, is_newline};
+ghost use Rattle.cip_script.specs.Text.{words_of, kept_words, numeral, number_of, below, bytes_of};
+ghost use Rattle.cip_script.specs.Text.{ok_bytes, is_newline};
 
 use std::alloc::{AllocError, Global};
 
@@ -173,7 +176,7 @@ pub(crate) fn bytes(alloc: Global, word: &str) -> Result<Option<Vec<u8>>, AllocE
     }
 }
 
-/// The bytes of pairs of hexadecimal digits, written at the front of a room, and how many they are;
+/// The bytes of pairs of hexadecimal digits, written at the beginning of a room, and how many they are;
 /// None for a dash too, and for more than have room.
 pub(crate) fn bytes_into(word: &str, room: &mut [u8]) -> Option<usize>
     ensures within { IfSome result (λ count. count ≤ length room.new) }

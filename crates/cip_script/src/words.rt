@@ -2,7 +2,8 @@
 ghost use Rattle.std.specs.Prelude.{◌≡◌, ◌<◌, ◌^◌, length, map, IfOk};
 ghost use Rattle.std.specs.List.{position, slice_split};
 ghost use Rattle.std.specs.Str.{bytes_eq};
-ghost use Rattle.cip_script.specs.Steps.{Gives, module_of, bounded, bytes_at, path_of, if_path, timing_of, ms_of, frame_of, name_of, nth, texts};
+ghost use Rattle.cip_script.specs.Steps.{Gives, module_of, bounded, bytes_at, path_of, if_path};
+ghost use Rattle.cip_script.specs.Steps.{timing_of, ms_of, frame_of, name_of, nth, texts};
 ghost use Rattle.cip_script.specs.Text.{is_dot};
 ghost use Rattle.cip_segment.specs.Reading.{path_at};
 

@@ -1,5 +1,6 @@
 -- What `chain` answers, as a function of the run.
-use Rattle.std.proofs.Common.{◌≡◌, ℕ, zero, suc, ◌<◌, Bool, true, false, List, [], ◌∷◌, length, map, drop, get_or, Option, Some, None, Ok, Err, refl, sym, ap, ◌∙◌, arith}
+use Rattle.std.proofs.Common.{◌≡◌, ℕ, zero, suc, ◌<◌, Bool, true, false, List, [], ◌∷◌, length, map, drop, get_or, Option, Some, None, Ok, Err, refl, sym, ap}
+use Rattle.std.proofs.Common.{◌∙◌, arith}
 use Rattle.std.specs.Prelude.{slice_get, option_and_then}
 use Rattle.std.specs.FinMap as finite
 use Rattle.cip_base.specs.declared.numbers.ModuleId.{ModuleId}
@@ -47,7 +48,8 @@ next_is t j x y next =
     ap (hop_at s.hops) (sym next.mirrors.triad_is) ∙ ap (option_and_then as_hop) next.has.stands in
     let named : is_named x.hop.their_id y.hop.ids.up ≡ true =
     ap (is_named x.hop.their_id) next.mirrors.id_is ∙ named_so x.hop.their_id in
-    ap (λ (o : Option ModuleSettings). under_id x.hop.their_id (option_and_then (λ config. hop_at (state_in config y.at j).hops x.hop.opening.triad) o)) next.has.is_module
+    ap (λ (o : Option ModuleSettings). under_id x.hop.their_id (option_and_then (λ config. hop_at (state_in config y.at j).hops x.hop.opening.triad) o))
+    next.has.is_module
     ∙ ap (under_id x.hop.their_id) stands
     ∙ ap (λ b. if_so b y.hop) named
 
@@ -83,7 +85,8 @@ is_lacked t j run x b l =
     by_named g true named has = absurd (l.lacks (record { at = b; hop = g }) has refl (has_id l.id g.ids.up named))
     by_named g false named has = refl
 
-    by_hop : (config : ModuleSettings) → IsModule t b config → (o : Option Hop) → hop_at (state_in config b j).hops x.hop.opening.triad ≡ o → under_id (Some l.id) o ≡ None
+    by_hop : (config : ModuleSettings) → IsModule t b config → (o : Option Hop) → hop_at (state_in config b j).hops x.hop.opening.triad ≡ o
+        → under_id (Some l.id) o ≡ None
     by_hop config is None e = refl
     by_hop config is (Some g) e =
         by_named g (is_named (Some l.id) g.ids.up) refl
@@ -152,7 +155,8 @@ module _ (t : Plan) (j : Journal) where
       ∙ ap (λ (o : Option ModuleSettings). from_first t j x.at (option_and_then (λ config. hop_by_op (state_in config x.at j).hops op) o)) has.is_module
       ∙ ap (from_first t j x.at) found
 
-same_places : (xs : List Member) (ms : List ModuleId) → map (λ (x : Member). x.at) xs ≡ map (λ (m : ModuleId). m.0) ms → map (λ (y : Member). place y.at) xs ≡ ms
+same_places : (xs : List Member) (ms : List ModuleId) → map (λ (x : Member). x.at) xs ≡ map (λ (m : ModuleId). m.0) ms
+    → map (λ (y : Member). place y.at) xs ≡ ms
 same_places [] [] e = refl
 same_places [] (m ∷ ms) e = absurd (cc)
 same_places (x ∷ xs) [] e = absurd (cc)
@@ -176,7 +180,8 @@ broken_told t j m op b run broken =
 pub not_open_told : (t : Plan) (j : Journal) (m op : ℕ) → IsRun t j → IsNotOpen t j m op → chain_of t j m op ≡ Err faults.NotOpen
 not_open_told t j m op run none = by_module (slice_get t.modules m) refl
   where
-    by_hop : (config : ModuleSettings) → IsModule t m config → (o : Option Hop) → hop_by_op (state_in config m j).hops op ≡ o → from_first t j m o ≡ Err faults.NotOpen
+    by_hop : (config : ModuleSettings) → IsModule t m config → (o : Option Hop) → hop_by_op (state_in config m j).hops op ≡ o
+        → from_first t j m o ≡ Err faults.NotOpen
     by_hop config is None e = refl
     by_hop config is (Some g) e =
         let own = own_triads config (part m j) (run_history t j m config run is) in

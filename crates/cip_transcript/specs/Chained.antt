@@ -1,6 +1,7 @@
 -- The chain of an op, connection by connection: where each goes down to, and the one there that has
 -- its triad under the id that it names.
-use Rattle.std.specs.Prelude.{ℕ, zero, suc, Bool, true, false, List, [], ◌∷◌, length, Option, Some, None, Result, Ok, Err, slice_get, option_and_then}
+use Rattle.std.specs.Prelude.{ℕ, zero, suc, Bool, true, false, List, [], ◌∷◌, length, Option, Some}
+use Rattle.std.specs.Prelude.{None, Result, Ok, Err, slice_get, option_and_then}
 use Rattle.cip_base.specs.Words.{ConnectionId, OpNumber}
 use Rattle.cip_base.specs.declared.numbers.ModuleId.{ModuleId}
 use Rattle.cip_hops.specs.declared.hop.Hop.{Hop}

@@ -1,5 +1,6 @@
 -- The lines of a transcript. Numbers are decimal; bytes are upper-case pairs, `-` for none.
-use Rattle.std.specs.Prelude.{ℕ, ◌+◌, ◌==◌, List, [], ◌∷◌, ◌/◌, ◌%◌, ◌++◌, length, codes, decimal, if◌then◌else◌, unwrap_or, slice_get, map, Option, Some, None, Ok, Err}
+use Rattle.std.specs.Prelude.{ℕ, ◌+◌, ◌==◌, List, [], ◌∷◌, ◌/◌, ◌%◌, ◌++◌, length, codes, decimal}
+use Rattle.std.specs.Prelude.{if◌then◌else◌, unwrap_or, slice_get, map, Option, Some, None, Ok, Err}
 use Rattle.hex.specs.Hex.{encode_upper}
 use Rattle.cip_base.specs.declared.numbers.ModuleId.{ModuleId}
 use Rattle.cip_base.specs.declared.triad.Triad.{Triad}
@@ -9,9 +10,11 @@ use Rattle.cip_module.specs.declared.event.Body.TheVariants.{Request, Reply, Dat
 use Rattle.cip_module.specs.declared.event.Command.{Command}
 use Rattle.cip_module.specs.declared.event.Command.TheVariants as commands
 use Rattle.cip_module.specs.declared.event.Output.{Output}
-use Rattle.cip_module.specs.declared.event.Output.TheVariants.{Send, Done, Refused, Consumed, Arrived, Expired, Dropped}
+use Rattle.cip_module.specs.declared.event.Output.TheVariants.{Send, Done, Refused, Consumed}
+use Rattle.cip_module.specs.declared.event.Output.TheVariants.{Arrived, Expired, Dropped}
 use Rattle.cip_module.specs.declared.event.Refused.{Refused as Refusal}
-use Rattle.cip_module.specs.declared.event.Refused.TheVariants.{OpUsed, NotOpen, WrongSize, ReservedService, NoInstance}
+use Rattle.cip_module.specs.declared.event.Refused.TheVariants.{OpUsed, NotOpen, WrongSize}
+use Rattle.cip_module.specs.declared.event.Refused.TheVariants.{ReservedService, NoInstance}
 use Rattle.cip_module.specs.declared.event.Dropped.{Dropped as Drop}
 use Rattle.cip_module.specs.declared.event.Dropped.TheVariants.{Malformed, Late, UnknownId}
 use Rattle.cip_module.specs.declared.event.Dropped.TheVariants as dropped

@@ -13,8 +13,8 @@ fn name_of(alloc: Global, config: &ModuleConfig) -> Result<Bytes, NoMemory>
     Ok(Bytes::of(Vec::from_slice(alloc, config.settings().name.as_slice())?))
 }
 
-/// A copy of the names of the modules, in the order of the topology. NoMemory where an allocation is
-/// refused.
+/// A copy of the names of the modules, in the order of the topology. NoMemory where an allocation
+/// is refused.
 pub fn names_of(alloc: Global, topology: &Topology) -> Result<Vec<Bytes>, NoMemory>
     ensures { IfOk result (λ names. names.items ≡ names_of topology.now) }
 {

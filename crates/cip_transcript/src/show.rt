@@ -1,6 +1,10 @@
 //! The lines of a transcript.
 ghost use Rattle.std.specs.Prelude.{◌≡◌, ◌++◌, OnOk, Ok, codes, decimal};
-ghost use Rattle.cip_transcript.specs.Show.{bytes_text, body_text, triad_text, refusal_text, drop_text, output_text, output_line, outputs_text, frame_text, arrived_text, command_text, input_text, name_of, numbers_text, trail_text, names_text, chain_text, head_text, lost_text, entry_text};
+ghost use Rattle.cip_transcript.specs.Show.{bytes_text, body_text, triad_text, refusal_text};
+ghost use Rattle.cip_transcript.specs.Show.{drop_text, output_text, output_line, outputs_text};
+ghost use Rattle.cip_transcript.specs.Show.{frame_text, arrived_text, command_text, input_text};
+ghost use Rattle.cip_transcript.specs.Show.{name_of, numbers_text, trail_text, names_text};
+ghost use Rattle.cip_transcript.specs.Show.{chain_text, head_text, lost_text, entry_text};
 
 use crate::put::{put, put_bytes, put_number, put_number_then};
 use cip_base::{Address, Bytes, ModuleId, NoMemory, PortNumber, Triad};
@@ -249,9 +253,9 @@ fn put_lost(text: &mut Vec<u8>, number: usize, frame: FrameName) -> Result<(), N
     put_frame(text, frame)
 }
 
-/// Puts an entry of a journal, with its number from 0, behind a text: its own line, and one for each
-/// output. The names are those of the modules. NoMemory where an allocation is refused: then a
-/// part may stand there.
+/// Puts an entry of a journal, with its number from 0, behind a text: its own line, and one for
+/// each output. The names are those of the modules. NoMemory where an allocation is refused: then
+/// a part may stand there.
 pub fn put_entry(
     text: &mut Vec<u8>,
     names: &[Bytes],

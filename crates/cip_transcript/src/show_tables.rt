@@ -1,6 +1,9 @@
 //! The tables of a module as lines of a transcript.
 ghost use Rattle.std.specs.Prelude.{◌≡◌, ◌++◌, OnOk};
-ghost use Rattle.cip_transcript.specs.TablesText.{kind_text, pending_line, up_text, down_text, watch_text, hop_line, assembly_line, pendings_text, hops_text, assemblies_text, counts_text, tables_text};
+ghost use Rattle.cip_transcript.specs.TablesText.{kind_text, pending_line, up_text, down_text};
+ghost use Rattle.cip_transcript.specs.TablesText.{watch_text, hop_line, assembly_line};
+ghost use Rattle.cip_transcript.specs.TablesText.{pendings_text, hops_text, assemblies_text};
+ghost use Rattle.cip_transcript.specs.TablesText.{counts_text, tables_text};
 
 use crate::put::{put, put_bytes, put_number, put_optional};
 use crate::show::put_triad;

@@ -13,7 +13,9 @@ loop-numbered-preserved c =
     c.loop-numbered.invariant.so_far in
     record {
       so_far = subst (λ (l : List Fed). before l (feeds_of c.args.modules c.pop_front.new.self.items) ≡ whole) (sym c.in-Ok.ensures)
-          (one_fed c.args.modules c.loop-numbered.found.items whole c.in-Some.numbered c.pop_front.new.self.items c.in_ok-fed.fed so_far c.in_ok-fed.ensures.gives);
+          (one_fed c.args.modules c.loop-numbered.found.items whole c.in-Some.numbered c.pop_front.new.self.items c.in_ok-fed.fed so_far
+          c.in_ok-fed.ensures.gives);
       within = subst (All (λ (fed : Fed). fed.0.0 < c.args.modules)) (sym c.in-Ok.ensures)
-          (All-push (λ (fed : Fed). fed.0.0 < c.args.modules) c.loop-numbered.found.items c.in_ok-fed.fed c.loop-numbered.invariant.within c.in_ok-fed.ensures.within);
+          (All-push (λ (fed : Fed). fed.0.0 < c.args.modules) c.loop-numbered.found.items c.in_ok-fed.fed c.loop-numbered.invariant.within
+          c.in_ok-fed.ensures.within);
     }

@@ -5,7 +5,8 @@ use Rattle.cip_transcript.proofs.chains.put_chain_of.Goals as goal
 
 pub returns-in-Ok : goal.returns-in-Ok
 returns-in-Ok g c =
-    let told = view_told c.args.world.now.ledger.plan c.args.world.now.ledger.journal c.args.at.0 c.args.op c.in-Ok.view c.journal-run.ensures.run c.in-Ok.ensures.ok in
+    let told = view_told c.args.world.now.ledger.plan c.args.world.now.ledger.journal c.args.at.0 c.args.op c.in-Ok.view c.journal-run.ensures.run
+    c.in-Ok.ensures.ok in
     rw told c.put_chain.ensures
 
 pub returns-in-Err-NotOpen : goal.returns-in-Err-NotOpen
