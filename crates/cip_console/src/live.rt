@@ -173,6 +173,43 @@ fn write_run<W: Sink>(
     }
 }
 
+// Runs the modules, which are given these feeds, on threads of their own, and writes what they did.
+fn run_feeds<T: Threads + Wait + Sync, W: Sink, G: Gate + Sync>(
+    rt: &T,
+    alloc: Global,
+    names: &[Bytes],
+    feeds: Vec<(ModuleId, Feed)>,
+    writer: &mut W,
+    topology: Topology,
+    modules: Vec<Box<dyn Module + Send>>,
+    turns: usize,
+    gate: &G,
+) -> Result<(), ConsoleFault>
+    requires names { names.now ≡ names_of topology }
+    requires within { All (λ fed. fed.0.0 < length topology.modules) feeds.items }
+    ensures wrote { WroteLive topology turns (W.contents writer.old) (W.contents writer.new)
+        (Ok feeds.items) result }
+    ensures read { result ≢ Err ConsoleFault.Read }
+    ensures new { (f : _) → result ≡ Err (ConsoleFault.New f) → IsNewFault topology
+        (map (λ b. config_of b) modules.items) (map (λ b. state_of b) modules.items) f }
+    ensures write { result ≡ Err ConsoleFault.Write → W.has_refused writer.new }
+{
+    let report = match run_threads(rt, alloc, topology, modules, feeds, turns, gate) {
+        Ok(report) => report,
+        Err(RunFault::NoMemory) => return Err(ConsoleFault::NoMemory),
+        Err(RunFault::New(fault)) => return Err(ConsoleFault::New(fault)),
+        Err(RunFault::NoThread) => return Err(ConsoleFault::Run(RunFault::NoThread)),
+        Err(RunFault::Split(m)) => return Err(ConsoleFault::Run(RunFault::Split(m))),
+        Err(RunFault::Step(full)) => return Err(ConsoleFault::Run(RunFault::Step(full))),
+    };
+    let journal = report.journal.as_slice();
+    match write_run(alloc, names, journal, report.end, writer) {
+        Ok(()) => Ok(()),
+        Err(WritingFault::Write) => Err(ConsoleFault::Write),
+        Err(WritingFault::NoMemory) => Err(ConsoleFault::NoMemory),
+    }
+}
+
 /// Reads what a script gives to the modules, and runs these on threads of their own.
 pub(crate) fn play_live<T: Threads + Wait + Sync, W: Sink, G: Gate + Sync>(
     rt: &T,
@@ -192,24 +229,13 @@ pub(crate) fn play_live<T: Threads + Wait + Sync, W: Sink, G: Gate + Sync>(
     ensures write { result ≡ Err ConsoleFault.Write → W.has_refused writer.new }
 {
     let names = names_of(alloc, &topology)?;
-    let feeds = match read_feeds(alloc, names.as_slice(), script) {
-        Ok(feeds) => feeds,
-        Err(StepsFault::Script(line, fault)) => return Err(ConsoleFault::Script(line, fault)),
-        Err(StepsFault::NoMemory) => return Err(ConsoleFault::NoMemory),
-    };
-    let report = match run_threads(rt, alloc, topology, modules, feeds, turns, gate) {
-        Ok(report) => report,
-        Err(RunFault::NoMemory) => return Err(ConsoleFault::NoMemory),
-        Err(RunFault::New(fault)) => return Err(ConsoleFault::New(fault)),
-        Err(RunFault::NoThread) => return Err(ConsoleFault::Run(RunFault::NoThread)),
-        Err(RunFault::Split(m)) => return Err(ConsoleFault::Run(RunFault::Split(m))),
-        Err(RunFault::Step(full)) => return Err(ConsoleFault::Run(RunFault::Step(full))),
-    };
-    let journal = report.journal.as_slice();
-    match write_run(alloc, names.as_slice(), journal, report.end, writer) {
-        Ok(()) => Ok(()),
-        Err(WritingFault::Write) => Err(ConsoleFault::Write),
-        Err(WritingFault::NoMemory) => Err(ConsoleFault::NoMemory),
+    let names = names.as_slice();
+    match read_feeds(alloc, names, script) {
+        Ok(feeds) => run_feeds(
+            rt, alloc, names, feeds, writer, topology, modules, turns, gate,
+        ),
+        Err(StepsFault::Script(line, fault)) => Err(ConsoleFault::Script(line, fault)),
+        Err(StepsFault::NoMemory) => Err(ConsoleFault::NoMemory),
     }
 }
 
