@@ -1,17 +1,18 @@
 -- What a script gives to modules on threads, and the text of their run, one entry at a time.
-use Rattle.std.proofs.Common.{◌≡◌, ◌⊎◌, ℕ, ◌+◌, List, [], ◌∷◌, ◌++◌, Option, Some, None, Result, Ok, Err, drop, length, refl, sym, ap, ◌∙◌, subst, append_assoc, append-nil, inl, inr}
+use Rattle.std.proofs.Common.{◌≡◌, ◌⊎◌, ℕ, ◌+◌, List, [], ◌∷◌, ◌++◌, Option, Some, None, Result, Ok, Err, drop, length, refl, sym, ap, ◌∙◌, subst, append_assoc}
+use Rattle.std.proofs.Common.{append-nil, inl, inr}
 use Rattle.std.specs.Prelude.{All, IfSome}
 use Rattle.std.specs.Io.KnownBytes.{Appends}
 use Rattle.std.proofs.KnownBytes.{Keeps-refl}
 use Rattle.cip_topology.specs.Plan.{Plan}
 use Rattle.cip_world.specs.declared.journal.Entry.{Entry}
 use Rattle.cip_console.specs.declared.console.ConsoleFault.TheVariants.{Read, NoMemory}
-use Rattle.cip_console.specs.declared.steps.Numbered.{Numbered}
-use Rattle.cip_console.specs.declared.steps.ScriptFault.{ScriptFault}
+use Rattle.cip_script.specs.declared.steps.Numbered.{Numbered}
+use Rattle.cip_script.specs.declared.steps.ScriptFault.{ScriptFault}
 use Rattle.cip_console.specs.Known.{AppendsFront}
 use Rattle.cip_console.specs.Live.{Fed, Feeds, Front, WroteLiveOf, entries_text, feed_of, feeds_of, given_by, with_feed}
 use Rattle.cip_console.specs.Playing.{Prints}
-use Rattle.cip_console.specs.Show.{entry_text}
+use Rattle.cip_transcript.specs.Show.{entry_text}
 use Rattle.cip_console.proofs.Outcomes.{left_of, is_left}
 use Rattle.cip_console.proofs.Prints.{prints_nothing, prints_more, prints_then, front_of_prints, front_then, front_more}
 
@@ -30,6 +31,8 @@ no_memory_to_run t turns left old = record {
   read = is_left left;
   wrote = nothing_run t turns old (given_by t (left_of left));
 }
+
+pub ruleset unheard_laws = (none_heard, no_memory_to_run)
 
 -- ---- what a script gives
 
@@ -78,7 +81,8 @@ pub none_written : (names : List (List ℕ)) (entries : List Entry) (old : Optio
 none_written names entries old text = record { so_far = []; prints = prints_nothing old text; joined = refl }
 
 -- one more is printed
-pub one_written : (names : List (List ℕ)) (entries : List Entry) (old mid new : Option (List ℕ)) (before between gathered after : List ℕ) (k : ℕ) (entry : Entry)
+pub one_written : (names : List (List ℕ)) (entries : List Entry) (old mid new : Option (List ℕ)) (before between gathered after : List ℕ) (k : ℕ)
+    (entry : Entry)
     → Writing names entries old mid before between k
     → drop k entries ≡ entry ∷ drop (k + 1) entries
     → gathered ≡ between ++ entry_text names k entry

@@ -3,11 +3,12 @@ use Rattle.std.proofs.Common.{◌≡◌, ℕ, List, [], Option, Some, None, Ok, 
 use Rattle.std.specs.Prelude.{IfSome}
 use Rattle.std.proofs.KnownBytes.{Keeps-refl}
 use Rattle.cip_topology.specs.Plan.{Plan}
-use Rattle.cip_console.specs.declared.steps.Mode.TheVariants.{InTurn}
+use Rattle.cip_script.specs.declared.steps.Mode.TheVariants.{InTurn}
 use Rattle.cip_console.specs.declared.console.ConsoleFault.TheVariants.{Read, NoMemory}
 use Rattle.cip_console.specs.Outcome.{Steps, Front, WroteOf}
-use Rattle.cip_console.specs.Steps.{steps}
-use Rattle.cip_console.specs.Transcript.{names_of, transcript}
+use Rattle.cip_script.specs.Steps.{steps}
+use Rattle.cip_console.specs.Transcript.{transcript}
+use Rattle.cip_transcript.specs.Show.{names_of}
 use Rattle.cip_console.proofs.Prints.{front_nothing}
 
 -- where nothing was written, a front was
@@ -34,3 +35,5 @@ no_memory_to_read t left old = record {
   wrote =
       nothing_written t old (steps InTurn (names_of t) (left_of left));
 }
+
+pub ruleset unread_laws = (none_read, no_memory_to_read)

@@ -1,5 +1,6 @@
 -- A part of a run under way.
-use Rattle.std.proofs.Common.{◌≡◌, ℕ, ◌+◌, ◌-◌, ◌<◌, ◌≤◌, zero, suc, arith, Bool, true, false, List, [], ◌∷◌, ◌++◌, length, Option, Some, None, Result, Ok, Err, refl, sym, ap, ◌∙◌, subst, append_assoc, append-nil}
+use Rattle.std.proofs.Common.{◌≡◌, ℕ, ◌+◌, ◌-◌, ◌<◌, ◌≤◌, zero, suc, arith, Bool, true, false, List, [], ◌∷◌, ◌++◌, length, Option, Some, None, Result, Ok, Err}
+use Rattle.std.proofs.Common.{refl, sym, ap, ◌∙◌, subst, append_assoc, append-nil}
 use Rattle.std.specs.Prelude.{slice_get}
 use Rattle.cip_base.specs.declared.numbers.ModuleId.{ModuleId}
 use Rattle.cip_module.specs.declared.config.ModuleSettings.{ModuleSettings}
@@ -23,13 +24,14 @@ use Rattle.cip_world.specs.Worlds.{AddsStep, AddsArrival, AddsLoss, DeliversOne,
 use Rattle.cip_world.proofs.Nexts.{step_is_next, no_next, no_module_next, arrival_is_delivered}
 use Rattle.cip_console.specs.declared.playing.PlayFault.{PlayFault}
 use Rattle.cip_console.specs.declared.playing.PlayFault.TheVariants.{Stopped, Write, NoMemory}
-use Rattle.cip_console.specs.declared.steps.ScriptFault.{ScriptFault}
-use Rattle.cip_console.specs.declared.steps.ScriptFault.TheVariants.{NoFrame, ClockFull}
+use Rattle.cip_script.specs.declared.steps.ScriptFault.{ScriptFault}
+use Rattle.cip_script.specs.declared.steps.ScriptFault.TheVariants.{NoFrame, ClockFull}
 use Rattle.cip_console.specs.Known.{AppendsFront}
 use Rattle.cip_console.specs.Playing.{Prints, Played, Plays}
-use Rattle.cip_console.specs.Show.{name_of}
-use Rattle.cip_console.specs.TablesText.{tables_text}
-use Rattle.cip_console.specs.Transcript.{Part, printed, continued, then_, newest, shown, first_delivered, deliveries, end_text, ended, given, waits, if_waits, brought, lost, ran, tables_of, tables_in, tabled, names_of}
+use Rattle.cip_transcript.specs.Show.{name_of, names_of}
+use Rattle.cip_transcript.specs.TablesText.{tables_text}
+use Rattle.cip_console.specs.Transcript.{Part, printed, continued, then_, newest, shown, first_delivered, deliveries, end_text, ended, given, waits, if_waits}
+use Rattle.cip_console.specs.Transcript.{brought, lost, ran, tables_of, tables_in, tabled}
 use Rattle.cip_console.proofs.Prints.{prints_nothing, prints_more, prints_then, front_more, front_of_prints, front_then}
 
 -- what was printed so far, and what the rest prints
@@ -109,17 +111,20 @@ one_unwritten t all old mid new before between limit i j k l p d run f =
     let text = newest (names_of t) k in
     let rest = deliveries t (limit - (i + 1)) k in
     let is : all ≡ printed p.done (printed text rest) =
-    p.is ∙ ap (λ n. printed p.done (deliveries t n j)) (one_of limit i l) ∙ ap (printed p.done) (one_delivered t (limit - (i + 1)) j k d.name d.least (one_delivered_is t j k d run)) in
+    p.is ∙ ap (λ n. printed p.done (deliveries t n j)) (one_of limit i l)
+    ∙ ap (printed p.done) (one_delivered t (limit - (i + 1)) j k d.name d.least (one_delivered_is t j k d run)) in
     subst (λ (part : Part). AppendsFront old new (before ++ part.text)) (sym is)
     (front_then old mid new before between p.done (text ++ rest.text) p.prints
     (subst (AppendsFront mid new) (append_assoc between text rest.text) (front_more mid new (between ++ text) rest.text f)))
 
-pub front_so_far : (all rest : Part) (old new : Option (List ℕ)) (before after : List ℕ) → Playing all old new before after rest → AppendsFront old new (before ++ all.text)
+pub front_so_far : (all rest : Part) (old new : Option (List ℕ)) (before after : List ℕ) → Playing all old new before after rest
+    → AppendsFront old new (before ++ all.text)
 front_so_far all rest old new before after p =
     subst (λ (part : Part). AppendsFront old new (before ++ part.text)) (sym p.is) (front_of_prints old new before after p.done rest.text p.prints)
 
 -- nothing waits any more, or so many were delivered
-over : (all rest : Part) (old new : Option (List ℕ)) (before after : List ℕ) (j : Journal) → Playing all old new before after rest → rest ≡ record { text = []; after = Ok j }
+over : (all rest : Part) (old new : Option (List ℕ)) (before after : List ℕ) (j : Journal) → Playing all old new before after rest
+    → rest ≡ record { text = []; after = Ok j }
     → Played all old new before after j
 over all rest old new before after j p e =
     let is : all ≡ record { text = p.done ++ []; after = Ok j } = p.is ∙ ap (printed p.done) e in
@@ -128,7 +133,8 @@ over all rest old new before after j p e =
       prints = subst (Prints old new before after) (sym (ap (λ (part : Part). part.text) is ∙ append-nil p.done)) p.prints;
     }
 
-pub none_waits : (t : Plan) (all : Part) (old new : Option (List ℕ)) (before after : List ℕ) (n : ℕ) (j k : Journal) → Playing all old new before after (deliveries t n j) → waiting t j ≡ []
+pub none_waits : (t : Plan) (all : Part) (old new : Option (List ℕ)) (before after : List ℕ) (n : ℕ) (j k : Journal)
+    → Playing all old new before after (deliveries t n j) → waiting t j ≡ []
     → k ≡ j → Played all old new before after k
 none_waits t all old new before after n j k p e same =
     subst (Played all old new before after) (sym same) (over all (deliveries t n j) old new before after j p (none_delivered t n j e))
@@ -169,7 +175,8 @@ run_text : (t : Plan) (limit : ℕ) (j k : Journal) → (deliveries t limit j).a
 run_text t limit j k e = ap (λ (o : Result Journal ScriptFault). continued (deliveries t limit j).text o (ended t)) e
 
 -- the deliveries were played, and then the end was printed
-pub run_played : (t : Plan) (limit : ℕ) (j k l : Journal) (old new : Option (List ℕ)) (before between after : List ℕ) → Played (deliveries t limit j) old new before between k → l ≡ k
+pub run_played : (t : Plan) (limit : ℕ) (j k l : Journal) (old new : Option (List ℕ)) (before between after : List ℕ)
+    → Played (deliveries t limit j) old new before between k → l ≡ k
     → after ≡ between ++ end_text (waiting t k) → Played (ran t limit j) old new before after l
 run_played t limit j k l old new before between after p same e =
     let is = run_text t limit j k p.ends in
@@ -179,14 +186,16 @@ run_played t limit j k l old new before between after p same e =
     }
 
 -- memory ran out for the end
-pub run_unended : (t : Plan) (limit : ℕ) (j k : Journal) (old new : Option (List ℕ)) (before between : List ℕ) → Played (deliveries t limit j) old new before between k
+pub run_unended : (t : Plan) (limit : ℕ) (j k : Journal) (old new : Option (List ℕ)) (before between : List ℕ)
+    → Played (deliveries t limit j) old new before between k
     → AppendsFront old new (before ++ (ran t limit j).text)
 run_unended t limit j k old new before between p =
     subst (λ (x : Part). AppendsFront old new (before ++ x.text)) (sym (run_text t limit j k p.ends))
     (front_of_prints old new before between (deliveries t limit j).text (ended t k).text p.prints)
 
 -- what could not be written or gathered was a front
-pub unwritten_as : (part : Part) (old new : Option (List ℕ)) (before after : List ℕ) (j : Journal) (fault : PlayFault) → ((why : ScriptFault) → fault ≡ Stopped why → ⊥)
+pub unwritten_as : (part : Part) (old new : Option (List ℕ)) (before after : List ℕ) (j : Journal) (fault : PlayFault)
+    → ((why : ScriptFault) → fault ≡ Stopped why → ⊥)
     → AppendsFront old new (before ++ part.text)
     → Plays part old new before after j (Err fault)
 unwritten_as part old new before after j (Stopped why) n f = absurd (n why refl)
@@ -223,7 +232,7 @@ pub given_is : (t : Plan) (j k : Journal) (m : ModuleId) (input : Input) (n : �
     → given t j m input ≡ record { text = newest (names_of t) k; after = Ok k }
 given_is t j k m input n a run = ap (shown (names_of t)) (added_next t j k m input n a run)
 
--- there is no step, but want of memory
+-- there is no step, but out of memory
 no_given : (t : Plan) (j : Journal) (m : ModuleId) (input : Input) (event : Event) (fault : WorldFault) → event_of j input ≡ Some event
     → IsFeedFault t j m.0 event fault → (fault ≡ faults.NoMemory → ⊥) → next t j m input ≡ None
 no_given t j m input event faults.NoModule is h n = no_module_next t j m input (past_get t.modules m.0 h)
@@ -268,7 +277,8 @@ pub lost_none : (t : Plan) (j : Journal) (f : FrameName) (fault : WorldFault) �
     → lost t j f ≡ record { text = []; after = Err NoFrame }
 lost_none t j f fault h n = ap (λ b. if_waits b (shown (names_of t) (Some (Lost f ∷ j)))) (no_frame t j f fault h n)
 
-pub brought_is : (t : Plan) (j k : Journal) (f : FrameName) (n : ℕ) → AddsArrival j k f n → IsRun t k → brought t j f ≡ record { text = newest (names_of t) k; after = Ok k }
+pub brought_is : (t : Plan) (j k : Journal) (f : FrameName) (n : ℕ) → AddsArrival j k f n → IsRun t k
+    → brought t j f ≡ record { text = newest (names_of t) k; after = Ok k }
 brought_is t j k f n arrives run =
     let a = arrives.adds in
     let step : IsRun t j × IsStepAt t j arrives.at.0 (inputs.Frame arrives.port arrives.from f) a.outputs = subst (IsRun t) a.is run in
@@ -276,7 +286,8 @@ brought_is t j k f n arrives run =
     arrival_is_delivered t j arrives.at arrives.port arrives.from f a.outputs step.1 ∙ ap (λ (x : Journal). Some x) (sym a.is) in
     ap (λ b. if_waits b (shown (names_of t) (delivered t j f))) (waits_true t j f step.1.given.waits) ∙ ap (shown (names_of t)) there
 
-pub lost_is : (t : Plan) (j k : Journal) (f : FrameName) (n : ℕ) → AddsLoss j k f n → IsRun t k → lost t j f ≡ record { text = newest (names_of t) k; after = Ok k }
+pub lost_is : (t : Plan) (j k : Journal) (f : FrameName) (n : ℕ) → AddsLoss j k f n → IsRun t k
+    → lost t j f ≡ record { text = newest (names_of t) k; after = Ok k }
 lost_is t j k f n a run =
     let step : IsRun t j × IsWaiting t j f = subst (IsRun t) a.is run in
     ap (λ b. if_waits b (shown (names_of t) (Some (Lost f ∷ j)))) (waits_true t j f step.1) ∙ ap (λ (x : Journal). shown (names_of t) (Some x)) (sym a.is)
@@ -305,13 +316,15 @@ pub tabled_is : (t : Plan) (j : Journal) (m : ModuleId) (tables : Tables) → Is
     → tabled t j m ≡ record { text = tables_text (name_of (names_of t) m.0) tables; after = Ok j }
 tabled_is t j m tables h =
     ap (λ (o : Option ModuleSettings). record { text = tables_in t j m o; after = Ok j }) h.is_module
-    ∙ ap (λ (x : Tables). record { text = tables_text (name_of (names_of t) m.0) x; after = Ok j }) (sym (shows_tables (state_in h.config m.0 j) tables h.shows))
+    ∙ ap (λ (x : Tables). record { text = tables_text (name_of (names_of t) m.0) x; after = Ok j })
+    (sym (shows_tables (state_in h.config m.0 j) tables h.shows))
 
 pub tabled_none : (t : Plan) (j : Journal) (m : ModuleId) → length t.modules ≤ m.0 → tabled t j m ≡ record { text = []; after = Ok j }
 tabled_none t j m h = ap (λ (o : Option ModuleSettings). record { text = tables_in t j m o; after = Ok j }) (past_get t.modules m.0 h)
 
 -- a text that belongs to no entry was gathered, and may have been written
-pub text_played : (part : Part) (text : List ℕ) (j : Journal) (old new : Option (List ℕ)) (before mid after : List ℕ) → part ≡ record { text = text; after = Ok j }
+pub text_played : (part : Part) (text : List ℕ) (j : Journal) (old new : Option (List ℕ)) (before mid after : List ℕ)
+    → part ≡ record { text = text; after = Ok j }
     → mid ≡ before ++ text → Prints old new mid after [] → Played part old new before after j
 text_played part text j old new before mid after is e f = record {
   ends = ap (λ (p : Part). p.after) is;
@@ -325,7 +338,8 @@ text_unwritten part text j old new before mid is e f =
     subst (λ (l : List ℕ). AppendsFront old new (before ++ l)) (sym (ap (λ (p : Part). p.text) is)) (subst (AppendsFront old new) e f)
 
 -- nothing is printed
-pub none_played : (part : Part) (j : Journal) (old : Option (List ℕ)) (before : List ℕ) → part ≡ record { text = []; after = Ok j } → Played part old old before before j
+pub none_played : (part : Part) (j : Journal) (old : Option (List ℕ)) (before : List ℕ) → part ≡ record { text = []; after = Ok j }
+    → Played part old old before before j
 none_played part j old before is = record {
   ends = ap (λ (p : Part). p.after) is;
   prints = subst (Prints old old before before) (sym (ap (λ (p : Part). p.text) is)) (prints_nothing old before);

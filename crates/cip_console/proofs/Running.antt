@@ -1,10 +1,11 @@
 -- The steps of a script under way.
-use Rattle.std.proofs.Common.{◌≡◌, ℕ, suc, length, drop, arith, List, [], ◌∷◌, ◌++◌, Option, Some, None, Result, Ok, Err, refl, sym, ap, ◌∙◌, subst, append_assoc, append-nil}
+use Rattle.std.proofs.Common.{◌≡◌, ℕ, suc, length, drop, arith, List, [], ◌∷◌, ◌++◌, Option, Some, None, Result, Ok, Err, refl, sym, ap, ◌∙◌, subst}
+use Rattle.std.proofs.Common.{append_assoc, append-nil}
 use Rattle.std.specs.Io.KnownBytes.{Appends}
 use Rattle.cip_console.specs.declared.playing.PlayFault.{PlayFault}
-use Rattle.cip_console.specs.declared.steps.Step.{Step}
-use Rattle.cip_console.specs.declared.steps.ScriptFault.{ScriptFault}
-use Rattle.cip_console.specs.declared.steps.Numbered.{Numbered}
+use Rattle.cip_script.specs.declared.steps.Step.{Step}
+use Rattle.cip_script.specs.declared.steps.ScriptFault.{ScriptFault}
+use Rattle.cip_script.specs.declared.steps.Numbered.{Numbered}
 use Rattle.cip_console.specs.Known.{AppendsFront}
 use Rattle.cip_console.specs.Playing.{Prints, Played, Plays}
 use Rattle.cip_topology.specs.Plan.{Plan}

@@ -1,9 +1,4 @@
 pub mod Known
-pub mod Text
-pub mod Steps
-pub mod Chained
-pub mod Show
-pub mod TablesText
 pub mod Transcript
 pub mod Playing
 pub mod Outcome

@@ -1,5 +1,6 @@
 -- A script that modules on threads of their own play: what it gives to them, and what is written.
-use Rattle.std.specs.Prelude.{◌≡◌, ◌⊎◌, ℕ, ◌+◌, List, [], ◌∷◌, ◌++◌, Option, Result, Ok, Err, IfSome, codes, length, nat_lt, if◌then◌else◌, reverse}
+use Rattle.std.specs.Prelude.{◌≡◌, ◌⊎◌, ℕ, ◌+◌, List, [], ◌∷◌, ◌++◌, Option, Result, Ok, Err}
+use Rattle.std.specs.Prelude.{IfSome, codes, length, nat_lt, if◌then◌else◌, reverse}
 use Rattle.std.specs.Io.KnownBytes.{Keeps, Appends}
 use Rattle.cip_base.specs.declared.numbers.ModuleId.{ModuleId}
 use Rattle.cip_module.specs.declared.tables.Tables.{Tables}
@@ -14,18 +15,18 @@ use Rattle.cip_threads.specs.declared.report.RunFault.{RunFault}
 use Rattle.cip_threads.specs.declared.report.RunFault.TheVariants as run_faults
 use Rattle.cip_threads.specs.Reports.{IsReport, Passes}
 use Rattle.cip_console.specs.declared.console.ConsoleFault.{ConsoleFault}
-use Rattle.cip_console.specs.declared.console.ConsoleFault.TheVariants.{Script, Read, Write, NoMemory, New, Run}
-use Rattle.cip_console.specs.declared.steps.Mode.TheVariants.{OnThreads}
-use Rattle.cip_console.specs.declared.steps.Numbered.{Numbered}
-use Rattle.cip_console.specs.declared.steps.ScriptFault.{ScriptFault}
-use Rattle.cip_console.specs.declared.steps.ScriptFault.TheVariants.{NoModule, NotWithThreads}
-use Rattle.cip_console.specs.declared.steps.Step.{Step}
-use Rattle.cip_console.specs.declared.steps.Step.TheVariants as steps
-use Rattle.cip_console.specs.declared.steps.StepsFault.{StepsFault}
+use Rattle.cip_console.specs.declared.console.ConsoleFault.TheVariants.{Script, Read, Write}
+use Rattle.cip_console.specs.declared.console.ConsoleFault.TheVariants.{NoMemory, New, Run}
+use Rattle.cip_script.specs.declared.steps.Mode.TheVariants.{OnThreads}
+use Rattle.cip_script.specs.declared.steps.Numbered.{Numbered}
+use Rattle.cip_script.specs.declared.steps.ScriptFault.{ScriptFault}
+use Rattle.cip_script.specs.declared.steps.ScriptFault.TheVariants.{NoModule, NotWithThreads}
+use Rattle.cip_script.specs.declared.steps.Step.{Step}
+use Rattle.cip_script.specs.declared.steps.Step.TheVariants as steps
+use Rattle.cip_script.specs.declared.steps.StepsFault.{StepsFault}
 use Rattle.cip_console.specs.Known.{AppendsFront}
-use Rattle.cip_console.specs.Show.{entry_text}
-use Rattle.cip_console.specs.Steps.{StepsFail, steps as steps_of}
-use Rattle.cip_console.specs.Transcript.{names_of}
+use Rattle.cip_transcript.specs.Show.{entry_text, names_of}
+use Rattle.cip_script.specs.Steps.{StepsFail, steps as steps_of}
 
 -- ---- what a script gives
 
@@ -37,12 +38,12 @@ abbrev pub Feeds : Type 0
 Feeds = Result (List Fed) (ℕ × ScriptFault)
 
 -- to one of so many modules
-abbrev pub within : ℕ → ℕ → ModuleId → Feed → Result Fed (ℕ × ScriptFault)
-within modules line m feed = if nat_lt m.0 modules then Ok (m, feed) else Err (line, NoModule)
+abbrev pub feed_for : ℕ → ℕ → ModuleId → Feed → Result Fed (ℕ × ScriptFault)
+feed_for modules line m feed = if nat_lt m.0 modules then Ok (m, feed) else Err (line, NoModule)
 
 abbrev pub feed_of : ℕ → ℕ → Step → Result Fed (ℕ × ScriptFault)
-feed_of modules line (steps.Feed m command) = within modules line m (feeds.Command command)
-feed_of modules line (steps.Tick m by) = within modules line m (feeds.Tick by)
+feed_of modules line (steps.Feed m command) = feed_for modules line m (feeds.Command command)
+feed_of modules line (steps.Tick m by) = feed_for modules line m (feeds.Tick by)
 feed_of modules line (steps.Deliver frame) = Err (line, NotWithThreads)
 feed_of modules line (steps.Lose frame) = Err (line, NotWithThreads)
 feed_of modules line (steps.Run limit) = Err (line, NotWithThreads)
@@ -105,7 +106,7 @@ pub record Whole (t : Plan) (turns : ℕ) (given : List Fed) (old new : Option (
     pub run : HasRun t turns given text
     pub wrote : Appends old new text
 
--- a front of the text of such a run was written
+-- a prefix of the text of such a run was written
 pub record Begun (t : Plan) (turns : ℕ) (given : List Fed) (old new : Option (List ℕ)) : Type 0
   where
     pub text : List ℕ
@@ -116,7 +117,7 @@ abbrev pub Done : Plan → ℕ → Option (List ℕ) → Option (List ℕ) → F
 Done t turns old new (Err first) = ⊥
 Done t turns old new (Ok given) = Whole t turns given old new
 
--- nothing was written, or a front of a run
+-- nothing was written, or a prefix of a run
 abbrev pub Front : Plan → ℕ → Option (List ℕ) → Option (List ℕ) → Feeds → Type 0
 Front t turns old new (Err first) = Keeps old new
 Front t turns old new (Ok given) = Keeps old new ⊎ Begun t turns given old new

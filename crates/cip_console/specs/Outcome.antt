@@ -2,14 +2,16 @@
 use Rattle.std.specs.Prelude.{◌≡◌, ℕ, List, Option, Some, None, Result, Ok, Err, IfSome}
 use Rattle.std.specs.Io.KnownBytes.{Keeps, Appends}
 use Rattle.cip_topology.specs.Plan.{Plan}
-use Rattle.cip_console.specs.declared.steps.Mode.TheVariants.{InTurn}
-use Rattle.cip_console.specs.declared.steps.Numbered.{Numbered}
-use Rattle.cip_console.specs.declared.steps.ScriptFault.{ScriptFault}
+use Rattle.cip_script.specs.declared.steps.Mode.TheVariants.{InTurn}
+use Rattle.cip_script.specs.declared.steps.Numbered.{Numbered}
+use Rattle.cip_script.specs.declared.steps.ScriptFault.{ScriptFault}
 use Rattle.cip_console.specs.declared.console.ConsoleFault.{ConsoleFault}
-use Rattle.cip_console.specs.declared.console.ConsoleFault.TheVariants.{Script, Read, Write, NoMemory, New, Run}
+use Rattle.cip_console.specs.declared.console.ConsoleFault.TheVariants.{Script, Read, Write}
+use Rattle.cip_console.specs.declared.console.ConsoleFault.TheVariants.{NoMemory, New, Run}
 use Rattle.cip_console.specs.Known.{AppendsFront}
-use Rattle.cip_console.specs.Steps.{steps}
-use Rattle.cip_console.specs.Transcript.{names_of, transcript, stop_of}
+use Rattle.cip_script.specs.Steps.{steps}
+use Rattle.cip_console.specs.Transcript.{transcript, stop_of}
+use Rattle.cip_transcript.specs.Show.{names_of}
 
 abbrev pub Steps : Type 0
 Steps = Result (List Numbered) (ℕ × ScriptFault)
@@ -28,7 +30,7 @@ Fails t old new (Err first) line fault = (first ≡ (line, fault)) × Keeps old 
 Fails t old new (Ok steps) line fault =
     (stop_of t steps ≡ Some (line, fault)) × Appends old new (transcript t steps)
 
--- a front of the transcript was written
+-- a prefix of the transcript was written
 abbrev pub Front : Plan → Option (List ℕ) → Option (List ℕ) → Steps → Type 0
 Front t old new (Err first) = Keeps old new
 Front t old new (Ok steps) = AppendsFront old new (transcript t steps)

@@ -1,5 +1,7 @@
 -- The transcript of a script: the text of the run that its steps make.
-use Rattle.std.specs.Prelude.{ℕ, zero, suc, ◌-◌, ◌&&◌, Bool, true, false, not, Option, Some, None, Result, Ok, Err, List, [], ◌∷◌, ◌++◌, length, codes, map, filter_map, slice_get}
+use Rattle.std.specs.Prelude.{ℕ, zero, suc, ◌-◌, ◌&&◌, Bool, true, false, not, Option, Some, None}
+use Rattle.std.specs.Prelude.{Result, Ok, Err, List, [], ◌∷◌, ◌++◌, length, codes, map, filter_map}
+use Rattle.std.specs.Prelude.{slice_get}
 use Rattle.std.specs.FinMap as finite
 use Rattle.cip_hops.specs.Hops.{as_hop}
 use Rattle.cip_base.specs.declared.numbers.ModuleId.{ModuleId}
@@ -18,17 +20,14 @@ use Rattle.cip_world.specs.Nexts.{next, delivered}
 use Rattle.cip_world.specs.Runs.{state_in}
 use Rattle.cip_world.specs.Trails.{trail_of}
 use Rattle.cip_world.specs.Waiting.{arrives, waiting}
-use Rattle.cip_console.specs.declared.steps.Step.{Step}
-use Rattle.cip_console.specs.declared.steps.Step.TheVariants as steps
-use Rattle.cip_console.specs.declared.steps.Numbered.{Numbered}
-use Rattle.cip_console.specs.declared.steps.ScriptFault.{ScriptFault}
-use Rattle.cip_console.specs.declared.steps.ScriptFault.TheVariants.{NoFrame, ClockFull}
-use Rattle.cip_console.specs.Chained.{chain_of}
-use Rattle.cip_console.specs.Show.{chain_text, entry_text, name_of, trail_text}
-use Rattle.cip_console.specs.TablesText.{tables_text}
-
-abbrev pub names_of : Plan → List (List ℕ)
-names_of t = map (λ config. config.name) t.modules
+use Rattle.cip_script.specs.declared.steps.Step.{Step}
+use Rattle.cip_script.specs.declared.steps.Step.TheVariants as steps
+use Rattle.cip_script.specs.declared.steps.Numbered.{Numbered}
+use Rattle.cip_script.specs.declared.steps.ScriptFault.{ScriptFault}
+use Rattle.cip_script.specs.declared.steps.ScriptFault.TheVariants.{NoFrame, ClockFull}
+use Rattle.cip_transcript.specs.Chained.{chain_of}
+use Rattle.cip_transcript.specs.Show.{chain_text, entry_text, name_of, names_of, trail_text}
+use Rattle.cip_transcript.specs.TablesText.{tables_text}
 
 -- what a part of a run prints, and the journal after it, or why the run stops there
 pub record Part : Type 0 where

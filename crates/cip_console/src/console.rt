@@ -3,18 +3,18 @@ ghost use Rattle.std.specs.Prelude.{◌≡◌, ◌≢◌, ◌⊎◌, ◌+◌, �
 ghost use Rattle.cip_world.specs.Fresh.{IsNewFault};
 ghost use Rattle.cip_world.specs.Worlds.{Stand};
 ghost use Rattle.cip_console.specs.Outcome.{Wrote, WroteOf};
-ghost use Rattle.cip_console.specs.Steps.{steps};
-ghost use Rattle.cip_console.specs.Transcript.{names_of};
+ghost use Rattle.cip_script.specs.Steps.{steps};
+ghost use Rattle.cip_transcript.specs.Show.{names_of};
 ghost use Rattle.cip_console.specs.declared.console.ConsoleFault.TheVariants.{NoMemory as NoConsoleMemory};
 
-use crate::names::names_of;
 use crate::playing::{PlayFault, flush, play};
 use crate::source::{ReadFault, SCRIPT_LIMIT, Sink, Source, WriteFault, read_script};
-use crate::steps::{Mode, Numbered, ScriptFault, StepsFault, read_steps};
 use cip_base::{Bytes, NoMemory};
 use cip_module::Module;
+use cip_script::{Mode, Numbered, ScriptFault, StepsFault, read_steps};
 use cip_threads::RunFault;
 use cip_topology::Topology;
+use cip_transcript::names_of;
 use cip_world::{NewFault, World};
 use std::alloc::{AllocError, Global};
 use std::collections::VecDeque;
@@ -30,10 +30,10 @@ pub enum ConsoleFault {
     /// The script can't be read, or has more than 1,048,576 bytes. Nothing was written.
     #[error("the script can't be read")]
     Read,
-    /// The writer failed or took no byte. A front of the transcript was written.
+    /// The writer failed or took no byte. A prefix of the transcript was written.
     #[error("the transcript can't be written")]
     Write,
-    /// An allocation was refused. A front of the transcript was written.
+    /// An allocation was refused. A prefix of the transcript was written.
     #[error("out of memory")]
     NoMemory,
     /// The modules are not those of the topology, or not as at the beginning. Nothing was written.
@@ -100,8 +100,8 @@ fn run_steps<W: Sink>(
     }
 }
 
-// Reads the steps of a script, and runs them over the modules.
-fn run_script<W: Sink>(
+/// Reads the steps of a script, and runs them over the modules.
+pub(crate) fn run_script<W: Sink>(
     alloc: Global,
     script: &[u8],
     writer: &mut W,

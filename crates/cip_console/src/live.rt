@@ -1,23 +1,24 @@
 //! The run of a script by modules on threads of their own.
-ghost use Rattle.std.specs.Prelude.{◌≡◌, ◌≢◌, ◌⊎◌, ◌++◌, ◌∷◌, ◌+◌, ◌<◌, ◌≤◌, [], All, length, map, IfOk, IfSome, OnOk, OnErr};
+ghost use Rattle.std.specs.Prelude.{◌≡◌, ◌≢◌, ◌⊎◌, ◌++◌, ◌∷◌, ◌+◌, ◌<◌, ◌≤◌, [], All, length, map};
+ghost use Rattle.std.specs.Prelude.{IfOk, IfSome, OnOk, OnErr};
 ghost use Rattle.std.specs.Io.KnownBytes.{Appends};
 ghost use Rattle.cip_world.specs.Fresh.{IsNewFault};
 ghost use Rattle.cip_console.specs.Known.{AppendsFront};
-ghost use Rattle.cip_console.specs.Live.{GivesFeeds, HasRun, WroteLive, WroteLiveOf, entries_text, feed_of, feeds_of, given_by, last_text, live_text, within};
+ghost use Rattle.cip_console.specs.Live.{GivesFeeds, HasRun, WroteLive, WroteLiveOf, entries_text};
+ghost use Rattle.cip_console.specs.Live.{feed_for, feed_of, feeds_of, given_by, last_text};
+ghost use Rattle.cip_console.specs.Live.{live_text};
 ghost use Rattle.cip_console.specs.Playing.{Prints};
-ghost use Rattle.cip_console.specs.Transcript.{names_of};
+ghost use Rattle.cip_transcript.specs.Show.{names_of};
 
 use crate::console::ConsoleFault;
-use crate::names::names_of;
 use crate::playing::{FULL, flush};
-use crate::put::put;
-use crate::show::put_entry;
 use crate::source::{ReadFault, SCRIPT_LIMIT, Sink, Source, WriteFault, read_script};
-use crate::steps::{Mode, Numbered, ScriptFault, Step, StepsFault, read_steps};
 use cip_base::{Bytes, ModuleId, NoMemory};
 use cip_module::Module;
+use cip_script::{Mode, Numbered, ScriptFault, Step, StepsFault, read_steps};
 use cip_threads::{Feed, Gate, RunFault, run_threads};
 use cip_topology::Topology;
+use cip_transcript::{names_of, put, put_entry};
 use cip_world::{End, Entry};
 use std::alloc::Global;
 use std::collections::VecDeque;
@@ -25,13 +26,13 @@ use std::sync::Wait;
 use std::thread::Threads;
 
 // What one of so many modules is given.
-fn within(
+fn feed_for(
     modules: usize,
     line: usize,
     at: ModuleId,
     feed: Feed,
 ) -> Result<(ModuleId, Feed), StepsFault>
-    ensures gives { GivesFeeds (λ fed. fed) result (within modules line at feed) }
+    ensures gives { GivesFeeds (λ fed. fed) result (feed_for modules line at feed) }
     ensures within { IfOk result (λ fed. fed.0.0 < modules) }
 {
     if at.0 < modules {
@@ -46,8 +47,8 @@ fn feed_of(modules: usize, line: usize, step: Step) -> Result<(ModuleId, Feed), 
     ensures within { IfOk result (λ fed. fed.0.0 < modules) }
 {
     match step {
-        Step::Feed { module_, command } => within(modules, line, module_, Feed::Command(command)),
-        Step::Tick { module_, by } => within(modules, line, module_, Feed::Tick(by)),
+        Step::Feed { module_, command } => feed_for(modules, line, module_, Feed::Command(command)),
+        Step::Tick { module_, by } => feed_for(modules, line, module_, Feed::Tick(by)),
         Step::Deliver { frame } => Err(StepsFault::Script(line, ScriptFault::NotWithThreads)),
         Step::Lose { frame } => Err(StepsFault::Script(line, ScriptFault::NotWithThreads)),
         Step::Run { limit } => Err(StepsFault::Script(line, ScriptFault::NotWithThreads)),
@@ -172,8 +173,45 @@ fn write_run<W: Sink>(
     }
 }
 
-// Reads what a script gives to the modules, and runs these on threads of their own.
-fn play_live<T: Threads + Wait + Sync, W: Sink, G: Gate + Sync>(
+// Runs the modules, which are given these feeds, on threads of their own, and writes what they did.
+fn run_feeds<T: Threads + Wait + Sync, W: Sink, G: Gate + Sync>(
+    rt: &T,
+    alloc: Global,
+    names: &[Bytes],
+    feeds: Vec<(ModuleId, Feed)>,
+    writer: &mut W,
+    topology: Topology,
+    modules: Vec<Box<dyn Module + Send>>,
+    turns: usize,
+    gate: &G,
+) -> Result<(), ConsoleFault>
+    requires names { names.now ≡ names_of topology }
+    requires within { All (λ fed. fed.0.0 < length topology.modules) feeds.items }
+    ensures wrote { WroteLive topology turns (W.contents writer.old) (W.contents writer.new)
+        (Ok feeds.items) result }
+    ensures read { result ≢ Err ConsoleFault.Read }
+    ensures new { (f : _) → result ≡ Err (ConsoleFault.New f) → IsNewFault topology
+        (map (λ b. config_of b) modules.items) (map (λ b. state_of b) modules.items) f }
+    ensures write { result ≡ Err ConsoleFault.Write → W.has_refused writer.new }
+{
+    let report = match run_threads(rt, alloc, topology, modules, feeds, turns, gate) {
+        Ok(report) => report,
+        Err(RunFault::NoMemory) => return Err(ConsoleFault::NoMemory),
+        Err(RunFault::New(fault)) => return Err(ConsoleFault::New(fault)),
+        Err(RunFault::NoThread) => return Err(ConsoleFault::Run(RunFault::NoThread)),
+        Err(RunFault::Split(m)) => return Err(ConsoleFault::Run(RunFault::Split(m))),
+        Err(RunFault::Step(full)) => return Err(ConsoleFault::Run(RunFault::Step(full))),
+    };
+    let journal = report.journal.as_slice();
+    match write_run(alloc, names, journal, report.end, writer) {
+        Ok(()) => Ok(()),
+        Err(WritingFault::Write) => Err(ConsoleFault::Write),
+        Err(WritingFault::NoMemory) => Err(ConsoleFault::NoMemory),
+    }
+}
+
+/// Reads what a script gives to the modules, and runs these on threads of their own.
+pub(crate) fn play_live<T: Threads + Wait + Sync, W: Sink, G: Gate + Sync>(
     rt: &T,
     alloc: Global,
     script: &[u8],
@@ -191,24 +229,13 @@ fn play_live<T: Threads + Wait + Sync, W: Sink, G: Gate + Sync>(
     ensures write { result ≡ Err ConsoleFault.Write → W.has_refused writer.new }
 {
     let names = names_of(alloc, &topology)?;
-    let feeds = match read_feeds(alloc, names.as_slice(), script) {
-        Ok(feeds) => feeds,
-        Err(StepsFault::Script(line, fault)) => return Err(ConsoleFault::Script(line, fault)),
-        Err(StepsFault::NoMemory) => return Err(ConsoleFault::NoMemory),
-    };
-    let report = match run_threads(rt, alloc, topology, modules, feeds, turns, gate) {
-        Ok(report) => report,
-        Err(RunFault::NoMemory) => return Err(ConsoleFault::NoMemory),
-        Err(RunFault::New(fault)) => return Err(ConsoleFault::New(fault)),
-        Err(RunFault::NoThread) => return Err(ConsoleFault::Run(RunFault::NoThread)),
-        Err(RunFault::Split(m)) => return Err(ConsoleFault::Run(RunFault::Split(m))),
-        Err(RunFault::Step(full)) => return Err(ConsoleFault::Run(RunFault::Step(full))),
-    };
-    let journal = report.journal.as_slice();
-    match write_run(alloc, names.as_slice(), journal, report.end, writer) {
-        Ok(()) => Ok(()),
-        Err(WritingFault::Write) => Err(ConsoleFault::Write),
-        Err(WritingFault::NoMemory) => Err(ConsoleFault::NoMemory),
+    let names = names.as_slice();
+    match read_feeds(alloc, names, script) {
+        Ok(feeds) => run_feeds(
+            rt, alloc, names, feeds, writer, topology, modules, turns, gate,
+        ),
+        Err(StepsFault::Script(line, fault)) => Err(ConsoleFault::Script(line, fault)),
+        Err(StepsFault::NoMemory) => Err(ConsoleFault::NoMemory),
     }
 }
 

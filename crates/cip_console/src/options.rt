@@ -72,27 +72,29 @@ pub const MOST_TURNS: u32 = 1_000_000;
 /// The number of turns where none is asked for.
 pub const DEFAULT_TURNS: u32 = 100_000;
 
-fn command<'a>(alloc: Global) -> Result<Command<'a>, AllocError> {
-    let topology = Arg::new(alloc, "topology")
-        .long("topology")
-        .action(ArgAction::Set);
-    let script = Arg::new(alloc, "script")
-        .long("script")
-        .action(ArgAction::Set);
-    let threads = Arg::new(alloc, "threads")
+// An option with a value behind it.
+fn value_arg<'a>(alloc: Global, name: &'a str) -> Arg<'a> {
+    Arg::new(alloc, name).long(name).action(ArgAction::Set)
+}
+
+fn threads_arg<'a>(alloc: Global) -> Arg<'a> {
+    Arg::new(alloc, "threads")
         .long("threads")
-        .action(ArgAction::SetTrue);
-    let turns = Arg::new(alloc, "turns")
-        .long("turns")
-        .action(ArgAction::Set)
-        .value_parser(value_parser!(u32));
+        .action(ArgAction::SetTrue)
+}
+
+fn turns_arg<'a>(alloc: Global) -> Arg<'a> {
+    value_arg(alloc, "turns").value_parser(value_parser!(u32))
+}
+
+fn command<'a>(alloc: Global) -> Result<Command<'a>, AllocError> {
     Command::new(alloc, "cipbridge")
         .version(VERSION)
         .no_binary_name(true)
-        .arg(topology)?
-        .arg(script)?
-        .arg(threads)?
-        .arg(turns)
+        .arg(value_arg(alloc, "topology"))?
+        .arg(value_arg(alloc, "script"))?
+        .arg(threads_arg(alloc))?
+        .arg(turns_arg(alloc))
 }
 
 fn text_at(
@@ -128,6 +130,20 @@ fn fault_of(error: &clap::Error) -> OptionsFault {
     }
 }
 
+fn options_of(alloc: Global, matches: &ArgMatches<'_>) -> Result<Options, OptionsFault>
+    ensures { IfOk result (λ options. (1 ≤ options.turns) × (options.turns ≤ MOST_TURNS)) }
+{
+    let turns = turns_at(matches)?;
+    let topology = text_at(alloc, matches, "topology")?;
+    let script = text_at(alloc, matches, "script")?;
+    Ok(Options {
+        topology,
+        script,
+        threads: matches.get_flag("threads"),
+        turns,
+    })
+}
+
 /// Reads the words after the program's name: `--topology FILE`, `--script FILE`, `--threads` and
 /// `--turns N`, each at most once, and `--help` and `--version`. N is 1 to 1,000,000, and 100,000
 /// where it is not given; it means nothing without `--threads`. Every other word is Usage. NoMemory
@@ -135,14 +151,8 @@ fn fault_of(error: &clap::Error) -> OptionsFault {
 pub fn read_options(alloc: Global, words: &[String]) -> Result<Options, OptionsFault>
     ensures { IfOk result (λ options. (1 ≤ options.turns) × (options.turns ≤ MOST_TURNS)) }
 {
-    let matches = match command(alloc)?.try_get_matches_from(words) {
-        Ok(matches) => matches,
-        Err(error) => return Err(fault_of(&error)),
-    };
-    Ok(Options {
-        topology: text_at(alloc, &matches, "topology")?,
-        script: text_at(alloc, &matches, "script")?,
-        threads: matches.get_flag("threads"),
-        turns: turns_at(&matches)?,
-    })
+    match command(alloc)?.try_get_matches_from(words) {
+        Ok(matches) => options_of(alloc, &matches),
+        Err(error) => Err(fault_of(&error)),
+    }
 }

@@ -4,20 +4,18 @@ ghost use Rattle.cip_world.specs.declared.journal.Input.TheVariants as inputs;
 ghost use Rattle.cip_world.specs.Runs.{IsRun};
 ghost use Rattle.cip_world.specs.Waiting.{waiting};
 ghost use Rattle.cip_world.specs.Worlds.{Stand};
-ghost use Rattle.cip_console.specs.Chained.{chain_of};
 ghost use Rattle.cip_console.specs.Known.{AppendsFront};
 ghost use Rattle.cip_console.specs.Playing.{Prints, Plays};
-ghost use Rattle.cip_console.specs.Show.{chain_text};
-ghost use Rattle.cip_console.specs.Transcript.{brought, deliveries, end_text, given, lost, newest, ran, played, tabled, trailed, chained, names_of};
+ghost use Rattle.cip_transcript.specs.Show.{names_of};
+ghost use Rattle.cip_console.specs.Transcript.{brought, deliveries, end_text, given, lost, newest};
+ghost use Rattle.cip_console.specs.Transcript.{ran, played, tabled, trailed, chained};
 
-use crate::put::put;
-use crate::show::{name_in, put_broken, put_chain, put_entry, put_trail};
-use crate::show_tables::put_tables;
 use crate::source::{Sink, WriteFault, write_text};
-use crate::steps::{ScriptFault, Step};
 use cip_base::{Bytes, ModuleId, Ms, NoMemory};
-use cip_chain::{ChainFault, chain, trail};
+use cip_chain::trail;
 use cip_module::Command;
+use cip_script::{ScriptFault, Step};
+use cip_transcript::{name_in, put, put_chain_of, put_entry, put_tables, put_trail};
 use cip_world::{End, Entry, FrameName, World, WorldFault};
 use std::alloc::Global;
 
@@ -77,7 +75,11 @@ fn tell<W: Sink>(world: &World, writer: &mut W)
 
 // Once enough text was gathered it is written, and how far the run is may be told.
 #[inline(always)]
-fn hand_on<W: Sink>(world: &World, writer: &mut W, text: &mut Vec<u8>) -> Result<(), WriteFault>
+fn flush_if_full<W: Sink>(
+    world: &World,
+    writer: &mut W,
+    text: &mut Vec<u8>,
+) -> Result<(), WriteFault>
     ensures ok { OnOk result (Prints (W.contents writer.old) (W.contents writer.new) text.old.items
         text.new.items []) }
     ensures err { OnErr result (AppendsFront (W.contents writer.old) (W.contents writer.new)
@@ -109,7 +111,7 @@ fn show<W: Sink>(
     ensures write { result ≡ Err PlayFault.Write → W.has_refused writer.new }
 {
     match put_newest(names, world.journal(), text) {
-        Ok(()) => match hand_on(world, writer, text) {
+        Ok(()) => match flush_if_full(world, writer, text) {
             Ok(()) => Ok(()),
             Err(WriteFault) => Err(PlayFault::Write),
         },
@@ -235,7 +237,7 @@ fn tick<W: Sink>(
 }
 
 // `deliver E.K`
-fn bring<W: Sink>(
+fn deliver_frame<W: Sink>(
     world: &mut World,
     names: &[Bytes],
     frame: FrameName,
@@ -376,31 +378,6 @@ fn show_trail<W: Sink>(
     }
 }
 
-// The chain of an op, or why there is none, behind a text.
-fn put_chained(
-    alloc: Global,
-    world: &World,
-    names: &[Bytes],
-    at: ModuleId,
-    op: u32,
-    text: &mut Vec<u8>,
-) -> Result<(), NoMemory>
-    requires stand { Stand world.now.ledger
-        (map (λ b. config_of (b.vtable, b.value)) world.now.modules.items)
-        (map (λ b. state_of (b.vtable, b.value)) world.now.modules.items) }
-    ensures { OnOk result (text.new.items ≡ text.old.items ++ chain_text names.now
-        (chain_of world.now.ledger.plan world.now.ledger.journal at.0 op)) }
-{
-    // What happened is a run of the topology: on each run `chain` answers one of the three.
-    let _run = world.journal();
-    match chain(alloc, world, at, op) {
-        Ok(view) => put_chain(text, names, &view),
-        Err(ChainFault::NotOpen) => put(text, b"not open\n"),
-        Err(ChainFault::Broken(lacking)) => put_broken(text, name_in(names, lacking.0)),
-        Err(ChainFault::NoMemory) => Err(NoMemory),
-    }
-}
-
 // `chain M OP`
 fn show_chain<W: Sink>(
     alloc: Global,
@@ -420,7 +397,7 @@ fn show_chain<W: Sink>(
         world.now.ledger.journal result }
     ensures write { result ≡ Err PlayFault.Write → W.has_refused writer.new }
 {
-    match put_chained(alloc, world, names, at, op, text) {
+    match put_chain_of(alloc, world, names, at, op, text) {
         Ok(()) => match flush(writer, text, FULL) {
             Ok(()) => Ok(()),
             Err(WriteFault) => Err(PlayFault::Write),
@@ -454,7 +431,7 @@ pub(crate) fn play<W: Sink>(
     match step {
         Step::Feed { module_, command } => feed(world, names, module_, command, writer, text),
         Step::Tick { module_, by } => tick(world, names, module_, by, writer, text),
-        Step::Deliver { frame } => bring(world, names, frame, writer, text),
+        Step::Deliver { frame } => deliver_frame(world, names, frame, writer, text),
         Step::Lose { frame } => lose(world, names, frame, writer, text),
         Step::Run { limit } => run_line(world, names, limit, writer, text),
         Step::Tables { module_ } => show_tables(world, names, module_, writer, text),

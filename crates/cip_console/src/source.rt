@@ -1,7 +1,8 @@
 //! Where a script comes from and where a transcript goes to, with what failed and how often it was
 //! asked.
 
-ghost use Rattle.std.specs.Prelude.{◌≡◌, ℕ, ◌+◌, ◌<◌, ◌≤◌, List, Option, Some, IfOk, OnOk, OnErr, IfSome, length};
+ghost use Rattle.std.specs.Prelude.{◌≡◌, ℕ, ◌+◌, ◌<◌, ◌≤◌, List, Option, Some, IfOk, OnOk, OnErr};
+ghost use Rattle.std.specs.Prelude.{IfSome, length};
 ghost use Rattle.std.specs.Io.{ReadsAtMost, WritesAtMost};
 ghost use Rattle.std.specs.Io.KnownBytes.{Appends, ReadConsumes, WriteAppends};
 ghost use Rattle.cip_console.specs.Known.{AppendsFront};
@@ -160,7 +161,7 @@ impl<W: Write> Sink for Out<W> {
 #[derive(Clone, Copy, Debug, PartialEq, Eq)]
 pub struct WriteFault;
 
-/// Writes all of a text. At an error the sink refused, and got a front of it.
+/// Writes all of a text. At an error the sink refused, and got a prefix of it.
 pub fn write_text<S: Sink>(sink: &mut S, text: &[u8]) -> Result<(), WriteFault>
     ensures ok { OnOk result (Appends (S.contents sink.old) (S.contents sink.new) text.now) }
     ensures err { OnErr result (AppendsFront (S.contents sink.old) (S.contents sink.new) text.now) }

@@ -4,8 +4,8 @@ use crate::fault::Fault;
 use crate::terminal::Terminal;
 use cip_base::NoMemory;
 use cip_console::{
-    ConsoleFault, Options, OptionsFault, Out, Plain, ReadFault, Script, Source, Watched, chassis,
-    explain, read_options, read_script, run_new, run_new_live,
+    ConsoleFault, Options, OptionsFault, Out, Plain, ReadFault, ScriptFault, Source, Watched,
+    chassis, explain, read_options, read_script, run_new_script, run_new_script_live,
 };
 use cip_threads::OpenGate;
 use cip_topology::{LoadFault, Topology, load};
@@ -31,18 +31,29 @@ fn unread(alloc: Global, name: &str) -> Fault {
     }
 }
 
+// A fault of a line of the script, with what is wrong there.
+fn script_fault(
+    alloc: Global,
+    name: &str,
+    script: &[u8],
+    line: usize,
+    fault: ScriptFault,
+) -> Result<Fault, NoMemory> {
+    let name = String::from_str(alloc, name)?;
+    let explained = explain(alloc, script, line, fault)?;
+    Ok(Fault::Script(name, line, explained))
+}
+
 // What the console says, with the name of the script, and of a line what is wrong there.
-fn told(alloc: Global, name: &str, script: &[u8], fault: ConsoleFault) -> Fault {
-    let name = match named(alloc, name) {
-        Ok(name) => name,
-        Err(fault) => return fault,
-    };
+fn fault_of(alloc: Global, name: &str, script: &[u8], fault: ConsoleFault) -> Fault {
     match fault {
-        ConsoleFault::Script(line, fault) => match explain(alloc, script, line, fault) {
-            Ok(explained) => Fault::Script(name, line, explained),
-            Err(NoMemory) => Fault::NoMemory,
-        },
-        ConsoleFault::Read => Fault::Read(name),
+        ConsoleFault::Script(line, fault) => {
+            match script_fault(alloc, name, script, line, fault) {
+                Ok(fault) => fault,
+                Err(NoMemory) => Fault::NoMemory,
+            }
+        }
+        ConsoleFault::Read => unread(alloc, name),
         ConsoleFault::Write => Fault::Console(ConsoleFault::Write),
         ConsoleFault::NoMemory => Fault::NoMemory,
         ConsoleFault::New(fault) => Fault::Console(ConsoleFault::New(fault)),
@@ -74,21 +85,25 @@ fn open(rt: &HostRuntime, alloc: Global, path: &str) -> Result<File, Fault> {
     }
 }
 
-// The bytes of a topology file, at most as many as a script may have.
-fn topology_bytes(rt: &HostRuntime, alloc: Global, path: &str) -> Result<Vec<u8>, Fault> {
+// All that a reader gives, at most as many bytes as a script may have.
+fn bytes_of<S: Source>(alloc: Global, name: &str, reader: &mut S) -> Result<Vec<u8>, Fault> {
+    match read_script(alloc, reader) {
+        Ok(bytes) => Ok(bytes),
+        Err(ReadFault::NoMemory) => Err(Fault::NoMemory),
+        Err(_) => Err(unread(alloc, name)),
+    }
+}
+
+fn bytes_at(rt: &HostRuntime, alloc: Global, path: &str) -> Result<Vec<u8>, Fault> {
     let mut file = Plain {
         inner: open(rt, alloc, path)?,
     };
-    match read_script(alloc, &mut file) {
-        Ok(bytes) => Ok(bytes),
-        Err(ReadFault::NoMemory) => Err(Fault::NoMemory),
-        Err(_) => Err(unread(alloc, path)),
-    }
+    bytes_of(alloc, path, &mut file)
 }
 
 // The topology of a file.
 fn topology_at(rt: &HostRuntime, alloc: Global, path: &str) -> Result<Topology, Fault> {
-    let bytes = topology_bytes(rt, alloc, path)?;
+    let bytes = bytes_at(rt, alloc, path)?;
     let Ok(text) = std::str::from_utf8(bytes.as_slice()) else {
         return Err(Fault::NotText(named(alloc, path)?));
     };
@@ -109,46 +124,67 @@ fn topology(rt: &HostRuntime, alloc: Global, options: &Options) -> Result<Topolo
     }
 }
 
-// Runs the script that a reader gives, and writes the transcript to the standard output.
-fn play<T: Threads + Wait + Sync, S: Source>(
+// The name of the script, as faults have it.
+fn script_name(options: &Options) -> &str {
+    match &options.script {
+        Some(path) => path.as_str(),
+        None => "<stdin>",
+    }
+}
+
+fn script(rt: &HostRuntime, alloc: Global, options: &Options) -> Result<Vec<u8>, Fault> {
+    match &options.script {
+        Some(path) => bytes_at(rt, alloc, path.as_str()),
+        None => {
+            let mut input = Plain { inner: rt.reader() };
+            bytes_of(alloc, script_name(options), &mut input)
+        }
+    }
+}
+
+// Runs a script over new modules of a topology, and writes the transcript to the standard output.
+fn play<T: Threads + Wait + Sync>(
     rt: &HostRuntime,
     workers: &T,
     options: &Options,
-    name: &str,
-    script: &mut S,
+    script: &[u8],
     topology: Topology,
-) -> Result<(), Fault> {
+) -> Result<(), ConsoleFault> {
     let alloc = rt.alloc();
-    let script = match read_script(alloc, script) {
-        Ok(script) => script,
-        Err(ReadFault::NoMemory) => return Err(Fault::NoMemory),
-        Err(_) => return Err(unread(alloc, name)),
-    };
-    let mut reader = Script {
-        rest: script.as_slice(),
-    };
     let out = Out {
         inner: io::writer(rt),
     };
     let mut writer = Watched::of(out, Terminal::new(rt));
     let result = if options.threads {
         let turns = options.turns as usize;
-        run_new_live(
+        run_new_script_live(
             workers,
             alloc,
-            &mut reader,
+            script,
             &mut writer,
             topology,
             turns,
             &OpenGate,
         )
     } else {
-        run_new(alloc, &mut reader, &mut writer, topology)
+        run_new_script(alloc, script, &mut writer, topology)
     };
     writer.clear();
-    match result {
+    result
+}
+
+// What the program does once it knows what is asked for.
+fn run_with<T: Threads + Wait + Sync>(
+    rt: &HostRuntime,
+    workers: &T,
+    options: &Options,
+) -> Result<(), Fault> {
+    let alloc = rt.alloc();
+    let topology = topology(rt, alloc, options)?;
+    let script = script(rt, alloc, options)?;
+    match play(rt, workers, options, script.as_slice(), topology) {
         Ok(()) => Ok(()),
-        Err(fault) => Err(told(alloc, name, script.as_slice(), fault)),
+        Err(fault) => Err(fault_of(alloc, script_name(options), script.as_slice(), fault)),
     }
 }
 
@@ -160,27 +196,13 @@ fn say(rt: &HostRuntime, asked: OptionsFault) -> Result<(), Fault> {
     }
 }
 
-/// The whole program, but for what it says of a fault and for its exit status. `workers` is the same
-/// runtime, as what can start threads.
+/// The whole program, but for what it says of a fault and for its exit status. `workers` is the
+/// same runtime, as what can start threads.
 pub fn run<T: Threads + Wait + Sync>(rt: &HostRuntime, workers: &T) -> Result<(), Fault> {
-    let alloc = rt.alloc();
-    let options = match options(rt, alloc) {
-        Ok(options) => options,
-        Err(Fault::Options(OptionsFault::Help)) => return say(rt, OptionsFault::Help),
-        Err(Fault::Options(OptionsFault::Version)) => return say(rt, OptionsFault::Version),
-        Err(fault) => return Err(fault),
-    };
-    let topology = topology(rt, alloc, &options)?;
-    match &options.script {
-        Some(path) => {
-            let mut script = Plain {
-                inner: open(rt, alloc, path.as_str())?,
-            };
-            play(rt, workers, &options, path.as_str(), &mut script, topology)
-        }
-        None => {
-            let mut script = Plain { inner: rt.reader() };
-            play(rt, workers, &options, "<stdin>", &mut script, topology)
-        }
+    match options(rt, rt.alloc()) {
+        Ok(options) => run_with(rt, workers, &options),
+        Err(Fault::Options(OptionsFault::Help)) => say(rt, OptionsFault::Help),
+        Err(Fault::Options(OptionsFault::Version)) => say(rt, OptionsFault::Version),
+        Err(fault) => Err(fault),
     }
 }

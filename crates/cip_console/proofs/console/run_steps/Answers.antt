@@ -16,7 +16,8 @@ loop-numbered-preserved g c =
       stand = c.play.ensures.stand;
       plan = c.play.ensures.plan ∙ c.loop-numbered.invariant.plan;
       running = running_step t c.args.steps.items _ _ _ _ _ j c.play.new.world.ledger.journal c.in-Some.numbered c.pop_front.new.self.items running
-          (subst (λ (p : Plan). Plays (played p j c.in-Some.numbered.step) (g.W.Sink.contents c.loop-numbered.writer) (g.W.Sink.contents c.play.new.writer) c.loop-numbered.text.items
+          (subst (λ (p : Plan). Plays (played p j c.in-Some.numbered.step) (g.W.Sink.contents c.loop-numbered.writer) (g.W.Sink.contents c.play.new.writer)
+          c.loop-numbered.text.items
           c.play.new.text.items c.play.new.world.ledger.journal (Ok tt)) c.loop-numbered.invariant.plan c.in-Ok.ensures.plays);
     }
 
@@ -25,8 +26,10 @@ returns-in-Ok-flush-clause-wrote g c =
     let t = c.args.world.now.ledger.plan in
     let j = c.loop-numbered.world.ledger.journal in
     let running = running_on t c.args.steps.items _ _ _ j _ _ c.loop-numbered.invariant.running c.in-Some.ensures.items in
-    let full = subst (λ (p : Plan). Plays (played p j c.in-Some.numbered.step) (g.W.Sink.contents c.loop-numbered.writer) (g.W.Sink.contents c.play.new.writer) c.loop-numbered.text.items
-    c.play.new.text.items c.play.new.world.ledger.journal (Err (Stopped c.in-Err-Stopped.fault))) c.loop-numbered.invariant.plan (rw c.in-Err-Stopped.field-0-is at c.in-Err-Stopped.ensures.plays) in
+    let full = subst (λ (p : Plan). Plays (played p j c.in-Some.numbered.step) (g.W.Sink.contents c.loop-numbered.writer) (g.W.Sink.contents c.play.new.writer)
+    c.loop-numbered.text.items
+    c.play.new.text.items c.play.new.world.ledger.journal (Err (Stopped c.in-Err-Stopped.fault))) c.loop-numbered.invariant.plan
+    (rw c.in-Err-Stopped.field-0-is at c.in-Err-Stopped.ensures.plays) in
     let whole = subst (λ l. Prints (g.W.Sink.contents c.play.new.writer) (g.W.Sink.contents c.flush.new.writer) c.play.new.text.items l [])
     (c.in-Ok-flush.ensures.all refl) c.in-Ok-flush.ensures.ok in
     let (stop, wrote) = running_stops t c.args.steps.items _ _ _ _ _ _ j c.in-Some.numbered c.pop_front.new.self.items _ running full whole in
@@ -37,8 +40,10 @@ returns-in-Err-clause-wrote g c =
     let t = c.args.world.now.ledger.plan in
     let j = c.loop-numbered.world.ledger.journal in
     let running = running_on t c.args.steps.items _ _ _ j _ _ c.loop-numbered.invariant.running c.in-Some.ensures.items in
-    let full = subst (λ (p : Plan). Plays (played p j c.in-Some.numbered.step) (g.W.Sink.contents c.loop-numbered.writer) (g.W.Sink.contents c.play.new.writer) c.loop-numbered.text.items
-    c.play.new.text.items c.play.new.world.ledger.journal (Err (Stopped c.in-Err-Stopped.fault))) c.loop-numbered.invariant.plan (rw c.in-Err-Stopped.field-0-is at c.in-Err-Stopped.ensures.plays) in
+    let full = subst (λ (p : Plan). Plays (played p j c.in-Some.numbered.step) (g.W.Sink.contents c.loop-numbered.writer) (g.W.Sink.contents c.play.new.writer)
+    c.loop-numbered.text.items
+    c.play.new.text.items c.play.new.world.ledger.journal (Err (Stopped c.in-Err-Stopped.fault))) c.loop-numbered.invariant.plan
+    (rw c.in-Err-Stopped.field-0-is at c.in-Err-Stopped.ensures.plays) in
     stop_unwritten t c.args.steps.items _ _ _ _ _ _ j c.in-Some.numbered c.pop_front.new.self.items _ running full c.in-Err.ensures.err
 
 pub returns-in-Err-Write-clause-wrote : goal.returns-in-Err-Write-clause-wrote
@@ -47,8 +52,10 @@ returns-in-Err-Write-clause-wrote g c =
     let j = c.loop-numbered.world.ledger.journal in
     let running = running_on t c.args.steps.items _ _ _ j _ _ c.loop-numbered.invariant.running c.in-Some.ensures.items in
     running_front t c.args.steps.items _ _ _ _ j c.in-Some.numbered c.pop_front.new.self.items running
-    (subst (λ (p : Plan). Plays (played p j c.in-Some.numbered.step) (g.W.Sink.contents c.loop-numbered.writer) (g.W.Sink.contents c.play.new.writer) c.loop-numbered.text.items
-    c.play.new.text.items c.play.new.world.ledger.journal (Err Write)) c.loop-numbered.invariant.plan (rw c.in-Err-Write.field-0-is at c.in-Err-Write.ensures.plays))
+    (subst (λ (p : Plan). Plays (played p j c.in-Some.numbered.step) (g.W.Sink.contents c.loop-numbered.writer) (g.W.Sink.contents c.play.new.writer)
+    c.loop-numbered.text.items
+    c.play.new.text.items c.play.new.world.ledger.journal (Err Write)) c.loop-numbered.invariant.plan
+    (rw c.in-Err-Write.field-0-is at c.in-Err-Write.ensures.plays))
 
 pub returns-in-Err-NoMemory-clause-wrote : goal.returns-in-Err-NoMemory-clause-wrote
 returns-in-Err-NoMemory-clause-wrote g c =
@@ -56,8 +63,10 @@ returns-in-Err-NoMemory-clause-wrote g c =
     let j = c.loop-numbered.world.ledger.journal in
     let running = running_on t c.args.steps.items _ _ _ j _ _ c.loop-numbered.invariant.running c.in-Some.ensures.items in
     running_front t c.args.steps.items _ _ _ _ j c.in-Some.numbered c.pop_front.new.self.items running
-    (subst (λ (p : Plan). Plays (played p j c.in-Some.numbered.step) (g.W.Sink.contents c.loop-numbered.writer) (g.W.Sink.contents c.play.new.writer) c.loop-numbered.text.items
-    c.play.new.text.items c.play.new.world.ledger.journal (Err NoMemory)) c.loop-numbered.invariant.plan (rw c.in-Err-NoMemory.field-0-is at c.in-Err-NoMemory.ensures.plays))
+    (subst (λ (p : Plan). Plays (played p j c.in-Some.numbered.step) (g.W.Sink.contents c.loop-numbered.writer) (g.W.Sink.contents c.play.new.writer)
+    c.loop-numbered.text.items
+    c.play.new.text.items c.play.new.world.ledger.journal (Err NoMemory)) c.loop-numbered.invariant.plan
+    (rw c.in-Err-NoMemory.field-0-is at c.in-Err-NoMemory.ensures.plays))
 
 pub returns-in-Ok-flush-2-clause-wrote : goal.returns-in-Ok-flush-2-clause-wrote
 returns-in-Ok-flush-2-clause-wrote g c =
@@ -71,5 +80,6 @@ returns-in-Ok-flush-2-clause-wrote g c =
 
 pub returns-clause-wrote : goal.returns-clause-wrote
 returns-clause-wrote g c =
-    running_unwritten c.args.world.now.ledger.plan c.args.steps.items _ _ _ _ c.loop-numbered.world.ledger.journal c.loop-numbered.left.items c.loop-numbered.invariant.running
+    running_unwritten c.args.world.now.ledger.plan c.args.steps.items _ _ _ _ c.loop-numbered.world.ledger.journal c.loop-numbered.left.items
+    c.loop-numbered.invariant.running
     c.in-Err-flush.ensures.err

@@ -3,7 +3,7 @@ use Rattle.cip_module.specs.declared.event.Event.TheVariants as events
 use Rattle.cip_world.specs.declared.fault.WorldFault.TheVariants.{NoModule}
 use Rattle.cip_world.specs.declared.journal.Input.TheVariants as inputs
 use Rattle.cip_world.specs.Worlds.{IsFeedFault}
-use Rattle.cip_console.specs.declared.steps.ScriptFault.TheVariants.{ClockFull}
+use Rattle.cip_script.specs.declared.steps.ScriptFault.TheVariants.{ClockFull}
 use Rattle.cip_console.specs.Transcript.{given}
 use Rattle.cip_console.proofs.PlayedLaws.{given_none, stops}
 use Rattle.cip_console.proofs.playing.tick.Goals as goal

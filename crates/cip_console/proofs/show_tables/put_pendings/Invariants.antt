@@ -1,6 +1,0 @@
-use Rattle.std.proofs.Common.{◌≡◌, ◌++◌, drop}
-use Rattle.cip_console.specs.TablesText.{pendings_text}
-use Rattle.cip_console.proofs.show_tables.put_pendings.Given as goal
-
-abbrev pub invariant-loop-row : goal.invariant-loop-row
-invariant-loop-row l = l.text.items ++ pendings_text (drop l.row-index l.rows) ≡ l.initial.text.items ++ pendings_text l.rows

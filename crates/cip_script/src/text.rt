@@ -1,0 +1,205 @@
+//! Lines, words, numbers and bytes as they stand in a script.
+
+ghost use Rattle.std.specs.Prelude.{◌≡◌, ◌==◌, ◌^◌, ◌↔◌, ◌≤◌, ◌*◌, ◌++◌, ◌∷◌, [], length, take};
+ghost use Rattle.std.specs.Prelude.{map, IfOk, OnOk, IfSome, slice_index, IsSome, option_map};
+ghost use Rattle.std.specs.Prelude.{if◌then◌else◌};
+ghost use Rattle.std.specs.Char.{digit_value};
+ghost use Rattle.std.specs.Str.{IsAscii};
+ghost use Rattle.std.specs.Str.Lines.{lines, strip_carriage_return};
+ghost use Rattle.hex.specs.Hex.{decode_of};
+ghost use Rattle.cip_script.specs.Text.{words_of, kept_words, numeral, number_of, below, bytes_of};
+ghost use Rattle.cip_script.specs.Text.{ok_bytes, is_newline};
+
+use std::alloc::{AllocError, Global};
+
+/// The line as a text, if it is ASCII.
+pub(crate) fn ascii(line: &[u8]) -> Option<&str>
+    ensures text { IfSome result (λ text. text.now ≡ line.now) }
+    ensures exact { IsSome result ↔ IsAscii line.now }
+{
+    match std::str::from_utf8(line) {
+        Ok(text) if text.is_ascii() => Some(text),
+        _ => None,
+    }
+}
+
+/// The line without the one carriage return at its end.
+fn without_return(line: &[u8]) -> &[u8]
+    ensures { result.now ≡ strip_carriage_return line.now }
+{
+    match line.strip_suffix(b"\r") {
+        Some(rest) => rest,
+        None => line,
+    }
+}
+
+/// The lines of a script.
+pub(crate) fn lines_of(alloc: Global, script: &[u8]) -> Result<Vec<&[u8]>, AllocError>
+    ensures { IfOk result (λ v. map (λ line. line.now) v.items ≡ lines script.now) }
+{
+    let parts = parts_of(alloc, script)?;
+    let mut found = Vec::new(alloc);
+    for (i, part) in parts.iter().enumerate() {
+        if i + 1 < parts.len() {
+            found.push(without_return(part))?;
+        } else if !part.is_empty() {
+            found.push(*part)?;
+        }
+    }
+    Ok(found)
+}
+
+ghost use Rattle.std.specs.List.{slice_split};
+
+/// The parts between newlines.
+fn parts_of(alloc: Global, script: &[u8]) -> Result<Vec<&[u8]>, AllocError>
+    ensures { IfOk result (λ v. map (λ part. part.now) v.items
+        ≡ slice_split is_newline script.now) }
+{
+    script.split(|byte| *byte == b'\n').collect(alloc)
+}
+
+// One more word at the end, if it is not empty.
+#[inline(always)]
+fn push_word<'a>(word: &'a str, found: &mut Vec<&'a str>) -> Result<(), AllocError>
+    ensures { OnOk result (map (λ word. word.now) found.new.items
+        ≡ map (λ word. word.now) found.old.items ++ kept_words (word.now ∷ [])) }
+{
+    if !word.is_empty() {
+        found.push(word)?;
+    }
+    Ok(())
+}
+
+/// The words of a line, in place of those before, whose room is kept.
+pub(crate) fn words<'a>(line: &'a str, found: &mut Vec<&'a str>) -> Result<(), AllocError>
+    ensures { OnOk result (map (λ word. word.now) found.new.items ≡ words_of line.now) }
+{
+    found.clear();
+    let bytes = line.as_bytes();
+    let mut start = 0;
+    for (i, byte) in bytes.iter().enumerate() {
+        if *byte == b' ' {
+            push_word(&line[start..i], found)?;
+            start = i + 1;
+        }
+    }
+    push_word(&line[start..], found)
+}
+
+// The value of each byte as a digit in any radix up to 36, and 36 for what is no digit.
+static DIGITS: [u8; 256] = [
+    36, 36, 36, 36, 36, 36, 36, 36, 36, 36, 36, 36, 36, 36, 36, 36, 36, 36, 36, 36, 36, 36, 36, 36,
+    36, 36, 36, 36, 36, 36, 36, 36, 36, 36, 36, 36, 36, 36, 36, 36, 36, 36, 36, 36, 36, 36, 36, 36,
+    0, 1, 2, 3, 4, 5, 6, 7, 8, 9, 36, 36, 36, 36, 36, 36, 36, 10, 11, 12, 13, 14, 15, 16, 17, 18,
+    19, 20, 21, 22, 23, 24, 25, 26, 27, 28, 29, 30, 31, 32, 33, 34, 35, 36, 36, 36, 36, 36, 36, 10,
+    11, 12, 13, 14, 15, 16, 17, 18, 19, 20, 21, 22, 23, 24, 25, 26, 27, 28, 29, 30, 31, 32, 33, 34,
+    35, 36, 36, 36, 36, 36, 36, 36, 36, 36, 36, 36, 36, 36, 36, 36, 36, 36, 36, 36, 36, 36, 36, 36,
+    36, 36, 36, 36, 36, 36, 36, 36, 36, 36, 36, 36, 36, 36, 36, 36, 36, 36, 36, 36, 36, 36, 36, 36,
+    36, 36, 36, 36, 36, 36, 36, 36, 36, 36, 36, 36, 36, 36, 36, 36, 36, 36, 36, 36, 36, 36, 36, 36,
+    36, 36, 36, 36, 36, 36, 36, 36, 36, 36, 36, 36, 36, 36, 36, 36, 36, 36, 36, 36, 36, 36, 36, 36,
+    36, 36, 36, 36, 36, 36, 36, 36, 36, 36, 36, 36, 36, 36, 36, 36, 36, 36, 36, 36, 36, 36, 36, 36,
+    36, 36, 36, 36, 36, 36, 36, 36, 36, 36, 36, 36, 36, 36,
+];
+
+// The value of a digit, and 36 for what is no digit.
+#[inline(always)]
+fn digit(byte: u8) -> u8
+    ensures { result ≡ digit_value byte }
+{
+    DIGITS[byte as usize]
+}
+
+// The number that digits of this radix write.
+#[inline(always)]
+fn numeral(digits: &[u8], radix: u8) -> Option<u64>
+    requires { 1 ≤ radix }
+    ensures { result ≡ below (2 ^ 64) (numeral radix digits.now) }
+{
+    if digits.is_empty() {
+        return None;
+    }
+    let mut number: u64 = 0;
+    for byte in digits {
+        let digit = digit(*byte);
+        if radix <= digit {
+            return None;
+        }
+        let tens = number.checked_mul(u64::from(radix))?;
+        number = tens.checked_add(u64::from(digit))?;
+    }
+    Some(number)
+}
+
+/// A number, in decimal digits or after `0x` in hexadecimal ones.
+pub(crate) fn number(word: &str) -> Option<u64>
+    ensures { result ≡ below (2 ^ 64) (number_of word.now) }
+{
+    match word.strip_prefix("0x") {
+        Some(digits) => numeral(digits.as_bytes(), 16),
+        None => numeral(word.as_bytes(), 10),
+    }
+}
+
+// The bytes of pairs of hexadecimal digits; false where one is no digit.
+fn fill_bytes(digits: &[u8], output: &mut [u8]) -> bool
+    requires { length digits.now ≡ 2 * length output.old }
+    ensures { ok_bytes (decode_of digits.now) ≡ (if result then Some output.new else None) }
+{
+    'pairs: for i in 0..output.len() {
+        let high = digit(digits[2 * i]);
+        let low = digit(digits[2 * i + 1]);
+        if 16 <= high || 16 <= low {
+            return false;
+        }
+        output[i] = 16 * high + low;
+    }
+    true
+}
+
+/// Bytes as pairs of hexadecimal digits, or a dash for none. Only memory is an error.
+pub(crate) fn bytes(alloc: Global, word: &str) -> Result<Option<Vec<u8>>, AllocError>
+    ensures { IfOk result (λ found. option_map (λ v. v.items) found ≡ bytes_of word.now) }
+{
+    if word == "-" {
+        return Ok(Some(Vec::new(alloc)));
+    }
+    let digits = word.as_bytes();
+    if digits.is_empty() || digits.len() % 2 == 1 {
+        return Ok(None);
+    }
+    let mut found = vec![in alloc; 0u8; digits.len() / 2]?;
+    if fill_bytes(digits, found.as_mut_slice()) {
+        Ok(Some(found))
+    } else {
+        Ok(None)
+    }
+}
+
+/// The bytes of pairs of hexadecimal digits, written at the beginning of a room, and how many they are;
+/// None for a dash too, and for more than have room.
+pub(crate) fn bytes_into(word: &str, room: &mut [u8]) -> Option<usize>
+    ensures within { IfSome result (λ count. count ≤ length room.new) }
+    ensures found { IfSome result (λ count. bytes_of word.now ≡ Some (take count room.new)) }
+{
+    let digits = word.as_bytes();
+    let count = digits.len() / 2;
+    if count == 0 || digits.len() % 2 == 1 || room.len() < count {
+        return None;
+    }
+    if fill_bytes(digits, &mut room[..count]) {
+        Some(count)
+    } else {
+        None
+    }
+}
+
+/// Whether the line begins with `#`.
+pub(crate) fn is_comment(line: &str) -> bool
+    ensures { result ≡ (slice_index line.now 0 == 35) }
+{
+    match line.as_bytes() {
+        [first, ..] => *first == b'#',
+        [] => false,
+    }
+}

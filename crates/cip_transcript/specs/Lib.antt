@@ -1,0 +1,3 @@
+pub mod Chained
+pub mod Show
+pub mod TablesText

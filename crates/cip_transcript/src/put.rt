@@ -1,0 +1,179 @@
+//! Text behind text: bytes, numbers and hexadecimal pairs, each written once into its place.
+ghost use Rattle.std.specs.Prelude.{◌≡◌, ◌≤◌, ◌<◌, ◌*◌, ◌++◌, ◌∷◌, [], length, OnOk, decimal};
+ghost use Rattle.hex.specs.Hex.{encode_upper};
+ghost use Rattle.cip_transcript.specs.Show.{bytes_text, four_digits, optional_text};
+
+use cip_base::NoMemory;
+use itoa::Buffer;
+
+// The two digits of every number below 100.
+static TENS: [u8; 200] = *b"\
+    0001020304050607080910111213141516171819\
+    2021222324252627282930313233343536373839\
+    4041424344454647484950515253545556575859\
+    6061626364656667686970717273747576777879\
+    8081828384858687888990919293949596979899";
+
+// The digits of every byte, high ones first.
+static PAIRS: [u8; 512] = *b"\
+    000102030405060708090A0B0C0D0E0F101112131415161718191A1B1C1D1E1F\
+    202122232425262728292A2B2C2D2E2F303132333435363738393A3B3C3D3E3F\
+    404142434445464748494A4B4C4D4E4F505152535455565758595A5B5C5D5E5F\
+    606162636465666768696A6B6C6D6E6F707172737475767778797A7B7C7D7E7F\
+    808182838485868788898A8B8C8D8E8F909192939495969798999A9B9C9D9E9F\
+    A0A1A2A3A4A5A6A7A8A9AAABACADAEAFB0B1B2B3B4B5B6B7B8B9BABBBCBDBEBF\
+    C0C1C2C3C4C5C6C7C8C9CACBCCCDCECFD0D1D2D3D4D5D6D7D8D9DADBDCDDDEDF\
+    E0E1E2E3E4E5E6E7E8E9EAEBECEDEEEFF0F1F2F3F4F5F6F7F8F9FAFBFCFDFEFF";
+
+/// Puts bytes behind a text. NoMemory where an allocation is refused.
+pub fn put(text: &mut Vec<u8>, bytes: &[u8]) -> Result<(), NoMemory>
+    ensures { OnOk result (text.new.items ≡ text.old.items ++ bytes.now) }
+{
+    text.extend_from_slice(bytes)?;
+    Ok(())
+}
+
+/// A number in decimal digits.
+pub(crate) fn put_number(text: &mut Vec<u8>, number: u64) -> Result<(), NoMemory>
+    ensures { OnOk result (text.new.items ≡ text.old.items ++ decimal number) }
+{
+    if number < 10 {
+        text.push(b'0' + number as u8)?;
+        return Ok(());
+    }
+    let mut buffer = Buffer::new();
+    put(text, buffer.format(number).as_bytes())
+}
+
+// The four digits of a number below 10,000, with zeros before it, and a byte after them.
+#[inline(always)]
+fn put_four(text: &mut Vec<u8>, number: u64, then: u8) -> Result<(), NoMemory>
+    requires { number < 10000 }
+    ensures { OnOk result (text.new.items ≡ text.old.items ++ four_digits number ++ then ∷ []) }
+{
+    let high = 2 * (number / 100) as usize;
+    let low = 2 * (number % 100) as usize;
+    put(
+        text,
+        &[TENS[high], TENS[high + 1], TENS[low], TENS[low + 1], then],
+    )
+}
+
+// A number of two digits or three, and a byte after it.
+fn put_short(text: &mut Vec<u8>, number: u64, then: u8) -> Result<(), NoMemory>
+    requires { (10 ≤ number) × (number < 1000) }
+    ensures { OnOk result (text.new.items ≡ text.old.items ++ decimal number ++ then ∷ []) }
+{
+    if number < 100 {
+        let low = 2 * number as usize;
+        return put(text, &[TENS[low], TENS[low + 1], then]);
+    }
+    let low = 2 * (number % 100) as usize;
+    let first = b'0' + (number / 100) as u8;
+    put(text, &[first, TENS[low], TENS[low + 1], then])
+}
+
+// A number of five digits, and a byte after it.
+fn put_five(text: &mut Vec<u8>, number: u64, then: u8) -> Result<(), NoMemory>
+    requires { (10000 ≤ number) × (number < 100000) }
+    ensures { OnOk result (text.new.items ≡ text.old.items ++ decimal number ++ then ∷ []) }
+{
+    let first = b'0' + (number / 10_000) as u8;
+    let high = 2 * (number % 10_000 / 100) as usize;
+    let low = 2 * (number % 10_000 % 100) as usize;
+    put(
+        text,
+        &[
+            first,
+            TENS[high],
+            TENS[high + 1],
+            TENS[low],
+            TENS[low + 1],
+            then,
+        ],
+    )
+}
+
+// A number of two digits or more, and a byte after it.
+fn put_long(text: &mut Vec<u8>, number: u64, then: u8) -> Result<(), NoMemory>
+    requires { 10 ≤ number }
+    ensures { OnOk result (text.new.items ≡ text.old.items ++ decimal number ++ then ∷ []) }
+{
+    if number < 1000 {
+        return put_short(text, number, then);
+    }
+    if number < 10_000 {
+        return put_four(text, number, then);
+    }
+    if number < 100_000 {
+        return put_five(text, number, then);
+    }
+    put_number(text, number / 10_000)?;
+    put_four(text, number % 10_000, then)
+}
+
+/// A number, and a byte after it.
+#[inline(always)]
+pub(crate) fn put_number_then(text: &mut Vec<u8>, number: u64, then: u8) -> Result<(), NoMemory>
+    ensures { OnOk result (text.new.items ≡ text.old.items ++ decimal number ++ then ∷ []) }
+{
+    if number < 10 {
+        return put(text, &[b'0' + number as u8, then]);
+    }
+    put_long(text, number, then)
+}
+
+// A byte as a pair of digits.
+fn put_pair(text: &mut Vec<u8>, byte: u8) -> Result<(), NoMemory>
+    ensures { OnOk result (text.new.items ≡ text.old.items ++ encode_upper (byte ∷ [])) }
+{
+    let pair = 2 * byte as usize;
+    put(text, &[PAIRS[pair], PAIRS[pair + 1]])
+}
+
+// Each byte as a pair of digits, in upper case.
+fn fill_pairs(bytes: &[u8], output: &mut [u8])
+    requires { length output.old ≡ 2 * length bytes.now }
+    ensures { output.new ≡ encode_upper bytes.now }
+{
+    'bytes: for i in 0..bytes.len() {
+        let pair = 2 * bytes[i] as usize;
+        let (high, low) = (PAIRS[pair], PAIRS[pair + 1]);
+        output[2 * i] = high;
+        output[2 * i + 1] = low;
+    }
+}
+
+// Bytes as pairs of digits, in upper case, written into room that is made for all of them.
+fn put_pairs(text: &mut Vec<u8>, bytes: &[u8]) -> Result<(), NoMemory>
+    ensures { OnOk result (text.new.items ≡ text.old.items ++ encode_upper bytes.now) }
+{
+    let start = text.len();
+    let Some(end) = start.checked_add(2 * bytes.len()) else {
+        return Err(NoMemory);
+    };
+    text.resize(end, 0)?;
+    fill_pairs(bytes, text.slice_mut(start..));
+    Ok(())
+}
+
+/// Bytes as upper-case pairs, a dash for none.
+pub(crate) fn put_bytes(text: &mut Vec<u8>, bytes: &[u8]) -> Result<(), NoMemory>
+    ensures { OnOk result (text.new.items ≡ text.old.items ++ bytes_text bytes.now) }
+{
+    match bytes {
+        [] => put(text, b"-"),
+        [byte] => put_pair(text, *byte),
+        _ => put_pairs(text, bytes),
+    }
+}
+
+/// A number, a dash for none.
+pub(crate) fn put_optional(text: &mut Vec<u8>, number: Option<u64>) -> Result<(), NoMemory>
+    ensures { OnOk result (text.new.items ≡ text.old.items ++ optional_text number) }
+{
+    match number {
+        Some(number) => put_number(text, number),
+        None => put(text, b"-"),
+    }
+}
