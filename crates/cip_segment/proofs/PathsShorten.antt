@@ -1,12 +1,15 @@
 -- What is left of a path behind its first hop is shorter than the path, whatever its bytes are.
-use Rattle.std.proofs.Common.{◌≡◌, ℕ, ◌*◌, ◌-◌, ◌≤◌, ◌<◌, Bool, true, false, cond, List, [], ◌∷◌, length, eqb, ltb, Option, Some, None, Ok, Err, refl, ap, arith}
+use Rattle.std.proofs.Common.{◌≡◌, ℕ, ◌*◌, ◌-◌, ◌≤◌, ◌<◌, Bool, true, false, cond, List, [], ◌∷◌}
+use Rattle.std.proofs.Common.{length, eqb, ltb, Option, Some, None, Ok, Err, refl, ap, arith}
 use Rattle.std.specs.Prelude.{◌%◌}
 use Rattle.std.proofs.lemmas.List.{length-drop}
 use Rattle.cip_base.specs.declared.key.KeyFields.{KeyFields}
 use Rattle.cip_segment.specs.declared.segment.Segment.{Segment}
 use Rattle.cip_segment.specs.declared.segment.Segment.TheVariants.{Port, Key}
 use Rattle.cip_segment.specs.declared.fault.PathFault.TheVariants.{BadPad}
-use Rattle.cip_segment.specs.Scan.{◌>>=◌, At, byte_at, word_at, after_pad, bytes_at, padded_at, narrow_at, wide_at, double_at, instance_at, point_at, fields_at, key_at, words_at, symbol_at, inhibit_at, number_at, size_at, plain_port_at, sized_port_at, port_at, other_at, logical_at, segment_at}
+use Rattle.cip_segment.specs.Scan.{◌>>=◌, At, byte_at, word_at, after_pad, bytes_at, padded_at, narrow_at, wide_at, double_at}
+use Rattle.cip_segment.specs.Scan.{instance_at, point_at, fields_at, key_at, words_at, symbol_at, inhibit_at, number_at}
+use Rattle.cip_segment.specs.Scan.{size_at, plain_port_at, sized_port_at, port_at, other_at, logical_at, segment_at}
 use Rattle.cip_segment.specs.Reading.{HopAt, rest_or_none, behind, segments_of, path_at, segments_within, port_in, hop_in, hop_of}
 
 -- what is left is no longer than what was read
