@@ -1,5 +1,6 @@
 -- Each form of a segment is read as that segment, whatever follows it.
-use Rattle.std.proofs.Common.{◌≡◌, ℕ, ◌+◌, ◌*◌, ◌-◌, ◌%◌, ◌<◌, ◌≤◌, true, false, ltb, eqb, inl, inr, List, [], ◌∷◌, ◌++◌, length, Ok, refl, sym, ap, ◌∙◌, append_assoc, arith}
+use Rattle.std.proofs.Common.{◌≡◌, ℕ, ◌+◌, ◌*◌, ◌-◌, ◌%◌, ◌<◌, ◌≤◌, true, false, ltb, eqb, inl, inr, List}
+use Rattle.std.proofs.Common.{[], ◌∷◌, ◌++◌, length, Ok, refl, sym, ap, ◌∙◌, append_assoc, arith}
 use Rattle.std.proofs.lemmas.Bool.{lt-ltb, le-ltb, ne_eqb, cases_Bool}
 use Rattle.std.proofs.lemmas.List.{take_at, drop_at, length-append}
 use Rattle.cip_segment.specs.declared.segment.Segment.{Segment}
@@ -8,7 +9,9 @@ use Rattle.cip_segment.specs.declared.segment.Kind.{Kind}
 use Rattle.cip_segment.specs.declared.segment.Kind.TheVariants as kinds
 use Rattle.cip_segment.specs.Spelling.{IsPortNumber, IsForm}
 use Rattle.cip_base.specs.Fields.{IsDouble, IsWord, pad}
-use Rattle.cip_segment.specs.Scan.{At, word_at, bytes_at, padded_at, numbered, narrow_at, wide_at, double_at, instance_at, point_at, fields_at, key_at, words_at, symbol_at, inhibit_at, number_at, size_at, plain_port_at, sized_port_at, port_at, other_at, logical_at, segment_at}
+use Rattle.cip_segment.specs.Scan.{At, word_at, bytes_at, padded_at, numbered, narrow_at, wide_at, double_at}
+use Rattle.cip_segment.specs.Scan.{instance_at, point_at, fields_at, key_at, words_at, symbol_at, inhibit_at, number_at}
+use Rattle.cip_segment.specs.Scan.{size_at, plain_port_at, sized_port_at, port_at, other_at, logical_at, segment_at}
 use Rattle.cip_base.specs.declared.key.KeyFields.{KeyFields}
 
 abbrev pub found : {A : Type 0} → A → List ℕ → At A

@@ -1,5 +1,6 @@
 -- What reading the first segment says of the text: the form that stands there, or the byte where no form goes on.
-use Rattle.std.proofs.Common.{◌≡◌, ℕ, suc, ◌+◌, ◌*◌, ◌-◌, ◌%◌, ◌<◌, ◌≤◌, Bool, true, false, cond, ltb, eqb, inl, inr, List, [], ◌∷◌, ◌++◌, length, take, drop, Ok, Err, refl, sym, ap, subst, ◌∙◌, append_assoc, append-nil, arith}
+use Rattle.std.proofs.Common.{◌≡◌, ℕ, suc, ◌+◌, ◌*◌, ◌-◌, ◌%◌, ◌<◌, ◌≤◌, Bool, true, false, cond, ltb, eqb, inl, inr, List, [], ◌∷◌}
+use Rattle.std.proofs.Common.{◌++◌, length, take, drop, Ok, Err, refl, sym, ap, subst, ◌∙◌, append_assoc, append-nil, arith}
 use Rattle.std.specs.Prelude.{replicate}
 use Rattle.std.proofs.lemmas.Bool.{lt-ltb, le-ltb, ne_eqb, eqb-true, eqb-false, ltb-true, ltb-false, cond_both, cases_lt}
 use Rattle.std.proofs.lemmas.List.{length-append, length-take-le, length-replicate, take-append-drop}
@@ -11,7 +12,9 @@ use Rattle.cip_segment.specs.declared.fault.PathFault.{PathFault}
 use Rattle.cip_segment.specs.declared.fault.PathFault.TheVariants.{Truncated, Reserved, BadPad, TooLong, NoMemory}
 use Rattle.cip_segment.specs.Spelling.{IsPortNumber, IsForm}
 use Rattle.cip_base.specs.Fields.{IsBytes, IsDouble, IsWord, pad}
-use Rattle.cip_segment.specs.Scan.{◌>>=◌, At, byte_at, word_at, after_pad, bytes_at, padded_at, numbered, narrow_at, wide_at, double_at, instance_at, point_at, fields_at, key_at, words_at, symbol_at, inhibit_at, number_at, size_at, plain_port_at, sized_port_at, port_at, other_at, logical_at, segment_at}
+use Rattle.cip_segment.specs.Scan.{◌>>=◌, At, byte_at, word_at, after_pad, bytes_at, padded_at, numbered, narrow_at, wide_at}
+use Rattle.cip_segment.specs.Scan.{double_at, instance_at, point_at, fields_at, key_at, words_at, symbol_at, inhibit_at}
+use Rattle.cip_segment.specs.Scan.{number_at, size_at, plain_port_at, sized_port_at, port_at, other_at, logical_at, segment_at}
 use Rattle.cip_segment.proofs.Forms.{found, bytes_scans}
 
 -- some form begins with b

@@ -23,11 +23,13 @@ returns-in-Err-clause-fault c =
 
 pub loop-rest-smaller : goal.loop-rest-smaller
 loop-rest-smaller c =
-    falls c.args.bytes.now c.loop-rest.rest.now c.in-Ok.after.now c.in-Ok.ensures.0 (λ i. omega (arith, c.type_inv.bytes i)) c.loop-rest.invariant c.in-Ok.ensures.1
+    falls c.args.bytes.now c.loop-rest.rest.now c.in-Ok.after.now c.in-Ok.ensures.0
+    (λ i. omega (arith, c.type_inv.bytes i)) c.loop-rest.invariant c.in-Ok.ensures.1
 
 pub loop-rest-preserved : goal.loop-rest-preserved
 loop-rest-preserved c =
-    one_more c.args.bytes.now c.loop-rest.rest.now c.in-Ok.after.now c.in-Ok.ensures.0 (λ i. omega (arith, c.type_inv.bytes i)) c.loop-rest.invariant c.in-Ok.ensures.1
+    one_more c.args.bytes.now c.loop-rest.rest.now c.in-Ok.after.now c.in-Ok.ensures.0
+    (λ i. omega (arith, c.type_inv.bytes i)) c.loop-rest.invariant c.in-Ok.ensures.1
 
 pub returns-then-bytes-gt-MAX_PATH-clause-gives : goal.returns-then-bytes-gt-MAX_PATH-clause-gives
 returns-then-bytes-gt-MAX_PATH-clause-gives c = path_at-TooLong c.args.bytes.now (omega arith)
