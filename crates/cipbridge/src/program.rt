@@ -160,8 +160,8 @@ fn say(rt: &HostRuntime, asked: OptionsFault) -> Result<(), Fault> {
     }
 }
 
-/// The whole program, but for what it says of a fault and for its exit status. `workers` is the same
-/// runtime, as what can start threads.
+/// The whole program, but for what it says of a fault and for its exit status. `workers` is the
+/// same runtime, as what can start threads.
 pub fn run<T: Threads + Wait + Sync>(rt: &HostRuntime, workers: &T) -> Result<(), Fault> {
     let alloc = rt.alloc();
     let options = match options(rt, alloc) {
