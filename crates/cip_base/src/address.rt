@@ -64,7 +64,7 @@ impl Address {
         self.bytes.as_slice()
     }
 
-    /// The same address once more.
+    /// A copy.
     pub fn copy(&self) -> Address
         ensures { result ≡ self.now }
     {

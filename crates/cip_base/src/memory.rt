@@ -1,4 +1,4 @@
-//! The want of memory that every crate answers.
+//! Out of memory, as every crate answers it.
 
 use std::alloc::{AllocError, AllocFailed};
 use thiserror::Error;

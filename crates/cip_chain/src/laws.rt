@@ -8,7 +8,7 @@ ghost use Rattle.cip_chain.specs.Found.{IsNotOpen};
 ghost use Rattle.cip_chain.specs.declared.chains.ChainView.{ChainView as View};
 
 /// A chain, not open and broken exclude one another: so `chain` answers each exactly where it
-/// holds, want of memory aside.
+/// holds, NoMemory aside.
 pub fn answers_exclude_one_another()
     ensures open { (t : Plan) (j : Journal) (m op : ℕ) (view : View) → IsRun t j
         → IsView t j m op view → IsNotOpen t j m op → ⊥ }

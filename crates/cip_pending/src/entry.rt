@@ -46,7 +46,7 @@ pub struct Entry {
 }
 
 impl UpSide {
-    /// The same side once more. Takes no memory.
+    /// A copy. Takes no memory.
     pub fn copy(&self) -> UpSide
         ensures { result ≡ self.now }
     {
@@ -66,7 +66,7 @@ impl UpSide {
 }
 
 impl Entry {
-    /// The same entry once more. Takes no memory.
+    /// A copy. Takes no memory.
     pub fn copy(&self) -> Entry
         ensures { result ≡ self.now }
     {

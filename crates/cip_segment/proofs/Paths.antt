@@ -99,7 +99,7 @@ not_begins done s p v h refuses (more, t, spelled) =
     let no = refuses more in
     not_spelled (p ++ v ∷ more) no.0 r.0 no.1 (not_nil p v more) r.2
 
--- the fault at a text whose front is spelled, and whose rest is not read
+-- the fault at a text whose prefix is spelled, and whose rest is not read
 pub fault : (b done rest : List ℕ) (s : List Segment) (f : PathFault) → length b ≤ 510 → b ≡ done ++ rest → (rest ≡ [] → ⊥) → Spells done s
     → segment_at rest ≡ Err f → Stops rest f → IsFault b f
 fault b done rest s Truncated len parts some h e begins = (

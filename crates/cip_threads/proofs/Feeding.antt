@@ -1,5 +1,6 @@
 -- The feeds of a module among others.
-use Rattle.std.proofs.Common.{◌≡◌, ◌≢◌, ℕ, List, [], ◌∷◌, ◌++◌, Bool, true, false, refl, sym, cond, arith, ◌∙◌, ap, take, drop, length, get_or, ◌<◌, ◌≤◌, ◌+◌, eqb}
+use Rattle.std.proofs.Common.{◌≡◌, ◌≢◌, ℕ, List, [], ◌∷◌, ◌++◌, Bool, true, false, refl, sym, cond}
+use Rattle.std.proofs.Common.{arith, ◌∙◌, ap, take, drop, length, get_or, ◌<◌, ◌≤◌, ◌+◌, eqb}
 use Rattle.std.proofs.lemmas.Bool.{eq-eqb, ne_eqb}
 use Rattle.std.proofs.lemmas.List.{take_more, take-append-drop}
 use Rattle.cip_base.specs.declared.numbers.ModuleId.{ModuleId}
@@ -10,7 +11,8 @@ pub feeds-append : (m : ℕ) (xs ys : List (ModuleId × Feed)) → feeds_of m (x
 feeds-append m [] ys = refl
 feeds-append m (f ∷ xs) ys = ap (λ (r : List Feed). fed_if m f r) (feeds-append m xs ys) ∙ apart (eqb f.0.0 m)
   where
-    apart : (b : Bool) → cond b (f.1 ∷ (feeds_of m xs ++ feeds_of m ys)) (feeds_of m xs ++ feeds_of m ys) ≡ cond b (f.1 ∷ feeds_of m xs) (feeds_of m xs) ++ feeds_of m ys
+    apart : (b : Bool) → cond b (f.1 ∷ (feeds_of m xs ++ feeds_of m ys)) (feeds_of m xs ++ feeds_of m ys)
+        ≡ cond b (f.1 ∷ feeds_of m xs) (feeds_of m xs) ++ feeds_of m ys
     apart true = refl
     apart false = refl
 

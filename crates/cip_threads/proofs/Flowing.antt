@@ -1,5 +1,6 @@
 -- A journal in which each module was given what it could be given, and what each module did is a history of it, is a run; and what waits after such a journal.
-use Rattle.std.proofs.Common.{◌≡◌, ℕ, zero, suc, List, [], ◌∷◌, ◌++◌, Option, Some, None, Bool, true, false, not, ◌||◌, refl, sym, subst, cond, filter, length, arith, ◌<◌, ◌∙◌, ap, eqb}
+use Rattle.std.proofs.Common.{◌≡◌, ℕ, zero, suc, List, [], ◌∷◌, ◌++◌, Option, Some, None, Bool, true, false}
+use Rattle.std.proofs.Common.{not, ◌||◌, refl, sym, subst, cond, filter, length, arith, ◌<◌, ◌∙◌, ap, eqb}
 use Rattle.std.specs.Prelude.{slice_get}
 use Rattle.std.specs.List.{AllByRecursion}
 use Rattle.std.proofs.lemmas.Bool.{eq-eqb}
@@ -47,7 +48,8 @@ head_of : (b : Bool) → b ≡ true → (o : Option Event) (event : Event) → o
     → table_step config (state_after config h) event ≡ Some (record { state = next_state config (state_after config h) event; outputs = outs })
 head_of true e None event is config outs h p = cc
 head_of true e (Some x) event is config outs h p =
-    subst (λ (y : Event). table_step config (state_after config h) y ≡ Some (record { state = next_state config (state_after config h) y; outputs = outs })) (some_same x event is) p.1
+    subst (λ (y : Event). table_step config (state_after config h) y ≡ Some (record { state = next_state config (state_after config h) y; outputs = outs }))
+    (some_same x event is) p.1
 head_of false e o event is config outs h p = cc
 
 pub flow_is_run : (t : Plan) (j : Journal) → IsFlow t j → ((m : ℕ) (config : ModuleSettings) → IsModule t m config → IsHistory config (part m j)) → IsRun t j
@@ -76,7 +78,8 @@ flow_lossless t (Lost frame ∷ j) flow = flow
 -- ---- what waits
 
 -- what is given was sent before
-pub given_before : (t : Plan) (j : Journal) (m : ℕ) (input : Input) (f : FrameName) → IsOpenTo t j m input → is_that f (brought_by input) ≡ true → f.entry < length j
+pub given_before : (t : Plan) (j : Journal) (m : ℕ) (input : Input) (f : FrameName) → IsOpenTo t j m input
+    → is_that f (brought_by input) ≡ true → f.entry < length j
 given_before t j m (inputs.Command command) f now h = absurd (cc)
 given_before t j m (inputs.Tick ms) f now h = absurd (cc)
 given_before t j m (inputs.Frame port from name) f now h =
@@ -84,7 +87,8 @@ given_before t j m (inputs.Frame port from name) f now h =
     let l = frame_before j name w.flight w.sent in
     subst (λ (x : FrameName). x.entry < length j) (sym (name_eq f name h)) l
 
-either_before : (t : Plan) (j : Journal) (m : ℕ) (input : Input) (f : FrameName) → IsOpenTo t j m input → (is_named j f ≡ true → f.entry < length j) → (b : Bool)
+either_before : (t : Plan) (j : Journal) (m : ℕ) (input : Input) (f : FrameName) → IsOpenTo t j m input
+    → (is_named j f ≡ true → f.entry < length j) → (b : Bool)
     → is_that f (brought_by input) ≡ b → (b || is_named j f) ≡ true → f.entry < suc (length j)
 either_before t j m input f now old true k is = let l = given_before t j m input f now k in omega (arith, l)
 either_before t j m input f now old false k is = let l = old is in omega (arith, l)
@@ -115,13 +119,16 @@ pub flow_next : (t : Plan) (j : Journal) (n : ModuleId) (input : Input) (outs : 
 flow_next t j n input outs flow =
     let e : Entry = Step n input outs in
     filter-append (λ f. not (names f e || is_named j f)) (frames t j) (frames_in t (length j) e)
-    ∙ ap (λ (x : List FrameName). x ++ filter (λ f. not (names f e || is_named j f)) (frames_in t (length j) e)) (filter_both (λ f. names f e) (is_named j) (frames t j))
+    ∙ ap (λ (x : List FrameName). x ++ filter (λ f. not (names f e || is_named j f)) (frames_in t (length j) e))
+    (filter_both (λ f. names f e) (is_named j) (frames t j))
     ∙ ap (λ (x : List FrameName). filter (λ f. not (names f e)) (waiting t j) ++ x)
-    (filter_all (λ f. names f e || is_named j f) (frames_in t (length j) e) (all_unnamed t j n input outs (frames_in t (length j) e) flow (from_in t (length j) e)))
+    (filter_all (λ f. names f e || is_named j f) (frames_in t (length j) e)
+    (all_unnamed t j n input outs (frames_in t (length j) e) flow (from_in t (length j) e)))
 
 -- ---- what may be given still may
 
-one_arrival : (t : Plan) (j : Journal) (f : FrameName) (m p n q : ℕ) (from other : List ℕ) (x y : Event) → IsArrival t j f m p from x → IsArrival t j f n q other y → m ≡ n
+one_arrival : (t : Plan) (j : Journal) (f : FrameName) (m p n q : ℕ) (from other : List ℕ) (x y : Event) → IsArrival t j f m p from x
+    → IsArrival t j f n q other y → m ≡ n
 one_arrival t j f m p n q from other x y a b =
     let flights = some_same a.waits.flight b.waits.flight (sym a.waits.sent ∙ b.waits.sent) in
     let ways = some_same a.waits.there b.waits.there (sym a.waits.leads ∙ ap (λ (z : Flight). goes t z.way) flights ∙ b.waits.leads) in

@@ -1,5 +1,6 @@
 -- What is in hand after a change of one hand.
-use Rattle.std.proofs.Common.{◌≡◌, ◌≢◌, ℕ, zero, suc, List, [], ◌∷◌, ◌++◌, Option, Some, None, Bool, true, false, not, ◌&&◌, ◌||◌, ◌⊎◌, inl, inr, refl, sym, is_some, length, arith, take, ◌<◌, ◌+◌, ◌∙◌, ap, get_or, set, replicate}
+use Rattle.std.proofs.Common.{◌≡◌, ◌≢◌, ℕ, zero, suc, List, [], ◌∷◌, ◌++◌, Option, Some, None, Bool, true, false, not, ◌&&◌, ◌||◌, ◌⊎◌}
+use Rattle.std.proofs.Common.{inl, inr, refl, sym, is_some, length, arith, take, ◌<◌, ◌+◌, ◌∙◌, ap, get_or, set, replicate}
 use Rattle.std.proofs.lemmas.List.{take_more}
 use Rattle.cip_world.specs.declared.journal.FrameName.{FrameName}
 use Rattle.cip_world.specs.declared.journal.Input.{Input}
@@ -56,7 +57,8 @@ or_false true b e = cc
 or_false false b e = (refl, e)
 
 -- a frame is in no hand where none came by it
-pub not_held : (hands : List (Option Input)) (f : FrameName) → ((m : ℕ) (input : Input) → hand_at hands m ≡ Some input → is_that f (brought_by input) ≡ false) → is_held hands f ≡ false
+pub not_held : (hands : List (Option Input)) (f : FrameName) → ((m : ℕ) (input : Input) → hand_at hands m ≡ Some input → is_that f (brought_by input) ≡ false)
+    → is_held hands f ≡ false
 not_held [] f all = refl
 not_held (None ∷ hs) f all = not_held hs f (λ m input e. all (suc m) input e)
 not_held (Some g ∷ hs) f all = ap (λ b. b || is_held hs f) (all 0 g refl) ∙ not_held hs f (λ m input e. all (suc m) input e)
@@ -90,10 +92,12 @@ count-append [] ys = omega arith
 count-append (None ∷ xs) ys = count-append xs ys
 count-append (Some x ∷ xs) ys = let r = count-append xs ys in omega (arith, r)
 
-pub idle_more : (hands : List (Option Input)) (i : ℕ) (h : Option Input) → i < length hands → h ≡ get_or hands i h → is_some h ≡ false → count_hands (take i hands) ≡ 0
+pub idle_more : (hands : List (Option Input)) (i : ℕ) (h : Option Input) → i < length hands → h ≡ get_or hands i h
+    → is_some h ≡ false → count_hands (take i hands) ≡ 0
     → count_hands (take (i + 1) hands) ≡ 0
 idle_more hands i h lt at none idle =
-    let more = ap count_hands (take_more hands i h lt ∙ ap (λ (x : Option Input). take i hands ++ x ∷ []) (sym at ∙ none_of h none)) ∙ count-append (take i hands) (None ∷ []) in
+    let more = ap count_hands (take_more hands i h lt ∙ ap (λ (x : Option Input). take i hands ++ x ∷ []) (sym at ∙ none_of h none))
+    ∙ count-append (take i hands) (None ∷ []) in
     omega (arith, more, idle)
 
 pub hand_within : (hands : List (Option Input)) (m : ℕ) (input : Input) → hand_at hands m ≡ Some input → m < length hands
@@ -106,7 +110,8 @@ hand_past [] m n = refl
 hand_past (x ∷ hs) zero n = absurd (n (omega arith))
 hand_past (x ∷ hs) (suc m) n = hand_past hs m (λ l. n (omega (arith, l)))
 
-pub put_cases : (hands : List (Option Input)) (m n : ℕ) (h g : Input) → hand_at (set hands m (Some h)) n ≡ Some g → ((n ≡ m) × (g ≡ h)) ⊎ (hand_at hands n ≡ Some g)
+pub put_cases : (hands : List (Option Input)) (m n : ℕ) (h g : Input) → hand_at (set hands m (Some h)) n ≡ Some g
+    → ((n ≡ m) × (g ≡ h)) ⊎ (hand_at hands n ≡ Some g)
 put_cases [] m n h g e = cc
 put_cases (x ∷ hs) zero zero h g e = inl (refl, cc)
 put_cases (x ∷ hs) zero (suc n) h g e = inr e

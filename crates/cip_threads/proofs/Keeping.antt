@@ -1,5 +1,6 @@
 -- Each call of the book keeps what the book keeps.
-use Rattle.std.proofs.Common.{◌≡◌, ◌≢◌, ℕ, zero, suc, List, [], ◌∷◌, ◌++◌, Option, Some, None, Bool, true, false, not, ◌&&◌, ◌||◌, ◌⊎◌, inl, inr, refl, sym, subst, length, arith, ◌<◌, ◌≤◌, ◌∙◌, ap, set, filter, cond, eqb, replicate}
+use Rattle.std.proofs.Common.{◌≡◌, ◌≢◌, ℕ, zero, suc, List, [], ◌∷◌, ◌++◌, Option, Some, None, Bool, true, false, not, ◌&&◌, ◌||◌, ◌⊎◌}
+use Rattle.std.proofs.Common.{inl, inr, refl, sym, subst, length, arith, ◌<◌, ◌≤◌, ◌∙◌, ap, set, filter, cond, eqb, replicate}
 use Rattle.std.specs.List.{AllByRecursion, list_any}
 use Rattle.std.specs.List.Sorted.{IsStrictlySortedBy}
 use Rattle.std.proofs.lemmas.Bool.{eq-eqb, ne_eqb}
@@ -37,7 +38,8 @@ use Rattle.cip_threads.proofs.Queueing.{none_at_all, count_none, length_enqueue,
 use Rattle.cip_threads.proofs.Merging.{head_is}
 use Rattle.cip_threads.proofs.Sending.{goes_as_before, goes_once, waits_somewhere, sends_within, sent_are}
 use Rattle.cip_threads.proofs.Flowing.{flow_next, given_before, one_place, still_open}
-use Rattle.cip_threads.proofs.Holding.{held_cut, count_cut, held_put, count_put, not_held, idle_at, idle_held, hand_within, put_cases, cut_cases, none_at, none_counted}
+use Rattle.cip_threads.proofs.Holding.{held_cut, count_cut, held_put, count_put, not_held, idle_at}
+use Rattle.cip_threads.proofs.Holding.{idle_held, hand_within, put_cases, cut_cases, none_at, none_counted}
 
 equal_or : (a b : ℕ) → (a ≡ b) ⊎ (a ≢ b)
 equal_or zero zero = inl refl
@@ -65,9 +67,11 @@ not_and false false = refl
 
 filter_like : (p q : FrameName → Bool) (xs : List FrameName) → ((x : FrameName) → p x ≡ q x) → filter p xs ≡ filter q xs
 filter_like p q [] same = refl
-filter_like p q (x ∷ xs) same = ap (λ b. cond b (x ∷ filter p xs) (filter p xs)) (same x) ∙ ap (λ (l : List FrameName). cond (q x) (x ∷ l) l) (filter_like p q xs same)
+filter_like p q (x ∷ xs) same = ap (λ b. cond b (x ∷ filter p xs) (filter p xs)) (same x)
+    ∙ ap (λ (l : List FrameName). cond (q x) (x ∷ l) l) (filter_like p q xs same)
 
-twice_one : (p : FrameName → Bool) (x : FrameName) (a c : Bool) (us vs : List FrameName) → c ≡ (a && p x) → filter p us ≡ vs → filter p (cond a (x ∷ us) us) ≡ cond c (x ∷ vs) vs
+twice_one : (p : FrameName → Bool) (x : FrameName) (a c : Bool) (us vs : List FrameName) → c ≡ (a && p x) → filter p us ≡ vs
+    → filter p (cond a (x ∷ us) us) ≡ cond c (x ∷ vs) vs
 twice_one p x true c us vs e h = ap (λ (l : List FrameName). cond (p x) (x ∷ l) l) h ∙ ap (λ b. cond b (x ∷ vs) vs) (sym e)
 twice_one p x false c us vs e h = h ∙ ap (λ b. cond b (x ∷ vs) vs) (sym e)
 
@@ -165,7 +169,8 @@ any_filter : (q p : FrameName → Bool) (xs : List FrameName) → list_any q (fi
 any_filter q p [] h = h
 any_filter q p (x ∷ xs) h = any_cond q x (filter p xs) xs (p x) (any_filter q p xs) h
 
-first_there : (p : FrameName → Bool) (xs : List FrameName) (x : FrameName) (rest : List FrameName) → filter p xs ≡ x ∷ rest → list_any (λ g. same_name g x) xs ≡ true
+first_there : (p : FrameName → Bool) (xs : List FrameName) (x : FrameName) (rest : List FrameName) → filter p xs ≡ x ∷ rest
+    → list_any (λ g. same_name g x) xs ≡ true
 first_there p xs x rest e =
     any_filter (λ g. same_name g x) p xs (ap (list_any (λ g. same_name g x)) e ∙ ap (λ b. b || list_any (λ g. same_name g x) rest) (same_self x))
 
@@ -220,7 +225,13 @@ frame_keeps s m name rest port from event k within free left is comes =
     let open_to : IsOpenTo s.topology s.journal m input = record {
       event = event;
       given = record {
-        waits = record { flight = comes.flight; there = record { at = m; port = port; address = from }; sent = comes.sent; leads = comes.leads; fresh = w.fresh };
+        waits = record {
+          flight = comes.flight;
+          there = record { at = m; port = port; address = from };
+          sent = comes.sent;
+          leads = comes.leads;
+          fresh = w.fresh;
+        };
         here = refl;
         event_is = comes.event_is;
       };
@@ -232,7 +243,8 @@ frame_keeps s m name rest port from event k within free left is comes =
     let queues = k.frame_queues in
     let mine = first_passes (own m) (filter p W) name rest front in
     let rising : AreRising (name ∷ rest) =
-    subst AreRising front (IsStrictlySortedBy-filter name_cmp (own m) (filter p W) (IsStrictlySortedBy-filter name_cmp p W (waiting_rise s.topology s.journal))) in
+    subst AreRising front (IsStrictlySortedBy-filter name_cmp (own m) (filter p W)
+    (IsStrictlySortedBy-filter name_cmp p W (waiting_rise s.topology s.journal))) in
     let left_over : filter other (filter p W) ≡ filter (λ f. not (is_held (set s.hands m (Some input)) f)) W =
     filter_twice other p (λ f. not (is_held (set s.hands m (Some input)) f)) W
     (λ x. ap not (held_put s.hands m input x within free) ∙ not_and (same_name x name) (is_held s.hands x)) in
@@ -264,7 +276,8 @@ frame_keeps s m name rest port from event k within free left is comes =
     }
 
 -- what is in a module's queue comes to it
-pub queue_goes : (s : Shelf) → IsKept s → (m : ℕ) (name : FrameName) (rest : List FrameName) → queue_at s.frames m ≡ name ∷ rest → goes_to s.topology s.journal m name ≡ true
+pub queue_goes : (s : Shelf) → IsKept s → (m : ℕ) (name : FrameName) (rest : List FrameName) → queue_at s.frames m ≡ name ∷ rest
+    → goes_to s.topology s.journal m name ≡ true
 queue_goes s k m name rest is = first_passes (goes_to s.topology s.journal m) (unheld s) name rest (sym (k.frames m) ∙ is)
 
 pub first_same : (x y : Feed) (xs ys : List Feed) → x ∷ xs ≡ y ∷ ys → x ≡ y
@@ -287,18 +300,21 @@ feeds_own s id input outputs k held within =
     ∙ ap (λ (h : Option Input). fed id.0 s.journal ++ (fed_in h ++ queue_at s.feeds id.0)) held
     ∙ sym (append_assoc (fed id.0 s.journal) (fed_by input) (queue_at s.feeds id.0))
     ∙ ap (λ (l : List Feed). l ++ queue_at s.feeds id.0) (sym (fed_own (eqb id.0 id.0) (eq-eqb id.0 id.0 refl) (fed id.0 s.journal) (fed_by input)))
-    ∙ ap (λ (h : Option Input). fed id.0 (Step id input outputs ∷ s.journal) ++ (fed_in h ++ queue_at s.feeds id.0)) (sym (get_or-set_same s.hands id.0 None None within))
+    ∙ ap (λ (h : Option Input). fed id.0 (Step id input outputs ∷ s.journal) ++ (fed_in h ++ queue_at s.feeds id.0))
+    (sym (get_or-set_same s.hands id.0 None None within))
 
 all_unheld : (t : Plan) (j : Journal) (hands : List (Option Input)) (fs : List FrameName) → ((n : ℕ) (g : Input) → hand_at hands n ≡ Some g → IsOpenTo t j n g)
     → AllByRecursion (IsFrom (length j) 0) fs → AllByRecursion (λ f. is_held hands f ≡ false) fs
 all_unheld t j hands [] held h = tt
 all_unheld t j hands (f ∷ fs) held h =
     let same = h.0.0 in (
-      not_held hands f (λ n g e. no_or_yes (is_that f (brought_by g)) (λ yes. let l = given_before t j n g f (held n g e) yes in absurd (omega (arith, l, same)))),
+      not_held hands f (λ n g e. no_or_yes (is_that f (brought_by g)) (λ yes. let l = given_before t j n g f (held n g e) yes in
+          absurd (omega (arith, l, same)))),
       all_unheld t j hands fs held h.1,
     )
 
-pub enter_keeps : (s : Shelf) (id : ModuleId) (input : Input) (outputs : List Output) → IsKept s → hand_at s.hands id.0 ≡ Some input → IsKept (entered s id input outputs)
+pub enter_keeps : (s : Shelf) (id : ModuleId) (input : Input) (outputs : List Output) → IsKept s → hand_at s.hands id.0 ≡ Some input
+    → IsKept (entered s id input outputs)
 enter_keeps s id input outputs k held =
     let t = s.topology in
     let j = s.journal in
@@ -334,11 +350,16 @@ enter_keeps s id input outputs k held =
           ∙ sym (filter-append own U F) ∙ ap (filter own) (sym next);
       held = λ n g e. let o = cut_cases s.hands id.0 n g e in
           still_open t j id input outputs n g
-          (λ f is. no_or_yes (is_that f (brought_by input)) (λ yes. o.0 (one_place t j n id.0 g input f (k.held n g o.1) (k.held id.0 input held) is yes))) (k.held n g o.1);
+          (λ f is. no_or_yes (is_that f (brought_by input)) (λ yes. o.0 (one_place t j n id.0 g input f (k.held n g o.1) (k.held id.0 input held) is yes)))
+          (k.held n g o.1);
       feeds = λ n. elim (equal_or n id.0) [
-        | inl o ↦ subst (λ (i : ℕ). feeds_of i s.given ≡ fed i (Step id input outputs ∷ j) ++ (fed_in (hand_at (set s.hands id.0 None) i) ++ queue_at s.feeds i)) (sym o)
+        | inl o ↦ subst (λ (i : ℕ). feeds_of i s.given
+            ≡ fed i (Step id input outputs ∷ j) ++ (fed_in (hand_at (set s.hands id.0 None) i) ++ queue_at s.feeds i)) (sym o)
             (feeds_own s id input outputs k held within)
-        | inr o ↦ rw (get_or-set_other s.hands id.0 n None None o, fed_other (eqb id.0 n) (ne_eqb id.0 n (λ x. o (sym x))) (fed n j) (fed n j ++ fed_by input)) (k.feeds n)
+        | inr o ↦ rw (
+          get_or-set_other s.hands id.0 n None None o,
+          fed_other (eqb id.0 n) (ne_eqb id.0 n (λ x. o (sym x))) (fed n j) (fed n j ++ fed_by input),
+        ) (k.feeds n)
       ];
       taken = omega (arith, counted, taken);
       turns = k.turns;
@@ -367,13 +388,15 @@ split_is s k idle =
 pub all_turns : (s : Shelf) → IsKept s → count_hands s.hands ≡ 0 → s.turns ≤ s.taken → length s.journal ≡ s.turns
 all_turns s k idle done = let a = k.taken in let b = k.turns in omega (arith, a, b, idle, done)
 
-end_is : (s : Shelf) (feeds : List (ModuleId × Feed)) (frames : List FrameName) (end : End) → IsKept s → count_hands s.hands ≡ 0 → length feeds ≡ count_all s.feeds
+end_is : (s : Shelf) (feeds : List (ModuleId × Feed)) (frames : List FrameName) (end : End) → IsKept s → count_hands s.hands ≡ 0
+    → length feeds ≡ count_all s.feeds
     → length frames ≡ count_all s.frames → MayEnd s end → IsEnd s.turns s.journal feeds frames end
 end_is s feeds frames Quiet k idle a b may = (nil_from_length feeds (a ∙ may.0), nil_from_length frames (b ∙ may.1))
 end_is s feeds frames Limit k idle a b may = let some = may.0 in (omega (arith, a, b, some), all_turns s k idle may.1)
 
 pub finish_is : (s : Shelf) (feeds : List (ModuleId × Feed)) (frames : List FrameName) (end : End) → IsKept s → count_hands s.hands ≡ 0
-    → ((m : ℕ) → feeds_of m feeds ≡ queue_at s.feeds m) → length feeds ≡ count_all s.feeds → frames ≡ waiting s.topology s.journal → length frames ≡ count_all s.frames
+    → ((m : ℕ) → feeds_of m feeds ≡ queue_at s.feeds m) → length feeds ≡ count_all s.feeds → frames ≡ waiting s.topology s.journal
+    → length frames ≡ count_all s.frames
     → MayEnd s end → IsFinished s.topology s.given s.turns s.journal feeds frames end
 finish_is s feeds frames end k idle each size waits count may =
     record {

@@ -1,5 +1,6 @@
 -- Rising names that stand in queues, taken out least first.
-use Rattle.std.proofs.Common.{◌≡◌, ℕ, zero, suc, List, [], ◌∷◌, ◌++◌, Option, Some, None, Bool, true, false, ◌⊎◌, inl, inr, refl, sym, subst, cond, arith, ◌∙◌, ap, drop, filter, length, set, ◌<◌, ◌+◌}
+use Rattle.std.proofs.Common.{◌≡◌, ℕ, zero, suc, List, [], ◌∷◌, ◌++◌, Option, Some, None, Bool, true, false, ◌⊎◌, inl}
+use Rattle.std.proofs.Common.{inr, refl, sym, subst, cond, arith, ◌∙◌, ap, drop, filter, length, set, ◌<◌, ◌+◌}
 use Rattle.std.specs.Prelude.{IfSome, IfNone}
 use Rattle.std.specs.List.{AllByRecursion}
 use Rattle.std.proofs.lemmas.List.{append_assoc, append-nil}
@@ -17,7 +18,8 @@ pub head_is : (x y : FrameName) (xs ys : List FrameName) → x ∷ xs ≡ y ∷ 
 head_is x y xs ys e = (cc, cc)
 
 -- what a test lets through first is in the list
-among_rest : (P : FrameName → Type 0) (p : FrameName → Bool) (xs : List FrameName) (f : FrameName) (fs : List FrameName) → AllByRecursion P xs → filter p xs ≡ f ∷ fs → P f
+among_rest : (P : FrameName → Type 0) (p : FrameName → Bool) (xs : List FrameName) (f : FrameName) (fs : List FrameName)
+    → AllByRecursion P xs → filter p xs ≡ f ∷ fs → P f
 among_rest P p [] f fs all e = cc
 among_rest P p (x ∷ xs) f fs all e = by (p x) refl (λ r. among_rest P p xs f fs all.1 r)
   where
@@ -54,7 +56,8 @@ least_first own queues m f (x ∷ xs) s least lt here = by (own m x) refl
 
     by : (b : Bool) → own m x ≡ b → IsRest own queues m f (x ∷ xs)
     by false is =
-        let low : name_cmp x f ≡ Less = among_rest (λ g. name_cmp x g ≡ Less) (own m) xs f (drop 1 (queue_at queues m)) s.rising.0 (sym (filter_no (own m) x xs is) ∙ sym (s.split m) ∙ here) in
+        let low : name_cmp x f ≡ Less = among_rest (λ g. name_cmp x g ≡ Less) (own m) xs f (drop 1 (queue_at queues m)) s.rising.0
+        (sym (filter_no (own m) x xs is) ∙ sym (s.split m) ∙ here) in
         absurd (least home.0 x (filter (own home.0) xs) (s.split home.0 ∙ filter_yes (own home.0) x xs home.1) low)
     by true is =
         let front = head_is x f (filter (own m) xs) (drop 1 (queue_at queues m)) (sym (filter_yes (own m) x xs is) ∙ sym (s.split m) ∙ here) in
@@ -64,7 +67,8 @@ least_first own queues m f (x ∷ xs) s least lt here = by (own m x) refl
           split = record {
             rising = s.rising.1;
             split = λ n. elim (same_or n m) [
-              | inl e ↦ ap (queue_at (set queues m (drop 1 (queue_at queues m)))) e ∙ queue_same queues m (drop 1 (queue_at queues m)) lt ∙ sym front.1 ∙ ap (λ (k : ℕ). filter (own k) xs) (sym e)
+              | inl e ↦ ap (queue_at (set queues m (drop 1 (queue_at queues m)))) e ∙ queue_same queues m (drop 1 (queue_at queues m)) lt
+                  ∙ sym front.1 ∙ ap (λ (k : ℕ). filter (own k) xs) (sym e)
               | inr other ↦ queue_other queues m n (drop 1 (queue_at queues m)) other ∙ s.split n
                   ∙ filter_no (own n) x xs (no_yes (own n x) (λ yes. other (s.apart x n m yes is)))
             ];
@@ -74,7 +78,8 @@ least_first own queues m f (x ∷ xs) s least lt here = by (own m x) refl
         }
 
 -- nothing is left where no queue has anything
-pub none_left : (own : ℕ → FrameName → Bool) (queues : List (List FrameName)) (names : List FrameName) → AreSplit own queues names → count_all queues ≡ 0 → names ≡ []
+pub none_left : (own : ℕ → FrameName → Bool) (queues : List (List FrameName)) (names : List FrameName) → AreSplit own queues names
+    → count_all queues ≡ 0 → names ≡ []
 none_left own queues [] s e = refl
 none_left own queues (x ∷ xs) s e =
     let home = s.somewhere.0 in
@@ -96,7 +101,8 @@ below_more (suc k) (suc n) lt =
       | inr e ↦ inr (ap suc e)
     ]
 
-pub none_more : (queues : List (List FrameName)) (n : ℕ) → ((k : ℕ) → k < n → queue_at queues k ≡ []) → queue_at queues n ≡ [] → (k : ℕ) → k < n + 1 → queue_at queues k ≡ []
+pub none_more : (queues : List (List FrameName)) (n : ℕ) → ((k : ℕ) → k < n → queue_at queues k ≡ []) → queue_at queues n ≡ []
+    → (k : ℕ) → k < n + 1 → queue_at queues k ≡ []
 none_more queues n none now k lt =
     elim (below_more k n lt) [
       | inl l ↦ none k l
@@ -160,11 +166,13 @@ IsMerging start now names = (own : ℕ → FrameName → Bool) (all : List Frame
 pub merge_none : (start : List (List FrameName)) → IsMerging start start []
 merge_none start own all s = (all, refl, s)
 
-pub merge_more : (start now : List (List FrameName)) (names : List FrameName) (n m : ℕ) (f : FrameName) → length now ≡ n → IsLeast now n m f → IsMerging start now names
+pub merge_more : (start now : List (List FrameName)) (names : List FrameName) (n m : ℕ) (f : FrameName) → length now ≡ n
+    → IsLeast now n m f → IsMerging start now names
     → IsMerging start (set now m (drop 1 (queue_at now m))) (names ++ f ∷ [])
 merge_more start now names n m f e o left own all s =
     let p = left own all s in
-    let r = least_first own now m f p.0 p.2 (λ k g gs is less. o.least k g gs (let lt = nonempty_within now k g gs is in omega (arith, lt, e)) is less) o.within o.here in
+    let r = least_first own now m f p.0 p.2 (λ k g gs is less. o.least k g gs (let lt = nonempty_within now k g gs is in omega (arith, lt, e)) is less)
+    o.within o.here in
     (r.rest, append_assoc names (f ∷ []) r.rest ∙ ap (λ (l : List FrameName). names ++ l) (sym r.first) ∙ p.1, r.split)
 
 pub merge_done : (start now : List (List FrameName)) (names : List FrameName) → IsMerging start now names → count_all now ≡ 0

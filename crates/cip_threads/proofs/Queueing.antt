@@ -1,9 +1,11 @@
 -- Queues, and what goes into them and out of them.
-use Rattle.std.proofs.Common.{◌≡◌, ◌≢◌, ℕ, zero, suc, List, [], ◌∷◌, ◌++◌, Option, Some, None, Bool, true, false, ◌⊎◌, inl, inr, refl, sym, subst, cond, arith, ◌∙◌, ap, map, drop, take, length, get_or, set, replicate, ◌<◌, ◌≤◌, ◌+◌, eqb}
+use Rattle.std.proofs.Common.{◌≡◌, ◌≢◌, ℕ, zero, suc, List, [], ◌∷◌, ◌++◌, Option, Some, None, Bool, true, false, ◌⊎◌, inl, inr, refl, sym}
+use Rattle.std.proofs.Common.{subst, cond, arith, ◌∙◌, ap, map, drop, take, length, get_or, set, replicate, ◌<◌, ◌≤◌, ◌+◌, eqb}
 use Rattle.std.specs.Prelude.{slice_get, IsSome, IfSome, IfNone, ◌-◌}
 use Rattle.std.specs.List.{AllByRecursion}
 use Rattle.std.proofs.lemmas.Bool.{eq-eqb, ne_eqb}
-use Rattle.std.proofs.lemmas.List.{get_or-map, get_or-set_same, get_or-set_other, set-get_or, map-set, length-map, length-set, length-append, append_assoc, append-nil, take_more, drop_more}
+use Rattle.std.proofs.lemmas.List.{get_or-map, get_or-set_same, get_or-set_other, set-get_or, map-set, length-map}
+use Rattle.std.proofs.lemmas.List.{length-set, length-append, append_assoc, append-nil, take_more, drop_more}
 use Rattle.cip_base.specs.declared.numbers.ModuleId.{ModuleId}
 use Rattle.cip_threads.specs.declared.feed.Feed.{Feed}
 use Rattle.cip_threads.specs.Feeds.{feeds_of, fed_if}
@@ -40,12 +42,14 @@ nonempty_within (q ∷ qs) zero x xs e = omega arith
 nonempty_within (q ∷ qs) (suc m) x xs e = let r = nonempty_within qs m x xs e in omega (arith, r)
 
 -- one queue is written
-pub set_lists : {Q X : Type 0} (items : Q → List X) (qs : List Q) (m : ℕ) (new : Q) (xs : List X) → items new ≡ xs → map items (set qs m new) ≡ set (map items qs) m xs
+pub set_lists : {Q X : Type 0} (items : Q → List X) (qs : List Q) (m : ℕ) (new : Q) (xs : List X) → items new ≡ xs
+    → map items (set qs m new) ≡ set (map items qs) m xs
 set_lists items qs m new xs e = map-set items qs m new ∙ ap (set (map items qs) m) e
 
 pub kept_lists : {Q X : Type 0} (items : Q → List X) (qs : List Q) (m : ℕ) (old new : Q) → m < length qs → old ≡ get_or qs m old → items new ≡ items old
     → map items (set qs m new) ≡ map items qs
-kept_lists items qs m old new lt at e = set_lists items qs m new (queue_at (map items qs) m) (e ∙ sym (queue_is items qs m old lt at)) ∙ set-get_or (map items qs) m []
+kept_lists items qs m old new lt at e = set_lists items qs m new (queue_at (map items qs) m) (e ∙ sym (queue_is items qs m old lt at))
+    ∙ set-get_or (map items qs) m []
 
 front_is : {X : Type 0} (xs : List X) (x : X) → 0 < length xs → x ≡ get_or xs 0 x → xs ≡ x ∷ drop 1 xs
 front_is [] x lt at = absurd (omega arith)
@@ -97,7 +101,8 @@ count_empty (q ∷ qs) all =
     let rest = count_empty qs (λ m lt. all (suc m) (omega (arith, lt))) in
     omega (arith, first, rest)
 
-pub count_taken : {X : Type 0} (qs : List (List X)) (m : ℕ) (x : X) (rest : List X) → m < length qs → queue_at qs m ≡ x ∷ rest → count_all (set qs m rest) + 1 ≡ count_all qs
+pub count_taken : {X : Type 0} (qs : List (List X)) (m : ℕ) (x : X) (rest : List X) → m < length qs → queue_at qs m ≡ x ∷ rest
+    → count_all (set qs m rest) + 1 ≡ count_all qs
 count_taken qs m x rest lt is = let s = count_set qs m rest lt in let l = ap length is in omega (arith, s, l)
 
 pub length_enqueue : {X : Type 0} (qs : List (List X)) (xs : List (ModuleId × X)) → length (enqueue qs xs) ≡ length qs
@@ -144,7 +149,8 @@ enqueued {X} qs n m (x ∷ xs) e all =
           ∙ ap (λ (l : List X). queue_at qs m ++ l) (sym (cond_is (eqb x.0.0 m) true (x.1 ∷ of_module m xs) (of_module m xs) (eq-eqb x.0.0 m (sym same))))
       | inr other ↦ here
           ∙ ap (λ (l : List X). l ++ of_module m xs) (queue_other qs x.0.0 m more other)
-          ∙ ap (λ (l : List X). queue_at qs m ++ l) (sym (cond_is (eqb x.0.0 m) false (x.1 ∷ of_module m xs) (of_module m xs) (ne_eqb x.0.0 m (λ s. other (sym s)))))
+          ∙ ap (λ (l : List X). queue_at qs m ++ l)
+          (sym (cond_is (eqb x.0.0 m) false (x.1 ∷ of_module m xs) (of_module m xs) (ne_eqb x.0.0 m (λ s. other (sym s)))))
     ]
 
 -- ---- feeds poured out
@@ -153,7 +159,8 @@ feeds_push : (m : ℕ) (xs : List (ModuleId × Feed)) (x : ModuleId × Feed) →
 feeds_push m [] x = refl
 feeds_push m (y ∷ xs) x = ap (λ (l : List Feed). fed_if m y l) (feeds_push m xs x) ∙ out (eqb y.0.0 m)
   where
-    out : (b : Bool) → cond b (y.1 ∷ (feeds_of m xs ++ feeds_of m (x ∷ []))) (feeds_of m xs ++ feeds_of m (x ∷ [])) ≡ cond b (y.1 ∷ feeds_of m xs) (feeds_of m xs) ++ feeds_of m (x ∷ [])
+    out : (b : Bool) → cond b (y.1 ∷ (feeds_of m xs ++ feeds_of m (x ∷ []))) (feeds_of m xs ++ feeds_of m (x ∷ []))
+        ≡ cond b (y.1 ∷ feeds_of m xs) (feeds_of m xs) ++ feeds_of m (x ∷ [])
     out true = refl
     out false = refl
 
@@ -161,7 +168,8 @@ pub moved_none : (qs : List (List Feed)) (to : List (ModuleId × Feed)) → Move
 moved_none qs to = record { same = λ m. refl; empty = λ m e. e; count = refl; size = refl }
 
 -- one more
-pub moved_more : (old qs : List (List Feed)) (m : ℕ) (feed : Feed) (rest : List Feed) (from to : List (ModuleId × Feed)) → m < length qs → queue_at qs m ≡ feed ∷ rest
+pub moved_more : (old qs : List (List Feed)) (m : ℕ) (feed : Feed) (rest : List Feed) (from to : List (ModuleId × Feed))
+    → m < length qs → queue_at qs m ≡ feed ∷ rest
     → Moved old qs from to → Moved old (set qs m rest) from (to ++ (record { 0 = m }, feed) ∷ [])
 moved_more old qs m feed rest from to lt is so =
     let one : ModuleId × Feed = (record { 0 = m }, feed) in
@@ -175,7 +183,8 @@ moved_more old qs m feed rest from to lt is so =
             ∙ ap (λ (l : List Feed). feeds_of n to ++ l) (sym is ∙ ap (queue_at qs) (sym e))
             ∙ so.same n
         | inr other ↦ ap (λ (l : List Feed). l ++ queue_at (set qs m rest) n) (feeds_push n to one)
-            ∙ ap (λ (l : List Feed). (feeds_of n to ++ l) ++ queue_at (set qs m rest) n) (cond_is (eqb m n) false (feed ∷ []) [] (ne_eqb m n (λ s. other (sym s))))
+            ∙ ap (λ (l : List Feed). (feeds_of n to ++ l) ++ queue_at (set qs m rest) n)
+            (cond_is (eqb m n) false (feed ∷ []) [] (ne_eqb m n (λ s. other (sym s))))
             ∙ ap (λ (l : List Feed). l ++ queue_at (set qs m rest) n) (append-nil (feeds_of n to))
             ∙ ap (λ (l : List Feed). feeds_of n to ++ l) (queue_other qs m n rest other)
             ∙ so.same n
@@ -223,7 +232,8 @@ pub room_all : {Q X : Type 0} (room : Q → ℕ) (qs new : List Q) (n l : ℕ) (
 room_all room qs new n l [] keeps h = tt
 room_all room qs new n l (x ∷ xs) keeps h = (keeps x.0.0 h.0, room_all room qs new n l xs keeps h.1)
 
-pub room_push : {Q X : Type 0} (room : Q → ℕ) (qs : List Q) (n : ℕ) (xs : List (ModuleId × X)) (x : ModuleId × X) → HaveRoom room qs n xs → HasRoom room qs x.0.0 n
+pub room_push : {Q X : Type 0} (room : Q → ℕ) (qs : List Q) (n : ℕ) (xs : List (ModuleId × X)) (x : ModuleId × X)
+    → HaveRoom room qs n xs → HasRoom room qs x.0.0 n
     → HaveRoom room qs n (xs ++ x ∷ [])
 room_push room qs n [] x h r = (r, tt)
 room_push room qs n (y ∷ xs) x h r = (h.0, room_push room qs n xs x h.1 r)
@@ -244,7 +254,8 @@ opened xs i x lt at = drop_more xs i x lt ∙ ap (λ (y : _). y ∷ drop (i + 1)
 pub room_taken : {Q X : Type 0} (room : Q → ℕ) (qs new : List Q) (n i : ℕ) (xs : List (ModuleId × X)) (x : ModuleId × X) → i < length xs → x ≡ get_or xs i x
     → ((k : ℕ) → HasRoom room qs k n → HasRoom room new k n) → HasRoom room new x.0.0 n → HaveRoom room qs n (take i xs) → HaveRoom room new n (take (i + 1) xs)
 room_taken room qs new n i xs x lt at keeps here h =
-    subst (HaveRoom room new n) (sym (take_more xs i x lt ∙ ap (λ (y : _). take i xs ++ y ∷ []) (sym at))) (room_push room new n (take i xs) x (room_all room qs new n n (take i xs) keeps h) here)
+    subst (HaveRoom room new n) (sym (take_more xs i x lt ∙ ap (λ (y : _). take i xs ++ y ∷ []) (sym at)))
+    (room_push room new n (take i xs) x (room_all room qs new n n (take i xs) keeps h) here)
 
 pub room_first : {Q X : Type 0} (room : Q → ℕ) (qs : List Q) (i : ℕ) (xs : List (ModuleId × X)) (x : ModuleId × X) → i < length xs → x ≡ get_or xs i x
     → HaveRoom room qs (length (drop i xs)) (drop i xs) → HasRoom room qs x.0.0 1

@@ -1,5 +1,6 @@
 -- A history against a journal, step by step; and the report.
-use Rattle.std.proofs.Common.{◌≡◌, ◌≢◌, ℕ, zero, suc, List, [], ◌∷◌, ◌++◌, Some, Bool, true, false, ◌⊎◌, inl, inr, refl, sym, subst, cond, length, arith, ◌<◌, ◌+◌, ◌∙◌, ap, get_or, take, reverse, eqb}
+use Rattle.std.proofs.Common.{◌≡◌, ◌≢◌, ℕ, zero, suc, List, [], ◌∷◌, ◌++◌, Some, Bool, true, false, ◌⊎◌, inl, inr, refl}
+use Rattle.std.proofs.Common.{sym, subst, cond, length, arith, ◌<◌, ◌+◌, ◌∙◌, ap, get_or, take, reverse, eqb}
 use Rattle.std.specs.Prelude.{slice_get}
 use Rattle.std.proofs.lemmas.Bool.{eq-eqb, ne_eqb}
 use Rattle.std.proofs.lemmas.List.{take_more, reverse-append}
@@ -112,7 +113,8 @@ within (x ∷ xs) zero c is = omega arith
 within (x ∷ xs) (suc m) c is = let r = within xs m c is in omega arith
 
 -- a finished book and messages that agree make a report
-pub report_is : (t : Plan) (given : List (ModuleId × Feed)) (turns : ℕ) (j : Journal) (tables : List Tables) (feeds : List (ModuleId × Feed)) (frames : List FrameName) (end : End)
+pub report_is : (t : Plan) (given : List (ModuleId × Feed)) (turns : ℕ) (j : Journal) (tables : List Tables)
+    (feeds : List (ModuleId × Feed)) (frames : List FrameName) (end : End)
     → IsFinished t given turns j feeds frames end → AgreeTo t j tables (length t.modules) → IsReport t given turns j tables feeds frames end
 report_is t given turns j tables feeds frames end f a =
     record {
@@ -126,7 +128,8 @@ report_is t given turns j tables feeds frames end f a =
     }
 
 -- a history that is what the journal has of the module agrees with it
-pub agrees_is : (config other : ModuleSettings) (h : List Done) (j : Journal) (m : ℕ) (tables : Tables) → IsHistory config (turns_of h) → ShowsState (state_after config (turns_of h)) tables
+pub agrees_is : (config other : ModuleSettings) (h : List Done) (j : Journal) (m : ℕ) (tables : Tables) → IsHistory config (turns_of h)
+    → ShowsState (state_after config (turns_of h)) tables
     → config ≡ other → part m j ≡ turns_of h → Agrees other j m tables
 agrees_is config other h j m tables history shows same is =
     subst (λ (c : ModuleSettings). Agrees c j m tables) same

@@ -1,5 +1,6 @@
 -- The frames that an entry sends, and the queues that they go to.
-use Rattle.std.proofs.Common.{◌≡◌, ℕ, zero, suc, List, [], ◌∷◌, ◌++◌, Option, Some, None, Bool, true, false, ◌||◌, refl, sym, cond, filter, drop, is_some, get_or, length, arith, ◌<◌, ◌+◌, ◌∙◌, ap, eqb}
+use Rattle.std.proofs.Common.{◌≡◌, ℕ, zero, suc, List, [], ◌∷◌, ◌++◌, Option, Some, None, Bool, true, false, ◌||◌, refl}
+use Rattle.std.proofs.Common.{sym, cond, filter, drop, is_some, get_or, length, arith, ◌<◌, ◌+◌, ◌∙◌, ap, eqb}
 use Rattle.std.specs.Prelude.{slice_get, find, option_map}
 use Rattle.std.specs.List.{AllByRecursion, list_any}
 use Rattle.std.proofs.lemmas.Bool.{eq-eqb, ne_eqb, eqb-true}
@@ -29,7 +30,8 @@ node_within : (i : ℕ) (cs : List ModuleSettings) (link : ℕ) (address : List 
 node_within i [] link address n e = cc
 node_within i (c ∷ cs) link address n e = by (find (is_at link address) c.ports) e (λ r. node_within (i + 1) cs link address n r)
   where
-    by : (o : Option PortConfig) → or_later i o (node_from (i + 1) cs link address) ≡ Some n → (node_from (i + 1) cs link address ≡ Some n → n.at < (i + 1) + length cs)
+    by : (o : Option PortConfig) → or_later i o (node_from (i + 1) cs link address) ≡ Some n
+        → (node_from (i + 1) cs link address ≡ Some n → n.at < (i + 1) + length cs)
         → n.at < i + suc (length cs)
     by None r f = let l = f r in omega (arith, l)
     by (Some p) r f = let s = ap (λ (x : Node). x.at) (some_same _ _ r) in omega (arith, s)
@@ -56,7 +58,8 @@ goes_once t j f m n a b = into_once (way_of t (sent_by (entry_at j f.entry) f.ou
 
 pub goes_older : (t : Plan) (e : Entry) (j : Journal) (n : ℕ) (f : FrameName) → f.entry < length j → goes_to t (e ∷ j) n f ≡ goes_to t j n f
 goes_older t e j n f low =
-    ap (λ b. is_into n (way_of t (sent_by (cond b (Some e) (entry_at j f.entry)) f.output))) (ne_eqb f.entry (length j) (λ same. absurd (omega (arith, low, same))))
+    ap (λ b. is_into n (way_of t (sent_by (cond b (Some e) (entry_at j f.entry)) f.output)))
+    (ne_eqb f.entry (length j) (λ same. absurd (omega (arith, low, same))))
 
 -- ---- the names that wait
 
@@ -81,13 +84,15 @@ below_frames t [] = tt
 below_frames t (e ∷ j) =
     all_both (λ f. f.entry < suc (length j)) (frames t j) (frames_in t (length j) e)
     (all_to (λ f. f.entry < length j) (λ f. f.entry < suc (length j)) (frames t j) (λ f low. omega (arith, low)) (below_frames t j))
-    (all_to (IsFrom (length j) 0) (λ f. f.entry < suc (length j)) (frames_in t (length j) e) (λ f is. let same = is.0 in omega (arith, same)) (from_in t (length j) e))
+    (all_to (IsFrom (length j) 0) (λ f. f.entry < suc (length j)) (frames_in t (length j) e) (λ f is. let same = is.0 in
+    omega (arith, same)) (from_in t (length j) e))
 
 -- an entry changes no way of a frame that waited before
 pub goes_as_before : (t : Plan) (e : Entry) (j : Journal) (n : ℕ) (p q : FrameName → Bool) → filter (goes_to t j n) (filter p (filter q (frames t j)))
     ≡ filter (goes_to t (e ∷ j) n) (filter p (filter q (frames t j)))
 goes_as_before t e j n p q =
-    like (filter p (filter q (frames t j))) (all_filter (λ f. f.entry < length j) p (filter q (frames t j)) (all_filter (λ f. f.entry < length j) q (frames t j) (below_frames t j)))
+    like (filter p (filter q (frames t j)))
+    (all_filter (λ f. f.entry < length j) p (filter q (frames t j)) (all_filter (λ f. f.entry < length j) q (frames t j) (below_frames t j)))
   where
     like : (fs : List FrameName) → AllByRecursion (λ f. f.entry < length j) fs → filter (goes_to t j n) fs ≡ filter (goes_to t (e ∷ j) n) fs
     like [] h = refl
@@ -105,8 +110,10 @@ or_right false b e = e
 
 all_members : (P : FrameName → Type 0) (fs : List FrameName) → ((f : FrameName) → list_any (λ g. same_name g f) fs ≡ true → P f) → AllByRecursion P fs
 all_members P [] h = tt
-all_members P (f ∷ fs) h =
-    (h f (or_left (same_name f f) (list_any (λ g. same_name g f) fs) (same_self f)), all_members P fs (λ x is. h x (or_right (same_name f x) (list_any (λ g. same_name g x) fs) is)))
+all_members P (f ∷ fs) h = (
+  h f (or_left (same_name f f) (list_any (λ g. same_name g f) fs) (same_self f)),
+  all_members P fs (λ x is. h x (or_right (same_name f x) (list_any (λ g. same_name g x) fs) is)),
+)
 
 pub waits_somewhere : (t : Plan) (j : Journal) → AllByRecursion (λ f. (m : ℕ) × (goes_to t j m f ≡ true)) (waiting t j)
 waits_somewhere t j =
@@ -115,7 +122,8 @@ waits_somewhere t j =
 
 -- ---- what one entry sends
 
-sent_all : (P : ModuleId × FrameName → Type 0) (w : Option Way) (f : FrameName) (xs : List (ModuleId × FrameName)) → ((there : Way) → w ≡ Some there → P (record { 0 = there.at }, f))
+sent_all : (P : ModuleId × FrameName → Type 0) (w : Option Way) (f : FrameName) (xs : List (ModuleId × FrameName))
+    → ((there : Way) → w ≡ Some there → P (record { 0 = there.at }, f))
     → AllByRecursion P xs → AllByRecursion P (sent_if w f xs)
 sent_all P None f xs h k = k
 sent_all P (Some there) f xs h k = (h there refl, k)
@@ -134,7 +142,8 @@ arrives_is : (t : Plan) (o : Option Flight) → arrives t o ≡ is_some (way_of 
 arrives_is t None = refl
 arrives_is t (Some flight) = refl
 
-sent_one : (w : Option Way) (f : FrameName) (xs : List (ModuleId × FrameName)) (ys : List FrameName) (p : FrameName → Bool) (n : ℕ) → p f ≡ is_into n w → of_module n xs ≡ filter p ys
+sent_one : (w : Option Way) (f : FrameName) (xs : List (ModuleId × FrameName)) (ys : List FrameName) (p : FrameName → Bool) (n : ℕ)
+    → p f ≡ is_into n w → of_module n xs ≡ filter p ys
     → of_module n (sent_if w f xs) ≡ filter p (or_none (is_some w) f ys)
 sent_one None f xs ys p n e h = h
 sent_one (Some there) f xs ys p n e h =
@@ -162,13 +171,15 @@ sent_are t j id input outs n i (o ∷ rest) e =
 
 -- ---- as the code lists them
 
-pub sent_some : (w : Option Way) (to : ModuleId) (f : FrameName) (xs : List (ModuleId × FrameName)) → option_map (λ (id : ModuleId). id.0) (Some to) ≡ option_map (λ (v : Way). v.at) w
+pub sent_some : (w : Option Way) (to : ModuleId) (f : FrameName) (xs : List (ModuleId × FrameName))
+    → option_map (λ (id : ModuleId). id.0) (Some to) ≡ option_map (λ (v : Way). v.at) w
     → sent_if w f xs ≡ (to, f) ∷ xs
 sent_some None to f xs e = cc
 sent_some (Some there) to f xs e =
     ap (λ (n : ℕ). (record { 0 = n }, f) ∷ xs) (sym (some_same to.0 there.at e))
 
-pub sent_none : (w : Option Way) (f : FrameName) (xs : List (ModuleId × FrameName)) → option_map (λ (id : ModuleId). id.0) None ≡ option_map (λ (v : Way). v.at) w
+pub sent_none : (w : Option Way) (f : FrameName) (xs : List (ModuleId × FrameName))
+    → option_map (λ (id : ModuleId). id.0) None ≡ option_map (λ (v : Way). v.at) w
     → sent_if w f xs ≡ xs
 sent_none None f xs e = refl
 sent_none (Some there) f xs e = cc

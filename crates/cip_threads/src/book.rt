@@ -41,7 +41,8 @@ impl Book {
     }
 
     /// An event for the worker of a module. It waits where nothing waits for the module, turns are
-    /// left, and something may come. NoMemory where an allocation is refused: nothing is taken then.
+    /// left, and something may come. NoMemory where an allocation is refused: nothing is taken
+    /// then.
     pub fn take<R: Wait>(&self, rt: &R, m: ModuleId) -> Result<Taken, NoMemory> {
         let Some(signal) = self.signals.get(m.0) else {
             return Ok(Taken::Stop);

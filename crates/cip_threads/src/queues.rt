@@ -124,9 +124,11 @@ fn reserve_at(
 ) -> Result<(), NoMemory>
     requires { send.now.0.0 < vec_len queues.old }
     ensures same { map (λ q. q.items) queues.new.items ≡ map (λ q. q.items) queues.old.items }
-    ensures stays { (k : ℕ) (n : ℕ) → HasRoom (λ q. deque_capacity q - deque_len q) queues.old.items k n
+    ensures stays { (k : ℕ) (n : ℕ)
+        → HasRoom (λ q. deque_capacity q - deque_len q) queues.old.items k n
         → HasRoom (λ q. deque_capacity q - deque_len q) queues.new.items k n }
-    ensures room { OnOk result (HasRoom (λ q. deque_capacity q - deque_len q) queues.new.items send.now.0.0 count) }
+    ensures room { OnOk result (HasRoom (λ q. deque_capacity q - deque_len q) queues.new.items
+        send.now.0.0 count) }
     ensures count { vec_len queues.new ≡ vec_len queues.old }
 {
     let m = send.0;
@@ -149,7 +151,8 @@ pub(crate) fn reserve_all(
 ) -> Result<(), NoMemory>
     requires { All (λ x. x.0.0 < length queues.old.items) sends.now }
     ensures same { map (λ q. q.items) queues.new.items ≡ map (λ q. q.items) queues.old.items }
-    ensures room { OnOk result (HaveRoom (λ q. deque_capacity q - deque_len q) queues.new.items (length sends.now) sends.now) }
+    ensures room { OnOk result (HaveRoom (λ q. deque_capacity q - deque_len q) queues.new.items
+        (length sends.now) sends.now) }
     ensures count { vec_len queues.new ≡ vec_len queues.old }
 {
     for i in 0..sends.len() {
@@ -167,7 +170,8 @@ fn push_reserved(queues: &mut Vec<VecDeque<FrameName>>, send: &(ModuleId, FrameN
     ensures items { map (λ q. q.items) queues.new.items
         ≡ set (map (λ q. q.items) queues.old.items) send.now.0.0
         (queue_at (map (λ q. q.items) queues.old.items) send.now.0.0 ++ send.now.1 ∷ []) }
-    ensures stays { (k : ℕ) (n : ℕ) → HasRoom (λ q. deque_capacity q - deque_len q) queues.old.items k (n + 1)
+    ensures stays { (k : ℕ) (n : ℕ)
+        → HasRoom (λ q. deque_capacity q - deque_len q) queues.old.items k (n + 1)
         → HasRoom (λ q. deque_capacity q - deque_len q) queues.new.items k n }
     ensures count { vec_len queues.new ≡ vec_len queues.old }
 {
@@ -178,7 +182,8 @@ fn push_reserved(queues: &mut Vec<VecDeque<FrameName>>, send: &(ModuleId, FrameN
 /// Each of these at the end of its module's queue.
 pub(crate) fn push_all(queues: &mut Vec<VecDeque<FrameName>>, sends: &[(ModuleId, FrameName)])
     requires within { All (λ x. x.0.0 < length queues.old.items) sends.now }
-    requires room { HaveRoom (λ q. deque_capacity q - deque_len q) queues.old.items (length sends.now) sends.now }
+    requires room { HaveRoom (λ q. deque_capacity q - deque_len q) queues.old.items
+        (length sends.now) sends.now }
     ensures { map (λ q. q.items) queues.new.items
         ≡ enqueue (map (λ q. q.items) queues.old.items) sends.now }
 {

@@ -272,8 +272,8 @@ impl BookState {
     ghost use Rattle.cip_threads.specs.Ends.{IsFinished, MayEnd};
     ghost use Rattle.cip_threads.specs.Flows.{sends_of};
 
-    /// A book in which every feed waits, nothing is in hand, and the journal is empty. So many turns
-    /// may be taken. NoMemory where an allocation is refused.
+    /// A book in which every feed waits, nothing is in hand, and the journal is empty. So many
+    /// turns may be taken. NoMemory where an allocation is refused.
     pub fn new(
         alloc: Global,
         topology: Topology,
@@ -307,11 +307,11 @@ impl BookState {
         })
     }
 
-    /// Moves the first feed of a module, or the first waiting frame that comes to it, into its hand:
-    /// Work. It looks in this order: stopped, or no such module: Stop; something in hand: Held; turns
-    /// left and something waits for the module: Work; no turns left, or nothing waits and nothing is
-    /// in hand anywhere: Stop; else NotYet. All answers but Work change nothing, and so does
-    /// NoMemory.
+    /// Moves the first feed of a module, or the first waiting frame that comes to it, into its
+    /// hand: Work. It looks in this order: stopped, or no such module: Stop; something in hand:
+    /// Held; turns left and something waits for the module: Work; no turns left, or nothing waits
+    /// and nothing is in hand anywhere: Stop; else NotYet. All answers but Work change nothing, and
+    /// so does NoMemory.
     pub fn hand(&mut self, m: ModuleId) -> Result<Handed, NoMemory>
         ensures ok { IfOk result (λ answer. IsHanded self.old self.new m.0 answer) }
         ensures err { OnErr result (self.new ≡ self.old) }
@@ -389,8 +389,8 @@ impl BookState {
         }
     }
 
-    /// The same as `enter`, answering the frames that wait from then on, each with the module that it
-    /// comes to.
+    /// The same as `enter`, answering the frames that wait from then on, each with the module that
+    /// it comes to.
     pub(crate) fn enter_sends(
         &mut self,
         m: ModuleId,
@@ -479,8 +479,8 @@ impl BookState {
     }
 
     /// What is left, where the book is that of this topology, these feeds and turns, nothing is in
-    /// hand, and nothing waits with turns left; else Differs of the module where it does not add up.
-    /// NoMemory where an allocation is refused.
+    /// hand, and nothing waits with turns left; else Differs of the module where it does not add
+    /// up. NoMemory where an allocation is refused.
     pub(crate) fn finish(
         self,
         topology: &Topology,

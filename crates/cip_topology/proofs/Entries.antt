@@ -16,7 +16,8 @@ item_count-items_view (v ∷ vs) = ap suc (item_count-items_view vs)
 pub ruleset counts = (item_count-items_view)
 
 -- one more module is read
-pub next_module : (links : List Link) (ms : List ModuleSettings) (vs : List Value) (i n : ℕ) (v : Value) (c : ModuleSettings) (r : Read (List ModuleSettings)) → i < length vs
+pub next_module : (links : List Link) (ms : List ModuleSettings) (vs : List Value) (i n : ℕ) (v : Value) (c : ModuleSettings) (r : Read (List ModuleSettings))
+    → i < length vs
     → v ≡ get_or vs i v → n ≡ length ms + 1 → settings_of n links ms (view v) ≡ Ok c → modules_after links ms (items_view (drop i vs)) ≡ r
     → modules_after links (ms ++ c ∷ []) (items_view (drop (i + 1) vs)) ≡ r
 next_module links ms vs i n v c r lt is count read rest =

@@ -1,5 +1,6 @@
 -- The index keeps finding the ports of the modules, with one more module.
-use Rattle.std.proofs.Common.{◌≡◌, ℕ, suc, ◌+◌, Bool, true, false, cond, List, [], ◌∷◌, ◌++◌, length, Option, Some, None, is_some, Ok, refl, sym, ap, ◌∙◌, arith}
+use Rattle.std.proofs.Common.{◌≡◌, ℕ, suc, ◌+◌, Bool, true, false, cond, List, [], ◌∷◌, ◌++◌}
+use Rattle.std.proofs.Common.{length, Option, Some, None, is_some, Ok, refl, sym, ap, ◌∙◌, arith}
 use Rattle.std.specs.Prelude.{slice_get, find, option_map}
 use Rattle.std.specs.Ordering.{eq_by_cmp, is_eq}
 use Rattle.std.specs.Cmp.{tied_itself}
@@ -56,14 +57,16 @@ abbrev first_seat : ℕ → Option PortConfig → Option Seat → Option Seat
 first_seat at (Some p) later = Some (seat_in at p)
 first_seat at None later = later
 
-no_more : (at : ℕ) (ps : List PortConfig) (seats : List (Spot × Seat)) (link : ℕ) (address : List ℕ) (seat : Seat) → AreFree at ps seats → seat_at seats link address ≡ Some seat
+no_more : (at : ℕ) (ps : List PortConfig) (seats : List (Spot × Seat)) (link : ℕ) (address : List ℕ) (seat : Seat)
+    → AreFree at ps seats → seat_at seats link address ≡ Some seat
     → find (is_at link address) ps ≡ None
 no_more at [] seats link address seat free e = refl
 no_more at (p ∷ ps) seats link address seat free e = by_spot (is_at link address p) refl
     (λ f. no_more at ps (seated (spot_of p) (seat_in at p) seats) link address seat free.1
     (seat_put at p seats link address ∙ ap (λ b. cond b (Some (seat_in at p)) (seat_at seats link address)) f ∙ e))
   where
-    by_spot : (b : Bool) → is_at link address p ≡ b → (is_at link address p ≡ false → find (is_at link address) ps ≡ None) → cond b (Some p) (find (is_at link address) ps) ≡ None
+    by_spot : (b : Bool) → is_at link address p ≡ b → (is_at link address p ≡ false → find (is_at link address) ps ≡ None)
+        → cond b (Some p) (find (is_at link address) ps) ≡ None
     by_spot true t rest =
         let there = is_there link address p t in
         let no : Some seat ≡ None = sym e ∙ (λ i. seat_at seats (sym there.0 i) (sym there.1 i)) ∙ free.0 in absurd (cc)
@@ -93,13 +96,18 @@ below_suc i j e = omega arith
 not_zero : (i : ℕ) → suc i ≡ 0 → ⊥
 not_zero i e = omega arith
 
-are_free : (at : ℕ) (ps : List PortConfig) (seats : List (Spot × Seat)) → ((i : ℕ) (p : PortConfig) → slice_get ps i ≡ Some p → seat_at seats p.link p.address ≡ None) → TellsApart spot_of ps
+are_free : (at : ℕ) (ps : List PortConfig) (seats : List (Spot × Seat))
+    → ((i : ℕ) (p : PortConfig) → slice_get ps i ≡ Some p → seat_at seats p.link p.address ≡ None) → TellsApart spot_of ps
     → AreFree at ps seats
 are_free at [] seats each alone = tt
-are_free at (p ∷ ps) seats each alone =
-    (each 0 p refl, are_free at ps (seated (spot_of p) (seat_in at p) seats) later (λ i j a b at_a at_b e. below_suc i j (alone (suc i) (suc j) a b at_a at_b e)))
+are_free at (p ∷ ps) seats each alone = (
+  each 0 p refl,
+  are_free at ps (seated (spot_of p) (seat_in at p) seats) later
+      (λ i j a b at_a at_b e. below_suc i j (alone (suc i) (suc j) a b at_a at_b e)),
+)
   where
-    by_spot : (i : ℕ) (q : PortConfig) → slice_get ps i ≡ Some q → (b : Bool) → is_at q.link q.address p ≡ b → cond b (Some (seat_in at p)) (seat_at seats q.link q.address) ≡ None
+    by_spot : (i : ℕ) (q : PortConfig) → slice_get ps i ≡ Some q → (b : Bool) → is_at q.link q.address p ≡ b
+        → cond b (Some (seat_in at p)) (seat_at seats q.link q.address) ≡ None
     by_spot i q at_q true t =
         let there = is_there q.link q.address p t in
         absurd (not_zero i (alone (suc i) 0 q p at_q refl (λ j. record { link = sym there.0 j; address = sym there.1 j })))
@@ -117,7 +125,8 @@ untaken modules link address h = by_node (node_from 0 modules link address) h
     by_node None e = refl
     by_node (Some n) e = absurd (cc)
 
-pub free_ports : (number : ℕ) (links : List Link) (modules : List ModuleSettings) (seats : List (Spot × Seat)) (d : Data) (c : ModuleSettings) → AreLinks links → IsIndexOf modules seats
+pub free_ports : (number : ℕ) (links : List Link) (modules : List ModuleSettings) (seats : List (Spot × Seat)) (d : Data) (c : ModuleSettings)
+    → AreLinks links → IsIndexOf modules seats
     → settings_of number links modules d ≡ Ok c → AreFree (length modules) c.ports seats
 free_ports number links modules seats d c are index h =
     let n = module_new number links modules d c are h in
@@ -141,13 +150,15 @@ node_new i (b ∷ cs) c link address e =
     by_port (λ s. node_new (i + 1) cs c link address s) (find (is_at link address) b.ports) e
     ∙ ap (λ (k : ℕ). or_later k (find (is_at link address) c.ports) None) (omega arith)
   where
-    by_port : (node_from (i + 1) cs link address ≡ None → node_from (i + 1) (cs ++ c ∷ []) link address ≡ or_later ((i + 1) + length cs) (find (is_at link address) c.ports) None)
+    by_port : (node_from (i + 1) cs link address ≡ None
+        → node_from (i + 1) (cs ++ c ∷ []) link address ≡ or_later ((i + 1) + length cs) (find (is_at link address) c.ports) None)
         → (o : Option PortConfig) → or_later i o (node_from (i + 1) cs link address) ≡ None
         → or_later i o (node_from (i + 1) (cs ++ c ∷ []) link address) ≡ or_later ((i + 1) + length cs) (find (is_at link address) c.ports) None
     by_port rest None s = rest s
     by_port rest (Some p) s = absurd (cc)
 
-pub index_push : (number : ℕ) (links : List Link) (modules : List ModuleSettings) (seats : List (Spot × Seat)) (d : Data) (c : ModuleSettings) → AreLinks links → IsIndexOf modules seats
+pub index_push : (number : ℕ) (links : List Link) (modules : List ModuleSettings) (seats : List (Spot × Seat)) (d : Data) (c : ModuleSettings)
+    → AreLinks links → IsIndexOf modules seats
     → settings_of number links modules d ≡ Ok c → IsIndexOf (modules ++ c ∷ []) (all_seated (length modules) c.ports seats)
 index_push number links modules seats d c are index h link address =
     all_found (length modules) c.ports seats link address (free_ports number links modules seats d c are index h)
@@ -171,7 +182,8 @@ index_push number links modules seats d c are index h link address =
     by_new (Some p) = ap (λ (k : ℕ). Some (seat_in k p)) (omega arith)
 
     by_node : (o : Option Node) → node_from 0 modules link address ≡ o
-        → first_seat (length modules) (find (is_at link address) c.ports) (option_map seat_of o) ≡ option_map seat_of (node_from 0 (modules ++ c ∷ []) link address)
+        → first_seat (length modules) (find (is_at link address) c.ports) (option_map seat_of o)
+        ≡ option_map seat_of (node_from 0 (modules ++ c ∷ []) link address)
     by_node (Some n) e =
         by_old n e (find (is_at link address) c.ports) refl
         ∙ ap (option_map seat_of) (sym (node_old 0 modules c link address n e))

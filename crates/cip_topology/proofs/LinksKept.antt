@@ -1,5 +1,6 @@
 -- The links that are read keep the rules of links.
-use Rattle.std.proofs.Common.{◌≡◌, ℕ, suc, ◌+◌, Bool, true, false, cond, List, [], ◌∷◌, ◌++◌, length, Option, Some, None, Ok, sym, ap, ◌∙◌, subst, arith, nat_le, inl, inr, length-append}
+use Rattle.std.proofs.Common.{◌≡◌, ℕ, suc, ◌+◌, Bool, true, false, cond, List, [], ◌∷◌, ◌++◌, length, Option}
+use Rattle.std.proofs.Common.{Some, None, Ok, sym, ap, ◌∙◌, subst, arith, nat_le, inl, inr, length-append}
 use Rattle.std.specs.Prelude.{codes}
 use Rattle.std.specs.Str.{bytes_eq}
 use Rattle.std.proofs.lemmas.Bool.{and_from}
@@ -20,7 +21,8 @@ use Rattle.cip_topology.proofs.Rules.{bind_ok, same_ok, passed, le_true, number_
 
 bytes_range : (place : Place) (m : Members) (l : LegalAddresses) → bytes_at place m ≡ Ok l → is_range l ≡ true
 bytes_range place m l h =
-    let (first, firsts, h1) = bind_ok (number_at place key.First 0 255 m) (λ first. number_at place key.Last first 255 m >>= λ last. Ok (Byte first last)) l h in
+    let (first, firsts, h1) = bind_ok (number_at place key.First 0 255 m)
+    (λ first. number_at place key.Last first 255 m >>= λ last. Ok (Byte first last)) l h in
     let (last, lasts, h2) = bind_ok (number_at place key.Last first 255 m) (λ last. Ok (Byte first last)) l h1 in
     let bounds = number_bounds place key.Last first 255 m last lasts in
     ap is_range (sym (same_ok (Byte first last) l h2)) ∙ le_true first last bounds.0
@@ -35,7 +37,8 @@ kind_range : (place : Place) (m : Members) (d : Data) (o : Option (List ℕ)) (l
 kind_range place m d None l h = cc
 kind_range place m d (Some kind) l h = by_kind (bytes_eq kind (codes "byte")) (bytes_eq kind (codes "text")) h
   where
-    by_kind : (a b : Bool) → ◌≡◌ {A = Read LegalAddresses} (cond a (bytes_at place m) (cond b (text_bytes_at place m) (out_of_range place key.Kind d))) (Ok l) → is_range l ≡ true
+    by_kind : (a b : Bool) → ◌≡◌ {A = Read LegalAddresses} (cond a (bytes_at place m) (cond b (text_bytes_at place m) (out_of_range place key.Kind d))) (Ok l)
+        → is_range l ≡ true
     by_kind true b e = bytes_range place m l e
     by_kind false true e = text_range place m l e
     by_kind false false e = cc
@@ -89,7 +92,8 @@ one_more links l k n = record {
 counted : (a b n : ℕ) → n ≡ (a + 1) + b → n ≡ a + suc b
 counted a b n e = omega arith
 
-pub links_kept : (links : List Link) (ds : Items) (ls : List Link) → LinksKept links → links_after links ds ≡ Ok ls → LinksKept ls × (length ls ≡ length links + item_count ds)
+pub links_kept : (links : List Link) (ds : Items) (ls : List Link) → LinksKept links → links_after links ds ≡ Ok ls
+    → LinksKept ls × (length ls ≡ length links + item_count ds)
 links_kept links no_items ls k h = let same = same_ok links ls h in (subst LinksKept same k, let e = ap length same in omega (arith, e))
 links_kept links (item d ds) ls k h =
     let (l, read, h1) = bind_ok (link_of (length links + 1) links d) (λ l. links_after (links ++ l ∷ []) ds) ls h in

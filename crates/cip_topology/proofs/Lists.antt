@@ -35,7 +35,8 @@ module _ {X : Type 0} where
   pub none_at : (f : X → Bool) (xs : List X) → list_any f xs ≡ false → (i : ℕ) (a : X) → slice_get xs i ≡ Some a → f a ≡ true → ⊥
   none_at f xs none i a at t = let no : true ≡ false = sym (any_at f xs i a at t) ∙ none in cc
 
-  pub apart_push : {K : Type 0} (of : X → K) (xs : List X) (x : X) → TellsApart of xs → ((i : ℕ) (a : X) → slice_get xs i ≡ Some a → of a ≡ of x → ⊥) → TellsApart of (xs ++ x ∷ [])
+  pub apart_push : {K : Type 0} (of : X → K) (xs : List X) (x : X) → TellsApart of xs → ((i : ℕ) (a : X) → slice_get xs i ≡ Some a → of a ≡ of x → ⊥)
+      → TellsApart of (xs ++ x ∷ [])
   apart_push of xs x apart new i j a b at bt e = by_both (get_push xs x a i at) (get_push xs x b j bt)
     where
       by_both : (slice_get xs i ≡ Some a) ⊎ ((i ≡ length xs) × (x ≡ a)) → (slice_get xs j ≡ Some b) ⊎ ((j ≡ length xs) × (x ≡ b)) → i ≡ j

@@ -1,5 +1,6 @@
 -- The modules that are read keep the rules of modules.
-use Rattle.std.proofs.Common.{◌≡◌, ℕ, suc, ◌+◌, ◌≤◌, true, false, ◌&&◌, eqb, List, [], ◌∷◌, ◌++◌, length, Option, Some, None, is_some, Ok, sym, ap, ◌∙◌, subst, arith, nat_le, nat_lt, inl, inr, ◌⊎◌, length-append}
+use Rattle.std.proofs.Common.{◌≡◌, ℕ, suc, ◌+◌, ◌≤◌, true, false, ◌&&◌, eqb, List, [], ◌∷◌, ◌++◌, length, Option, Some, None}
+use Rattle.std.proofs.Common.{is_some, Ok, sym, ap, ◌∙◌, subst, arith, nat_le, nat_lt, inl, inr, ◌⊎◌, length-append}
 use Rattle.std.specs.Prelude.{slice_get, ◌^◌}
 use Rattle.std.specs.List.{list_any}
 use Rattle.std.specs.Str.{bytes_eq}
@@ -21,7 +22,8 @@ use Rattle.cip_topology.specs.Plan.{AreLinks, HasPort, StandsOn, TellsApart, Add
 use Rattle.cip_topology.specs.Nodes.{Node}
 use Rattle.cip_topology.specs.Keys.{◌>>=◌, number_or_at, name_at, table_of, item_count}
 use Rattle.cip_topology.specs.PortTables.{ports_at, assemblies_at}
-use Rattle.cip_topology.specs.ModuleTables.{kind_at, identity_at, counts_at, new_name, has_originator, new_originator, is_taken, named_settings, settings_of_table, settings_of, modules_after}
+use Rattle.cip_topology.specs.ModuleTables.{kind_at, identity_at, counts_at, new_name, has_originator, new_originator}
+use Rattle.cip_topology.specs.ModuleTables.{is_taken, named_settings, settings_of_table, settings_of, modules_after}
 use Rattle.cip_topology.proofs.Ports.{some_same}
 use Rattle.cip_topology.proofs.WayBack.{there_is, node_found}
 use Rattle.cip_topology.proofs.Lists.{get_push, none_at, apart_push}
@@ -42,7 +44,8 @@ record CountsFit (c : Counts) : Type 0 where
 
 counts_fit : (place : Place) (m : Members) (c : Counts) → counts_at place m ≡ Ok c → CountsFit c
 counts_fit place m c h =
-    let (clock, e1, h1) = bind_ok (number_or_at place key.Clock 0 0 9223372036854775807 m) (λ clock. number_or_at place key.FirstId 1 1 4294967295 m >>= λ first_id.
+    let (clock, e1, h1) = bind_ok (number_or_at place key.Clock 0 0 9223372036854775807 m)
+    (λ clock. number_or_at place key.FirstId 1 1 4294967295 m >>= λ first_id.
     (number_or_at place key.FirstNumber 1 1 4294967295 m >>= λ first_number. (number_or_at place key.PendingRoom 256 1 256 m >>= λ pending_room.
     (number_or_at place key.HopRoom 256 1 256 m >>= λ hop_room.
     Ok (record { clock = clock; first_id = first_id; first_number = first_number; pending_room = pending_room; hop_room = hop_room }))))) c h in
@@ -53,7 +56,8 @@ counts_fit place m c h =
     let (first_number, e3, h3) = bind_ok (number_or_at place key.FirstNumber 1 1 4294967295 m) (λ first_number.
     number_or_at place key.PendingRoom 256 1 256 m >>= λ pending_room. (number_or_at place key.HopRoom 256 1 256 m >>= λ hop_room.
     Ok (record { clock = clock; first_id = first_id; first_number = first_number; pending_room = pending_room; hop_room = hop_room }))) c h2 in
-    let (pending_room, e4, h4) = bind_ok (number_or_at place key.PendingRoom 256 1 256 m) (λ pending_room. number_or_at place key.HopRoom 256 1 256 m >>= λ hop_room.
+    let (pending_room, e4, h4) = bind_ok (number_or_at place key.PendingRoom 256 1 256 m)
+    (λ pending_room. number_or_at place key.HopRoom 256 1 256 m >>= λ hop_room.
     Ok (record { clock = clock; first_id = first_id; first_number = first_number; pending_room = pending_room; hop_room = hop_room })) c h3 in
     let (hop_room, e5, h5) = bind_ok (number_or_at place key.HopRoom 256 1 256 m) (λ hop_room.
     Ok (record { clock = clock; first_id = first_id; first_number = first_number; pending_room = pending_room; hop_room = hop_room })) c h4 in
@@ -62,7 +66,8 @@ counts_fit place m c h =
     let b3 = number_or_bounds place key.FirstNumber 1 1 4294967295 m first_number (omega arith) (omega arith) e3 in
     let b4 = number_or_bounds place key.PendingRoom 256 1 256 m pending_room (omega arith) (omega arith) e4 in
     let b5 = number_or_bounds place key.HopRoom 256 1 256 m hop_room (omega arith) (omega arith) e5 in
-    let same : record { clock = clock; first_id = first_id; first_number = first_number; pending_room = pending_room; hop_room = hop_room } ≡ c = same_ok _ c h5 in
+    let same : record { clock = clock; first_id = first_id; first_number = first_number; pending_room = pending_room; hop_room = hop_room }
+    ≡ c = same_ok _ c h5 in
     subst CountsFit same (record {
       clock = below clock b1.1;
       id = le_true 1 first_id b2.0;
@@ -78,7 +83,8 @@ pub record IsNew (links : List Link) (modules : List ModuleSettings) (s : Module
   pub own : list_any (has_originator s.identity) modules ≡ false
   pub ports : PortsKept links (is_taken modules) s.ports
 
-named_new : (place : Place) (name : List ℕ) (links : List Link) (modules : List ModuleSettings) (m : Members) (s : ModuleSettings) → AreLinks links → is_name name ≡ true
+named_new : (place : Place) (name : List ℕ) (links : List Link) (modules : List ModuleSettings) (m : Members) (s : ModuleSettings)
+    → AreLinks links → is_name name ≡ true
     → named_settings place name links modules m ≡ Ok s → IsNew links modules s
 named_new place name links modules m s are is h =
     let made : ModuleKind → IdentityFields → Counts → List PortConfig → List _ → ModuleSettings = λ kind identity counts ports assemblies. record {
@@ -93,7 +99,8 @@ named_new place name links modules m s are is h =
       ports = ports;
       assemblies = assemblies;
     } in
-    let (kind, e1, h1) = bind_ok (kind_at place m) (λ kind. identity_at place m >>= λ identity. (counts_at place m >>= λ counts. (new_name place modules name >>= λ new.
+    let (kind, e1, h1) = bind_ok (kind_at place m)
+    (λ kind. identity_at place m >>= λ identity. (counts_at place m >>= λ counts. (new_name place modules name >>= λ new.
     (ports_at place links (is_taken modules) kind m >>= λ ports. (assemblies_at place m >>= λ assemblies. (new_originator place modules identity >>= λ own.
     Ok (made kind identity counts ports assemblies))))))) s h in
     let (identity, e2, h2) = bind_ok (identity_at place m) (λ identity. counts_at place m >>= λ counts. (new_name place modules name >>= λ new.
@@ -105,9 +112,11 @@ named_new place name links modules m s are is h =
     let (new, e4, h4) = bind_ok (new_name place modules name) (λ new.
     ports_at place links (is_taken modules) kind m >>= λ ports. (assemblies_at place m >>= λ assemblies. (new_originator place modules identity >>= λ own.
     Ok (made kind identity counts ports assemblies)))) s h3 in
-    let (ports, e5, h5) = bind_ok (ports_at place links (is_taken modules) kind m) (λ ports. assemblies_at place m >>= λ assemblies. (new_originator place modules identity >>= λ own.
+    let (ports, e5, h5) = bind_ok (ports_at place links (is_taken modules) kind m)
+    (λ ports. assemblies_at place m >>= λ assemblies. (new_originator place modules identity >>= λ own.
     Ok (made kind identity counts ports assemblies))) s h4 in
-    let (assemblies, e6, h6) = bind_ok (assemblies_at place m) (λ assemblies. new_originator place modules identity >>= λ own. Ok (made kind identity counts ports assemblies)) s h5 in
+    let (assemblies, e6, h6) = bind_ok (assemblies_at place m)
+    (λ assemblies. new_originator place modules identity >>= λ own. Ok (made kind identity counts ports assemblies)) s h5 in
     let (own, e7, h7) = bind_ok (new_originator place modules identity) (λ own. Ok (made kind identity counts ports assemblies)) s h6 in
     let fit = counts_fit place m counts e3 in
     let no_name = passed (list_any (λ (c : ModuleSettings). bytes_eq c.name name) modules) _ (Ok name) new e4 in
@@ -118,7 +127,8 @@ named_new place name links modules m s are is h =
     subst (IsNew links modules) same (record {
       legal = and_from (is_name name) _ is
           (and_from (are_counts (made kind identity counts ports assemblies)) _
-          (and_from (nat_lt counts.clock (2 ^ 63)) _ fit.clock (and_from (nat_le 1 counts.first_id) _ fit.id (and_from (nat_le 1 counts.first_number) _ fit.number
+          (and_from (nat_lt counts.clock (2 ^ 63)) _ fit.clock
+          (and_from (nat_le 1 counts.first_id) _ fit.id (and_from (nat_le 1 counts.first_number) _ fit.number
           (and_from (is_room 256 counts.pending_room) (is_room 256 counts.hop_room) fit.pending fit.hop))))
           (and_from (are_ports kind ports) (are_assemblies assemblies) all.1 some));
       name = no_name.0;
@@ -164,14 +174,16 @@ record HasNewPort (modules : List ModuleSettings) (c : ModuleSettings) (m : ℕ)
   place : ℕ
   has : slice_get c.ports place ≡ Some p
 
-port_push : (modules : List ModuleSettings) (c : ModuleSettings) (m : ℕ) (p : PortConfig) → HasPort (modules ++ c ∷ []) m p → HasPort modules m p ⊎ HasNewPort modules c m p
+port_push : (modules : List ModuleSettings) (c : ModuleSettings) (m : ℕ) (p : PortConfig) → HasPort (modules ++ c ∷ []) m p
+    → HasPort modules m p ⊎ HasNewPort modules c m p
 port_push modules c m p h = elim (get_push modules c h.config m h.at) [
   | inl old ↦ inl (record { config = h.config; place = h.place; at = old; has = h.has })
   | inr new ↦ inr (record { last = new.0; place = h.place; has = ap (λ (x : ModuleSettings). slice_get x.ports h.place) new.1 ∙ h.has })
 ]
 
 -- where a port stands, its spot is taken
-stands_taken : (modules : List ModuleSettings) (m : ℕ) (p : PortConfig) (link : ℕ) (address : List ℕ) → HasPort modules m p → p.link ≡ link → p.address ≡ address
+stands_taken : (modules : List ModuleSettings) (m : ℕ) (p : PortConfig) (link : ℕ) (address : List ℕ) → HasPort modules m p
+    → p.link ≡ link → p.address ≡ address
     → is_taken modules link address ≡ true
 stands_taken modules m p link address h e f =
     let found = node_found 0 modules link address m p h (there_is link address p e f) in
@@ -179,14 +191,17 @@ stands_taken modules m p link address h e f =
 
 both_true : (x y : IdentityFields) → ◌≡◌ {A = ℕ × ℕ} (x.vendor, x.serial) (y.vendor, y.serial) → (eqb x.vendor y.vendor && eqb x.serial y.serial) ≡ true
 both_true x y e =
-    and_from (eqb x.vendor y.vendor) (eqb x.serial y.serial) (eq-eqb x.vendor y.vendor (ap (λ (p : ℕ × ℕ). p.0) e)) (eq-eqb x.serial y.serial (ap (λ (p : ℕ × ℕ). p.1) e))
+    and_from (eqb x.vendor y.vendor) (eqb x.serial y.serial) (eq-eqb x.vendor y.vendor (ap (λ (p : ℕ × ℕ). p.0) e))
+    (eq-eqb x.serial y.serial (ap (λ (p : ℕ × ℕ). p.1) e))
 
-pub one_more : (links : List Link) (modules : List ModuleSettings) (c : ModuleSettings) → ModulesKept links modules → IsNew links modules c → ModulesKept links (modules ++ c ∷ [])
+pub one_more : (links : List Link) (modules : List ModuleSettings) (c : ModuleSettings) → ModulesKept links modules
+    → IsNew links modules c → ModulesKept links (modules ++ c ∷ [])
 one_more links modules c k n = record {
   legal = λ m a at. elim (get_push modules c a m at) [ inl old ↦ k.legal m a old | inr new ↦ ap is_settings (sym new.1) ∙ n.legal ];
   names = apart_push (λ (x : ModuleSettings). x.name) modules c k.names
       (λ i a at e. none_at (λ (x : ModuleSettings). bytes_eq x.name c.name) modules n.name i a at ((bytes_eq-Decides a.name c.name).1 e));
-  originators = apart_push originator modules c k.originators (λ i a at e. none_at (has_originator c.identity) modules n.own i a at (both_true a.identity c.identity e));
+  originators = apart_push originator modules c k.originators
+      (λ i a at e. none_at (has_originator c.identity) modules n.own i a at (both_true a.identity c.identity e));
   on_links = λ m p h. elim (port_push modules c m p h) [ inl old ↦ k.on_links m p old | inr new ↦ n.ports.on new.place p new.has ];
   addresses = λ m i p q h g e f. elim (port_push modules c m p h) [
     | inl old ↦ elim (port_push modules c i q g) [
@@ -207,7 +222,8 @@ counted a b n e = omega arith
 
 pub modules_kept : (links : List Link) (modules : List ModuleSettings) (ds : Items) (ms : List ModuleSettings) → AreLinks links → ModulesKept links modules
     → modules_after links modules ds ≡ Ok ms → ModulesKept links ms × (length ms ≡ length modules + item_count ds)
-modules_kept links modules no_items ms are k h = let same = same_ok modules ms h in (subst (ModulesKept links) same k, let e = ap length same in omega (arith, e))
+modules_kept links modules no_items ms are k h = let same = same_ok modules ms h in
+    (subst (ModulesKept links) same k, let e = ap length same in omega (arith, e))
 modules_kept links modules (item d ds) ms are k h =
     let (c, read, h1) = bind_ok (settings_of (length modules + 1) links modules d) (λ c. modules_after links (modules ++ c ∷ []) ds) ms h in
     let rest = modules_kept links (modules ++ c ∷ []) ds ms are (one_more links modules c k (module_new (length modules + 1) links modules d c are read)) h1 in

@@ -27,7 +27,8 @@ module _ {X : Type 0} (f : X → Bool) where
         | false ↦ λ t s. found_later y xs x (found xs x s)
       ] refl e
 
-  later : (y : X) (xs : List X) (k : ℕ) (x : X) → slice_get (y ∷ xs) k ≡ Some x → f x ≡ true → f y ≡ false → ((i : ℕ) → slice_get xs i ≡ Some x → (z : X) × (find f xs ≡ Some z)) → (z : X) × (find f xs ≡ Some z)
+  later : (y : X) (xs : List X) (k : ℕ) (x : X) → slice_get (y ∷ xs) k ≡ Some x → f x ≡ true → f y ≡ false
+      → ((i : ℕ) → slice_get xs i ≡ Some x → (z : X) × (find f xs ≡ Some z)) → (z : X) × (find f xs ≡ Some z)
   later y xs zero x at t s rest = let same = some_same y x at in let no : true ≡ false = sym t ∙ ap f (sym same) ∙ s in absurd (cc)
   later y xs (suc k) x at t s rest = rest k at
 
@@ -75,6 +76,7 @@ settings_differ c h =
     let (name, h1) = and_parts (is_name c.name) (are_counts c && (are_ports c.kind c.ports && are_assemblies c.assemblies)) h in
     let (counts, h2) = and_parts (are_counts c) (are_ports c.kind c.ports && are_assemblies c.assemblies) h1 in
     let (ports, assemblies) = and_parts (are_ports c.kind c.ports) (are_assemblies c.assemblies) h2 in
-    let (some, h3) = and_parts (nat_le 1 (length c.ports)) (nat_le (length c.ports) (most_ports c.kind) && (list_all is_port c.ports && numbers_differ c.ports)) ports in
+    let (some, h3) = and_parts (nat_le 1 (length c.ports))
+    (nat_le (length c.ports) (most_ports c.kind) && (list_all is_port c.ports && numbers_differ c.ports)) ports in
     let (few, h4) = and_parts (nat_le (length c.ports) (most_ports c.kind)) (list_all is_port c.ports && numbers_differ c.ports) h3 in
     (and_parts (list_all is_port c.ports) (numbers_differ c.ports) h4).1

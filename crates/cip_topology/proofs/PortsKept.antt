@@ -1,5 +1,6 @@
 -- The ports and the assemblies that are read keep the rules of a module's ports and assemblies.
-use Rattle.std.proofs.Common.{◌≡◌, ℕ, suc, ◌+◌, ◌≤◌, Bool, true, false, cond, not, ◌&&◌, ◌||◌, ◌==◌, eqb, List, [], ◌∷◌, ◌++◌, length, Option, Some, None, Ok, refl, sym, ap, ◌∙◌, subst, arith, nat_le, nat_lt, inl, inr, length-append}
+use Rattle.std.proofs.Common.{◌≡◌, ℕ, suc, ◌+◌, ◌≤◌, Bool, true, false, cond, not, ◌&&◌, ◌||◌, ◌==◌, eqb, List, [], ◌∷◌, ◌++◌, length}
+use Rattle.std.proofs.Common.{Option, Some, None, Ok, refl, sym, ap, ◌∙◌, subst, arith, nat_le, nat_lt, inl, inr, length-append}
 use Rattle.std.specs.Prelude.{slice_get}
 use Rattle.std.specs.List.{list_all, list_any}
 use Rattle.std.specs.Str.{bytes_eq}
@@ -9,7 +10,8 @@ use Rattle.toml.specs.Data.{Data, Items, no_items, item, Members}
 use Rattle.cip_module.specs.declared.config.PortConfig.{PortConfig}
 use Rattle.cip_module.specs.declared.config.ModuleKind.{ModuleKind}
 use Rattle.cip_module.specs.declared.config.ModuleKind.TheVariants.{Plain, Adapter, Indexed}
-use Rattle.cip_module.specs.Config.{is_range, is_legal, is_port, has_number, numbers_differ, has_instance, instances_differ, are_ports, are_assemblies, most_ports, is_adapter}
+use Rattle.cip_module.specs.Config.{is_range, is_legal, is_port, has_number, numbers_differ, has_instance}
+use Rattle.cip_module.specs.Config.{instances_differ, are_ports, are_assemblies, most_ports, is_adapter}
 use Rattle.cip_target.specs.declared.config.AssemblyConfig.{AssemblyConfig}
 use Rattle.cip_target.specs.Assemblies.{is_assembly}
 use Rattle.cip_topology.specs.declared.links.Link.{Link}
@@ -21,7 +23,8 @@ use Rattle.cip_topology.specs.Plan.{AreLinks, StandsOn, TellsApart}
 use Rattle.cip_topology.specs.Nodes.{is_at}
 use Rattle.cip_topology.specs.Seats.{spot_of}
 use Rattle.cip_topology.specs.Keys.{◌>>=◌, number_at, text_at, address_at, items_at, item_count, table_of}
-use Rattle.cip_topology.specs.PortTables.{new_number, link_from, link_or, link_named, port_on, port_of_table, port_of, ports_after, right_ports, ports_at, new_instance, assembly_of_table, assembly_of, assemblies_after, at_most, assemblies_at}
+use Rattle.cip_topology.specs.PortTables.{new_number, link_from, link_or, link_named, port_on, port_of_table, port_of, ports_after, right_ports}
+use Rattle.cip_topology.specs.PortTables.{ports_at, new_instance, assembly_of_table, assembly_of, assemblies_after, at_most, assemblies_at}
 use Rattle.cip_topology.proofs.Ports.{some_same}
 use Rattle.cip_topology.proofs.WayBack.{there_is}
 use Rattle.cip_topology.proofs.Lists.{get_push, none_at, apart_push, all_push, differ, differ_push}
@@ -37,10 +40,12 @@ instances_are : (as' : List AssemblyConfig) → instances_differ as' ≡ differ 
 instances_are [] = refl
 instances_are (a ∷ as') = ap (λ b. not (list_any (has_instance a.instance) as') && b) (instances_are as')
 
-numbers_push : (ps : List PortConfig) (p : PortConfig) → numbers_differ ps ≡ true → list_any (has_number p.number) ps ≡ false → numbers_differ (ps ++ p ∷ []) ≡ true
+numbers_push : (ps : List PortConfig) (p : PortConfig) → numbers_differ ps ≡ true → list_any (has_number p.number) ps ≡ false
+    → numbers_differ (ps ++ p ∷ []) ≡ true
 numbers_push ps p h new = numbers_are (ps ++ p ∷ []) ∙ differ_push (λ (q : PortConfig). q.number) ps p (sym (numbers_are ps) ∙ h) new
 
-instances_push : (as' : List AssemblyConfig) (a : AssemblyConfig) → instances_differ as' ≡ true → list_any (has_instance a.instance) as' ≡ false → instances_differ (as' ++ a ∷ []) ≡ true
+instances_push : (as' : List AssemblyConfig) (a : AssemblyConfig) → instances_differ as' ≡ true → list_any (has_instance a.instance) as' ≡ false
+    → instances_differ (as' ++ a ∷ []) ≡ true
 instances_push as' a h new = instances_are (as' ++ a ∷ []) ∙ differ_push (λ (b : AssemblyConfig). b.instance) as' a (sym (instances_are as') ∙ h) new
 
 -- ---- one port
@@ -65,7 +70,8 @@ link_found i (l ∷ ls) name found h = by_name (λ e. link_found (i + 1) ls name
     by_name more true e = here (some_same (i, l) found e)
     by_name more false e = later (more e)
 
-named_found : (place : Place) (links : List Link) (name : List ℕ) (found : ℕ × Link) → link_named place links name ≡ Ok found → slice_get links found.0 ≡ Some found.1
+named_found : (place : Place) (links : List Link) (name : List ℕ) (found : ℕ × Link) → link_named place links name ≡ Ok found
+    → slice_get links found.0 ≡ Some found.1
 named_found place links name found h = by_found (link_from 0 links name) refl h
   where
     by_found : (o : Option (ℕ × Link)) → link_from 0 links name ≡ o → link_or place name o ≡ Ok found → slice_get links found.0 ≡ Some found.1
@@ -92,7 +98,8 @@ not_false : (b : Bool) → not b ≡ false → b ≡ true
 not_false true h = refl
 not_false false h = sym h
 
-on_new : (place : Place) (links : List Link) (taken : ℕ → List ℕ → Bool) (ports : List PortConfig) (number : ℕ) (address : List ℕ) (found : ℕ × Link) (p : PortConfig)
+on_new : (place : Place) (links : List Link) (taken : ℕ → List ℕ → Bool) (ports : List PortConfig) (number : ℕ)
+    (address : List ℕ) (found : ℕ × Link) (p : PortConfig)
     → AreLinks links → slice_get links found.0 ≡ Some found.1 → list_any (has_number number) ports ≡ false
     → port_on place taken ports number address found ≡ Ok p → IsNew links taken ports p
 on_new place links taken ports number address found p are at new h =
@@ -116,7 +123,8 @@ table_new place links taken ports m p are h =
     new_number place ports n >>= λ number. (text_at (λ s. true) place key.Link m >>= λ name. (address_at place m >>= λ address.
     (link_named place links name >>= port_on place taken ports number address)))) p h in
     let (number, new, h2) = bind_ok (new_number place ports n) (λ number.
-    text_at (λ s. true) place key.Link m >>= λ name. (address_at place m >>= λ address. (link_named place links name >>= port_on place taken ports number address))) p h1 in
+    text_at (λ s. true) place key.Link m >>= λ name.
+    (address_at place m >>= λ address. (link_named place links name >>= port_on place taken ports number address))) p h1 in
     let (name, names, h3) = bind_ok (text_at (λ s. true) place key.Link m) (λ name.
     address_at place m >>= λ address. (link_named place links name >>= port_on place taken ports number address)) p h2 in
     let (address, addresses, h4) = bind_ok (address_at place m) (λ address. link_named place links name >>= port_on place taken ports number address) p h3 in
@@ -156,15 +164,18 @@ one_more links taken ports p k n = record {
     | inr new ↦ ap (λ (x : PortConfig). taken x.link x.address) (sym new.1) ∙ n.free
   ];
   alone = apart_push spot_of ports p k.alone
-      (λ i a at e. none_at (is_at p.link p.address) ports n.alone i a at (there_is p.link p.address a (ap (λ (s : Spot). s.link) e) (ap (λ (s : Spot). s.address) e)));
+      (λ i a at e. none_at (is_at p.link p.address) ports n.alone i a at
+      (there_is p.link p.address a (ap (λ (s : Spot). s.link) e) (ap (λ (s : Spot). s.address) e)));
 }
 
 counted : (a b n : ℕ) → n ≡ (a + 1) + b → n ≡ a + suc b
 counted a b n e = omega arith
 
-after_kept : (place : Place) (links : List Link) (taken : ℕ → List ℕ → Bool) (ports : List PortConfig) (ds : Items) (ps : List PortConfig) → AreLinks links → PortsKept links taken ports
+after_kept : (place : Place) (links : List Link) (taken : ℕ → List ℕ → Bool) (ports : List PortConfig) (ds : Items) (ps : List PortConfig)
+    → AreLinks links → PortsKept links taken ports
     → ports_after place links taken ports ds ≡ Ok ps → PortsKept links taken ps × (length ps ≡ length ports + item_count ds)
-after_kept place links taken ports no_items ps are k h = let same = same_ok ports ps h in (subst (PortsKept links taken) same k, let e = ap length same in omega (arith, e))
+after_kept place links taken ports no_items ps are k h = let same = same_ok ports ps h in
+    (subst (PortsKept links taken) same k, let e = ap length same in omega (arith, e))
 after_kept place links taken ports (item d ds) ps are k h =
     let inside = port_in place (length ports + 1) in
     let (p, read, h1) = bind_ok (port_of inside links taken ports d) (λ p. ports_after place links taken (ports ++ p ∷ []) ds) ps h in
@@ -207,11 +218,13 @@ record IsNewAssembly (assemblies : List AssemblyConfig) (a : AssemblyConfig) : T
   is_one : is_assembly a ≡ true
   instance : list_any (has_instance a.instance) assemblies ≡ false
 
-assembly_table_new : (place : Place) (assemblies : List AssemblyConfig) (m : Members) (a : AssemblyConfig) → assembly_of_table place assemblies m ≡ Ok a → IsNewAssembly assemblies a
+assembly_table_new : (place : Place) (assemblies : List AssemblyConfig) (m : Members) (a : AssemblyConfig)
+    → assembly_of_table place assemblies m ≡ Ok a → IsNewAssembly assemblies a
 assembly_table_new place assemblies m a h =
     let (n, instances, h1) = bind_ok (number_at place key.Instance 1 65535 m) (λ n.
     new_instance place assemblies n >>= λ instance. (number_at place key.Size 0 511 m >>= λ size. Ok (record { instance = instance; size = size }))) a h in
-    let (i, new, h2) = bind_ok (new_instance place assemblies n) (λ instance. number_at place key.Size 0 511 m >>= λ size. Ok (record { instance = instance; size = size })) a h1 in
+    let (i, new, h2) = bind_ok (new_instance place assemblies n)
+    (λ instance. number_at place key.Size 0 511 m >>= λ size. Ok (record { instance = instance; size = size })) a h1 in
     let (size, sizes, h3) = bind_ok (number_at place key.Size 0 511 m) (λ size. Ok (record { instance = i; size = size })) a h2 in
     let (none, same_number) = passed (list_any (has_instance n) assemblies) _ (Ok n) i new in
     let same_i = same_ok n i same_number in
@@ -223,7 +236,8 @@ assembly_table_new place assemblies m a h =
       instance = ap (λ (k : ℕ). list_any (has_instance k) assemblies) (sym same_i) ∙ none;
     })
 
-assembly_new : (place : Place) (assemblies : List AssemblyConfig) (d : Data) (a : AssemblyConfig) → assembly_of place assemblies d ≡ Ok a → IsNewAssembly assemblies a
+assembly_new : (place : Place) (assemblies : List AssemblyConfig) (d : Data) (a : AssemblyConfig) → assembly_of place assemblies d ≡ Ok a
+    → IsNewAssembly assemblies a
 unfolding assembly_of
 assembly_new place assemblies d a h =
     let (m, table, h1) = bind_ok (table_of place key.Assembly d) (assembly_of_table place assemblies) a h in
@@ -235,7 +249,8 @@ record AssembliesKept (assemblies : List AssemblyConfig) : Type 0 where
 
 assemblies_after_kept : (place : Place) (assemblies : List AssemblyConfig) (ds : Items) (all : List AssemblyConfig) → AssembliesKept assemblies
     → assemblies_after place assemblies ds ≡ Ok all → AssembliesKept all × (length all ≡ length assemblies + item_count ds)
-assemblies_after_kept place assemblies no_items all k h = let same = same_ok assemblies all h in (subst AssembliesKept same k, let e = ap length same in omega (arith, e))
+assemblies_after_kept place assemblies no_items all k h = let same = same_ok assemblies all h in
+    (subst AssembliesKept same k, let e = ap length same in omega (arith, e))
 assemblies_after_kept place assemblies (item d ds) all k h =
     let inside = assembly_in place (length assemblies + 1) in
     let (a, read, h1) = bind_ok (assembly_of inside assemblies d) (λ a. assemblies_after place (assemblies ++ a ∷ []) ds) all h in

@@ -1,5 +1,6 @@
 -- What a rule that was kept tells of the value that was read by it.
-use Rattle.std.proofs.Common.{◌≡◌, ℕ, ◌≤◌, Bool, true, false, cond, ◌&&◌, List, Option, Some, None, Ok, Err, refl, sym, ap, ◌∙◌, subst, arith, nat_le, nat_lt, cond}
+use Rattle.std.proofs.Common.{◌≡◌, ℕ, ◌≤◌, Bool, true, false, cond, ◌&&◌, List, Option, Some, None}
+use Rattle.std.proofs.Common.{Ok, Err, refl, sym, ap, ◌∙◌, subst, arith, nat_le, nat_lt, cond}
 use Rattle.std.proofs.lemmas.Bool.{and_parts}
 use Rattle.std.proofs.lemmas.Bool.Decides.{nat_tests}
 use Rattle.toml.specs.Data.{Data, Members, get_member, as_integer, as_str}
@@ -54,7 +55,8 @@ number_or_bounds place k otherwise least most m n low high h = by_value (get_mem
     by_value None e = let same = same_ok otherwise n e in (subst (λ y. least ≤ y) same low, subst (λ y. y ≤ most) same high)
     by_value (Some d) e = within_bounds place k least most d (natural (as_integer d)) n e
 
-text_if_passes : (test : List ℕ → Bool) (place : Place) (k : Key) (d : Data) (o : Option (List ℕ)) (s : List ℕ) → text_if test place k d o ≡ Ok s → test s ≡ true
+text_if_passes : (test : List ℕ → Bool) (place : Place) (k : Key) (d : Data) (o : Option (List ℕ)) (s : List ℕ)
+    → text_if test place k d o ≡ Ok s → test s ≡ true
 text_if_passes test place k d None s h = cc
 text_if_passes test place k d (Some x) s h =
     let (t, same) = kept (test x) _ x s h in

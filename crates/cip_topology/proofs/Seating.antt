@@ -49,7 +49,8 @@ goes_above es name i e h lt is = λ k d before.
     ] in
     spots_total.antisymm name _ ∙ ap ordering_reverse below
 
-pub goes_below : (es : List (Spot × Seat)) (name : Spot) (i : ℕ) (e : Spot × Seat) → i < length es → Greater ≡ spot_cmp (get_or es i e).0 name → IsBelowAt es name i
+pub goes_below : (es : List (Spot × Seat)) (name : Spot) (i : ℕ) (e : Spot × Seat) → i < length es
+    → Greater ≡ spot_cmp (get_or es i e).0 name → IsBelowAt es name i
 goes_below es name i e lt is = λ d _. spots_total.antisymm name _ ∙ ap ordering_reverse (compared es name i d e Greater lt is)
 
 pub stands_at : (es : List (Spot × Seat)) (name : Spot) (i : ℕ) (e : Spot × Seat) → i < length es → Equal ≡ spot_cmp (get_or es i e).0 name → StandsAt es name i
@@ -57,7 +58,8 @@ stands_at es name i e lt is = record { within = lt; spot = λ d. exact_spots _ _
 
 -- ---- what a place says of the index
 
-pub found_at : (es : List (Spot × Seat)) (name : Spot) (i : ℕ) (d : Spot × Seat) → AreRising es → StandsAt es name i → entries.find spot_cmp name es ≡ Some (get_or es i d).1
+pub found_at : (es : List (Spot × Seat)) (name : Spot) (i : ℕ) (d : Spot × Seat) → AreRising es → StandsAt es name i
+    → entries.find spot_cmp name es ≡ Some (get_or es i d).1
 found_at es name i d h s = ap (λ (n : Spot). entries.find spot_cmp n es) (sym (s.spot d)) ∙ find-at spot_cmp spots_total es i d h s.within
 
 pub not_found : (es : List (Spot × Seat)) (name : Spot) (i : ℕ) → AreRising es → FitsAt es name i → entries.find spot_cmp name es ≡ None

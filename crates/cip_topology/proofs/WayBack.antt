@@ -12,7 +12,8 @@ use Rattle.cip_topology.specs.Nodes.{is_at, Node, or_later, node_from, Way, own_
 use Rattle.cip_topology.proofs.Ports.{some_same, Found, found, finds, numbered, settings_differ}
 
 pub is_there : (link : ℕ) (address : List ℕ) (p : PortConfig) → is_at link address p ≡ true → (p.link ≡ link) × (p.address ≡ address)
-is_there link address p t = let both = and_parts (eqb p.link link) (bytes_eq p.address address) t in (eqb-true p.link link both.0, (bytes_eq-Decides p.address address).0 both.1)
+is_there link address p t = let both = and_parts (eqb p.link link) (bytes_eq p.address address) t in
+    (eqb-true p.link link both.0, (bytes_eq-Decides p.address address).0 both.1)
 
 pub there_is : (link : ℕ) (address : List ℕ) (p : PortConfig) → p.link ≡ link → p.address ≡ address → is_at link address p ≡ true
 there_is link address p e f = and_from (eqb p.link link) (bytes_eq p.address address) (eq-eqb p.link link e) ((bytes_eq-Decides p.address address).1 f)
@@ -26,7 +27,8 @@ pub record IsNode (i : ℕ) (cs : List ModuleSettings) (link : ℕ) (address : L
   pub port : HasPort cs offset node.port
   pub there : is_at link address node.port ≡ true
 
-node_later : (i : ℕ) (c : ModuleSettings) (cs : List ModuleSettings) (link : ℕ) (address : List ℕ) (node : Node) → IsNode (i + 1) cs link address node → IsNode i (c ∷ cs) link address node
+node_later : (i : ℕ) (c : ModuleSettings) (cs : List ModuleSettings) (link : ℕ) (address : List ℕ) (node : Node)
+    → IsNode (i + 1) cs link address node → IsNode i (c ∷ cs) link address node
 node_later i c cs link address node h = record {
   offset = suc h.offset;
   place_is = let is = h.place_is in omega (arith, is);
@@ -34,7 +36,8 @@ node_later i c cs link address node h = record {
   there = h.there;
 }
 
-node_now : (i : ℕ) (c : ModuleSettings) (cs : List ModuleSettings) (link : ℕ) (address : List ℕ) (p : PortConfig) (node : Node) → find (is_at link address) c.ports ≡ Some p → record { at = i; port = p } ≡ node
+node_now : (i : ℕ) (c : ModuleSettings) (cs : List ModuleSettings) (link : ℕ) (address : List ℕ) (p : PortConfig) (node : Node)
+    → find (is_at link address) c.ports ≡ Some p → record { at = i; port = p } ≡ node
     → IsNode i (c ∷ cs) link address node
 node_now i c cs link address p node e is =
     let f = found (is_at link address) c.ports p e in
@@ -46,26 +49,32 @@ node_now i c cs link address p node e is =
       there = ap (is_at link address) (sym port) ∙ f.passes;
     }
 
-pub node_is : (i : ℕ) (cs : List ModuleSettings) (link : ℕ) (address : List ℕ) (node : Node) → node_from i cs link address ≡ Some node → IsNode i cs link address node
+pub node_is : (i : ℕ) (cs : List ModuleSettings) (link : ℕ) (address : List ℕ) (node : Node) → node_from i cs link address ≡ Some node
+    → IsNode i cs link address node
 node_is i [] link address node e = absurd (cc)
 node_is i (c ∷ cs) link address node e =
-    elim (find (is_at link address) c.ports) as (λ (x : Option PortConfig). find (is_at link address) c.ports ≡ x → or_later i x (node_from (i + 1) cs link address) ≡ Some node → IsNode i (c ∷ cs) link address node) [
+    elim (find (is_at link address) c.ports) as (λ (x : Option PortConfig). find (is_at link address) c.ports ≡ x
+    → or_later i x (node_from (i + 1) cs link address) ≡ Some node → IsNode i (c ∷ cs) link address node) [
       | None ↦ λ t s. node_later i c cs link address node (node_is (i + 1) cs link address node s)
       | Some p ↦ λ t s. node_now i c cs link address p node t (some_same (record { at = i; port = p }) node s)
     ] refl e
 
-in_later : (i : ℕ) (c : ModuleSettings) (cs : List ModuleSettings) (link : ℕ) (address : List ℕ) (p : PortConfig) → is_at link address p ≡ true → (k : ℕ) → HasPort (c ∷ cs) k p
-    → find (is_at link address) c.ports ≡ None → ((k : ℕ) → HasPort cs k p → (node : Node) × (node_from (i + 1) cs link address ≡ Some node)) → (node : Node) × (node_from (i + 1) cs link address ≡ Some node)
+in_later : (i : ℕ) (c : ModuleSettings) (cs : List ModuleSettings) (link : ℕ) (address : List ℕ) (p : PortConfig)
+    → is_at link address p ≡ true → (k : ℕ) → HasPort (c ∷ cs) k p
+    → find (is_at link address) c.ports ≡ None → ((k : ℕ) → HasPort cs k p → (node : Node) × (node_from (i + 1) cs link address ≡ Some node))
+    → (node : Node) × (node_from (i + 1) cs link address ≡ Some node)
 in_later i c cs link address p t zero g s rest =
     let same = some_same c g.config g.at in
     let y = finds (is_at link address) c.ports g.place p (ap (λ (x : ModuleSettings). slice_get x.ports g.place) same ∙ g.has) t in
     let no : None ≡ Some y.0 = sym s ∙ y.1 in absurd (cc)
 in_later i c cs link address p t (suc k) g s rest = rest k (record { config = g.config; place = g.place; at = g.at; has = g.has })
 
-pub node_found : (i : ℕ) (cs : List ModuleSettings) (link : ℕ) (address : List ℕ) (m : ℕ) (p : PortConfig) → HasPort cs m p → is_at link address p ≡ true → (node : Node) × (node_from i cs link address ≡ Some node)
+pub node_found : (i : ℕ) (cs : List ModuleSettings) (link : ℕ) (address : List ℕ) (m : ℕ) (p : PortConfig) → HasPort cs m p
+    → is_at link address p ≡ true → (node : Node) × (node_from i cs link address ≡ Some node)
 node_found i [] link address m p h t = let e = h.at in absurd (cc)
 node_found i (c ∷ cs) link address m p h t =
-    elim (find (is_at link address) c.ports) as (λ (x : Option PortConfig). find (is_at link address) c.ports ≡ x → (node : Node) × (or_later i x (node_from (i + 1) cs link address) ≡ Some node)) [
+    elim (find (is_at link address) c.ports) as (λ (x : Option PortConfig). find (is_at link address) c.ports ≡ x
+    → (node : Node) × (or_later i x (node_from (i + 1) cs link address) ≡ Some node)) [
       | Some q ↦ λ s. (record { at = i; port = q }, refl)
       | None ↦ λ s. in_later i c cs link address p t m h s (λ k g. node_found (i + 1) cs link address k p g t)
     ] refl
@@ -93,7 +102,8 @@ module _ (t : Plan) (is_topology : IsTopology t) where
   pub leads_back : (way there : Way) → across t way ≡ Some there → across t there ≡ Some way
   leads_back way there e = by_config (slice_get t.modules way.at) refl e
     where
-      by_node : (c : ModuleSettings) (p : PortConfig) → slice_get t.modules way.at ≡ Some c → Found (has_number way.port) c.ports p → (o : Option Node) → node_from 0 t.modules p.link way.address ≡ o
+      by_node : (c : ModuleSettings) (p : PortConfig) → slice_get t.modules way.at ≡ Some c → Found (has_number way.port) c.ports p
+          → (o : Option Node) → node_from 0 t.modules p.link way.address ≡ o
           → comes_in p.address o ≡ Some there → across t there ≡ Some way
       by_node c p at port None found_is s = absurd (cc)
       by_node c p at port (Some node) found_is s =
@@ -106,16 +116,19 @@ module _ (t : Plan) (is_topology : IsTopology t) where
           let back = own_node way.at p here in
           ap (across t) (sym same)
           ∙ ap (λ (k : ℕ). leaves_by t.modules p.address (own_port t k node.port.number)) place
-          ∙ ap (λ (o : Option ModuleSettings). leaves_by t.modules p.address (option_and_then (λ (c : ModuleSettings). port_of c node.port.number) o)) is.port.at
+          ∙ ap (λ (o : Option ModuleSettings). leaves_by t.modules p.address
+          (option_and_then (λ (c : ModuleSettings). port_of c node.port.number) o)) is.port.at
           ∙ ap (leaves_by t.modules p.address) own
           ∙ ap (λ (l : ℕ). comes_in node.port.address (node_from 0 t.modules l p.address)) on.0
           ∙ ap (comes_in node.port.address) back
           ∙ (λ i. Some (record { at = way.at; port = eqb-true p.number way.port port.passes i; address = on.1 i }))
 
-      by_port : (c : ModuleSettings) → slice_get t.modules way.at ≡ Some c → (o : Option PortConfig) → port_of c way.port ≡ o → leaves_by t.modules way.address o ≡ Some there → across t there ≡ Some way
+      by_port : (c : ModuleSettings) → slice_get t.modules way.at ≡ Some c → (o : Option PortConfig) → port_of c way.port ≡ o
+          → leaves_by t.modules way.address o ≡ Some there → across t there ≡ Some way
       by_port c at None port s = absurd (cc)
       by_port c at (Some p) port s = by_node c p at (found (has_number way.port) c.ports p port) (node_from 0 t.modules p.link way.address) refl s
 
-      by_config : (o : Option ModuleSettings) → slice_get t.modules way.at ≡ o → leaves_by t.modules way.address (option_and_then (λ (c : ModuleSettings). port_of c way.port) o) ≡ Some there → across t there ≡ Some way
+      by_config : (o : Option ModuleSettings) → slice_get t.modules way.at ≡ o
+          → leaves_by t.modules way.address (option_and_then (λ (c : ModuleSettings). port_of c way.port) o) ≡ Some there → across t there ≡ Some way
       by_config None at s = absurd (cc)
       by_config (Some c) at s = by_port c at (port_of c way.port) refl s

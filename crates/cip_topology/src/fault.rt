@@ -99,7 +99,8 @@ pub enum LoadFault {
         name: Excerpt,
     },
     /// The address is none of those of the link.
-    #[error("{place}: `address` {} is not legal on link {link}; allowed: {}", Pairs(.address), Legal(*.legal))]
+    #[error("{place}: `address` {} is not legal on link {link}; \
+        allowed: {}", Pairs(.address), Legal(*.legal))]
     AddressNotLegal {
         place: Place,
         link: Name,

@@ -70,7 +70,7 @@ impl fmt::Display for Excerpt {
 #[derive(Debug, Drop)]
 pub enum Found {
     Integer(i64),
-    /// The front of a text, and its length in bytes.
+    /// The prefix of a text, and its length in bytes.
     Text(Excerpt, usize),
     Float,
     Boolean,

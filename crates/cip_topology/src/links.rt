@@ -12,7 +12,7 @@ pub struct Link {
 }
 
 impl Link {
-    /// The same link once more. It takes no memory.
+    /// A copy. It takes no memory.
     pub fn copy(&self) -> Link
         ensures { result ≡ self.now }
     {

@@ -52,7 +52,7 @@ impl Name {
         self.bytes.as_slice()
     }
 
-    /// The same name once more.
+    /// A copy.
     pub fn copy(&self) -> Name
         ensures { result ≡ self.now }
     {

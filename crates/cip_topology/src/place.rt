@@ -45,7 +45,7 @@ fn copy_name(name: &Option<Name>) -> Option<Name>
 }
 
 impl Place {
-    /// The same place once more.
+    /// A copy.
     pub fn copy(&self) -> Place
         ensures { result ≡ self.now }
     {

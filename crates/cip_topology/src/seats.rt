@@ -73,7 +73,7 @@ impl Seats {
         }
     }
 
-    /// The same seats once more; NoMemory where an allocation is refused.
+    /// A copy; NoMemory where an allocation is refused.
     pub(crate) fn copy(&self, alloc: Global) -> Result<Seats, NoMemory>
         ensures { IfOk result (λ s. s ≡ self.now) }
     {

@@ -133,7 +133,7 @@ impl Topology {
         }
     }
 
-    /// The same topology once more; NoMemory where an allocation is refused.
+    /// A copy; NoMemory where an allocation is refused.
     pub fn copy(&self, alloc: Global) -> Result<Topology, NoMemory>
         ensures { IfOk result (λ t. t ≡ self.now) }
     {

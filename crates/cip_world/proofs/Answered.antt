@@ -33,11 +33,13 @@ use Rattle.cip_laws.proofs.Weighing.{weight_gave}
 
 -- what a module takes waited: it does not drop the reply
 pub taken_waited : (t : Chassis) (j : Journal) (m port n : ℕ) (from bytes : List ℕ) (input : Input) (outs : List Output) (s : IsStepAt t.plan j m input outs)
-    → s.event ≡ events.Frame port from (bodies.Reply n bytes) → ((reason : Dropped) → Has outs (outputs.Dropped reason) → ⊥) → Waits (state_in s.config m j) n port from
+    → s.event ≡ events.Frame port from (bodies.Reply n bytes) → ((reason : Dropped) → Has outs (outputs.Dropped reason) → ⊥)
+    → Waits (state_in s.config m j) n port from
 taken_waited t j m port n from bytes input outs s is kept =
     let event : Event = events.Frame port from (bodies.Reply n bytes) in
     let step : table_step s.config (state_in s.config m j) event ≡ Some (record { state = next_state s.config (state_in s.config m j) event; outputs = outs }) =
-    subst (λ (e : Event). table_step s.config (state_in s.config m j) e ≡ Some (record { state = next_state s.config (state_in s.config m j) e; outputs = outs })) is
+    subst (λ (e : Event). table_step s.config (state_in s.config m j) e
+    ≡ Some (record { state = next_state s.config (state_in s.config m j) e; outputs = outs })) is
     (step_here t.plan j m m s.config input outs refl s.is_module s) in
     taken_waits s.config (state_in s.config m j) (next_state s.config (state_in s.config m j) event) port n from bytes outs
     (turned s.config (state_in s.config m j) event (next_state s.config (state_in s.config m j) event) outs step)
@@ -48,13 +50,15 @@ taken_waited t j m port n from bytes input outs s is kept =
 frame_body : (port : ℕ) (from : List ℕ) (b c : Body) → events.Frame port from b ≡ events.Frame port from c → b ≡ c
 frame_body port from b c e = cc
 
-reply_weighs : (n : ℕ) (x : Flight) (there : Way) (bytes : List ℕ) → x.way ≡ there → x.body ≡ bodies.Reply n bytes → 1 ≤ is_reply (Link there.port there.address n) (out_of x)
+reply_weighs : (n : ℕ) (x : Flight) (there : Way) (bytes : List ℕ) → x.way ≡ there → x.body ≡ bodies.Reply n bytes
+    → 1 ≤ is_reply (Link there.port there.address n) (out_of x)
 reply_weighs n x there bytes way body =
     let whole : out_of x ≡ outputs.Send there.port there.address (bodies.Reply n bytes) = λ i. outputs.Send ((way i).port) ((way i).address) (body i) in
     let one = ap (is_reply (Link there.port there.address n)) whole in
     let self : (eqb there.port there.port && bytes_eq there.address there.address) && eqb n n ≡ true =
     and_from (eqb there.port there.port && bytes_eq there.address there.address) (eqb n n)
-    (and_from (eqb there.port there.port) (bytes_eq there.address there.address) (eq-eqb there.port there.port refl) ((bytes_eq-Decides there.address there.address).1 refl)) (eq-eqb n n refl) in
+    (and_from (eqb there.port there.port) (bytes_eq there.address there.address) (eq-eqb there.port there.port refl)
+    ((bytes_eq-Decides there.address there.address).1 refl)) (eq-eqb n n refl) in
     let two = ap mark self in
     omega (arith, one, two)
 
@@ -75,7 +79,8 @@ module _ (t : Chassis) (j : Journal) (f : FrameName) (m port n : ℕ) (from byte
 
   replied : 1 ≤ weight (is_reply (Link there.port there.address n)) (part there.at j)
   replied =
-      let one = weight_gave (is_reply (Link there.port there.address n)) (part there.at j) (out_of a.waits.flight) (frame_gave t.plan j f a.waits.flight run a.waits.sent) in
+      let one = weight_gave (is_reply (Link there.port there.address n)) (part there.at j) (out_of a.waits.flight)
+      (frame_gave t.plan j f a.waits.flight run a.waits.sent) in
       let heavy = reply_weighs n a.waits.flight there bytes refl what.1 in
       omega (arith, one, heavy)
 
@@ -98,7 +103,8 @@ module _ (t : Chassis) (j : Journal) (f : FrameName) (m port n : ℕ) (from byte
   sent_here : Gave (part m j) (outputs.Send port from (bodies.Request n asking.0))
   sent_here =
       subst (λ (o : Output). Gave (part m j) o) sent_out
-      (subst (λ (k : ℕ). Gave (part k j) (out_of brought.flight)) (ap (λ (w : Way). w.at) from_here) (frame_gave t.plan j brought.name brought.flight run brought.sent))
+      (subst (λ (k : ℕ). Gave (part k j) (out_of brought.flight)) (ap (λ (w : Way). w.at) from_here)
+      (frame_gave t.plan j brought.name brought.flight run brought.sent))
 
   pub answers : Answered t.plan j f m port n from
   answers = record {

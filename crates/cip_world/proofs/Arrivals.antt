@@ -42,7 +42,8 @@ pub record Brought (t : Chassis) (j : Journal) (m port : ℕ) (from : List ℕ) 
   pub body_is : flight.body ≡ body
   pub named : is_named j name ≡ true
 
-brought_older : (t : Chassis) (e : Entry) (j : Journal) (m port : ℕ) (from : List ℕ) (body : Body) → Brought t j m port from body → Brought t (e ∷ j) m port from body
+brought_older : (t : Chassis) (e : Entry) (j : Journal) (m port : ℕ) (from : List ℕ) (body : Body) → Brought t j m port from body
+    → Brought t (e ∷ j) m port from body
 brought_older t e j m port from body h = record {
   name = h.name;
   flight = h.flight;
@@ -52,7 +53,8 @@ brought_older t e j m port from body h = record {
   named = or_right (names h.name e) (is_named j h.name) h.named;
 }
 
-frame_parts : (port : ℕ) (from : List ℕ) (body : Body) (p : ℕ) (f : List ℕ) (b : Body) → events.Frame port from body ≡ events.Frame p f b → (port ≡ p) × (from ≡ f) × (body ≡ b)
+frame_parts : (port : ℕ) (from : List ℕ) (body : Body) (p : ℕ) (f : List ℕ) (b : Body) → events.Frame port from body ≡ events.Frame p f b
+    → (port ≡ p) × (from ≡ f) × (body ≡ b)
 frame_parts port from body p f b e = (cc, cc, cc)
 
 pub same_self : (f : FrameName) → same_name f f ≡ true
@@ -73,7 +75,8 @@ pub record FrameGiven (t : Chassis) (j : Journal) (m port : ℕ) (from : List �
   pub body_is : flight.body ≡ body
   pub fresh : is_named j name ≡ false
 
-pub frame_given : (t : Chassis) (j : Journal) (m : ℕ) (input : Input) (event : Event) (port : ℕ) (from : List ℕ) (body : Body) → IsGiven t.plan j m input event → event ≡ events.Frame port from body
+pub frame_given : (t : Chassis) (j : Journal) (m : ℕ) (input : Input) (event : Event) (port : ℕ) (from : List ℕ) (body : Body)
+    → IsGiven t.plan j m input event → event ≡ events.Frame port from body
     → FrameGiven t j m port from body input
 frame_given t j m (inputs.Command command) event port from body h e = let no : events.Command command ≡ events.Frame port from body = sym h ∙ e in absurd (cc)
 frame_given t j m (inputs.Tick ms) event port from body h e = let no : events.Tick ms ≡ events.Frame port from body = sym h ∙ e in absurd (cc)
@@ -92,7 +95,8 @@ frame_given t j m (inputs.Frame p f name) event port from body a e =
 brought_now : (t : Chassis) (j : Journal) (m : ℕ) (n : ModuleId) (port : ℕ) (from : List ℕ) (body : Body) (input : Input) (outs : List Output)
     → n.0 ≡ m → (s : IsStepAt t.plan j n.0 input outs) → s.event ≡ events.Frame port from body → Brought t (Step n input outs ∷ j) m port from body
 brought_now t j m n port from body input outs same s e =
-    let a : FrameGiven t j m port from body input = subst (λ (k : ℕ). FrameGiven t j k port from body input) same (frame_given t j n.0 input s.event port from body s.given e) in
+    let a : FrameGiven t j m port from body input =
+    subst (λ (k : ℕ). FrameGiven t j k port from body input) same (frame_given t j n.0 input s.event port from body s.given e) in
     let named : names a.name (Step n input outs) ≡ true = ap (λ (i : Input). names a.name (Step n i outs)) a.input_is ∙ same_self a.name in
     record {
       name = a.name;
@@ -128,7 +132,8 @@ request_weighs n x bytes e =
     omega (arith, one, two)
 
 -- a request under one number of one sender has one name
-pub one_request : (t : Chassis) (j : Journal) (f g : FrameName) (x y : Flight) (n : ℕ) (b c : List ℕ) → IsRun t.plan j → x.way.at ≡ y.way.at → frame_at j f ≡ Some x → frame_at j g ≡ Some y
+pub one_request : (t : Chassis) (j : Journal) (f g : FrameName) (x y : Flight) (n : ℕ) (b c : List ℕ) → IsRun t.plan j
+    → x.way.at ≡ y.way.at → frame_at j f ≡ Some x → frame_at j g ≡ Some y
     → x.body ≡ bodies.Request n b → y.body ≡ bodies.Request n c → f ≡ g
 one_request t j f g x y n b c run same h k p q =
     let from = sender t.plan j f x run h in
@@ -187,7 +192,8 @@ asked_that (events.Tick ms) port n from h = absurd (omega (arith, h))
 abbrev CameSo : ℕ → ℕ → List ℕ → List Turn → Type 0
 CameSo port n from turns = (b : List ℕ) × Came (λ event. event ≡ events.Frame port from (bodies.Request n b)) turns
 
-counted_by : (port n : ℕ) (from : List ℕ) (turn : Turn) (turns : List Turn) (k : ℕ) → is_asked_by (Link port from n) turn.event ≡ k → (k ≡ 0 → CameSo port n from turns) → CameSo port n from (turn ∷ turns)
+counted_by : (port n : ℕ) (from : List ℕ) (turn : Turn) (turns : List Turn) (k : ℕ) → is_asked_by (Link port from n) turn.event ≡ k
+    → (k ≡ 0 → CameSo port n from turns) → CameSo port n from (turn ∷ turns)
 counted_by port n from turn turns zero e old = let before = old refl in (before.0, inr before.1)
 counted_by port n from turn turns (suc k) e old = let is = asked_that turn.event port n from (omega (arith, e)) in (is.bytes, inl is.event_is)
 
@@ -205,12 +211,14 @@ at_most : (a b : ℕ) → a ≤ 1 → b ≤ 1 → (1 ≤ a → b ≡ 0) → a + 
 at_most zero b p q h = omega (arith, q)
 at_most (suc a) b p q h = let none = h (omega arith) in omega (arith, p, none)
 
-asked_first : (t : Chassis) (j : Journal) (m k port n : ℕ) (from : List ℕ) (input : Input) (event : Event) → IsRun t.plan j → k ≡ m → IsGiven t.plan j k input event
+asked_first : (t : Chassis) (j : Journal) (m k port n : ℕ) (from : List ℕ) (input : Input) (event : Event) → IsRun t.plan j
+    → k ≡ m → IsGiven t.plan j k input event
     → 1 ≤ is_asked_by (Link port from n) event → came (is_asked_by (Link port from n)) (part m j) ≡ 0
 asked_first t j m k port n from input event run same is asks =
     let that = asked_that event port n from asks in
     let a : FrameGiven t j m port from (bodies.Request n that.bytes) input =
-    subst (λ (i : ℕ). FrameGiven t j i port from (bodies.Request n that.bytes) input) same (frame_given t j k input event port from (bodies.Request n that.bytes) is that.event_is) in
+    subst (λ (i : ℕ). FrameGiven t j i port from (bodies.Request n that.bytes) input) same
+    (frame_given t j k input event port from (bodies.Request n that.bytes) is that.event_is) in
     by_count (came (is_asked_by (Link port from n)) (part m j)) (came (is_asked_by (Link port from n)) (part m j)) refl (λ some.
     let old = counted_came port n from (part m j) some in
     comes_once t j m port n from old.0 that.bytes input run old.1 a)
@@ -221,7 +229,8 @@ asked_once t [] m port n from run = omega arith
 asked_once t (Step k input outs ∷ j) m port n from run =
     let old = asked_once t j m port n from run.0 in
     part_step (λ turns. came (is_asked_by (Link port from n)) turns ≤ 1) t.plan m k input outs j run.1
-    (λ same. at_most (is_asked_by (Link port from n) run.1.event) (came (is_asked_by (Link port from n)) (part m j)) (to_at_most (Link port from n) (asker run.1.event)) old
+    (λ same. at_most (is_asked_by (Link port from n) run.1.event) (came (is_asked_by (Link port from n)) (part m j))
+    (to_at_most (Link port from n) (asker run.1.event)) old
     (λ asks. asked_first t j m k.0 port n from input run.1.event run.0 same run.1.given asks))
     old
 asked_once t (Lost frame ∷ j) m port n from run = asked_once t j m port n from run.0

@@ -15,7 +15,8 @@ use Rattle.cip_world.specs.Waiting.{waiting}
 use Rattle.cip_world.proofs.Listed.{all_listed}
 use Rattle.cip_world.proofs.Waits.{listed_waits, waits_listed}
 
-module _ (t : Plan) (j : Journal) (listed : List FrameName) (looked : ℕ) (l : IsLedger t j listed looked) (full : length (newest_outputs j) ≡ looked) (f : FrameName) where
+module _ (t : Plan) (j : Journal) (listed : List FrameName) (looked : ℕ) (l : IsLedger t j listed looked)
+    (full : length (newest_outputs j) ≡ looked) (f : FrameName) where
   same : list_any (λ g. same_name g f) (waiting t j) ≡ list_any (λ g. same_name g f) listed
   same = ap (list_any (λ g. same_name g f)) (all_listed t j listed looked l full)
 
@@ -32,7 +33,8 @@ module _ (t : Plan) (j : Journal) (listed : List FrameName) (looked : ℕ) (l : 
 some_same : {A : Type 0} (a b : A) → Some a ≡ Some b → a ≡ b
 some_same a b e = cc
 
-pub comes : (t : Plan) (j : Journal) (f : FrameName) (flying : Flying) (r : Option Coming) → IsWaiting t j f → Some (flight flying) ≡ frame_at j f → option_map way_in r ≡ goes t (flight flying).way
+pub comes : (t : Plan) (j : Journal) (f : FrameName) (flying : Flying) (r : Option Coming) → IsWaiting t j f
+    → Some (flight flying) ≡ frame_at j f → option_map way_in r ≡ goes t (flight flying).way
     → IfSome r (λ c. c.body.now ≡ flying.body.now) → IfSome r (IsComing t j f)
 comes t j f flying None w is way body = tt
 comes t j f flying (Some c) w is way body =

@@ -25,7 +25,8 @@ got_within (y ∷ ys) (suc i) x e = let l = got_within ys i x e in omega (arith,
 pub some_same : {A : Type 0} (a b : A) → Some a ≡ Some b → a ≡ b
 some_same a b e = cc
 
-node_within : (t : Plan) (link : ℕ) (address from : List ℕ) (there : Way) (o : Option Node) → node_from 0 t.modules link address ≡ o → comes_in from o ≡ Some there → there.at < length t.modules
+node_within : (t : Plan) (link : ℕ) (address from : List ℕ) (there : Way) (o : Option Node) → node_from 0 t.modules link address ≡ o
+    → comes_in from o ≡ Some there → there.at < length t.modules
 node_within t link address from there None e h = absurd (cc)
 node_within t link address from there (Some n) e h =
     let is = node_is 0 t.modules link address n e in
@@ -47,7 +48,8 @@ comes_within t j f c h =
     let same = ap (λ (w : Way). w.at) h.here in
     omega (arith, l, same)
 
-pub comes_given : (t : Plan) (j : Journal) (f : FrameName) (c : Coming) (from again : List ℕ) (body : Body) → IsComing t j f c → from ≡ c.from.now → again ≡ from → body ≡ c.body.now
+pub comes_given : (t : Plan) (j : Journal) (f : FrameName) (c : Coming) (from again : List ℕ) (body : Body) → IsComing t j f c
+    → from ≡ c.from.now → again ≡ from → body ≡ c.body.now
     → IsArrival t j f c.at.0 c.port again (events.Frame c.port from body)
 comes_given t j f c from again body h is too b = record {
   waits = h.waits;
@@ -55,7 +57,8 @@ comes_given t j f c from again body h is too b = record {
   event_is = λ i. events.Frame c.port (sym too i) ((b ∙ sym h.body_is) i);
 }
 
-pub frame_fault : {X : Type 0} (t : Plan) (j : Journal) (m : ℕ) (u : Plan) (k : Journal) (f : FrameName) (port : ℕ) (from : List ℕ) (body : Body) (r : Result X WorldFault) → m < length t.modules
+pub frame_fault : {X : Type 0} (t : Plan) (j : Journal) (m : ℕ) (u : Plan) (k : Journal) (f : FrameName) (port : ℕ)
+    (from : List ℕ) (body : Body) (r : Result X WorldFault) → m < length t.modules
     → IfErr r (IsFeedFault t j m (events.Frame port from body)) → IfErr r (IsFrameFault u k f)
 frame_fault t j m u k f port from body (Ok x) l h = tt
 frame_fault t j m u k f port from body (Err NoModule) l h = absurd (omega (arith, l, h))

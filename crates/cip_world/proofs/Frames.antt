@@ -40,7 +40,8 @@ has_at (x ∷ os) (suc i) o e = inr (has_at os i o e)
 -- ---- the entry of a name is the newest, or an older one
 
 module _ (e : Entry) (j : Journal) (f : FrameName) where
-  pub at_entry : (P : Option Flight → Type 0) → (f.entry ≡ length j → P (sent_by (Some e) f.output)) → (eqb f.entry (length j) ≡ false → P (frame_at j f)) → P (frame_at (e ∷ j) f)
+  pub at_entry : (P : Option Flight → Type 0) → (f.entry ≡ length j → P (sent_by (Some e) f.output))
+      → (eqb f.entry (length j) ≡ false → P (frame_at j f)) → P (frame_at (e ∷ j) f)
   at_entry P here old =
       elim (eqb f.entry (length j)) as (λ b. eqb f.entry (length j) ≡ b → P (sent_by (cond b (Some e) (entry_at j f.entry)) f.output)) [
         | true ↦ λ t. here (eqb-true f.entry (length j) t)
@@ -75,7 +76,8 @@ frame_gave t (e ∷ j) f x run h =
     (λ apart old. older (λ turn. Has turn.outputs (out_of x)) x.way.at e j (frame_gave t j f x run.0 old))
     h
 
-module_here : (t : Plan) (e : Entry) (j : Journal) (i : ℕ) (x : Flight) → IsRun t (e ∷ j) → sent_by (Some e) i ≡ Some x → (config : ModuleSettings) × IsModule t x.way.at config
+module_here : (t : Plan) (e : Entry) (j : Journal) (i : ℕ) (x : Flight) → IsRun t (e ∷ j) → sent_by (Some e) i ≡ Some x
+    → (config : ModuleSettings) × IsModule t x.way.at config
 module_here t (Step n input outs) j i x run h =
     let is = flight_is n.0 (slice_get outs i) x h in
     (run.1.config, subst (λ (k : ℕ). IsModule t k run.1.config) is.0 run.1.is_module)
@@ -93,7 +95,8 @@ sender t (e ∷ j) f x run h =
 -- ---- one of a kind
 
 module _ (w : Output → ℕ) (m : ℕ) (t : Plan) where
-  weight_here : (e : Entry) (j : Journal) (i : ℕ) (x : Flight) → IsRun t (e ∷ j) → x.way.at ≡ m → 1 ≤ w (out_of x) → sent_by (Some e) i ≡ Some x → 1 + weight w (part m j) ≤ weight w (part m (e ∷ j))
+  weight_here : (e : Entry) (j : Journal) (i : ℕ) (x : Flight) → IsRun t (e ∷ j) → x.way.at ≡ m → 1 ≤ w (out_of x)
+      → sent_by (Some e) i ≡ Some x → 1 + weight w (part m j) ≤ weight w (part m (e ∷ j))
   weight_here (Step n input outs) j i x run at heavy h =
       let is = flight_is n.0 (slice_get outs i) x h in
       let all = ap (weight w) (part_here t m n input outs j run.1 (is.0 ∙ at)) in
@@ -101,7 +104,8 @@ module _ (w : Output → ℕ) (m : ℕ) (t : Plan) where
       omega (arith, all, one, heavy)
   weight_here (Lost frame) j i x run at heavy h = absurd (cc)
 
-  place_here : (e : Entry) (j : Journal) (i k : ℕ) (x y : Flight) → IsRun t (e ∷ j) → weight w (part m (e ∷ j)) ≤ 1 → x.way.at ≡ m → 1 ≤ w (out_of x) → 1 ≤ w (out_of y)
+  place_here : (e : Entry) (j : Journal) (i k : ℕ) (x y : Flight) → IsRun t (e ∷ j) → weight w (part m (e ∷ j)) ≤ 1
+      → x.way.at ≡ m → 1 ≤ w (out_of x) → 1 ≤ w (out_of y)
       → sent_by (Some e) i ≡ Some x → sent_by (Some e) k ≡ Some y → i ≡ k
   place_here (Step n input outs) j i k x y run most at a b h g =
       let is = flight_is n.0 (slice_get outs i) x h in
@@ -116,7 +120,8 @@ module _ (w : Output → ℕ) (m : ℕ) (t : Plan) where
       let one = weight_gave w (part m j) (out_of x) given in omega (arith, one, heavy)
 
   -- where a module gave one of a kind at most, two frames of that kind are one
-  pub one_frame : (j : Journal) (f g : FrameName) (x y : Flight) → IsRun t j → weight w (part m j) ≤ 1 → x.way.at ≡ m → y.way.at ≡ m → 1 ≤ w (out_of x) → 1 ≤ w (out_of y)
+  pub one_frame : (j : Journal) (f g : FrameName) (x y : Flight) → IsRun t j → weight w (part m j) ≤ 1 → x.way.at ≡ m
+      → y.way.at ≡ m → 1 ≤ w (out_of x) → 1 ≤ w (out_of y)
       → frame_at j f ≡ Some x → frame_at j g ≡ Some y → (f.entry ≡ g.entry) × (f.output ≡ g.output)
   one_frame [] f g x y run most at too a b h k = absurd (cc)
   one_frame (e ∷ j) f g x y run most at too a b h k =

@@ -29,7 +29,8 @@ map_twice : {A B C : Type 0} (f : B → C) (g : A → B) (xs : List A) → map (
 map_twice f g [] = refl
 map_twice f g (x ∷ xs) = ap (λ ys. f (g x) ∷ ys) (map_twice f g xs)
 
-pub differ_at : {A X : Type 0} (f : A → X) (boxes : List A) (xs : List X) (m : ℕ) (b : A) (x : X) → map f (take m boxes) ≡ take m xs → slice_get boxes m ≡ Some b → slice_get xs m ≡ Some x
+pub differ_at : {A X : Type 0} (f : A → X) (boxes : List A) (xs : List X) (m : ℕ) (b : A) (x : X) → map f (take m boxes) ≡ take m xs
+    → slice_get boxes m ≡ Some b → slice_get xs m ≡ Some x
     → (f b ≡ x → ⊥) → DifferFirst (map f boxes) xs m
 differ_at f boxes xs m b x before at there n = record {
   before = take_map f boxes m ∙ before;
@@ -37,22 +38,27 @@ differ_at f boxes xs m b x before at there n = record {
   differ = λ e. n (some_same (f b) x (sym (slice_get-map f boxes m b at) ∙ e ∙ there));
 }
 
-module _ {A : Type 0} (state : A → State) (config : A → ModuleSettings) (boxes : List A) (m : ℕ) (so_far : map state (take m boxes) ≡ map (λ b. initial_state (config b)) (take m boxes)) where
+module _ {A : Type 0} (state : A → State) (config : A → ModuleSettings) (boxes : List A) (m : ℕ)
+    (so_far : map state (take m boxes) ≡ map (λ b. initial_state (config b)) (take m boxes)) where
   far : map state (take m boxes) ≡ take m (map initial_state (map config boxes))
   far =
-      so_far ∙ map_twice initial_state config (take m boxes) ∙ ap (map initial_state) (sym (take_map config boxes m)) ∙ sym (take_map initial_state (map config boxes) m)
+      so_far ∙ map_twice initial_state config (take m boxes) ∙ ap (map initial_state) (sym (take_map config boxes m))
+      ∙ sym (take_map initial_state (map config boxes) m)
 
   -- the module at m is not in its first state
-  pub stale_at : (b : A) → slice_get boxes m ≡ Some b → (state b ≡ initial_state (config b) → ⊥) → DifferFirst (map state boxes) (map initial_state (map config boxes)) m
+  pub stale_at : (b : A) → slice_get boxes m ≡ Some b → (state b ≡ initial_state (config b) → ⊥)
+      → DifferFirst (map state boxes) (map initial_state (map config boxes)) m
   stale_at b at n =
       differ_at state boxes (map initial_state (map config boxes)) m b (initial_state (config b)) far at
       (slice_get-map initial_state (map config boxes) m (config b) (slice_get-map config boxes m b at)) n
 
   pub all_fresh : length boxes ≤ m → map state boxes ≡ map initial_state (map config boxes)
   all_fresh l =
-      ap (map state) (sym (take_all boxes m l)) ∙ so_far ∙ map_twice initial_state config (take m boxes) ∙ ap (λ bs. map initial_state (map config bs)) (take_all boxes m l)
+      ap (map state) (sym (take_all boxes m l)) ∙ so_far ∙ map_twice initial_state config (take m boxes)
+      ∙ ap (λ bs. map initial_state (map config bs)) (take_all boxes m l)
 
-pub fresh_just : {E : Type 0} (config : ModuleSettings) (s : State) (tables : Tables) (r : Result Bool E) → ShowsState s tables → HasRooms config s → IsPaired s.pendings s.hops
+pub fresh_just : {E : Type 0} (config : ModuleSettings) (s : State) (tables : Tables) (r : Result Bool E) → ShowsState s tables
+    → HasRooms config s → IsPaired s.pendings s.hops
     → IfOk r (λ b. IsTrue b ↔ ShowsState (initial_state config) tables) → IfOk r (λ b. IsTrue b ↔ (s ≡ initial_state config))
 fresh_just config s tables (Ok b) shows rooms paired h =
     ((λ t. fresh config s tables paired shows (h.0 t) rooms), λ e. h.1 (subst (λ (x : State). ShowsState x tables) e shows))

@@ -19,7 +19,8 @@ newest_is t j k m outs i n = ap (λ (x : Journal). newest_from t x i) n.is ∙ a
 
 pub rest_rises : (t : Plan) (j : Journal) (listed : List FrameName) (looked k m : ℕ) (outs : List Output) → IsLedger t j listed looked → IsNewest j k m outs
     → AreRising (listed ++ frames_of t m k looked (drop looked outs))
-rest_rises t j listed looked k m outs l n = subst AreRising (l.waits ∙ ap (λ (x : List FrameName). listed ++ x) (newest_is t j k m outs looked n)) (waiting_rise t j)
+rest_rises t j listed looked k m outs l n =
+    subst AreRising (l.waits ∙ ap (λ (x : List FrameName). listed ++ x) (newest_is t j k m outs looked n)) (waiting_rise t j)
 
 drop_all : (outs : List Output) → drop (length outs) outs ≡ []
 drop_all [] = refl
@@ -34,11 +35,13 @@ all_left : (t : Plan) (e : Entry) (j : Journal) → frames_in t (length j) e ≡
 all_left t (Step m input outs) j = refl
 all_left t (Lost frame) j = refl
 
-pub all_listed : (t : Plan) (j : Journal) (listed : List FrameName) (looked : ℕ) → IsLedger t j listed looked → length (newest_outputs j) ≡ looked → waiting t j ≡ listed
+pub all_listed : (t : Plan) (j : Journal) (listed : List FrameName) (looked : ℕ) → IsLedger t j listed looked
+    → length (newest_outputs j) ≡ looked → waiting t j ≡ listed
 all_listed t j listed looked l e = l.waits ∙ ap (λ (x : List FrameName). listed ++ x) (none_left t j looked e) ∙ append-nil listed
 
 pub added : (t : Plan) (entries items : List Entry) (e : Entry) (listed left : List FrameName) (looked : ℕ) → IsLedger t (reverse entries) listed looked
-    → length (newest_outputs (reverse entries)) ≡ looked → IsNext t (reverse entries) e → left ≡ filter (λ f. not (is_that f (named_by e))) listed → items ≡ entries ++ e ∷ []
+    → length (newest_outputs (reverse entries)) ≡ looked → IsNext t (reverse entries) e → left ≡ filter (λ f. not (is_that f (named_by e))) listed
+    → items ≡ entries ++ e ∷ []
     → IsLedger t (reverse items) left 0
 added t entries items e listed left looked l full next is new =
     let j : Journal = reverse entries in

@@ -42,7 +42,8 @@ eq_then Equal p = refl
 eq_then Greater p = refl
 
 pub same_sym : (f g : FrameName) → same_name f g ≡ same_name g f
-same_sym f g = both_ways (same_name f g) (same_name g f) (λ t. ap (same_name g) (name_eq f g t) ∙ same_self g) (λ t. ap (same_name f) (name_eq g f t) ∙ same_self f)
+same_sym f g = both_ways (same_name f g) (same_name g f) (λ t. ap (same_name g) (name_eq f g t)
+    ∙ same_self g) (λ t. ap (same_name f) (name_eq g f t) ∙ same_self f)
 
 at_same_name : (f g : FrameName) → is_at (name_cmp f) g ≡ same_name f g
 at_same_name f g =
@@ -58,4 +59,5 @@ less_differ f g h = sym (at_same f g) ∙ ap is_eq h
 pub all_stay : (f : FrameName) (gs : List FrameName) → AllByRecursion (λ g. name_cmp f g ≡ Less) gs → filter (λ g. not (same_name g f)) gs ≡ gs
 all_stay f [] h = refl
 all_stay f (g ∷ gs) h =
-    ap (λ b. cond (not b) (g ∷ filter (λ g. not (same_name g f)) gs) (filter (λ g. not (same_name g f)) gs)) (less_differ f g h.0) ∙ ap (λ (xs : List FrameName). g ∷ xs) (all_stay f gs h.1)
+    ap (λ b. cond (not b) (g ∷ filter (λ g. not (same_name g f)) gs) (filter (λ g. not (same_name g f)) gs)) (less_differ f g h.0)
+    ∙ ap (λ (xs : List FrameName). g ∷ xs) (all_stay f gs h.1)

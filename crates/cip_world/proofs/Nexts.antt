@@ -18,7 +18,8 @@ use Rattle.cip_world.specs.Runs.{IsModule, state_in, IsStepAt}
 use Rattle.cip_world.specs.Worlds.{HasNoStep}
 use Rattle.cip_world.proofs.Parts.{given_event}
 
-step_next : (t : Plan) (j : Journal) (m : ModuleId) (input : Input) (event : Event) (config : ModuleSettings) (o : Option Stepped) → event_of j input ≡ Some event → IsModule t m.0 config
+step_next : (t : Plan) (j : Journal) (m : ModuleId) (input : Input) (event : Event) (config : ModuleSettings) (o : Option Stepped)
+    → event_of j input ≡ Some event → IsModule t m.0 config
     → table_step config (state_in config m.0 j) event ≡ o → next t j m input ≡ option_map (with_step m input j) o
 step_next t j m input event config o given is step =
     ap (option_and_then (λ e. option_and_then (λ c. option_map (with_step m input j) (table_step c (state_in c m.0 j) e)) (slice_get t.modules m.0))) given
@@ -26,24 +27,28 @@ step_next t j m input event config o given is step =
     ∙ ap (option_map (with_step m input j)) step
 
 -- a step of a run
-pub step_is_next : (t : Plan) (j : Journal) (m : ModuleId) (input : Input) (outs : List Output) → IsStepAt t j m.0 input outs → next t j m input ≡ Some (Step m input outs ∷ j)
+pub step_is_next : (t : Plan) (j : Journal) (m : ModuleId) (input : Input) (outs : List Output) → IsStepAt t j m.0 input outs
+    → next t j m input ≡ Some (Step m input outs ∷ j)
 step_is_next t j m input outs s =
     step_next t j m input s.event s.config (Some (record { state = s.new; outputs = outs })) (given_event t j m.0 input s.event s.given) s.is_module s.step
 
 -- where the table has no step there is no next journal
-pub no_next : (t : Plan) (j : Journal) (m : ModuleId) (input : Input) (event : Event) → event_of j input ≡ Some event → HasNoStep t j m.0 event → next t j m input ≡ None
+pub no_next : (t : Plan) (j : Journal) (m : ModuleId) (input : Input) (event : Event) → event_of j input ≡ Some event
+    → HasNoStep t j m.0 event → next t j m input ≡ None
 no_next t j m input event given none = step_next t j m input event none.config None given none.is_module none.none
 
 -- nor where there is no such module
 pub no_module_next : (t : Plan) (j : Journal) (m : ModuleId) (input : Input) → slice_get t.modules m.0 ≡ None → next t j m input ≡ None
 no_module_next t j m input none = by (event_of j input)
   where
-    by : (o : Option Event) → option_and_then (λ e. option_and_then (λ c. option_map (with_step m input j) (table_step c (state_in c m.0 j) e)) (slice_get t.modules m.0)) o ≡ None
+    by : (o : Option Event) → option_and_then
+        (λ e. option_and_then (λ c. option_map (with_step m input j) (table_step c (state_in c m.0 j) e)) (slice_get t.modules m.0)) o ≡ None
     by None = refl
     by (Some e) = ap (option_and_then (λ c. option_map (with_step m input j) (table_step c (state_in c m.0 j) e))) none
 
 -- an arrival of a run
-pub arrival_is_delivered : (t : Plan) (j : Journal) (m : ModuleId) (port : ℕ) (from : List ℕ) (f : FrameName) (outs : List Output) → IsStepAt t j m.0 (Frame port from f) outs
+pub arrival_is_delivered : (t : Plan) (j : Journal) (m : ModuleId) (port : ℕ) (from : List ℕ) (f : FrameName) (outs : List Output)
+    → IsStepAt t j m.0 (Frame port from f) outs
     → delivered t j f ≡ Some (Step m (Frame port from f) outs ∷ j)
 arrival_is_delivered t j m port from f outs s =
     let a = s.given in

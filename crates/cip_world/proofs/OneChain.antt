@@ -49,7 +49,8 @@ goes_once t j x (y ∷ ys) (z ∷ zs) a b =
     let rest = goes_once t j z ys zs (subst (λ (m : Member). GoesOnBy t j m ys) same a.1) b.1 in
     λ i. same i ∷ rest i
 
-pub chain_once : (t : Plan) (j : Journal) (op : ℕ) (x y : Member) (xs ys : List Member) → x.at ≡ y.at → IsChain t j op x xs → IsChain t j op y ys → (x ≡ y) × (xs ≡ ys)
+pub chain_once : (t : Plan) (j : Journal) (op : ℕ) (x y : Member) (xs ys : List Member) → x.at ≡ y.at → IsChain t j op x xs
+    → IsChain t j op y ys → (x ≡ y) × (xs ≡ ys)
 chain_once t j op x y xs ys at a b =
     let config = same_module t y.at x.at a.has.config b.has.config at a.has.is_module b.has.is_module in
     let hop : x.hop ≡ y.hop = some_hop x.hop y.hop (sym a.opened ∙ (λ i. hop_by_op (state_in (config i) (at i) j).hops op) ∙ b.opened) in

@@ -93,7 +93,8 @@ module _ (config : ModuleSettings) (turns : List Turn) (turn : Turn) (h : IsHist
 -- ---- in a run
 
 -- the op is used up in every later state
-pub used_later : (t : Plan) (j : Journal) (m : ℕ) (config : ModuleSettings) → IsRun t j → IsModule t m config → (k op : ℕ) (at : ModuleId) (timing : Timing) (path : List ℕ) (params : OpenParams)
+pub used_later : (t : Plan) (j : Journal) (m : ℕ) (config : ModuleSettings) → IsRun t j → IsModule t m config
+    → (k op : ℕ) (at : ModuleId) (timing : Timing) (path : List ℕ) (params : OpenParams)
     (outs : List Output) → entry_at j k ≡ Some (Step at (inputs.Command (commands.Open op timing path params)) outs) → at.0 ≡ m → IsTaken outs
     → is_spent op (state_in config m j).ops ≡ true
 used_later t [] m config run is k op at timing path params outs e same taken = absurd (cc)

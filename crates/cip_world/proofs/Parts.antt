@@ -36,7 +36,8 @@ turn_there t m n input outs j s = ap (λ o. with_turn o outs (part m j)) (given_
 -- an entry of m itself
 pub part_here : (t : Plan) (m : ℕ) (n : ModuleId) (input : Input) (outs : List Output) (j : Journal) (s : IsStepAt t j n.0 input outs) → n.0 ≡ m
     → part m (Step n input outs ∷ j) ≡ turn_of s.event outs ∷ part m j
-part_here t m n input outs j s same = cond-true (eqb n.0 m) (with_turn (event_of j input) outs (part m j)) (part m j) (eq-eqb n.0 m same) ∙ turn_there t m n input outs j s
+part_here t m n input outs j s same = cond-true (eqb n.0 m) (with_turn (event_of j input) outs (part m j)) (part m j) (eq-eqb n.0 m same)
+    ∙ turn_there t m n input outs j s
 
 -- what holds of m's part, and of that with the new turn where the entry is of m, holds of the new part
 pub part_step : (P : List Turn → Type 0) (t : Plan) (m : ℕ) (n : ModuleId) (input : Input) (outs : List Output) (j : Journal) (s : IsStepAt t j n.0 input outs)
@@ -83,10 +84,12 @@ some_map P Q f (turn ∷ turns) (inr h) = inr (some_map P Q f turns h)
 pub same_module : (t : Plan) (m n : ℕ) (c d : ModuleSettings) → n ≡ m → IsModule t n c → IsModule t m d → c ≡ d
 same_module t m n c d same a b = let both : Some c ≡ Some d = sym a ∙ ap (slice_get t.modules) same ∙ b in cc
 
-stepped_to : (o : Option Stepped) (s new : State) (outs : List Output) → o ≡ Some (record { state = new; outputs = outs }) → o ≡ Some (record { state = stepped o s; outputs = outs })
+stepped_to : (o : Option Stepped) (s new : State) (outs : List Output) → o ≡ Some (record { state = new; outputs = outs })
+    → o ≡ Some (record { state = stepped o s; outputs = outs })
 stepped_to o s new outs e = e ∙ ap (λ (x : State). Some (record { state = x; outputs = outs })) (sym (ap (λ x. stepped x s) e))
 
-pub step_here : (t : Plan) (j : Journal) (m n : ℕ) (config : ModuleSettings) (input : Input) (outs : List Output) → n ≡ m → IsModule t m config → (s : IsStepAt t j n input outs)
+pub step_here : (t : Plan) (j : Journal) (m n : ℕ) (config : ModuleSettings) (input : Input) (outs : List Output) → n ≡ m
+    → IsModule t m config → (s : IsStepAt t j n input outs)
     → table_step config (state_in config m j) s.event ≡ Some (record { state = next_state config (state_in config m j) s.event; outputs = outs })
 step_here t j m n config input outs same is s =
     let own : s.config ≡ config = same_module t m n s.config config same s.is_module is in

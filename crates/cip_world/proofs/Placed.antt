@@ -25,7 +25,8 @@ one_on k n =
 oldest : (j : Journal) (y : Entry) → entry_at (j ++ y ∷ []) zero ≡ Some y
 oldest [] y = refl
 oldest (e ∷ j) y =
-    ap (λ (n : ℕ). cond (eqb 0 n) (Some e) (entry_at (j ++ y ∷ []) 0)) (one_longer j y) ∙ ap (λ b. cond b (Some e) (entry_at (j ++ y ∷ []) 0)) (not_first (length j)) ∙ oldest j y
+    ap (λ (n : ℕ). cond (eqb 0 n) (Some e) (entry_at (j ++ y ∷ []) 0)) (one_longer j y)
+    ∙ ap (λ b. cond b (Some e) (entry_at (j ++ y ∷ []) 0)) (not_first (length j)) ∙ oldest j y
 
 later : (j : Journal) (y : Entry) (k : ℕ) → entry_at (j ++ y ∷ []) (suc k) ≡ entry_at j k
 later [] y k = ap (λ b. cond b (Some y) None) (after_first k)

@@ -49,7 +49,8 @@ one_further t n old mid new h one =
 pub shown_at : {A : Type 0} (told : Told) (config : A → ModuleSettings) (state : A → State) (boxes : List A) (m : ℕ) (b : A) (tables : Tables)
     → Stand told (map config boxes) (map state boxes) → slice_get boxes m ≡ Some b → ShowsState (state b) tables → IsShownAt told.plan told.journal m tables
 shown_at told config state boxes m b tables stand at shows =
-    let there : IsModule told.plan m (config b) = subst (λ (cs : List ModuleSettings). slice_get cs m ≡ Some (config b)) stand.same (slice_get-map config boxes m b at) in
+    let there : IsModule told.plan m (config b) =
+    subst (λ (cs : List ModuleSettings). slice_get cs m ≡ Some (config b)) stand.same (slice_get-map config boxes m b at) in
     let same : state b ≡ state_in (config b) m told.journal =
     some_same (state b) (state_in (config b) m told.journal) (sym (slice_get-map state boxes m b at) ∙ stand.stand.each m (config b) there) in
     record { config = config b; is_module = there; shows = subst (λ (s : State). ShowsState s tables) same shows }
@@ -64,7 +65,8 @@ slice_get-none f (x ∷ xs) (suc i) e = slice_get-none f xs i e
 pub looked_at : {A : Type 0} (told : Told) (config : A → ModuleSettings) (state : A → State) (boxes : List A) (m : ℕ) (b : A) (look : Hops → Option Hop)
     → Stand told (map config boxes) (map state boxes) → slice_get boxes m ≡ Some b → look (state b).hops ≡ looked_up told.plan told.journal m look
 looked_at told config state boxes m b look stand at =
-    let there : IsModule told.plan m (config b) = subst (λ (cs : List ModuleSettings). slice_get cs m ≡ Some (config b)) stand.same (slice_get-map config boxes m b at) in
+    let there : IsModule told.plan m (config b) =
+    subst (λ (cs : List ModuleSettings). slice_get cs m ≡ Some (config b)) stand.same (slice_get-map config boxes m b at) in
     let same : state b ≡ state_in (config b) m told.journal =
     some_same (state b) (state_in (config b) m told.journal) (sym (slice_get-map state boxes m b at) ∙ stand.stand.each m (config b) there) in
     ap (λ (s : State). look s.hops) same ∙ sym (ap (option_and_then (λ (c : ModuleSettings). look (state_in c m told.journal).hops)) there)

@@ -15,7 +15,8 @@ use Rattle.cip_world.proofs.Parts.{run_history}
 
 -- the request number n that came to module m by a port from an address
 module _ (t : Chassis) (j : Journal) (m : ℕ) (config : ModuleSettings) (run : IsRun t.plan j) (is : IsModule t.plan m config) (port n : ℕ) (from : List ℕ) where
-  claimed : weight (is_reply (Link port from n)) (part m j) + waits_for (Link port from n) (state_in config m j) ≤ came (is_asked_by (Link port from n)) (part m j)
+  claimed : weight (is_reply (Link port from n)) (part m j) + waits_for (Link port from n) (state_in config m j) ≤ came
+      (is_asked_by (Link port from n)) (part m j)
   claimed = (claims config (Link port from n) (part m j) (run_history t.plan j m config run is)).1
 
   pub replied_once : weight (is_reply (Link port from n)) (part m j) ≤ 1
@@ -26,7 +27,8 @@ module _ (t : Chassis) (j : Journal) (m : ℕ) (config : ModuleSettings) (run : 
   replied_after h = let all = claimed in omega (arith, all, h)
 
   -- none while something waits for it
-  pub waits_unreplied : (k : ℕ) (p : entries.Entry) → map.get (state_in config m j).pendings.entries k ≡ Some p → same_up p.up (Link port from n) ≡ true → weight (is_reply (Link port from n)) (part m j) ≡ 0
+  pub waits_unreplied : (k : ℕ) (p : entries.Entry) → map.get (state_in config m j).pendings.entries k ≡ Some p
+      → same_up p.up (Link port from n) ≡ true → weight (is_reply (Link port from n)) (part m j) ≡ 0
   waits_unreplied k p at same =
       let all = claimed in let once = asked_once t j m port n from run in let one = waits_counted (Link port from n) (state_in config m j) k p at same in
       omega (arith, all, once, one)

@@ -45,7 +45,8 @@ or_none_rest : (P : FrameName → Type 0) (b : Bool) (f : FrameName) (fs : List 
 or_none_rest P true f fs h = h.1
 or_none_rest P false f fs h = h
 
-or_none_kept : (test : FrameName → Bool) (b : Bool) (f : FrameName) (fs : List FrameName) → test f ≡ true → filter test (or_none b f fs) ≡ or_none b f (filter test fs)
+or_none_kept : (test : FrameName → Bool) (b : Bool) (f : FrameName) (fs : List FrameName) → test f ≡ true
+    → filter test (or_none b f fs) ≡ or_none b f (filter test fs)
 or_none_kept test true f fs e = ap (λ t. cond t (f ∷ filter test fs) (filter test fs)) e
 or_none_kept test false f fs e = refl
 
@@ -82,7 +83,8 @@ has_at (x ∷ es) (suc i) d name h lt e =
     let below = subst (λ (n : FrameName). name_cmp x.0 n ≡ Less) e (below-at name_cmp x.0 es i d (first _ _ h) (omega arith)) in
     or_none_any (λ f. same_name f name) x.1 x.0 (names_in es)
     ∙ ap (λ b. (x.1 && b) || list_any (λ f. same_name f name) (names_in es)) (above_differs x.0 name below)
-    ∙ elim x.1 as (λ b. ((b && false) || list_any (λ f. same_name f name) (names_in es)) ≡ list_any (λ f. same_name f name) (names_in es)) [ true ↦ refl | false ↦ refl ]
+    ∙ elim x.1 as (λ b. ((b && false) || list_any (λ f. same_name f name) (names_in es)) ≡ list_any (λ f. same_name f name) (names_in es))
+    [ true ↦ refl | false ↦ refl ]
     ∙ has_at es i d name (second _ _ h) (omega arith) e
 
 found_differs : (b : Bool) (x : Bool) (o : Option Bool) → cond b (Some x) o ≡ None → b ≡ false
@@ -98,14 +100,16 @@ has_not [] name n = refl
 has_not (x ∷ es) name n =
     or_none_any (λ f. same_name f name) x.1 x.0 (names_in es)
     ∙ ap (λ b. (x.1 && b) || list_any (λ f. same_name f name) (names_in es)) (sym (at_same name x.0) ∙ found_differs (eq_by_cmp name_cmp name x.0) x.1 _ n)
-    ∙ elim x.1 as (λ b. ((b && false) || list_any (λ f. same_name f name) (names_in es)) ≡ list_any (λ f. same_name f name) (names_in es)) [ true ↦ refl | false ↦ refl ]
+    ∙ elim x.1 as (λ b. ((b && false) || list_any (λ f. same_name f name) (names_in es)) ≡ list_any (λ f. same_name f name) (names_in es))
+    [ true ↦ refl | false ↦ refl ]
     ∙ has_not es name (found_later (eq_by_cmp name_cmp name x.0) x.1 _ n)
 
 pub none_goes : (es : List Spot) (name : FrameName) → value_of name es ≡ None → names_in es ≡ filter (λ f. not (same_name f name)) (names_in es)
 none_goes [] name n = refl
 none_goes (x ∷ es) name n =
     ap (or_none x.1 x.0) (none_goes es name (found_later (eq_by_cmp name_cmp name x.0) x.1 _ n))
-    ∙ sym (or_none_kept (λ f. not (same_name f name)) x.1 x.0 (names_in es) (ap not (sym (at_same name x.0) ∙ found_differs (eq_by_cmp name_cmp name x.0) x.1 _ n)))
+    ∙ sym (or_none_kept (λ f. not (same_name f name)) x.1 x.0 (names_in es)
+    (ap not (sym (at_same name x.0) ∙ found_differs (eq_by_cmp name_cmp name x.0) x.1 _ n)))
 
 -- ---- a name is taken out
 
@@ -121,7 +125,8 @@ goes_at (x ∷ es) (suc i) d name h lt e =
     ap (or_none x.1 x.0) (goes_at es i d name (second _ _ h) (omega arith) e)
     ∙ sym (or_none_kept (λ f. not (same_name f name)) x.1 x.0 (names_in es) (ap not (above_differs x.0 name below)))
 
-pub first_goes : (es : List Spot) (name : FrameName) → AreSpots es → is_first es name ≡ true → names_in (drop 1 es) ≡ filter (λ f. not (same_name f name)) (names_in es)
+pub first_goes : (es : List Spot) (name : FrameName) → AreSpots es → is_first es name ≡ true
+    → names_in (drop 1 es) ≡ filter (λ f. not (same_name f name)) (names_in es)
 first_goes [] name s t = absurd (true_false (sym t))
 first_goes (x ∷ es) name s t =
     let e : x.0 ≡ name = name_eq x.0 name t in
@@ -129,7 +134,8 @@ first_goes (x ∷ es) name s t =
     sym (all_stay name (names_in es) above)
     ∙ sym (or_none_gone (λ f. not (same_name f name)) x.1 x.0 (names_in es) (ap not t))
 
-below_set : (f : FrameName) (es : List Spot) (i : ℕ) (d : Spot) (b : Bool) → entries.below_all name_cmp f (slice_set es i ((get_or es i d).0, b)) ≡ entries.below_all name_cmp f es
+below_set : (f : FrameName) (es : List Spot) (i : ℕ) (d : Spot) (b : Bool)
+    → entries.below_all name_cmp f (slice_set es i ((get_or es i d).0, b)) ≡ entries.below_all name_cmp f es
 below_set f [] i d b = refl
 below_set f (x ∷ es) zero d b = refl
 below_set f (x ∷ es) (suc i) d b = ap (λ t. is_lt (name_cmp f x.0) && t) (below_set f es i d b)
@@ -200,7 +206,8 @@ order_pop_back [] x h = tt
 order_pop_back (y ∷ es) x h = both _ _ (below_front y.0 es x (first _ _ h)) (order_pop_back es x (second _ _ h))
 
 pub names_pop_front : (x : Spot) (es : List Spot) → is_first_gone (x ∷ es) ≡ true → names_in es ≡ names_in (x ∷ es)
-names_pop_front x es g = elim x.1 as (λ b. not b ≡ true → names_in es ≡ or_none b x.0 (names_in es)) [ true ↦ λ e. absurd (true_false (sym e)) | false ↦ λ e. refl ] g
+names_pop_front x es g = elim x.1 as (λ b. not b ≡ true
+    → names_in es ≡ or_none b x.0 (names_in es)) [ true ↦ λ e. absurd (true_false (sym e)) | false ↦ λ e. refl ] g
 
 pub order_pop_front : (x : Spot) (es : List Spot) → AreInOrder (x ∷ es) → AreInOrder es
 order_pop_front x es h = second _ _ h
@@ -256,7 +263,8 @@ pub first_long : (es : List Spot) → is_first_gone es ≡ true → 0 < length e
 first_long [] l = absurd (true_false (sym l))
 first_long (x ∷ es) l = omega arith
 
-pub pushed_spots : (b : Bool) (es new : List Spot) (f : FrameName) → AreSpots es → AllBefore f (names_in es) → new ≡ cond b (es ++ (f, true) ∷ []) es → AreSpots new
+pub pushed_spots : (b : Bool) (es new : List Spot) (f : FrameName) → AreSpots es → AllBefore f (names_in es)
+    → new ≡ cond b (es ++ (f, true) ∷ []) es → AreSpots new
 pushed_spots true es new f s a e = subst AreSpots (sym e) (spots_push es f s a)
 pushed_spots false es new f s a e = subst AreSpots (sym e) s
 

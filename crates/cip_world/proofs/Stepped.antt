@@ -41,7 +41,8 @@ length_set (z ∷ zs) (suc i) y = ap suc (length_set zs i y)
 part_other : (m : ℕ) (n : ModuleId) (input : Input) (outs : List Output) (j : Journal) → n.0 ≢ m → part m (Step n input outs ∷ j) ≡ part m j
 part_other m n input outs j apart = ap (λ b. cond b (with_turn (event_of j input) outs (part m j)) (part m j)) (ne_eqb n.0 m apart)
 
-module _ (told : Told) (configs : List ModuleSettings) (states after : List State) (at : ModuleId) (event : Event) (outs : List Output) (stand : Stand told configs states)
+module _ (told : Told) (configs : List ModuleSettings) (states after : List State) (at : ModuleId) (event : Event)
+    (outs : List Output) (stand : Stand told configs states)
     (s : IsStepOf configs states at.0 event after outs) where
   is_there : IsModule told.plan at.0 s.config
   is_there = subst (λ (cs : List ModuleSettings). slice_get cs at.0 ≡ Some s.config) stand.same s.at_config
@@ -98,7 +99,8 @@ module _ (told : Told) (configs : List ModuleSettings) (states after : List Stat
     }
 
 -- a loss changes no state
-pub stand_lost : (told new : Told) (configs : List ModuleSettings) (states : List State) (f : FrameName) → Stand told configs states → new.plan ≡ told.plan → new.journal ≡ Lost f ∷ told.journal
+pub stand_lost : (told new : Told) (configs : List ModuleSettings) (states : List State) (f : FrameName) → Stand told configs states
+    → new.plan ≡ told.plan → new.journal ≡ Lost f ∷ told.journal
     → Stand new configs states
 stand_lost told new configs states f stand plan journal = record {
   same = stand.same ∙ ap (λ (t : Plan). t.modules) (sym plan);
@@ -107,7 +109,8 @@ stand_lost told new configs states f stand plan journal = record {
       (subst (λ (x : Journal). AreStates told.plan x states) (sym journal) (record { count = stand.stand.count; each = stand.stand.each }));
 }
 
-pub stand_same : (told new : Told) (configs : List ModuleSettings) (states : List State) → Stand told configs states → new.plan ≡ told.plan → new.journal ≡ told.journal → Stand new configs states
+pub stand_same : (told new : Told) (configs : List ModuleSettings) (states : List State) → Stand told configs states
+    → new.plan ≡ told.plan → new.journal ≡ told.journal → Stand new configs states
 stand_same told new configs states stand plan journal = record {
   same = stand.same ∙ ap (λ (t : Plan). t.modules) (sym plan);
   stand = subst (λ (t : Plan). AreStates t new.journal states) (sym plan) (subst (λ (x : Journal). AreStates told.plan x states) (sym journal) stand.stand);

@@ -1,4 +1,5 @@
--- The list of the frames that wait: it rises, an entry takes out of it the frame that it names and adds those that it sends, and a frame is in it just where it waits.
+-- The list of the frames that wait: it rises, an entry takes out of it the frame that it names and adds those that it sends,
+-- and a frame is in it just where it waits.
 use Rattle.std.proofs.Common.{◌≡◌, ℕ, zero, suc, ◌+◌, ◌<◌, ◌≤◌, Bool, true, false, cond, not, ◌&&◌, ◌||◌, List, [], ◌∷◌, ◌++◌, length, Option, Some, None, refl, sym, ap, subst, ◌∙◌, arith, filter, get_or}
 use Rattle.std.specs.Prelude.{slice_get, is_some, drop}
 use Rattle.std.specs.List.{AllByRecursion, list_any}
@@ -65,7 +66,8 @@ cmp_output : (f g : FrameName) → f.entry ≡ g.entry → f.output < g.output �
 cmp_output f g e l =
     ap (λ o. ordering_then o (nat_cmp f.output g.output)) (same_is f.entry g.entry e) ∙ less_is f.output g.output l
 
-rise_all : (k i : ℕ) (fs : List FrameName) → AllByRecursion (IsFrom k (i + 1)) fs → AllByRecursion (λ g. name_cmp (record { entry = k; output = i }) g ≡ Less) fs
+rise_all : (k i : ℕ) (fs : List FrameName) → AllByRecursion (IsFrom k (i + 1)) fs
+    → AllByRecursion (λ g. name_cmp (record { entry = k; output = i }) g ≡ Less) fs
 rise_all k i [] h = tt
 rise_all k i (f ∷ fs) h = let low = h.0.1 in (cmp_output (record { entry = k; output = i }) f (sym h.0.0) (omega (arith, low)), rise_all k i fs h.1)
 
@@ -98,7 +100,8 @@ below_from : (k : ℕ) (f : FrameName) (gs : List FrameName) → f.entry < k →
 below_from k f [] l h = tt
 below_from k f (g ∷ gs) l h = let is = h.0.0 in (cmp_entry f g (omega (arith, l, is)), below_from k f gs l h.1)
 
-append_rise : (k : ℕ) (fs gs : List FrameName) → AreRising fs → AllByRecursion (IsBelow k) fs → AreRising gs → AllByRecursion (IsFrom k 0) gs → AreRising (fs ++ gs)
+append_rise : (k : ℕ) (fs gs : List FrameName) → AreRising fs → AllByRecursion (IsBelow k) fs → AreRising gs
+    → AllByRecursion (IsFrom k 0) gs → AreRising (fs ++ gs)
 unfolding IsStrictlySortedBy
 append_rise k [] gs r b s h = s
 append_rise k (f ∷ fs) gs r b s h =
@@ -204,11 +207,13 @@ frames_has t [] f = refl
 frames_has t (e ∷ j) f =
     list_any-append (is_it f) (frames t j) (frames_in t (length j) e)
     ∙ at_entry e j f (λ x. (list_any (is_it f) (frames t j) || list_any (is_it f) (frames_in t (length j) e)) ≡ arrives t x)
-    (λ same. ap (λ b. b || list_any (is_it f) (frames_in t (length j) e)) (no_name f (frames t j) (later_entry (length j) f (frames t j) (omega (arith, same)) (frames_below t j)))
+    (λ same. ap (λ b. b || list_any (is_it f) (frames_in t (length j) e))
+    (no_name f (frames t j) (later_entry (length j) f (frames t j) (omega (arith, same)) (frames_below t j)))
     ∙ in_has t (length j) e f same)
     (λ apart.
     let n : f.entry ≡ length j → ⊥ = λ same. let yes = eq-eqb f.entry (length j) same in cc in
-    ap (λ b. list_any (is_it f) (frames t j) || b) (no_name f (frames_in t (length j) e) (other_entry (length j) 0 f (frames_in t (length j) e) n (from_in t (length j) e)))
+    ap (λ b. list_any (is_it f) (frames t j) || b)
+    (no_name f (frames_in t (length j) e) (other_entry (length j) 0 f (frames_in t (length j) e) n (from_in t (length j) e)))
     ∙ or_false (list_any (is_it f) (frames t j)) ∙ frames_has t j f)
   where
     or_false : (b : Bool) → (b || false) ≡ b
@@ -250,7 +255,8 @@ waits_listed t j f w =
 pub frame_before : (j : Journal) (f : FrameName) (x : Flight) → frame_at j f ≡ Some x → f.entry < length j
 frame_before [] f x h = absurd (cc)
 frame_before (e ∷ j) f x h =
-    at_entry e j f (λ y. y ≡ Some x → f.entry < suc (length j)) (λ same here. omega (arith, same)) (λ apart old. let l = frame_before j f x old in omega (arith, l)) h
+    at_entry e j f (λ y. y ≡ Some x → f.entry < suc (length j)) (λ same here. omega (arith, same))
+    (λ apart old. let l = frame_before j f x old in omega (arith, l)) h
 
 next_waits : (t : Plan) (j : Journal) (e : Entry) (f : FrameName) → IsNext t j e → named_by e ≡ Some f → IsWaiting t j f
 next_waits t j (Step m (inputs.Command command) outputs) f n h = absurd (cc)
@@ -270,7 +276,8 @@ named_now t j e f n h = by (named_by e) refl h
         let l = frame_before j g w.flight w.sent in
         subst (λ (x : FrameName). x.entry < length j) (sym (name_eq f g is)) l
 
-named_either : (t : Plan) (j : Journal) (e : Entry) (f : FrameName) → IsNext t j e → (is_named j f ≡ true → f.entry < length j) → (b : Bool) → names f e ≡ b → (b || is_named j f) ≡ true
+named_either : (t : Plan) (j : Journal) (e : Entry) (f : FrameName) → IsNext t j e → (is_named j f ≡ true → f.entry < length j)
+    → (b : Bool) → names f e ≡ b → (b || is_named j f) ≡ true
     → f.entry < suc (length j)
 named_either t j e f n old true k is = let l = named_now t j e f n k in omega (arith, l)
 named_either t j e f n old false k is = let l = old is in omega (arith, l)
@@ -288,11 +295,13 @@ filter_both p q (f ∷ fs) = both_by (p f) (q f) (filter (λ f. not (p f || q f)
     both_by true true x y is h = h
     both_by false true x y is h = h
     both_by true false x y is h = h ∙ ap (λ c. cond (not c) (f ∷ filter (λ f. not (p f)) y) (filter (λ f. not (p f)) y)) (sym is)
-    both_by false false x y is h = ap (λ (z : List FrameName). f ∷ z) h ∙ ap (λ c. cond (not c) (f ∷ filter (λ f. not (p f)) y) (filter (λ f. not (p f)) y)) (sym is)
+    both_by false false x y is h = ap (λ (z : List FrameName). f ∷ z) h
+        ∙ ap (λ c. cond (not c) (f ∷ filter (λ f. not (p f)) y) (filter (λ f. not (p f)) y)) (sym is)
 
 pub filter_all : (p : FrameName → Bool) (fs : List FrameName) → AllByRecursion (λ f. p f ≡ false) fs → filter (λ f. not (p f)) fs ≡ fs
 filter_all p [] h = refl
-filter_all p (f ∷ fs) h = ap (λ b. cond (not b) (f ∷ filter (λ f. not (p f)) fs) (filter (λ f. not (p f)) fs)) h.0 ∙ ap (λ (z : List FrameName). f ∷ z) (filter_all p fs h.1)
+filter_all p (f ∷ fs) h = ap (λ b. cond (not b) (f ∷ filter (λ f. not (p f)) fs) (filter (λ f. not (p f)) fs)) h.0
+    ∙ ap (λ (z : List FrameName). f ∷ z) (filter_all p fs h.1)
 
 unnamed : (t : Plan) (j : Journal) (e : Entry) (f : FrameName) → IsRun t (e ∷ j) → f.entry ≡ length j → (names f e || is_named j f) ≡ false
 unnamed t j e f run is = unnamed_by (names f e) (is_named j f) refl refl
@@ -302,7 +311,8 @@ unnamed t j e f run is = unnamed_by (names f e) (is_named j f) refl refl
     unnamed_by false true n o = let l = named_before t j f run.0 o in absurd (omega (arith, l, is))
     unnamed_by false false n o = refl
 
-all_unnamed : (t : Plan) (j : Journal) (e : Entry) (fs : List FrameName) → IsRun t (e ∷ j) → AllByRecursion (IsFrom (length j) 0) fs → AllByRecursion (λ f. (names f e || is_named j f) ≡ false) fs
+all_unnamed : (t : Plan) (j : Journal) (e : Entry) (fs : List FrameName) → IsRun t (e ∷ j) → AllByRecursion (IsFrom (length j) 0) fs
+    → AllByRecursion (λ f. (names f e || is_named j f) ≡ false) fs
 all_unnamed t j e [] run h = tt
 all_unnamed t j e (f ∷ fs) run h = (unnamed t j e f run h.0.0, all_unnamed t j e fs run h.1)
 
@@ -311,7 +321,8 @@ pub waiting_next : (t : Plan) (j : Journal) (e : Entry) → IsRun t (e ∷ j)
     → waiting t (e ∷ j) ≡ filter (λ f. not (is_that f (named_by e))) (waiting t j) ++ frames_in t (length j) e
 waiting_next t j e run =
     filter-append (λ f. not (names f e || is_named j f)) (frames t j) (frames_in t (length j) e)
-    ∙ ap (λ (x : List FrameName). x ++ filter (λ f. not (names f e || is_named j f)) (frames_in t (length j) e)) (filter_both (λ f. names f e) (is_named j) (frames t j))
+    ∙ ap (λ (x : List FrameName). x ++ filter (λ f. not (names f e || is_named j f)) (frames_in t (length j) e))
+    (filter_both (λ f. names f e) (is_named j) (frames t j))
     ∙ ap (λ (x : List FrameName). filter (λ f. not (names f e)) (waiting t j) ++ x)
     (filter_all (λ f. names f e || is_named j f) (frames_in t (length j) e) (all_unnamed t j e (frames_in t (length j) e) run (from_in t (length j) e)))
 
@@ -327,7 +338,8 @@ module _ (t : Plan) (m k i : ℕ) (outs : List Output) (o : Output) (l : i < len
   name = record { entry = k; output = i }
 
   left : frames_of t m k i (drop i outs) ≡ or_none (arrives t (flight_of m (Some o))) name (frames_of t m k (i + 1) (drop (i + 1) outs))
-  left = ap (frames_of t m k i) (drop_more outs i o l) ∙ ap (λ (x : Output). or_none (arrives t (flight_of m (Some x))) name (frames_of t m k (i + 1) (drop (i + 1) outs))) (sym is)
+  left = ap (frames_of t m k i) (drop_more outs i o l)
+      ∙ ap (λ (x : Output). or_none (arrives t (flight_of m (Some x))) name (frames_of t m k (i + 1) (drop (i + 1) outs))) (sym is)
 
   -- the output is a frame that arrives somewhere
   pub one_more : arrives t (flight_of m (Some o)) ≡ true → frames_of t m k i (drop i outs) ≡ name ∷ frames_of t m k (i + 1) (drop (i + 1) outs)

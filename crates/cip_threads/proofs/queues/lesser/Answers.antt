@@ -16,12 +16,14 @@ returns-in_default-clause-none c =
 
 pub returns-then-not-is_less-clause-some : goal.returns-then-not-is_less-clause-some
 returns-then-not-is_less-clause-some c =
-    let o = some_at (λ (r : Front). IsLeast (map (λ q. q.items) c.args.queues.now) c.args.m r.m r.name) c.args.least c.in-Some-least.front c.in-Some-least.is c.requires.some in
+    let o = some_at (λ (r : Front). IsLeast (map (λ q. q.items) c.args.queues.now) c.args.m r.m r.name) c.args.least
+    c.in-Some-least.front c.in-Some-least.is c.requires.some in
     least_stays _ c.args.m c.in-Some-least.front.m c.in-Some-least.front.name c.in-Some.name.now _ o c.in-Some.ensures.some (c.if-not-is_less.ensures.no refl)
 
 pub returns-else-not-is_less-clause-some : goal.returns-else-not-is_less-clause-some
 returns-else-not-is_less-clause-some c =
-    let o = some_at (λ (r : Front). IsLeast (map (λ q. q.items) c.args.queues.now) c.args.m r.m r.name) c.args.least c.in-Some-least.front c.in-Some-least.is c.requires.some in
+    let o = some_at (λ (r : Front). IsLeast (map (λ q. q.items) c.args.queues.now) c.args.m r.m r.name) c.args.least
+    c.in-Some-least.front c.in-Some-least.is c.requires.some in
     least_new _ c.args.m c.in-Some.name.now (within_lists (λ q. q.items) c.args.queues.now c.args.m c.requires.within) c.in-Some.ensures.some
     (less_than_least _ c.args.m c.in-Some-least.front.m c.in-Some-least.front.name c.in-Some.name.now o (c.if-not-is_less.ensures.yes refl))
 

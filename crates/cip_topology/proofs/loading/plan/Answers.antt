@@ -15,7 +15,8 @@ pub of-requires-clause-keeps : goal.of-requires-clause-keeps
 of-requires-clause-keeps c =
     let links = c.in_ok-links.links.items in
     let modules = c.in_ok-modules.modules.items in
-    let read = subst (λ (ls : List Link). modules_after ls [] (items_view c.args.module_entries.now) ≡ Ok modules) c.as_slice.ensures.value c.in_ok-modules.ensures.is in
+    let read = subst (λ (ls : List Link). modules_after ls [] (items_view c.args.module_entries.now) ≡ Ok modules)
+    c.as_slice.ensures.value c.in_ok-modules.ensures.is in
     let link_count = item_count-items_view c.args.link_entries.now in
     let module_count = item_count-items_view c.args.module_entries.now in
     is_topology (items_view c.args.link_entries.now) (items_view c.args.module_entries.now) links modules c.in_ok-links.ensures read

@@ -13,4 +13,5 @@ returns g c =
     c.in_ok-tables.tables c.are_initial.result c.in_ok-tables.ensures
     ((goal.Module-dyn g (c.args.boxed.now.vtable, c.args.boxed.now.value)).rooms c.args.boxed.now.value)
     ((goal.Module-dyn g (c.args.boxed.now.vtable, c.args.boxed.now.value)).paired c.args.boxed.now.value)
-    (subst (λ (config : ModuleSettings). IfOk c.are_initial.result (λ first. IsTrue first ↔ ShowsState (initial_state config) c.in_ok-tables.tables)) c.config.ensures c.are_initial.ensures)
+    (subst (λ (config : ModuleSettings). IfOk c.are_initial.result (λ first. IsTrue first ↔ ShowsState (initial_state config) c.in_ok-tables.tables))
+    c.config.ensures c.are_initial.ensures)

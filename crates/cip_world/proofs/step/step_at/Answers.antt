@@ -14,7 +14,8 @@ returns-clause-ok g c =
     (at_place c.args.modules.now.items c.args.m c.index_mut.result.now h c.index_mut.ensures.value) c.step.ensures.ok
 
 pub returns-clause-err : goal.returns-clause-err
-returns-clause-err g c = step_at_err (λ b. (goal.Module-dyn g (b.vtable, b.value)).config_of b.value) _ c.args.modules.now.items c.args.m c.index_mut.result.now c.step.new.self c.args.event c.step.result c.index_mut.ensures.value c.step.ensures.fault
+returns-clause-err g c = step_at_err (λ b. (goal.Module-dyn g (b.vtable, b.value)).config_of b.value) _ c.args.modules.now.items
+    c.args.m c.index_mut.result.now c.step.new.self c.args.event c.step.result c.index_mut.ensures.value c.step.ensures.fault
 
 pub returns-clause-full : goal.returns-clause-full
 returns-clause-full g c =

@@ -16,7 +16,8 @@ reserve_all-requires c =
     let s = c.self.inside in
     let long : length s.topology.modules ≡ length s.frames.items = sym (sym (length-map s.frames.items (λ q. q.items)) ∙ c.self.invariant.kept.frame_queues) in
     rw (c.as_slice-5.ensures.value, c.in-Ok.ensures, sym long)
-    (All-from_recursion (λ (x : ModuleId × FrameName). x.0.0 < length s.topology.modules) _ (sends_within s.topology c.args.m.0 (length c.as_slice-number.result.now) 0 c.as_slice-3.result.now))
+    (All-from_recursion (λ (x : ModuleId × FrameName). x.0.0 < length s.topology.modules) _
+    (sends_within s.topology c.args.m.0 (length c.as_slice-number.result.now) 0 c.as_slice-3.result.now))
 
 pub push_all-requires-clause-within : goal.push_all-requires-clause-within
 push_all-requires-clause-within c =
@@ -24,7 +25,8 @@ push_all-requires-clause-within c =
     let long : length s.topology.modules ≡ length c.reserve_all.new.queues.items =
     sym (sym (length-map c.reserve_all.new.queues.items (λ q. q.items)) ∙ ap length c.reserve_all.ensures.same ∙ c.self.invariant.kept.frame_queues) in
     rw (c.as_slice-6.ensures.value, c.in-Ok.ensures, sym long)
-    (All-from_recursion (λ (x : ModuleId × FrameName). x.0.0 < length s.topology.modules) _ (sends_within s.topology c.args.m.0 (length c.as_slice-number.result.now) 0 c.as_slice-3.result.now))
+    (All-from_recursion (λ (x : ModuleId × FrameName). x.0.0 < length s.topology.modules) _
+    (sends_within s.topology c.args.m.0 (length c.as_slice-number.result.now) 0 c.as_slice-3.result.now))
 
 pub push_all-requires-clause-room : goal.push_all-requires-clause-room
 push_all-requires-clause-room c = rw (c.as_slice-6.ensures.value, sym c.as_slice-5.ensures.value) c.in-Ok-reserve_all.ensures.room
@@ -34,12 +36,14 @@ invariant_of-self-2 c =
     let s = c.self.inside in
     let q = map (λ q. q.items) s.frames.items in
     let S = sends_of s.topology c.args.m.0 (length (reverse s.journal.items)) 0 c.args.outputs.items in
-    let is : c.in-Ok.sends.items ≡ S = c.in-Ok.ensures ∙ rw (c.as_slice-number.ensures.value, c.as_slice-3.ensures.value, length-reverse s.journal.items) refl in
+    let is : c.in-Ok.sends.items ≡ S = c.in-Ok.ensures
+    ∙ rw (c.as_slice-number.ensures.value, c.as_slice-3.ensures.value, length-reverse s.journal.items) refl in
     let f : map (λ q. q.items) c.push_all.new.queues.items ≡ enqueue q S =
     c.push_all.ensures ∙ ap (λ l. enqueue l c.as_slice-6.result.now) c.reserve_all.ensures.same ∙ ap (enqueue q) (c.as_slice-6.ensures.value ∙ is) in
     let j : reverse c.push_reserved.new.self.items ≡ Step c.args.m c.take_hand-input.result c.args.outputs.items ∷ reverse s.journal.items =
     ap reverse c.push_reserved.ensures.items ∙ (reverse-append c.reserve.new.self.items (_ ∷ []) ∙ rw (c.reserve.ensures.items, c.of.ensures) refl) in
-    let counted = count_enqueue q (length s.topology.modules) S c.self.invariant.kept.frame_queues (sends_within s.topology c.args.m.0 (length (reverse s.journal.items)) 0 c.args.outputs.items) in
+    let counted = count_enqueue q (length s.topology.modules) S c.self.invariant.kept.frame_queues
+    (sends_within s.topology c.args.m.0 (length (reverse s.journal.items)) 0 c.args.outputs.items) in
     let long = ap length (c.as_slice-4.ensures.value ∙ is) in
     let sum = c.in-Some.ensures in
     let old = c.self.invariant.frame_count in

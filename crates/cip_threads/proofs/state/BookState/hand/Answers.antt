@@ -39,8 +39,10 @@ returns-in-Some-clause-ok c =
     let left : s.taken < s.turns = search rules in
     let first = c.take_feed-feed.ensures.value in
     let e = some_at (λ (event : Event). (feed : Feed) × (queue_at (map (λ q. q.items) c.as_slice-3.result.now) c.args.m.0
-    ≡ feed ∷ drop 1 (queue_at (map (λ q. q.items) c.as_slice-3.result.now) c.args.m.0)) × (event ≡ event_of feed)) _ c.in-Some.event c.in-Some.is c.in_ok-event.ensures.some in
-    let f = subst (λ l. (feed : Feed) × (queue_at (map (λ q. q.items) l) c.args.m.0 ≡ feed ∷ drop 1 (queue_at (map (λ q. q.items) l) c.args.m.0)) × (c.in-Some.event ≡ event_of feed))
+    ≡ feed ∷ drop 1 (queue_at (map (λ q. q.items) c.as_slice-3.result.now) c.args.m.0))
+    × (event ≡ event_of feed)) _ c.in-Some.event c.in-Some.is c.in_ok-event.ensures.some in
+    let f = subst (λ l. (feed : Feed) × (queue_at (map (λ q. q.items) l) c.args.m.0 ≡ feed ∷ drop 1 (queue_at (map (λ q. q.items) l) c.args.m.0))
+    × (c.in-Some.event ≡ event_of feed))
     c.as_slice-3.ensures.value e in
     rw (← c.self.view_is) (record {
       ready = record { running = search rules; within = within; free = free };
@@ -62,16 +64,21 @@ invariant_of-self-in-Some-2 c =
     let free : hand_at s.hands.items c.args.m.0 ≡ None = subst (λ l. hand_at l c.args.m.0 ≡ None) c.as_slice-2.ensures.value (c.if-is_full.ensures.no refl) in
     let within : c.args.m.0 < length s.hands.items = search rules in
     let left : s.taken < s.turns = search rules in
-    let e = some_at (λ (r : Found). (queue_at (map (λ q. q.items) c.as_slice-5.result.now) c.args.m.0 ≡ r.name ∷ drop 1 (queue_at (map (λ q. q.items) c.as_slice-5.result.now) c.args.m.0))
-    × Comes s.topology (reverse c.as_slice-4.result.now) r.name c.args.m.0 r.port r.from r.event) _ c.in-Some-2.found c.in-Some-2.is c.in_ok-found.ensures.some in
-    let first = subst (λ l. queue_at (map (λ q. q.items) l) c.args.m.0 ≡ c.in-Some-2.found.name ∷ drop 1 (queue_at (map (λ q. q.items) l) c.args.m.0)) c.as_slice-5.ensures.value e.0 in
-    let comes = subst (λ l. Comes s.topology (reverse l) c.in-Some-2.found.name c.args.m.0 c.in-Some-2.found.port c.in-Some-2.found.from c.in-Some-2.found.event) c.as_slice-4.ensures.value e.1 in
+    let e = some_at (λ (r : Found). (queue_at (map (λ q. q.items) c.as_slice-5.result.now) c.args.m.0
+    ≡ r.name ∷ drop 1 (queue_at (map (λ q. q.items) c.as_slice-5.result.now) c.args.m.0))
+    × Comes s.topology (reverse c.as_slice-4.result.now) r.name c.args.m.0 r.port r.from r.event) _ c.in-Some-2.found
+    c.in-Some-2.is c.in_ok-found.ensures.some in
+    let first = subst (λ l. queue_at (map (λ q. q.items) l) c.args.m.0 ≡ c.in-Some-2.found.name ∷ drop 1 (queue_at (map (λ q. q.items) l) c.args.m.0))
+    c.as_slice-5.ensures.value e.0 in
+    let comes = subst (λ l. Comes s.topology (reverse l) c.in-Some-2.found.name c.args.m.0 c.in-Some-2.found.port
+    c.in-Some-2.found.from c.in-Some-2.found.event) c.as_slice-4.ensures.value e.1 in
     let count = k.count in
     let queues = k.frame_queues in
     let less = count_taken q c.args.m.0 c.in-Some-2.found.name (drop 1 (queue_at q c.args.m.0)) (omega (arith, within, count, queues)) first in
     let all = c.self.invariant.frame_count in
     rw (c.take_first-name.ensures.after, c.put_hand-in-Some-2.ensures) (record {
-      kept = frame_keeps _ c.args.m.0 c.in-Some-2.found.name _ c.in-Some-2.found.port c.in-Some-2.found.from c.in-Some-2.found.event k within free left first comes;
+      kept = frame_keeps _ c.args.m.0 c.in-Some-2.found.name _ c.in-Some-2.found.port c.in-Some-2.found.from
+          c.in-Some-2.found.event k within free left first comes;
       feed_count = c.self.invariant.feed_count;
       frame_count = omega (arith, less, all);
     })
@@ -88,7 +95,8 @@ overflow_sub-self c =
     let within : c.args.m.0 < length s.hands.items = search rules in
     let count = k.count in
     let queues = k.feed_queues in
-    let less = count_taken q c.args.m.0 c.take_feed-feed.result (drop 1 (queue_at q c.args.m.0)) (omega (arith, within, count, queues)) c.take_feed-feed.ensures.value in
+    let less = count_taken q c.args.m.0 c.take_feed-feed.result (drop 1 (queue_at q c.args.m.0))
+    (omega (arith, within, count, queues)) c.take_feed-feed.ensures.value in
     let all = c.self.invariant.feed_count in omega (arith, less, all)
 
 pub overflow_sub-self-in-Some-2 : goal.overflow_sub-self-in-Some-2
@@ -97,9 +105,12 @@ overflow_sub-self-in-Some-2 c =
     let k = c.self.invariant.kept in
     let q = map (λ q. q.items) s.frames.items in
     let within : c.args.m.0 < length s.hands.items = search rules in
-    let e = some_at (λ (r : Found). (queue_at (map (λ q. q.items) c.as_slice-5.result.now) c.args.m.0 ≡ r.name ∷ drop 1 (queue_at (map (λ q. q.items) c.as_slice-5.result.now) c.args.m.0))
-    × Comes s.topology (reverse c.as_slice-4.result.now) r.name c.args.m.0 r.port r.from r.event) _ c.in-Some-2.found c.in-Some-2.is c.in_ok-found.ensures.some in
-    let first = subst (λ l. queue_at (map (λ q. q.items) l) c.args.m.0 ≡ c.in-Some-2.found.name ∷ drop 1 (queue_at (map (λ q. q.items) l) c.args.m.0)) c.as_slice-5.ensures.value e.0 in
+    let e = some_at (λ (r : Found). (queue_at (map (λ q. q.items) c.as_slice-5.result.now) c.args.m.0
+    ≡ r.name ∷ drop 1 (queue_at (map (λ q. q.items) c.as_slice-5.result.now) c.args.m.0))
+    × Comes s.topology (reverse c.as_slice-4.result.now) r.name c.args.m.0 r.port r.from r.event) _ c.in-Some-2.found
+    c.in-Some-2.is c.in_ok-found.ensures.some in
+    let first = subst (λ l. queue_at (map (λ q. q.items) l) c.args.m.0 ≡ c.in-Some-2.found.name ∷ drop 1 (queue_at (map (λ q. q.items) l) c.args.m.0))
+    c.as_slice-5.ensures.value e.0 in
     let count = k.count in
     let queues = k.frame_queues in
     let less = count_taken q c.args.m.0 c.in-Some-2.found.name (drop 1 (queue_at q c.args.m.0)) (omega (arith, within, count, queues)) first in
@@ -112,10 +123,14 @@ returns-in-Some-2-clause-ok c =
     let free : hand_at s.hands.items c.args.m.0 ≡ None = subst (λ l. hand_at l c.args.m.0 ≡ None) c.as_slice-2.ensures.value (c.if-is_full.ensures.no refl) in
     let within : c.args.m.0 < length s.hands.items = search rules in
     let left : s.taken < s.turns = search rules in
-    let e = some_at (λ (r : Found). (queue_at (map (λ q. q.items) c.as_slice-5.result.now) c.args.m.0 ≡ r.name ∷ drop 1 (queue_at (map (λ q. q.items) c.as_slice-5.result.now) c.args.m.0))
-    × Comes s.topology (reverse c.as_slice-4.result.now) r.name c.args.m.0 r.port r.from r.event) _ c.in-Some-2.found c.in-Some-2.is c.in_ok-found.ensures.some in
-    let first = subst (λ l. queue_at (map (λ q. q.items) l) c.args.m.0 ≡ c.in-Some-2.found.name ∷ drop 1 (queue_at (map (λ q. q.items) l) c.args.m.0)) c.as_slice-5.ensures.value e.0 in
-    let comes = subst (λ l. Comes s.topology (reverse l) c.in-Some-2.found.name c.args.m.0 c.in-Some-2.found.port c.in-Some-2.found.from c.in-Some-2.found.event) c.as_slice-4.ensures.value e.1 in
+    let e = some_at (λ (r : Found). (queue_at (map (λ q. q.items) c.as_slice-5.result.now) c.args.m.0
+    ≡ r.name ∷ drop 1 (queue_at (map (λ q. q.items) c.as_slice-5.result.now) c.args.m.0))
+    × Comes s.topology (reverse c.as_slice-4.result.now) r.name c.args.m.0 r.port r.from r.event) _ c.in-Some-2.found
+    c.in-Some-2.is c.in_ok-found.ensures.some in
+    let first = subst (λ l. queue_at (map (λ q. q.items) l) c.args.m.0 ≡ c.in-Some-2.found.name ∷ drop 1 (queue_at (map (λ q. q.items) l) c.args.m.0))
+    c.as_slice-5.ensures.value e.0 in
+    let comes = subst (λ l. Comes s.topology (reverse l) c.in-Some-2.found.name c.args.m.0 c.in-Some-2.found.port
+    c.in-Some-2.found.from c.in-Some-2.found.event) c.as_slice-4.ensures.value e.1 in
     rw (← c.self.view_is) (record {
       ready = record { running = search rules; within = within; free = free };
       left = left;

@@ -14,4 +14,5 @@ returns c =
     let idle : count_hands s.hands.items ≡ 0 = subst (λ (v : Shelf). count_hands v.hands ≡ 0) (sym c.self.view_is) c.requires.idle in
     let may = subst (λ (v : Shelf). MayEnd v c.args.end) (sym c.self.view_is) c.requires.end in
     let waits = c.in-Ok-merge.ensures.names (goes_to s.topology (reverse s.journal.items)) (waiting s.topology (reverse s.journal.items)) (split_is _ k idle) in
-    rw (← c.self.view_is) (finish_is _ _ _ c.args.end k idle c.in-Ok.ensures.feeds c.in-Ok.ensures.size waits (c.in-Ok-merge.ensures.size ∙ sym c.self.invariant.frame_count) may)
+    rw (← c.self.view_is) (finish_is _ _ _ c.args.end k idle c.in-Ok.ensures.feeds c.in-Ok.ensures.size waits (c.in-Ok-merge.ensures.size
+    ∙ sym c.self.invariant.frame_count) may)

@@ -14,4 +14,5 @@ returns-in-Some-clause-some c =
     let there : Some (flight c.in-Some.flying) ≡ frame_at (reverse c.self.inside.entries.items) c.args.name =
     ap (option_map flight) (sym c.in-Some.is) ∙ c.frame_at.ensures ∙ ap (λ (es : List Entry). frame_at (reverse es) c.args.name) c.as_slice.ensures.value in
     subst (λ (t : Told). IfSome c.comes_in.result (IsComing t.plan t.journal c.args.name)) c.self.view_is
-    (comes c.self.inside.topology (reverse c.self.inside.entries.items) c.args.name c.in-Some.flying c.comes_in.result w there c.comes_in.ensures.way c.comes_in.ensures.body)
+    (comes c.self.inside.topology (reverse c.self.inside.entries.items) c.args.name c.in-Some.flying c.comes_in.result w
+    there c.comes_in.ensures.way c.comes_in.ensures.body)

@@ -9,7 +9,8 @@ use Rattle.cip_world.proofs.ledger.Ledger.waits.Goals as goal
 
 pub returns : goal.returns
 returns c =
-    let full = looked_at (nat_lt (vec_len c.self.inside.entries) (vec_capacity c.self.inside.entries)) (length (newest_outputs (reverse c.self.inside.entries.items)))
+    let full = looked_at (nat_lt (vec_len c.self.inside.entries) (vec_capacity c.self.inside.entries))
+    (length (newest_outputs (reverse c.self.inside.entries.items)))
     c.self.inside.looked (ap (λ (t : Told). t.ready) c.self.view_is ∙ c.requires.ready) in
     subst (λ (t : Told). IsTrue c.has.result ↔ IsWaiting t.plan t.journal c.args.name) c.self.view_is
     (just_listed c.self.inside.topology (reverse c.self.inside.entries.items) c.self.inside.listed c.self.inside.looked c.self.invariant full c.args.name

@@ -16,7 +16,8 @@ pub returns-clause-ok : goal.returns-clause-ok
 returns-clause-ok c =
     elim c.match-push_back.branch [
       | in-Ok w ↦ subst (λ r. OnOk r (names_in c.push_back.new.self.items ≡ c.args.self.now ++ c.args.name ∷ [])) (sym w.result-is)
-          (pushed_names (is_ok c.push_back.result) c.self.inside.spots.items c.push_back.new.self.items c.args.name (ap is_ok w.in-Ok.is) c.push_back.ensures.items
+          (pushed_names (is_ok c.push_back.result) c.self.inside.spots.items c.push_back.new.self.items c.args.name
+          (ap is_ok w.in-Ok.is) c.push_back.ensures.items
           ∙ ap (λ (fs : List FrameName). fs ++ c.args.name ∷ []) c.self.view_is)
       | in-Err w ↦ subst (λ r. OnOk r (names_in c.push_back.new.self.items ≡ c.args.self.now ++ c.args.name ∷ [])) (sym w.result-is) tt
     ]

@@ -12,9 +12,11 @@ loop-preserved g c =
       c.deliver_least.ensures.stand,
       c.deliver_least.ensures.plan ∙ c.loop.invariant.1,
       omega (arith, l),
-      one_further c.args.self.now.ledger.plan c.loop.counter c.args.self.now.ledger.journal c.loop.self.ledger.journal c.deliver_least.new.self.ledger.journal c.loop.invariant.3
+      one_further c.args.self.now.ledger.plan c.loop.counter c.args.self.now.ledger.journal c.loop.self.ledger.journal
+          c.deliver_least.new.self.ledger.journal c.loop.invariant.3
           (subst (λ (t : Plan). DeliversOne t c.loop.self.ledger.journal c.deliver_least.new.self.ledger.journal) c.loop.invariant.1
-          (one_more c.loop.self.ledger.plan c.loop.self.ledger.journal c.deliver_least.new.self.ledger.journal c.in_ok-deliver_least.field-0 c.if-not-branch.false
+          (one_more c.loop.self.ledger.plan c.loop.self.ledger.journal c.deliver_least.new.self.ledger.journal
+          c.in_ok-deliver_least.field-0 c.if-not-branch.false
           c.in_ok-deliver_least.ensures.ok)),
     )
 
@@ -24,7 +26,8 @@ returns-in-None-clause-runs g c =
       record {
         count = c.loop.counter;
         most = most;
-        delivers = subst (λ (j : Journal). Delivers c.args.self.now.ledger.plan c.loop.counter c.args.self.now.ledger.journal j) (sym c.prepare.ensures.journal) c.loop.invariant.3;
+        delivers = subst (λ (j : Journal). Delivers c.args.self.now.ledger.plan c.loop.counter c.args.self.now.ledger.journal j)
+            (sym c.prepare.ensures.journal) c.loop.invariant.3;
       },
       subst (λ (t : Plan). waiting t c.prepare.new.self.journal ≡ []) (c.prepare.ensures.plan ∙ c.loop.invariant.1)
           (none_first c.prepare.new.self.plan c.prepare.new.self.journal c.least.result c.least.ensures c.in-None.is),
@@ -36,7 +39,8 @@ returns-in-Some-clause-runs g c =
     let least = c.loop-test.false in
     let all : c.loop.counter ≡ c.args.limit = omega (arith, most, least) in (
       subst (λ (n : ℕ). Delivers c.args.self.now.ledger.plan n c.args.self.now.ledger.journal c.prepare.new.self.journal) all
-          (subst (λ (j : Journal). Delivers c.args.self.now.ledger.plan c.loop.counter c.args.self.now.ledger.journal j) (sym c.prepare.ensures.journal) c.loop.invariant.3),
+          (subst (λ (j : Journal). Delivers c.args.self.now.ledger.plan c.loop.counter c.args.self.now.ledger.journal j)
+          (sym c.prepare.ensures.journal) c.loop.invariant.3),
       subst (λ (t : Plan). waiting t c.prepare.new.self.journal ≢ []) (c.prepare.ensures.plan ∙ c.loop.invariant.1)
           (some_first c.prepare.new.self.plan c.prepare.new.self.journal c.least.result c.in-Some.field-0 c.least.ensures c.in-Some.is),
     )
