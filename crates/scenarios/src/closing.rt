@@ -1,6 +1,6 @@
 //! Connections that are closed along the chassis, and closes that fail.
-use bench::{play, play_open};
 use std::test::Fail;
+use test_harness::{play, play_open};
 
 #[test]
 fn a_connection_is_closed(rt: HostRuntime) -> Result<(), Fail> {

@@ -1,6 +1,6 @@
 //! Connections that are silent for too long, and what a tick does.
-use bench::{play, play_open};
 use std::test::Fail;
+use test_harness::{play, play_open};
 
 #[test]
 fn an_end_hears_nothing(rt: HostRuntime) -> Result<(), Fail> {

@@ -1,6 +1,6 @@
 //! Data of a connection on their way, what an end writes of them and what it produces.
-use bench::{play, play_adapter, play_open};
 use std::test::Fail;
+use test_harness::{play, play_adapter, play_open};
 
 #[test]
 fn a_datum_goes_to_the_end(rt: HostRuntime) -> Result<(), Fail> {

@@ -1,6 +1,6 @@
 //! Connections that are opened along the chassis.
-use bench::{play, play_open};
 use std::test::Fail;
+use test_harness::{play, play_open};
 
 #[test]
 fn what_each_module_keeps_of_a_connection(rt: HostRuntime) -> Result<(), Fail> {

@@ -1,6 +1,6 @@
 //! Opens that end at the adapter.
-use bench::play;
 use std::test::Fail;
+use test_harness::play;
 
 #[test]
 fn paths_that_are_no_application_path(rt: HostRuntime) -> Result<(), Fail> {

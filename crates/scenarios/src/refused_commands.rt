@@ -1,6 +1,6 @@
 //! Commands on connections that are refused.
-use bench::play_open;
 use std::test::Fail;
+use test_harness::play_open;
 
 #[test]
 fn commands_on_connections_that_are_not_open(rt: HostRuntime) -> Result<(), Fail> {

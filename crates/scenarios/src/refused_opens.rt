@@ -1,6 +1,6 @@
 //! Opens that fail at a router or at their originator, each by its row of the routing table.
-use bench::play;
 use std::test::Fail;
+use test_harness::play;
 
 #[test]
 fn opens_that_are_cut_or_too_long(rt: HostRuntime) -> Result<(), Fail> {

@@ -1,6 +1,6 @@
 //! Requests that a module refuses, and electronic keys.
-use bench::play;
 use std::test::Fail;
+use test_harness::play;
 
 #[test]
 fn every_length_of_a_message(rt: HostRuntime) -> Result<(), Fail> {

@@ -1,6 +1,6 @@
 //! Replies that an opening or a closing cannot take, and those that it takes.
-use bench::{play, play_open};
 use std::test::Fail;
+use test_harness::{play, play_open};
 
 #[test]
 fn successes_that_an_opening_does_not_take(rt: HostRuntime) -> Result<(), Fail> {
