@@ -234,7 +234,8 @@ fn commands_that_are_refused(rt: HostRuntime) -> Result<(), Fail> {
     )
 }
 
-// A module that answers want of memory to each event keeps every clause. Here there is memory for each step, for the tables,
+// A module that answers want of memory to each event keeps every clause. Here there is memory for
+// each step, for the tables,
 // and for the copies of configs, events and outputs on which the harness works.
 #[test]
 fn step_never_has_memory(rt: HostRuntime) -> Result<(), Fail> {
