@@ -65,7 +65,8 @@ unfolding behind bytes_at counted_at counted_path_at data_row double_at end_row 
     segments_within size_at words_at
 enters_again = simp (none_waits, none_held, held_first, held_get, held_entries, held_none, entry_get) (_, refl)
 
-takes : Gives (adapter 0 2) (state_in (adapter 0 2) 1 entered_again) (events.Frame 2 (1 ∷ []) (bodies.Data 65 second_datum)) (outputs.Consumed triad 101 second_datum ∷ [])
+takes : Gives (adapter 0 2) (state_in (adapter 0 2) 1 entered_again) (events.Frame 2 (1 ∷ []) (bodies.Data 65 second_datum))
+    (outputs.Consumed triad 101 second_datum ∷ [])
 unfolding behind bytes_at counted_at counted_path_at data_row double_at end_row hop_of link_refusal logical_at narrow_at number_at open_at
     open_reply_at open_row other_at padded_at path_at plain_port_at point_at port_at reply_at reply_row request_at request_row segment_at segments_of
     segments_within size_at words_at
