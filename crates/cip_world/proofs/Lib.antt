@@ -52,12 +52,3 @@ pub mod SendsGo
 pub mod SendTrails
 pub mod DonesTell
 pub mod RepliesTell
-pub mod StoredRun
-pub mod ConnectedRun
-pub mod Concrete
-pub mod FailedOpen
-pub mod TimedOutOpen
-pub mod LateReply
-pub mod LateClose
-pub mod ChainedRun
-pub mod OneAfterTheOther

@@ -1,6 +1,6 @@
 //! The Identity and Assembly objects behind a module.
-use bench::play;
 use std::test::Fail;
+use test_harness::play;
 
 #[test]
 fn an_identity_tells_its_attributes(rt: HostRuntime) -> Result<(), Fail> {

@@ -146,7 +146,11 @@ fn is_faulty(alloc: Global, script: &[u8], line: usize, fault: ScriptFault) -> b
 const SEND: &[u8] = b"send S 1 0x07 0xFA 02050103 010220012401\nrun 10\n";
 
 const SENT: &[u8] =
-    b"0 S send 1\n  0 send 2 05 request 1 52022006240107F9060001022001240101000103\n1 A frame 0.0\n  0 send 1 03 request 1 010220012401\n2 B frame 1.0\n  0 send 1 00 reply 1 8100000001010C000200010300000B0B0000024252\n3 A frame 2.0\n  0 send 2 01 reply 1 8100000001010C000200010300000B0B0000024252\n4 S frame 3.0\n  0 done 1 8100000001010C000200010300000B0B0000024252\nquiet\n";
+    b"0 S send 1\n  0 send 2 05 request 1 52022006240107F9060001022001240101000103\n1 A frame \
+        0.0\n  0 send 1 03 request 1 010220012401\n2 B frame 1.0\n  0 send 1 00 reply 1 \
+        8100000001010C000200010300000B0B0000024252\n3 A frame 2.0\n  0 send 2 01 reply 1 \
+        8100000001010C000200010300000B0B0000024252\n4 S frame 3.0\n  0 done 1 \
+        8100000001010C000200010300000B0B0000024252\nquiet\n";
 
 #[test]
 fn an_unconnected_send(rt: HostRuntime) -> Result<(), Fail> {
@@ -158,7 +162,9 @@ fn an_unconnected_send(rt: HostRuntime) -> Result<(), Fail> {
 fn ticks_of_two(rt: HostRuntime) -> Result<(), Fail> {
     let script = b"send S 1 0x07 2 02050103 010220012401\r\nrun 10";
     let whole =
-        b"0 S send 1\n  0 send 2 05 request 1 5202200624010701060001022001240101000103\n1 A frame 0.0\n  0 send 2 01 reply 1 D2000101040201\n2 S frame 1.0\n  0 done 1 D2000101040201\nquiet\n";
+        b"0 S send 1\n  0 send 2 05 request 1 5202200624010701060001022001240101000103\n1 A frame \
+            0.0\n  0 send 2 01 reply 1 D2000101040201\n2 S frame 1.0\n  0 done 1 \
+            D2000101040201\nquiet\n";
     assert!(rt; is_written(rt.alloc(), script, whole, PLAIN));
     Ok(())
 }
@@ -175,8 +181,8 @@ fn ticks_of_one_and_of_none(rt: HostRuntime) -> Result<(), Fail> {
 #[test]
 fn a_frame_to_nobody(rt: HostRuntime) -> Result<(), Fail> {
     let script = b"send S 1 7 250 0209 010220012401\nsend S 1 7 250 0209 010220012401\nrun 5\n";
-    let whole =
-        b"0 S send 1\n  0 send 2 09 request 1 010220012401\n1 S send 1\n  0 refused OpUsed\nquiet\n";
+    let whole = b"0 S send 1\n  0 send 2 09 request 1 010220012401\n1 S send 1\n  0 refused \
+            OpUsed\nquiet\n";
     assert!(rt; is_written(rt.alloc(), script, whole, PLAIN));
     Ok(())
 }
@@ -185,7 +191,9 @@ fn a_frame_to_nobody(rt: HostRuntime) -> Result<(), Fail> {
 fn runs_of_none_and_of_one(rt: HostRuntime) -> Result<(), Fail> {
     let script = b"run 0\nsend S 1 7 250 0205 0E03200124013007\nrun 0\nrun 1\nrun 1\nrun 1\n";
     let whole =
-        b"quiet\n0 S send 1\n  0 send 2 05 request 1 0E03200124013007\nlimit\n1 A frame 0.0\n  0 send 2 01 reply 1 8E000000024152\nlimit\n2 S frame 1.0\n  0 done 1 8E000000024152\nquiet\nquiet\n";
+        b"quiet\n0 S send 1\n  0 send 2 05 request 1 0E03200124013007\nlimit\n1 A frame 0.0\n  0 \
+            send 2 01 reply 1 8E000000024152\nlimit\n2 S frame 1.0\n  0 done 1 \
+            8E000000024152\nquiet\nquiet\n";
     assert!(rt; is_written(rt.alloc(), script, whole, PLAIN));
     Ok(())
 }

@@ -14,7 +14,8 @@ const TOLD: [Explained; 24] = [
     ),
     (
         b"run 0\n tock 1",
-        "unknown word: tock; allowed: send, open, close, enter, set, produce, tick, deliver, lose, run, tables, trail, chain",
+        "unknown word: tock; allowed: send, open, close, enter, set, produce, tick, deliver, lose, \
+            run, tables, trail, chain",
     ),
     (
         b"send S 1",
@@ -22,7 +23,8 @@ const TOLD: [Explained; 24] = [
     ),
     (
         b"open S",
-        "open: wrong number of words: 1 behind it; needed: 12, M OP TICK TICKS PATH SERIAL MULT TRANSPORT OT_RPI OT_PARAMS TO_RPI TO_PARAMS",
+        "open: wrong number of words: 1 behind it; needed: 12, M OP TICK TICKS PATH SERIAL MULT \
+            TRANSPORT OT_RPI OT_PARAMS TO_RPI TO_PARAMS",
     ),
     (
         b"close S 1 1 7",
@@ -87,7 +89,8 @@ const TOLD: [Explained; 24] = [
     (b"\nlose 7.1", "lose: E.K: 7.1 is no frame that waits"),
     (
         b"0123456789012345678901234567890123456789AND_MORE",
-        "unknown word: 0123456789012345678901234567890123456789; allowed: send, open, close, enter, set, produce, tick, deliver, lose, run, tables, trail, chain",
+        "unknown word: 0123456789012345678901234567890123456789; allowed: send, open, close, \
+            enter, set, produce, tick, deliver, lose, run, tables, trail, chain",
     ),
 ];
 

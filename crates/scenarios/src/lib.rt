@@ -1,4 +1,5 @@
-//! Tests that cross crates: scripts of single steps over the modules of the bench, and the console over scripts in memory.
+//! Tests that cross crates: scripts of single steps over the modules of the harness, and the
+//! console over scripts in memory.
 #![tactic(auto)]
 
 #[cfg(test)]

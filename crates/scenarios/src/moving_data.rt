@@ -1,6 +1,6 @@
 //! Data of a connection on their way, what an end writes of them and what it produces.
-use bench::{play, play_adapter, play_open};
 use std::test::Fail;
+use test_harness::{play, play_adapter, play_open};
 
 #[test]
 fn a_datum_goes_to_the_end(rt: HostRuntime) -> Result<(), Fail> {
@@ -17,7 +17,8 @@ fn a_datum_goes_to_the_end(rt: HostRuntime) -> Result<(), Fail> {
         > consumed 66 257 168496141 101 0100AABBCCDD
         E tables
         > now 0 id 65 number 0
-        > hop 66 257 168496141 up 2 01 own 65 their 49 down end 100 101 102 watch 40000 - path 2004_2464_2C65_2C66 sizes 6 4
+        > hop 66 257 168496141 up 2 01 own 65 their 49 down end 100 101 102 watch 40000 - path \
+            2004_2464_2C65_2C66 sizes 6 4
         > assembly 100 -
         > assembly 101 AABBCCDD
         > assembly 102 0000
@@ -71,7 +72,8 @@ fn an_assembly_is_set_and_produced(rt: HostRuntime) -> Result<(), Fail> {
         E set 100 -
         E tables
         > now 0 id 65 number 0
-        > hop 66 257 168496141 up 2 01 own 65 their 49 down end 100 101 102 watch 40000 - path 2004_2464_2C65_2C66 sizes 6 4
+        > hop 66 257 168496141 up 2 01 own 65 their 49 down end 100 101 102 watch 40000 - path \
+            2004_2464_2C65_2C66 sizes 6 4
         > assembly 100 -
         > assembly 101 00000000
         > assembly 102 1234
@@ -139,7 +141,8 @@ fn data_under_other_ids(rt: HostRuntime) -> Result<(), Fail> {
     play_open(
         rt.alloc(),
         "
-        # The ids of the neighbours and of the other side, another address, the other port, a port that A lacks.
+        # The ids of the neighbours and of the other side, another address, the other port, a port
+        # that A lacks.
         A data 2 01 17 0100AABBCCDD
         > dropped UnknownId
         A data 2 01 50 0100AABBCCDD
@@ -177,14 +180,17 @@ fn an_opening_takes_no_data(rt: HostRuntime) -> Result<(), Fail> {
     play(
         rt.alloc(),
         "
-        A request 2 01 1 54_0220062401_07F9_00000000_11000000_4200_0101_0D0C0B0A_00_000000_10270000_0648_10270000_0448_01_06_0103_0207_2004_2464_2C65_2C66
-        > send 1 03 request 1 54_0220062401_07F8_00000000_21000000_4200_0101_0D0C0B0A_00_000000_10270000_0648_10270000_0448_01_05_0207_2004_2464_2C65_2C66
+        A request 2 01 1 54_0220062401_07F9_00000000_11000000_4200_0101_0D0C0B0A_00_000000_\
+            10270000_0648_10270000_0448_01_06_0103_0207_2004_2464_2C65_2C66
+        > send 1 03 request 1 54_0220062401_07F8_00000000_21000000_4200_0101_0D0C0B0A_00_000000_\
+            10270000_0648_10270000_0448_01_05_0207_2004_2464_2C65_2C66
         A data 2 01 34 0100AABBCCDD
         > dropped UnknownId
         A data 1 03 33 01001234
         > dropped UnknownId
         S open 1 0x07 0xFA 0205_0103_0207_2004_2464_2C65_2C66 0x42 0 1 10000 0x4806 10000 0x4804
-        > send 2 05 request 1 54_0220062401_07F9_00000000_11000000_4200_0101_0D0C0B0A_00_000000_10270000_0648_10270000_0448_01_06_0103_0207_2004_2464_2C65_2C66
+        > send 2 05 request 1 54_0220062401_07F9_00000000_11000000_4200_0101_0D0C0B0A_00_000000_\
+            10270000_0648_10270000_0448_01_06_0103_0207_2004_2464_2C65_2C66
         S enter 1 0100AABBCCDD
         > refused NotOpen
         ",
@@ -202,7 +208,8 @@ fn a_repeated_count_is_not_written(rt: HostRuntime) -> Result<(), Fail> {
         > consumed 66 257 168496141 101 010011223344
         E tables
         > now 0 id 65 number 0
-        > hop 66 257 168496141 up 2 01 own 65 their 49 down end 100 101 102 watch 40000 - path 2004_2464_2C65_2C66 sizes 6 4
+        > hop 66 257 168496141 up 2 01 own 65 their 49 down end 100 101 102 watch 40000 - path \
+            2004_2464_2C65_2C66 sizes 6 4
         > assembly 100 -
         > assembly 101 AABBCCDD
         > assembly 102 0000
@@ -216,7 +223,8 @@ fn a_repeated_count_is_not_written(rt: HostRuntime) -> Result<(), Fail> {
         > consumed 66 257 168496141 101 0000B1B2B3B4
         E tables
         > now 0 id 65 number 0
-        > hop 66 257 168496141 up 2 01 own 65 their 49 down end 100 101 102 watch 40000 - path 2004_2464_2C65_2C66 sizes 6 4
+        > hop 66 257 168496141 up 2 01 own 65 their 49 down end 100 101 102 watch 40000 - path \
+            2004_2464_2C65_2C66 sizes 6 4
         > assembly 100 -
         > assembly 101 A1A2A3A4
         > assembly 102 0000
@@ -234,7 +242,8 @@ fn the_first_datum_is_written_whatever_its_count(rt: HostRuntime) -> Result<(), 
         > consumed 66 257 168496141 101 0000AABBCCDD
         E tables
         > now 0 id 65 number 0
-        > hop 66 257 168496141 up 2 01 own 65 their 49 down end 100 101 102 watch 40000 - path 2004_2464_2C65_2C66 sizes 6 4
+        > hop 66 257 168496141 up 2 01 own 65 their 49 down end 100 101 102 watch 40000 - path \
+            2004_2464_2C65_2C66 sizes 6 4
         > assembly 100 -
         > assembly 101 AABBCCDD
         > assembly 102 0000
@@ -270,8 +279,10 @@ fn both_sides_at_one_address(rt: HostRuntime) -> Result<(), Fail> {
         rt.alloc(),
         "
         # A connection that goes back to the scanner's address.
-        A request 2 01 1 54_0220062401_07F9_00000000_11000000_4200_0101_0D0C0B0A_00_000000_10270000_0648_10270000_0448_01_06_0201_0207_2004_2464_2C65_2C66
-        > send 2 01 request 1 54_0220062401_07F8_00000000_21000000_4200_0101_0D0C0B0A_00_000000_10270000_0648_10270000_0448_01_05_0207_2004_2464_2C65_2C66
+        A request 2 01 1 54_0220062401_07F9_00000000_11000000_4200_0101_0D0C0B0A_00_000000_\
+            10270000_0648_10270000_0448_01_06_0201_0207_2004_2464_2C65_2C66
+        > send 2 01 request 1 54_0220062401_07F8_00000000_21000000_4200_0101_0D0C0B0A_00_000000_\
+            10270000_0648_10270000_0448_01_05_0207_2004_2464_2C65_2C66
         A reply 2 01 1 D4_00_00_00_99000000_21000000_4200_0101_0D0C0B0A_10270000_10270000_00_00
         > send 2 01 reply 1 D4_00_00_00_22000000_11000000_4200_0101_0D0C0B0A_10270000_10270000_00_00
         A tick 20
@@ -287,7 +298,8 @@ fn both_sides_at_one_address(rt: HostRuntime) -> Result<(), Fail> {
         > dropped WrongSize
         A tables
         > now 30000 id 34 number 1
-        > hop 66 257 168496141 up 2 01 own 34 their 17 down 2 01 their 153 own 33 watch 60000 70000 path 0201_0207_2004_2464_2C65_2C66 sizes 6 4
+        > hop 66 257 168496141 up 2 01 own 34 their 17 down 2 01 their 153 own 33 watch 60000 \
+            70000 path 0201_0207_2004_2464_2C65_2C66 sizes 6 4
         ",
     )
 }
@@ -297,7 +309,8 @@ fn a_connection_of_class_0_has_no_count(rt: HostRuntime) -> Result<(), Fail> {
     play(
         rt.alloc(),
         "
-        E request 2 01 1 54_0220062401_07F7_00000000_31000000_4200_0101_0D0C0B0A_00_000000_10270000_0448_10270000_0248_00_04_2004_2464_2C65_2C66
+        E request 2 01 1 54_0220062401_07F7_00000000_31000000_4200_0101_0D0C0B0A_00_000000_\
+            10270000_0448_10270000_0248_00_04_2004_2464_2C65_2C66
         > send 2 01 reply 1 D4_00_00_00_41000000_31000000_4200_0101_0D0C0B0A_10270000_10270000_00_00
         E data 2 01 65 AABBCCDD
         > consumed 66 257 168496141 101 AABBCCDD
@@ -312,7 +325,8 @@ fn a_connection_of_class_0_has_no_count(rt: HostRuntime) -> Result<(), Fail> {
         > dropped WrongSize
         E tables
         > now 0 id 65 number 0
-        > hop 66 257 168496141 up 2 01 own 65 their 49 down end 100 101 102 watch 40000 - path 2004_2464_2C65_2C66 sizes 4 2
+        > hop 66 257 168496141 up 2 01 own 65 their 49 down end 100 101 102 watch 40000 - path \
+            2004_2464_2C65_2C66 sizes 4 2
         > assembly 100 -
         > assembly 101 AABB1122
         > assembly 102 1234
@@ -329,10 +343,12 @@ fn each_connection_has_a_count_of_its_own(rt: HostRuntime) -> Result<(), Fail> {
         E produce 102
         > send 2 01 data 49 01000000
         # A second connection to the same input, whose triad comes first.
-        E request 2 01 2 54_0220062401_07F7_00000000_37000000_4100_0101_0D0C0B0A_00_000000_10270000_0248_10270000_0448_01_04_2004_2464_2C64_2C66
+        E request 2 01 2 54_0220062401_07F7_00000000_37000000_4100_0101_0D0C0B0A_00_000000_\
+            10270000_0248_10270000_0448_01_04_2004_2464_2C64_2C66
         > send 2 01 reply 2 D4_00_00_00_42000000_37000000_4100_0101_0D0C0B0A_10270000_10270000_00_00
         # A third to another one.
-        E request 2 01 3 54_0220062401_07F7_00000000_38000000_4000_0101_0D0C0B0A_00_000000_10270000_0248_10270000_0648_01_04_2004_2464_2C64_2C67
+        E request 2 01 3 54_0220062401_07F7_00000000_38000000_4000_0101_0D0C0B0A_00_000000_\
+            10270000_0248_10270000_0648_01_04_2004_2464_2C64_2C67
         > send 2 01 reply 3 D4_00_00_00_43000000_38000000_4000_0101_0D0C0B0A_10270000_10270000_00_00
         E produce 102
         > send 2 01 data 55 01000000
@@ -383,7 +399,8 @@ fn a_new_connection_counts_from_1(rt: HostRuntime) -> Result<(), Fail> {
         E request 2 01 2 4E_0220062401_07F7_4200_0101_0D0C0B0A_04_00_2004_2464_2C65_2C66
         > send 2 01 reply 2 CE_00_00_00_4200_0101_0D0C0B0A_00_00
         E produce 102
-        E request 2 01 3 54_0220062401_07F7_00000000_33000000_4200_0101_0D0C0B0A_00_000000_10270000_0648_10270000_0448_01_04_2004_2464_2C65_2C66
+        E request 2 01 3 54_0220062401_07F7_00000000_33000000_4200_0101_0D0C0B0A_00_000000_\
+            10270000_0648_10270000_0448_01_04_2004_2464_2C65_2C66
         > send 2 01 reply 3 D4_00_00_00_42000000_33000000_4200_0101_0D0C0B0A_10270000_10270000_00_00
         E produce 102
         > send 2 01 data 51 01000000
@@ -392,7 +409,8 @@ fn a_new_connection_counts_from_1(rt: HostRuntime) -> Result<(), Fail> {
         > consumed 66 257 168496141 101 010011223344
         E tables
         > now 0 id 66 number 0
-        > hop 66 257 168496141 up 2 01 own 66 their 51 down end 100 101 102 watch 40000 - path 2004_2464_2C65_2C66 sizes 6 4
+        > hop 66 257 168496141 up 2 01 own 66 their 51 down end 100 101 102 watch 40000 - path \
+            2004_2464_2C65_2C66 sizes 6 4
         > assembly 100 -
         > assembly 101 11223344
         > assembly 102 0000

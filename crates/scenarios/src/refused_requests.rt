@@ -1,6 +1,6 @@
 //! Requests that a module refuses, and electronic keys.
-use bench::play;
 use std::test::Fail;
+use test_harness::play;
 
 #[test]
 fn every_length_of_a_message(rt: HostRuntime) -> Result<(), Fail> {
@@ -59,7 +59,8 @@ fn an_electronic_key_on_the_way(rt: HostRuntime) -> Result<(), Fail> {
         rt.alloc(),
         "
         S send 1 0x07 0xFA 0205_3404_0101_0C00_0100_81_02_0103 010220012401
-        > send 2 05 request 1 52_0220062401_07F9_0600_010220012401_06_00_3404_0101_0C00_0100_81_02_0103
+        > send 2 05 request 1 52_0220062401_07F9_0600_010220012401_06_00_3404_0101_0C00_0100_81_02_\
+            0103
         A request 2 01 1 52_0220062401_07F9_0600_010220012401_06_00_3404_0101_0C00_0100_81_02_0103
         > send 1 03 request 1 010220012401
         # The same revision without the compatibility flag.
@@ -109,7 +110,8 @@ fn routes_that_are_refused(rt: HostRuntime) -> Result<(), Fail> {
     play(
         rt.alloc(),
         "
-        # Unreadable, no port segment first, no such port, an address that is not legal on the backplane.
+        # Unreadable, no port segment first, no such port, an address that is not legal on the
+        # backplane.
         A request 2 01 1 52_0220062401_07F9_0600_010220012401_01_00_0005
         > send 2 01 reply 1 D200040001
         A request 2 01 1 52_0220062401_07F9_0600_010220012401_01_00_2001
@@ -166,7 +168,8 @@ fn requests_for_connections_that_do_not_reach_their_rows(rt: HostRuntime) -> Res
     play(
         rt.alloc(),
         "
-        # Path past the end, path unreadable, path of another form, no such instance: the failure has no triad.
+        # Path past the end, path unreadable, path of another form, no such instance: the failure
+        # has no triad.
         A request 2 01 1 54_03200624
         > send 2 01 reply 1 D4002600
         A request 2 01 1 54_010005_420001010D0C0B0A

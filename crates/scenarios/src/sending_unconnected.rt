@@ -1,6 +1,6 @@
 //! Unconnected messages along the chassis: what goes on, what comes back, and what is late.
-use bench::play;
 use std::test::Fail;
+use test_harness::play;
 
 #[test]
 fn the_scanner_reads_the_identity_of_the_second_bridge(rt: HostRuntime) -> Result<(), Fail> {
@@ -234,8 +234,9 @@ fn commands_that_are_refused(rt: HostRuntime) -> Result<(), Fail> {
     )
 }
 
-// A module that answers want of memory to each event keeps every clause. Here there is memory for each step, for the tables,
-// and for the copies of configs, events and outputs on which the bench works.
+// A module that answers want of memory to each event keeps every clause. Here there is memory for
+// each step, for the tables,
+// and for the copies of configs, events and outputs on which the harness works.
 #[test]
 fn step_never_has_memory(rt: HostRuntime) -> Result<(), Fail> {
     play(

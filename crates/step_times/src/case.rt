@@ -2,7 +2,7 @@
 
 use crate::bridge::Bridge;
 use crate::fault::Fault;
-use bench::{AnyModule, Kinds, device_of, make};
+use test_harness::{AnyModule, Kinds, device_of, make};
 use cip_module::Module;
 use std::alloc::Global;
 

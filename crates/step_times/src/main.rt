@@ -10,7 +10,7 @@ mod case;
 mod fault;
 mod frames;
 
-use bench::Kinds;
+use test_harness::Kinds;
 use case::{CASES, Case, case_of};
 use fault::Fault;
 use std::env;

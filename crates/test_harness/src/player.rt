@@ -1,4 +1,4 @@
-//! The bench with the modules of the chassis, and the scripts that are played on it.
+//! The harness with the modules of the chassis, and the scripts that are played on it.
 //!
 //! A script has a line for each event, `M EVENT ..` with the module's name first, and below it a
 //! line `> OUTPUT` for each output, in their order. Spaces before a line, empty lines and lines
@@ -42,7 +42,7 @@ struct Named {
 /// The modules, of which the last of a name is played on, the lines that the last event gave, and
 /// those that the script tells of it.
 #[derive(Drop)]
-struct Bench {
+struct Harness {
     alloc: Global,
     kinds: Kinds,
     modules: Vec<Named>,
@@ -119,9 +119,9 @@ fn line_at(alloc: Global, line: &str, turn: u16) -> Option<String> {
     Some(text)
 }
 
-impl Bench {
-    fn new(alloc: Global, kinds: Kinds) -> Option<Bench> {
-        Some(Bench {
+impl Harness {
+    fn new(alloc: Global, kinds: Kinds) -> Option<Harness> {
+        Some(Harness {
             alloc,
             kinds,
             modules: all_modules(alloc, kinds)?,
@@ -224,17 +224,17 @@ impl Bench {
 /// Plays a script on fresh modules of each kind; the failure tells the outputs that differ.
 pub fn play(alloc: Global, script: &str) -> Result<(), Fail> {
     for kinds in KINDS {
-        let mut bench = Bench::new(alloc, kinds).ok_or("no bench")?;
-        bench.play(script)?;
+        let mut harness = Harness::new(alloc, kinds).ok_or("no harness")?;
+        harness.play(script)?;
     }
     Ok(())
 }
 
 // On modules of this kind along which the scanner opened a connection to the adapter.
 fn play_opened(alloc: Global, kinds: Kinds, script: &str) -> Result<(), Fail> {
-    let mut bench = Bench::new(alloc, kinds).ok_or("no bench")?;
-    bench.play(OPENED)?;
-    bench.play(script)
+    let mut harness = Harness::new(alloc, kinds).ok_or("no harness")?;
+    harness.play(OPENED)?;
+    harness.play(script)
 }
 
 /// Plays a script on modules of each kind along which the scanner opened a connection to the

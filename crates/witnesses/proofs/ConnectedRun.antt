@@ -1,15 +1,13 @@
--- A run with an open, a datum that is lost, one that comes to its end, and a tick.
-use Rattle.std.proofs.Common.{ℕ, List, [], ◌∷◌, refl}
+-- It is a run.
+use Rattle.std.proofs.Common.{[], ◌∷◌, refl}
 use Rattle.cip_module.specs.declared.event.Command.TheVariants as commands
 use Rattle.cip_module.specs.declared.event.Event.TheVariants as events
 use Rattle.cip_module.specs.declared.event.Body.TheVariants as bodies
 use Rattle.cip_module.specs.declared.event.Output.TheVariants as outputs
 use Rattle.cip_module.specs.State.{initial_state}
 use Rattle.cip_module.specs.declared.event.Event.{Event}
-use Rattle.cip_world.specs.declared.journal.Input.TheVariants.{Command, Tick, Frame}
-use Rattle.cip_world.specs.declared.journal.Entry.TheVariants.{Step, Lost}
-use Rattle.cip_world.proofs.Concrete.{scanner, adapter, cell, triad, none_waits, none_held, held_get, held_first, held_entries, held_none, pendings_none, bytes_get, entry_get, Gives, params, frame}
-use Rattle.cip_world.specs.Journals.{Journal}
+use Rattle.witnesses.specs.Plans.{scanner, adapter, cell, triad, params}
+use Rattle.witnesses.proofs.Maps.{none_waits, none_held, held_get, held_first, held_entries, held_none, pendings_none, bytes_get, entry_get, Gives}
 use Rattle.cip_world.specs.Runs.{IsRun, state_in}
 use Rattle.cip_message.specs.Counted.{counted_at, counted_path_at}
 use Rattle.cip_message.specs.ReplyAt.{reply_at}
@@ -24,32 +22,16 @@ use Rattle.cip_open.specs.SuccessAt.{open_reply_at}
 use Rattle.cip_segment.specs.Reading.{segments_within, path_at, segments_of, behind, hop_of}
 use Rattle.cip_segment.specs.Scan.{bytes_at, padded_at, narrow_at, double_at, point_at, words_at, number_at, size_at, plain_port_at, port_at, other_at, logical_at, segment_at}
 use Rattle.cip_target.specs.Ends.{end_row}
+use Rattle.witnesses.specs.ConnectedRun.{open_sent, success, ticked, begins, ends_there, stands, first_datum, second_datum, entered, lost, entered_again, taken}
 
 abbrev open_command : Event
 open_command = events.Command (commands.Open 1 (record { tick = 7; ticks = 250 }) (2 ∷ 7 ∷ 32 ∷ 4 ∷ 36 ∷ 100 ∷ 44 ∷ 101 ∷ 44 ∷ 102 ∷ []) params)
-
-abbrev open_sent : List ℕ
-open_sent = 84 ∷ 2 ∷ 32 ∷ 6 ∷ 36 ∷ 1 ∷ 7 ∷ 249 ∷ 0 ∷ 0 ∷ 0 ∷ 0 ∷ 17 ∷ 0 ∷ 0 ∷ 0 ∷ 66 ∷ 0 ∷ 1 ∷ 1 ∷ 1 ∷ 0 ∷ 0 ∷ 0 ∷ 0 ∷ 0 ∷ 0 ∷ 0
-    ∷ 16 ∷ 39 ∷ 0 ∷ 0 ∷ 6 ∷ 72 ∷ 16 ∷ 39 ∷ 0 ∷ 0 ∷ 4 ∷ 72 ∷ 1 ∷ 4 ∷ 32 ∷ 4 ∷ 36 ∷ 100 ∷ 44 ∷ 101 ∷ 44 ∷ 102 ∷ []
 
 opens : Gives scanner (initial_state scanner) open_command (outputs.Send 2 (7 ∷ []) (bodies.Request 1 open_sent) ∷ [])
 unfolding behind bytes_at counted_at counted_path_at data_row double_at end_row hop_of link_refusal logical_at narrow_at number_at open_at
     open_reply_at open_row other_at padded_at path_at plain_port_at point_at port_at reply_at reply_row request_at request_row segment_at segments_of
     segments_within size_at words_at
 opens = simp (none_waits, none_held, held_first) (_, refl)
-
-abbrev success : List ℕ
-success = 212 ∷ 0 ∷ 0 ∷ 0 ∷ 65 ∷ 0 ∷ 0 ∷ 0 ∷ 17 ∷ 0 ∷ 0 ∷ 0 ∷ 66 ∷ 0 ∷ 1 ∷ 1 ∷ 1 ∷ 0 ∷ 0 ∷ 0 ∷ 16 ∷ 39 ∷ 0 ∷ 0 ∷ 16 ∷ 39 ∷ 0 ∷ 0 ∷ 0 ∷ 0 ∷ []
-
-abbrev ticked : Journal
-ticked = Step (record { 0 = 1 }) (Tick 1) [] ∷ []
-
-abbrev begins : Journal
-begins = Step (record { 0 = 0 }) (Command (commands.Open 1 (record { tick = 7; ticks = 250 }) (2 ∷ 7 ∷ 32 ∷ 4 ∷ 36 ∷ 100 ∷ 44 ∷ 101 ∷ 44 ∷ 102 ∷ []) params))
-    (outputs.Send 2 (7 ∷ []) (bodies.Request 1 open_sent) ∷ []) ∷ ticked
-
-abbrev ends_there : Journal
-ends_there = Step (record { 0 = 1 }) (Frame 2 (1 ∷ []) (frame 1)) (outputs.Send 2 (1 ∷ []) (bodies.Reply 1 success) ∷ []) ∷ begins
 
 ticks : Gives (adapter 0 2) (initial_state (adapter 0 2)) (events.Tick 1) []
 unfolding behind bytes_at counted_at counted_path_at data_row double_at end_row hop_of link_refusal logical_at narrow_at number_at open_at
@@ -64,32 +46,11 @@ unfolding behind bytes_at counted_at counted_path_at data_row double_at end_row 
     segments_within size_at words_at
 accepts = simp (none_held, held_first, held_get, held_none, bytes_get, pendings_none) (_, refl)
 
-abbrev stands : Journal
-stands = Step (record { 0 = 0 }) (Frame 2 (7 ∷ []) (frame 2)) (outputs.Done 1 success ∷ []) ∷ ends_there
-
 finishes : Gives scanner (state_in scanner 0 ends_there) (events.Frame 2 (7 ∷ []) (bodies.Reply 1 success)) (outputs.Done 1 success ∷ [])
 unfolding behind bytes_at counted_at counted_path_at data_row double_at end_row hop_of link_refusal logical_at narrow_at number_at open_at
     open_reply_at open_row other_at padded_at path_at plain_port_at point_at port_at reply_at reply_row request_at request_row segment_at segments_of
     segments_within size_at words_at
 finishes = simp (none_waits, none_held, held_first, held_get, entry_get) (_, refl)
-
-abbrev first_datum : List ℕ
-first_datum = 1 ∷ 0 ∷ 170 ∷ 187 ∷ 204 ∷ 221 ∷ []
-
-abbrev second_datum : List ℕ
-second_datum = 2 ∷ 0 ∷ 17 ∷ 34 ∷ 51 ∷ 68 ∷ []
-
-abbrev entered : Journal
-entered = Step (record { 0 = 0 }) (Command (commands.Enter 1 first_datum)) (outputs.Send 2 (7 ∷ []) (bodies.Data 65 first_datum) ∷ []) ∷ stands
-
-abbrev lost : Journal
-lost = Lost (frame 4) ∷ entered
-
-abbrev entered_again : Journal
-entered_again = Step (record { 0 = 0 }) (Command (commands.Enter 1 second_datum)) (outputs.Send 2 (7 ∷ []) (bodies.Data 65 second_datum) ∷ []) ∷ lost
-
-abbrev taken : Journal
-taken = Step (record { 0 = 1 }) (Frame 2 (1 ∷ []) (frame 6)) (outputs.Consumed triad 101 second_datum ∷ []) ∷ entered_again
 
 enters : Gives scanner (state_in scanner 0 stands) (events.Command (commands.Enter 1 first_datum)) (outputs.Send 2 (7 ∷ []) (bodies.Data 65 first_datum) ∷ [])
 unfolding behind bytes_at counted_at counted_path_at data_row double_at end_row hop_of link_refusal logical_at narrow_at number_at open_at
@@ -104,7 +65,8 @@ unfolding behind bytes_at counted_at counted_path_at data_row double_at end_row 
     segments_within size_at words_at
 enters_again = simp (none_waits, none_held, held_first, held_get, held_entries, held_none, entry_get) (_, refl)
 
-takes : Gives (adapter 0 2) (state_in (adapter 0 2) 1 entered_again) (events.Frame 2 (1 ∷ []) (bodies.Data 65 second_datum)) (outputs.Consumed triad 101 second_datum ∷ [])
+takes : Gives (adapter 0 2) (state_in (adapter 0 2) 1 entered_again) (events.Frame 2 (1 ∷ []) (bodies.Data 65 second_datum))
+    (outputs.Consumed triad 101 second_datum ∷ [])
 unfolding behind bytes_at counted_at counted_path_at data_row double_at end_row hop_of link_refusal logical_at narrow_at number_at open_at
     open_reply_at open_row other_at padded_at path_at plain_port_at point_at port_at reply_at reply_row request_at request_row segment_at segments_of
     segments_within size_at words_at

@@ -1,15 +1,13 @@
--- An open that fails at the second bridge: the path goes on by a port that it lacks.
-use Rattle.std.proofs.Common.{ℕ, List, [], ◌∷◌, refl}
+-- It is a run.
+use Rattle.std.proofs.Common.{[], ◌∷◌, refl}
 use Rattle.cip_module.specs.declared.event.Command.TheVariants as commands
 use Rattle.cip_module.specs.declared.event.Event.TheVariants as events
 use Rattle.cip_module.specs.declared.event.Body.TheVariants as bodies
 use Rattle.cip_module.specs.declared.event.Output.TheVariants as outputs
 use Rattle.cip_module.specs.State.{initial_state}
-use Rattle.cip_world.specs.declared.journal.Input.TheVariants.{Command, Frame}
-use Rattle.cip_world.specs.declared.journal.Entry.TheVariants.{Step}
-use Rattle.cip_world.specs.Journals.{Journal}
 use Rattle.cip_world.specs.Runs.{IsRun, state_in}
-use Rattle.cip_world.proofs.Concrete.{scanner, first_bridge, second_bridge, plant, frame, Gives, params, none_waits, none_held, held_first, held_get, entry_get}
+use Rattle.witnesses.specs.Plans.{scanner, first_bridge, second_bridge, plant, params}
+use Rattle.witnesses.proofs.Maps.{Gives, none_waits, none_held, held_first, held_get, entry_get}
 use Rattle.cip_message.specs.Counted.{counted_at, counted_path_at}
 use Rattle.cip_message.specs.Failure.{failure_at}
 use Rattle.cip_message.specs.ReplyAt.{reply_at}
@@ -27,45 +25,7 @@ use Rattle.cip_segment.specs.Scan.{bytes_at, double_at, logical_at, narrow_at, n
 use Rattle.cip_target.specs.Ends.{end_row}
 use Rattle.cip_target.specs.Rows.{target_row}
 use Rattle.cip_unconnected.specs.UnconnectedAt.{unconnected_at}
-
-abbrev path : List ℕ
-path = 2 ∷ 5 ∷ 1 ∷ 3 ∷ 9 ∷ 7 ∷ 32 ∷ 4 ∷ 36 ∷ 100 ∷ []
-
-abbrev first_request : List ℕ
-first_request = 84 ∷ 2 ∷ 32 ∷ 6 ∷ 36 ∷ 1 ∷ 7 ∷ 249 ∷ 0 ∷ 0 ∷ 0 ∷ 0 ∷ 17 ∷ 0 ∷ 0 ∷ 0 ∷ 66 ∷ 0 ∷ 1 ∷ 1 ∷ 1 ∷ 0 ∷ 0 ∷ 0 ∷ 0 ∷ 0 ∷ 0 ∷ 0 ∷ 16 ∷ 39 ∷ 0 ∷ 0
-    ∷ 6 ∷ 72 ∷ 16 ∷ 39 ∷ 0 ∷ 0 ∷ 4 ∷ 72 ∷ 1 ∷ 4 ∷ 1 ∷ 3 ∷ 9 ∷ 7 ∷ 32 ∷ 4 ∷ 36 ∷ 100 ∷ []
-
-abbrev second_request : List ℕ
-second_request = 84 ∷ 2 ∷ 32 ∷ 6 ∷ 36 ∷ 1 ∷ 7 ∷ 248 ∷ 0 ∷ 0 ∷ 0 ∷ 0 ∷ 33 ∷ 0 ∷ 0 ∷ 0 ∷ 66 ∷ 0 ∷ 1 ∷ 1 ∷ 1 ∷ 0 ∷ 0 ∷ 0 ∷ 0 ∷ 0 ∷ 0 ∷ 0 ∷ 16 ∷ 39 ∷ 0 ∷
-    0 ∷ 6 ∷ 72 ∷ 16 ∷ 39 ∷ 0 ∷ 0 ∷ 4 ∷ 72 ∷ 1 ∷ 3 ∷ 9 ∷ 7 ∷ 32 ∷ 4 ∷ 36 ∷ 100 ∷ []
-
-abbrev failure : List ℕ
-failure = 212 ∷ 0 ∷ 1 ∷ 1 ∷ 17 ∷ 3 ∷ 66 ∷ 0 ∷ 1 ∷ 1 ∷ 1 ∷ 0 ∷ 0 ∷ 0 ∷ 3 ∷ 0 ∷ []
-
-abbrev asks : Journal
-asks = Step (record { 0 = 0 })
-    (Command (commands.Open 1 (record { tick = 7; ticks = 250 }) path params))
-    (outputs.Send 2 (5 ∷ []) (bodies.Request 1 first_request) ∷ []) ∷ []
-
-abbrev goes_on : Journal
-goes_on = Step (record { 0 = 1 })
-    (Frame 2 (1 ∷ []) (frame 0))
-    (outputs.Send 1 (3 ∷ []) (bodies.Request 1 second_request) ∷ []) ∷ asks
-
-abbrev refuses : Journal
-refuses = Step (record { 0 = 2 })
-    (Frame 1 (0 ∷ []) (frame 1))
-    (outputs.Send 1 (0 ∷ []) (bodies.Reply 1 failure) ∷ []) ∷ goes_on
-
-abbrev passes : Journal
-passes = Step (record { 0 = 1 })
-    (Frame 1 (3 ∷ []) (frame 2))
-    (outputs.Send 2 (1 ∷ []) (bodies.Reply 1 failure) ∷ []) ∷ refuses
-
-abbrev ends : Journal
-ends = Step (record { 0 = 0 })
-    (Frame 2 (5 ∷ []) (frame 3))
-    (outputs.Done 1 failure ∷ []) ∷ passes
+use Rattle.witnesses.specs.FailedOpen.{path, first_request, second_request, failure, asks, goes_on, refuses, passes, ends}
 
 by_asks : Gives scanner (initial_state scanner)
     (events.Command (commands.Open 1 (record { tick = 7; ticks = 250 }) path params))

@@ -1,16 +1,14 @@
--- A close that comes late, and takes the later connection of its triad.
-use Rattle.std.proofs.Common.{ℕ, List, [], ◌∷◌, refl}
+-- It is a run.
+use Rattle.std.proofs.Common.{[], ◌∷◌, refl}
 use Rattle.cip_module.specs.declared.event.Command.TheVariants as commands
 use Rattle.cip_module.specs.declared.event.Event.TheVariants as events
 use Rattle.cip_module.specs.declared.event.Body.TheVariants as bodies
 use Rattle.cip_module.specs.declared.event.Output.TheVariants as outputs
 use Rattle.cip_module.specs.declared.event.Dropped.TheVariants.{Late}
 use Rattle.cip_module.specs.State.{initial_state}
-use Rattle.cip_world.specs.declared.journal.Input.TheVariants.{Command, Tick, Frame}
-use Rattle.cip_world.specs.declared.journal.Entry.TheVariants.{Step}
-use Rattle.cip_world.specs.Journals.{Journal}
 use Rattle.cip_world.specs.Runs.{IsRun, state_in}
-use Rattle.cip_world.proofs.Concrete.{scanner, adapter, cell, triad, frame, Gives, params, none_waits, none_held, held_first, held_none, held_get, held_entries, held_gone, held_twice, pendings_none, bytes_get, entry_first, entry_get, entry_entries, entry_gone}
+use Rattle.witnesses.specs.Plans.{scanner, adapter, cell, triad, params}
+use Rattle.witnesses.proofs.Maps.{Gives, none_waits, none_held, held_first, held_none, held_get, held_entries, held_gone, held_twice, pendings_none, bytes_get, entry_first, entry_get, entry_entries, entry_gone}
 use Rattle.cip_message.specs.Counted.{counted_at, counted_path_at}
 use Rattle.cip_message.specs.Failure.{failure_at}
 use Rattle.cip_message.specs.ReplyAt.{reply_at}
@@ -28,74 +26,7 @@ use Rattle.cip_open.specs.SuccessAt.{open_reply_at}
 use Rattle.cip_segment.specs.Reading.{segments_within, path_at, segments_of, behind, hop_of}
 use Rattle.cip_segment.specs.Scan.{bytes_at, padded_at, narrow_at, double_at, point_at, words_at, number_at, size_at, plain_port_at, port_at, other_at, logical_at, segment_at}
 use Rattle.cip_target.specs.Ends.{end_row}
-
-abbrev first_request : List ℕ
-first_request = 84 ∷ 2 ∷ 32 ∷ 6 ∷ 36 ∷ 1 ∷ 7 ∷ 249 ∷ 0 ∷ 0 ∷ 0 ∷ 0 ∷ 17 ∷ 0 ∷ 0 ∷ 0 ∷ 66 ∷ 0 ∷ 1 ∷ 1 ∷ 1 ∷ 0 ∷ 0 ∷ 0 ∷ 0 ∷ 0 ∷ 0 ∷ 0 ∷ 16 ∷ 39 ∷ 0 ∷ 0 ∷ 6
-    ∷ 72 ∷ 16 ∷ 39 ∷ 0 ∷ 0 ∷ 4 ∷ 72 ∷ 1 ∷ 4 ∷ 32 ∷ 4 ∷ 36 ∷ 100 ∷ 44 ∷ 101 ∷ 44 ∷ 102 ∷ []
-
-abbrev first_success : List ℕ
-first_success = 212 ∷ 0 ∷ 0 ∷ 0 ∷ 65 ∷ 0 ∷ 0 ∷ 0 ∷ 17 ∷ 0 ∷ 0 ∷ 0 ∷ 66 ∷ 0 ∷ 1 ∷ 1 ∷ 1 ∷ 0 ∷ 0 ∷ 0 ∷ 16 ∷ 39 ∷ 0 ∷ 0 ∷ 16 ∷ 39 ∷ 0 ∷ 0 ∷ 0 ∷ 0 ∷ []
-
-abbrev close_request : List ℕ
-close_request = 78 ∷ 2 ∷ 32 ∷ 6 ∷ 36 ∷ 1 ∷ 7 ∷ 249 ∷ 66 ∷ 0 ∷ 1 ∷ 1 ∷ 1 ∷ 0 ∷ 0 ∷ 0 ∷ 4 ∷ 0 ∷ 32 ∷ 4 ∷ 36 ∷ 100 ∷ 44 ∷ 101 ∷ 44 ∷ 102 ∷ []
-
-abbrev given_up_reply : List ℕ
-given_up_reply = 206 ∷ 0 ∷ 1 ∷ 1 ∷ 4 ∷ 2 ∷ 66 ∷ 0 ∷ 1 ∷ 1 ∷ 1 ∷ 0 ∷ 0 ∷ 0 ∷ 5 ∷ 0 ∷ []
-
-abbrev second_request : List ℕ
-second_request = 84 ∷ 2 ∷ 32 ∷ 6 ∷ 36 ∷ 1 ∷ 7 ∷ 249 ∷ 0 ∷ 0 ∷ 0 ∷ 0 ∷ 18 ∷ 0 ∷ 0 ∷ 0 ∷ 66 ∷ 0 ∷ 1 ∷ 1 ∷ 1 ∷ 0 ∷ 0 ∷ 0 ∷ 0 ∷ 0 ∷ 0 ∷ 0 ∷ 16 ∷ 39 ∷ 0 ∷ 0 ∷ 6
-    ∷ 72 ∷ 16 ∷ 39 ∷ 0 ∷ 0 ∷ 4 ∷ 72 ∷ 1 ∷ 4 ∷ 32 ∷ 4 ∷ 36 ∷ 100 ∷ 44 ∷ 101 ∷ 44 ∷ 102 ∷ []
-
-abbrev second_success : List ℕ
-second_success = 212 ∷ 0 ∷ 0 ∷ 0 ∷ 66 ∷ 0 ∷ 0 ∷ 0 ∷ 18 ∷ 0 ∷ 0 ∷ 0 ∷ 66 ∷ 0 ∷ 1 ∷ 1 ∷ 1 ∷ 0 ∷ 0 ∷ 0 ∷ 16 ∷ 39 ∷ 0 ∷ 0 ∷ 16 ∷ 39 ∷ 0 ∷ 0 ∷ 0 ∷ 0 ∷ []
-
-abbrev close_success : List ℕ
-close_success = 206 ∷ 0 ∷ 0 ∷ 0 ∷ 66 ∷ 0 ∷ 1 ∷ 1 ∷ 1 ∷ 0 ∷ 0 ∷ 0 ∷ 0 ∷ 0 ∷ []
-
-abbrev datum : List ℕ
-datum = 1 ∷ 0 ∷ 170 ∷ 187 ∷ 204 ∷ 221 ∷ []
-
-abbrev path : List ℕ
-path = 2 ∷ 7 ∷ 32 ∷ 4 ∷ 36 ∷ 100 ∷ 44 ∷ 101 ∷ 44 ∷ 102 ∷ []
-
-abbrev opens : Journal
-opens = Step (record { 0 = 0 }) (Command (commands.Open 1 (record { tick = 7; ticks = 250 }) path params))
-    (outputs.Send 2 (7 ∷ []) (bodies.Request 1 first_request) ∷ []) ∷ []
-
-abbrev accepted : Journal
-accepted = Step (record { 0 = 1 }) (Frame 2 (1 ∷ []) (frame 0)) (outputs.Send 2 (1 ∷ []) (bodies.Reply 1 first_success) ∷ []) ∷ opens
-
-abbrev stands : Journal
-stands = Step (record { 0 = 0 }) (Frame 2 (7 ∷ []) (frame 1)) (outputs.Done 1 first_success ∷ []) ∷ accepted
-
-abbrev asked_to_close : Journal
-asked_to_close = Step (record { 0 = 0 }) (Command (commands.Close 2 1 (record { tick = 7; ticks = 250 })))
-    (outputs.Send 2 (7 ∷ []) (bodies.Request 2 close_request) ∷ []) ∷ stands
-
-abbrev lapsed : Journal
-lapsed = Step (record { 0 = 1 }) (Tick 41) (outputs.Expired triad ∷ []) ∷ asked_to_close
-
-abbrev given_up : Journal
-given_up = Step (record { 0 = 0 }) (Tick 32001) (outputs.Done 2 given_up_reply ∷ []) ∷ lapsed
-
-abbrev opens_again : Journal
-opens_again = Step (record { 0 = 0 }) (Command (commands.Open 3 (record { tick = 7; ticks = 250 }) path params))
-    (outputs.Send 2 (7 ∷ []) (bodies.Request 3 second_request) ∷ []) ∷ given_up
-
-abbrev accepted_again : Journal
-accepted_again = Step (record { 0 = 1 }) (Frame 2 (1 ∷ []) (frame 6)) (outputs.Send 2 (1 ∷ []) (bodies.Reply 3 second_success) ∷ []) ∷ opens_again
-
-abbrev stands_again : Journal
-stands_again = Step (record { 0 = 0 }) (Frame 2 (7 ∷ []) (frame 7)) (outputs.Done 3 second_success ∷ []) ∷ accepted_again
-
-abbrev closed_late : Journal
-closed_late = Step (record { 0 = 1 }) (Frame 2 (1 ∷ []) (frame 3)) (outputs.Send 2 (1 ∷ []) (bodies.Reply 2 close_success) ∷ []) ∷ stands_again
-
-abbrev entered : Journal
-entered = Step (record { 0 = 0 }) (Command (commands.Enter 3 datum)) (outputs.Send 2 (7 ∷ []) (bodies.Data 66 datum) ∷ []) ∷ closed_late
-
-abbrev answered : Journal
-answered = Step (record { 0 = 0 }) (Frame 2 (7 ∷ []) (frame 9)) (outputs.Dropped Late ∷ []) ∷ entered
+use Rattle.witnesses.specs.LateClose.{first_request, first_success, close_request, given_up_reply, second_request, second_success, close_success, datum, path, opens, accepted, stands, asked_to_close, lapsed, given_up, opens_again, accepted_again, stands_again, closed_late, entered, answered}
 
 -- ---- what the modules put out
 

@@ -1,5 +1,5 @@
--- Two connections of one triad, one after the other: the datum of the first, which comes late, is no datum of the second.
-use Rattle.std.proofs.Common.{◌≡◌, ℕ, List, [], ◌∷◌, Some, None, refl, sym, subst}
+-- It is a run.
+use Rattle.std.proofs.Common.{◌≡◌, [], ◌∷◌, Some, None, refl, sym, subst}
 use Rattle.std.specs.FinMap as map
 use Rattle.cip_hops.specs.declared.hop.Held.TheVariants.{Open}
 use Rattle.cip_hops.specs.declared.opening.HopUp.TheVariants.{Link as UpLink}
@@ -11,11 +11,9 @@ use Rattle.cip_module.specs.declared.event.Body.TheVariants as bodies
 use Rattle.cip_module.specs.declared.event.Output.TheVariants as outputs
 use Rattle.cip_module.specs.declared.event.Dropped.TheVariants.{UnknownId}
 use Rattle.cip_module.specs.State.{State, initial_state}
-use Rattle.cip_world.specs.declared.journal.Input.TheVariants.{Command, Frame}
-use Rattle.cip_world.specs.declared.journal.Entry.TheVariants.{Step}
-use Rattle.cip_world.specs.Journals.{Journal}
 use Rattle.cip_world.specs.Runs.{IsRun, state_in}
-use Rattle.cip_world.proofs.Concrete.{scanner, adapter, cell, triad, frame, Gives, params, none_waits, none_held, held_first, held_none, held_get, held_entries, held_gone, held_twice, bytes_get, entry_get, entry_gone}
+use Rattle.witnesses.specs.Plans.{scanner, adapter, cell, triad, params}
+use Rattle.witnesses.proofs.Maps.{Gives, none_waits, none_held, held_first, held_none, held_get, held_entries, held_gone, held_twice, bytes_get, entry_get, entry_gone}
 use Rattle.cip_message.specs.Counted.{counted_at, counted_path_at}
 use Rattle.cip_message.specs.Failure.{failure_at}
 use Rattle.cip_message.specs.ReplyAt.{reply_at}
@@ -33,77 +31,7 @@ use Rattle.cip_open.specs.SuccessAt.{open_reply_at}
 use Rattle.cip_segment.specs.Reading.{segments_within, path_at, segments_of, behind, hop_of}
 use Rattle.cip_segment.specs.Scan.{bytes_at, padded_at, narrow_at, double_at, point_at, words_at, number_at, size_at, plain_port_at, port_at, other_at, logical_at, segment_at}
 use Rattle.cip_target.specs.Ends.{end_row}
-
-abbrev first_request : List ℕ
-first_request = 84 ∷ 2 ∷ 32 ∷ 6 ∷ 36 ∷ 1 ∷ 7 ∷ 249 ∷ 0 ∷ 0 ∷ 0 ∷ 0 ∷ 17 ∷ 0 ∷ 0 ∷ 0 ∷ 66 ∷ 0 ∷ 1 ∷ 1 ∷ 1 ∷ 0 ∷ 0 ∷ 0 ∷ 0 ∷ 0 ∷ 0 ∷ 0 ∷ 16 ∷ 39 ∷ 0 ∷ 0 ∷ 6
-    ∷ 72 ∷ 16 ∷ 39 ∷ 0 ∷ 0 ∷ 4 ∷ 72 ∷ 1 ∷ 4 ∷ 32 ∷ 4 ∷ 36 ∷ 100 ∷ 44 ∷ 101 ∷ 44 ∷ 102 ∷ []
-
-abbrev first_success : List ℕ
-first_success = 212 ∷ 0 ∷ 0 ∷ 0 ∷ 65 ∷ 0 ∷ 0 ∷ 0 ∷ 17 ∷ 0 ∷ 0 ∷ 0 ∷ 66 ∷ 0 ∷ 1 ∷ 1 ∷ 1 ∷ 0 ∷ 0 ∷ 0 ∷ 16 ∷ 39 ∷ 0 ∷ 0 ∷ 16 ∷ 39 ∷ 0 ∷ 0 ∷ 0 ∷ 0 ∷ []
-
-abbrev first_datum : List ℕ
-first_datum = 1 ∷ 0 ∷ 170 ∷ 187 ∷ 204 ∷ 221 ∷ []
-
-abbrev close_request : List ℕ
-close_request = 78 ∷ 2 ∷ 32 ∷ 6 ∷ 36 ∷ 1 ∷ 7 ∷ 249 ∷ 66 ∷ 0 ∷ 1 ∷ 1 ∷ 1 ∷ 0 ∷ 0 ∷ 0 ∷ 4 ∷ 0 ∷ 32 ∷ 4 ∷ 36 ∷ 100 ∷ 44 ∷ 101 ∷ 44 ∷ 102 ∷ []
-
-abbrev close_success : List ℕ
-close_success = 206 ∷ 0 ∷ 0 ∷ 0 ∷ 66 ∷ 0 ∷ 1 ∷ 1 ∷ 1 ∷ 0 ∷ 0 ∷ 0 ∷ 0 ∷ 0 ∷ []
-
-abbrev second_request : List ℕ
-second_request = 84 ∷ 2 ∷ 32 ∷ 6 ∷ 36 ∷ 1 ∷ 7 ∷ 249 ∷ 0 ∷ 0 ∷ 0 ∷ 0 ∷ 18 ∷ 0 ∷ 0 ∷ 0 ∷ 66 ∷ 0 ∷ 1 ∷ 1 ∷ 1 ∷ 0 ∷ 0 ∷ 0 ∷ 0 ∷ 0 ∷ 0 ∷ 0 ∷ 16 ∷ 39 ∷ 0 ∷ 0 ∷ 6
-    ∷ 72 ∷ 16 ∷ 39 ∷ 0 ∷ 0 ∷ 4 ∷ 72 ∷ 1 ∷ 4 ∷ 32 ∷ 4 ∷ 36 ∷ 100 ∷ 44 ∷ 101 ∷ 44 ∷ 102 ∷ []
-
-abbrev second_success : List ℕ
-second_success = 212 ∷ 0 ∷ 0 ∷ 0 ∷ 66 ∷ 0 ∷ 0 ∷ 0 ∷ 18 ∷ 0 ∷ 0 ∷ 0 ∷ 66 ∷ 0 ∷ 1 ∷ 1 ∷ 1 ∷ 0 ∷ 0 ∷ 0 ∷ 16 ∷ 39 ∷ 0 ∷ 0 ∷ 16 ∷ 39 ∷ 0 ∷ 0 ∷ 0 ∷ 0 ∷ []
-
-abbrev second_datum : List ℕ
-second_datum = 1 ∷ 0 ∷ 17 ∷ 34 ∷ 51 ∷ 68 ∷ []
-
-abbrev path : List ℕ
-path = 2 ∷ 7 ∷ 32 ∷ 4 ∷ 36 ∷ 100 ∷ 44 ∷ 101 ∷ 44 ∷ 102 ∷ []
-
-abbrev opens : Journal
-opens = Step (record { 0 = 0 }) (Command (commands.Open 1 (record { tick = 7; ticks = 250 }) path params))
-    (outputs.Send 2 (7 ∷ []) (bodies.Request 1 first_request) ∷ []) ∷ []
-
-abbrev accepted : Journal
-accepted = Step (record { 0 = 1 }) (Frame 2 (1 ∷ []) (frame 0)) (outputs.Send 2 (1 ∷ []) (bodies.Reply 1 first_success) ∷ []) ∷ opens
-
-abbrev stands : Journal
-stands = Step (record { 0 = 0 }) (Frame 2 (7 ∷ []) (frame 1)) (outputs.Done 1 first_success ∷ []) ∷ accepted
-
-abbrev entered : Journal
-entered = Step (record { 0 = 0 }) (Command (commands.Enter 1 first_datum)) (outputs.Send 2 (7 ∷ []) (bodies.Data 65 first_datum) ∷ []) ∷ stands
-
-abbrev asked_to_close : Journal
-asked_to_close = Step (record { 0 = 0 }) (Command (commands.Close 2 1 (record { tick = 7; ticks = 250 })))
-    (outputs.Send 2 (7 ∷ []) (bodies.Request 2 close_request) ∷ []) ∷ entered
-
-abbrev closed : Journal
-closed = Step (record { 0 = 1 }) (Frame 2 (1 ∷ []) (frame 4)) (outputs.Send 2 (1 ∷ []) (bodies.Reply 2 close_success) ∷ []) ∷ asked_to_close
-
-abbrev closed_here : Journal
-closed_here = Step (record { 0 = 0 }) (Frame 2 (7 ∷ []) (frame 5)) (outputs.Done 2 close_success ∷ []) ∷ closed
-
-abbrev opens_again : Journal
-opens_again = Step (record { 0 = 0 }) (Command (commands.Open 3 (record { tick = 7; ticks = 250 }) path params))
-    (outputs.Send 2 (7 ∷ []) (bodies.Request 3 second_request) ∷ []) ∷ closed_here
-
-abbrev accepted_again : Journal
-accepted_again = Step (record { 0 = 1 }) (Frame 2 (1 ∷ []) (frame 7)) (outputs.Send 2 (1 ∷ []) (bodies.Reply 3 second_success) ∷ []) ∷ opens_again
-
-abbrev stands_again : Journal
-stands_again = Step (record { 0 = 0 }) (Frame 2 (7 ∷ []) (frame 8)) (outputs.Done 3 second_success ∷ []) ∷ accepted_again
-
-abbrev dropped : Journal
-dropped = Step (record { 0 = 1 }) (Frame 2 (1 ∷ []) (frame 3)) (outputs.Dropped UnknownId ∷ []) ∷ stands_again
-
-abbrev entered_again : Journal
-entered_again = Step (record { 0 = 0 }) (Command (commands.Enter 3 second_datum)) (outputs.Send 2 (7 ∷ []) (bodies.Data 66 second_datum) ∷ []) ∷ dropped
-
-abbrev taken : Journal
-taken = Step (record { 0 = 1 }) (Frame 2 (1 ∷ []) (frame 11)) (outputs.Consumed triad 101 second_datum ∷ []) ∷ entered_again
+use Rattle.witnesses.specs.OneAfterTheOther.{first_request, first_success, first_datum, close_request, close_success, second_request, second_success, second_datum, path, opens, accepted, stands, entered, asked_to_close, closed, closed_here, opens_again, accepted_again, stands_again, dropped, entered_again, taken}
 
 -- ---- what the modules put out
 

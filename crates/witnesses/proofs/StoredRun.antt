@@ -1,15 +1,13 @@
--- The stored run is a run: the scanner asks the second bridge for its identity through the first one, and gets it.
-use Rattle.std.proofs.Common.{ℕ, List, [], ◌∷◌, refl}
+-- It is a run.
+use Rattle.std.proofs.Common.{[], ◌∷◌, refl}
 use Rattle.cip_module.specs.declared.event.Command.TheVariants as commands
 use Rattle.cip_module.specs.declared.event.Event.TheVariants as events
 use Rattle.cip_module.specs.declared.event.Body.TheVariants as bodies
 use Rattle.cip_module.specs.declared.event.Output.TheVariants as outputs
 use Rattle.cip_module.specs.State.{initial_state}
-use Rattle.cip_world.specs.declared.journal.Input.TheVariants.{Command, Frame}
-use Rattle.cip_world.specs.declared.journal.Entry.TheVariants.{Step}
-use Rattle.cip_world.specs.Journals.{Journal}
 use Rattle.cip_world.specs.Runs.{IsRun, state_in}
-use Rattle.cip_world.proofs.Concrete.{scanner, first_bridge, second_bridge, plant, frame, Gives, none_waits, entry_get}
+use Rattle.witnesses.specs.Plans.{scanner, first_bridge, second_bridge, plant}
+use Rattle.witnesses.proofs.Maps.{Gives, none_waits, entry_get}
 use Rattle.cip_message.specs.Counted.{counted_at, counted_path_at}
 use Rattle.cip_message.specs.Failure.{failure_at}
 use Rattle.cip_message.specs.ReplyAt.{reply_at}
@@ -27,43 +25,7 @@ use Rattle.cip_segment.specs.Scan.{bytes_at, double_at, logical_at, narrow_at, n
 use Rattle.cip_target.specs.Ends.{end_row}
 use Rattle.cip_target.specs.Rows.{target_row}
 use Rattle.cip_unconnected.specs.UnconnectedAt.{unconnected_at}
-
-abbrev path : List ℕ
-path = 2 ∷ 5 ∷ 1 ∷ 3 ∷ []
-
-abbrev asked : List ℕ
-asked = 1 ∷ 2 ∷ 32 ∷ 1 ∷ 36 ∷ 1 ∷ []
-
-abbrev sent_on : List ℕ
-sent_on = 82 ∷ 2 ∷ 32 ∷ 6 ∷ 36 ∷ 1 ∷ 7 ∷ 249 ∷ 6 ∷ 0 ∷ 1 ∷ 2 ∷ 32 ∷ 1 ∷ 36 ∷ 1 ∷ 1 ∷ 0 ∷ 1 ∷ 3 ∷ []
-
-abbrev answer : List ℕ
-answer = 129 ∷ 0 ∷ 0 ∷ 0 ∷ 1 ∷ 1 ∷ 12 ∷ 0 ∷ 2 ∷ 0 ∷ 1 ∷ 3 ∷ 0 ∷ 0 ∷ 3 ∷ 0 ∷ 0 ∷ 0 ∷ 1 ∷ 65 ∷ []
-
-abbrev asks : Journal
-asks = Step (record { 0 = 0 })
-    (Command (commands.Send 1 (record { tick = 7; ticks = 250 }) path asked))
-    (outputs.Send 2 (5 ∷ []) (bodies.Request 1 sent_on) ∷ []) ∷ []
-
-abbrev goes_on : Journal
-goes_on = Step (record { 0 = 1 })
-    (Frame 2 (1 ∷ []) (frame 0))
-    (outputs.Send 1 (3 ∷ []) (bodies.Request 1 asked) ∷ []) ∷ asks
-
-abbrev answers : Journal
-answers = Step (record { 0 = 2 })
-    (Frame 1 (0 ∷ []) (frame 1))
-    (outputs.Send 1 (0 ∷ []) (bodies.Reply 1 answer) ∷ []) ∷ goes_on
-
-abbrev goes_back : Journal
-goes_back = Step (record { 0 = 1 })
-    (Frame 1 (3 ∷ []) (frame 2))
-    (outputs.Send 2 (1 ∷ []) (bodies.Reply 1 answer) ∷ []) ∷ answers
-
-abbrev ends : Journal
-ends = Step (record { 0 = 0 })
-    (Frame 2 (5 ∷ []) (frame 3))
-    (outputs.Done 1 answer ∷ []) ∷ goes_back
+use Rattle.witnesses.specs.StoredRun.{path, asked, sent_on, answer, asks, goes_on, answers, goes_back, ends}
 
 by_asks : Gives scanner (initial_state scanner)
     (events.Command (commands.Send 1 (record { tick = 7; ticks = 250 }) path asked))

@@ -1,4 +1,4 @@
-//! The modules of the bench: a scanner S, the bridges A and B behind it, and behind these the
+//! The modules of the harness: a scanner S, the bridges A and B behind it, and behind these the
 //! adapter E.
 use cip_base::{Address, Bytes, NoMemory, PortNumber};
 use cip_indexed::IndexedModule;

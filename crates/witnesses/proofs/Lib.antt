@@ -1,0 +1,12 @@
+pub mod Maps
+pub mod Topologies
+pub mod StoredRun
+pub mod ConnectedRun
+pub mod FailedOpen
+pub mod TimedOutOpen
+pub mod LateReply
+pub mod ChainedRun
+pub mod LateClose
+pub mod OneAfterTheOther
+pub mod CarriedOnce
+pub mod Told

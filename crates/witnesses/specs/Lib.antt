@@ -1,0 +1,9 @@
+pub mod Plans
+pub mod StoredRun
+pub mod ConnectedRun
+pub mod FailedOpen
+pub mod TimedOutOpen
+pub mod LateReply
+pub mod ChainedRun
+pub mod LateClose
+pub mod OneAfterTheOther
