@@ -106,7 +106,7 @@ pub all_written : (names : List (List ℕ)) (entries : List Entry) (old new : Op
 all_written names entries old new before after k w none =
     subst (Prints old new before after) (sym (append-nil w.so_far) ∙ ap (λ es. w.so_far ++ entries_text names k es) (sym none) ∙ w.joined) w.prints
 
--- what was printed so far is a front of all
+-- what was printed so far is a prefix of all
 pub front_written : (names : List (List ℕ)) (entries : List Entry) (old new : Option (List ℕ)) (before after : List ℕ) (k : ℕ)
     → Writing names entries old new before after k
     → AppendsFront old new (before ++ entries_text names 0 entries)
@@ -114,7 +114,7 @@ front_written names entries old new before after k w =
     subst (λ text. AppendsFront old new (before ++ text)) w.joined
     (front_of_prints old new before after w.so_far (entries_text names k (drop k entries)) w.prints)
 
--- a front of one more
+-- a prefix of one more
 pub front_of_one : (names : List (List ℕ)) (entries : List Entry) (old mid new : Option (List ℕ)) (before between gathered : List ℕ) (k : ℕ) (entry : Entry)
     → Writing names entries old mid before between k
     → drop k entries ≡ entry ∷ drop (k + 1) entries

@@ -11,7 +11,7 @@ use Rattle.cip_console.specs.Transcript.{transcript}
 use Rattle.cip_transcript.specs.Show.{names_of}
 use Rattle.cip_console.proofs.Prints.{front_nothing}
 
--- where nothing was written, a front was
+-- where nothing was written, a prefix was
 pub nothing_written : (t : Plan) (old : Option (List ℕ)) (script : Steps) → Front t old old script
 nothing_written t old (Ok all) = front_nothing old (transcript t all)
 nothing_written t old (Err first) = Keeps-refl old

@@ -193,7 +193,7 @@ run_unended t limit j k old new before between p =
     subst (λ (x : Part). AppendsFront old new (before ++ x.text)) (sym (run_text t limit j k p.ends))
     (front_of_prints old new before between (deliveries t limit j).text (ended t k).text p.prints)
 
--- what could not be written or gathered was a front
+-- what could not be written or gathered was a prefix
 pub unwritten_as : (part : Part) (old new : Option (List ℕ)) (before after : List ℕ) (j : Journal) (fault : PlayFault)
     → ((why : ScriptFault) → fault ≡ Stopped why → ⊥)
     → AppendsFront old new (before ++ part.text)

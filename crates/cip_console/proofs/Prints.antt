@@ -34,7 +34,7 @@ prints_then old mid new before between after text more p q =
 pub front_nothing : (old : Option (List ℕ)) (text : List ℕ) → AppendsFront old old text
 front_nothing old text = record { front = []; rest = text; split = refl; wrote = Appends-nil old }
 
--- a front of a text is one of a longer text
+-- a prefix of a text is one of a longer text
 pub front_more : (old new : Option (List ℕ)) (text more : List ℕ) → AppendsFront old new text → AppendsFront old new (text ++ more)
 front_more old new text more p = record {
   front = p.front;
@@ -44,7 +44,7 @@ front_more old new text more p = record {
   wrote = p.wrote;
 }
 
--- what is written so far is a front of all that is printed
+-- what is written so far is a prefix of all that is printed
 pub front_of_prints : (old new : Option (List ℕ)) (before after text more : List ℕ) → Prints old new before after text
     → AppendsFront old new (before ++ (text ++ more))
 front_of_prints old new before after text more p =
@@ -55,7 +55,7 @@ front_of_prints old new before after text more p =
       wrote = p.wrote;
     }
 
--- a print, and then a front of what was gathered and of what comes after it
+-- a print, and then a prefix of what was gathered and of what comes after it
 pub front_then : (old mid new : Option (List ℕ)) (before between text more : List ℕ) → Prints old mid before between text
     → AppendsFront mid new (between ++ more)
     → AppendsFront old new (before ++ (text ++ more))

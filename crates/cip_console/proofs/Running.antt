@@ -92,7 +92,7 @@ more_text : (part : Part) (after : Result Journal ScriptFault) (rest : Journal �
 more_text part (Err fault) rest = ([], sym (append-nil part.text))
 more_text part (Ok run) rest = ((rest run).text, refl)
 
--- a front of what the next step prints was written
+-- a prefix of what the next step prints was written
 pub running_front : (t : Plan) (all : List Numbered) (old mid new : Option (List ℕ)) (between : List ℕ) (s : Journal)
     (numbered : Numbered) (more : List Numbered)
     → (r : Running t all old mid between s (numbered ∷ more)) → AppendsFront mid new (between ++ (played t s numbered.step).text)

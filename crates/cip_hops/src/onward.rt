@@ -67,7 +67,7 @@ impl Hop {
     }
 
     // For a datum of so many bytes that comes in by this side; None where it goes no further, or
-    // has not the size of its direction.
+    // does not have the size of its direction.
     #[inline(always)]
     pub(crate) fn onward(&self, side: Side, size: usize) -> Option<Onward>
         ensures { result ≡ onward_by side size self.now }

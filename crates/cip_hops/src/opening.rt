@@ -102,7 +102,7 @@ impl HopUp {
         }
     }
 
-    /// The same side once more. Takes no memory.
+    /// A copy. Takes no memory.
     pub fn copy(&self) -> HopUp
         ensures { result ≡ self.now }
     {
@@ -141,7 +141,7 @@ impl HopDown {
         matches!(self, HopDown::Link { .. })
     }
 
-    /// The same side once more. Takes no memory.
+    /// A copy. Takes no memory.
     pub fn copy(&self) -> HopDown
         ensures { result ≡ self.now }
     {

@@ -206,7 +206,7 @@ impl HopTable {
     /// Where a datum of `size` bytes goes on that comes in by this side of a hop: from this port
     /// and address, under the own id of that side. The side is then watched anew from `now` on, in
     /// microseconds. None where there is no such hop, where the datum goes no further than here, or
-    /// where it has not the size of its direction: nothing changes.
+    /// where it does not have the size of its direction: nothing changes.
     #[inline(always)]
     pub fn pass_on(
         &mut self,

@@ -98,7 +98,7 @@ pub fn no_manager_request_travels_embedded()
         → (slice_index u.request 0 == UNCONNECTED_SEND) ≡ false }
 {}
 
-/// A datum that comes by the id of a connection, from its neighbor and of its size, gives one
+/// A datum that comes by the id of a connection, from its neighbour and of its size, gives one
 /// output, that of the connection: it is passed on, consumed or given to the originator. So does
 /// one that the op enters that opened. No datum that came or was entered gives more than one.
 pub fn data_go_on()

@@ -39,7 +39,7 @@ pub data ReplyRow : Type 0 where
 abbrev pub triad_eq : Triad → Triad → Bool
 triad_eq a b = a.serial == b.serial && (a.vendor == b.vendor && a.originator == b.originator)
 
--- a failure tells no triad, or the one that was asked
+-- a failure carries no triad, or the request's
 abbrev pub is_own : Triad → Option Triad → Bool
 is_own triad None = true
 is_own triad (Some told) = triad_eq told triad

@@ -14,7 +14,7 @@ fn copy_bytes(alloc: Global, bytes: &Bytes) -> Result<Bytes, NoMemory>
 }
 
 impl PortConfig {
-    /// The same port once more. It takes no memory.
+    /// A copy. It takes no memory.
     pub fn copy(&self) -> PortConfig
         ensures { result ≡ self.now }
     {
@@ -38,7 +38,7 @@ fn copy_ports(alloc: Global, ports: &[PortConfig]) -> Result<Vec<PortConfig>, No
 }
 
 impl ModuleSettings {
-    /// The same settings once more; NoMemory where an allocation is refused.
+    /// A copy; NoMemory where an allocation is refused.
     pub fn copy(&self, alloc: Global) -> Result<ModuleSettings, NoMemory>
         ensures { IfOk result (λ s. s ≡ self.now) }
     {
@@ -62,7 +62,7 @@ impl ModuleSettings {
 }
 
 impl ModuleConfig {
-    /// The same config once more; NoMemory where an allocation is refused.
+    /// A copy; NoMemory where an allocation is refused.
     pub fn copy(&self, alloc: Global) -> Result<ModuleConfig, NoMemory>
         ensures { IfOk result (λ c. c ≡ self.now) }
     {
@@ -72,7 +72,7 @@ impl ModuleConfig {
 }
 
 impl Body {
-    /// The same body once more; NoMemory where an allocation is refused.
+    /// A copy; NoMemory where an allocation is refused.
     #[inline(always)]
     pub fn copy(&self, alloc: Global) -> Result<Body, NoMemory>
         ensures { IfOk result (λ b. b ≡ self.now) }
@@ -95,7 +95,7 @@ impl Body {
 }
 
 impl Command {
-    /// The same command once more; NoMemory where an allocation is refused.
+    /// A copy; NoMemory where an allocation is refused.
     pub fn copy(&self, alloc: Global) -> Result<Command, NoMemory>
         ensures { IfOk result (λ c. c ≡ self.now) }
     {
@@ -153,7 +153,7 @@ impl Command {
 }
 
 impl Event {
-    /// The same event once more; NoMemory where an allocation is refused.
+    /// A copy; NoMemory where an allocation is refused.
     pub fn copy(&self, alloc: Global) -> Result<Event, NoMemory>
         ensures { IfOk result (λ e. e ≡ self.now) }
     {
@@ -176,7 +176,7 @@ impl Event {
 }
 
 impl Output {
-    /// The same output once more; NoMemory where an allocation is refused.
+    /// A copy; NoMemory where an allocation is refused.
     pub fn copy(&self, alloc: Global) -> Result<Output, NoMemory>
         ensures { IfOk result (λ o. o ≡ self.now) }
     {

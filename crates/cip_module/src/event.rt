@@ -111,7 +111,7 @@ pub enum Dropped {
     Late,
     /// No connection has this id there.
     UnknownId,
-    /// The datum has not the size of its direction.
+    /// The datum does not have the size of its direction.
     WrongSize,
 }
 

@@ -39,7 +39,7 @@ impl Device {
         }
     }
 
-    // A command that has one output at the most.
+    // A command that has one output at most.
     fn command(&mut self, command: &Command) -> Result<Option<Output>, NoMemory>
         requires { IsSingle command.now }
         ensures { HandlesAs option_to_list self.old self.new

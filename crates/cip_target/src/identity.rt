@@ -76,7 +76,7 @@ impl Identity {
         &self.fields
     }
 
-    /// The same identity once more, on memory of its own.
+    /// A copy, on memory of its own.
     pub fn copy(&self, alloc: Global) -> Result<Identity, NoMemory>
         ensures { IfOk result (λ identity. identity ≡ self.now) }
     {

@@ -18,7 +18,7 @@ pub enum Feed {
 }
 
 impl Feed {
-    /// The same feed once more; NoMemory where an allocation is refused.
+    /// A copy; NoMemory where an allocation is refused.
     pub fn copy(&self, alloc: Global) -> Result<Feed, NoMemory>
         ensures { IfOk result (λ f. f ≡ self.now) }
     {

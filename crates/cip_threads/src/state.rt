@@ -182,7 +182,7 @@ fn take_hand(hands: &mut Vec<Option<Input>>, m: usize) -> Input
     input
 }
 
-/// The same feeds once more; NoMemory where an allocation is refused.
+/// A copy; NoMemory where an allocation is refused.
 pub(crate) fn copy_feeds(
     alloc: Global,
     feeds: &[(ModuleId, Feed)],

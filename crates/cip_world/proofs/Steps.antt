@@ -1,4 +1,4 @@
--- One step back along a connection: which connection of the neighbor gave the datum that came by a link.
+-- One step back along a connection: which connection of the neighbour gave the datum that came by a link.
 use Rattle.std.proofs.Common.{◌≡◌, ℕ, ◌+◌, Bool, true, false, cond, List, [], ◌∷◌, Option, Some, None, refl, sym, ap, subst, ◌∙◌, inl, inr, arith}
 use Rattle.std.specs.FinMap as map
 use Rattle.std.specs.Option.{option_map_or}

@@ -74,7 +74,7 @@ pub fn replies_answer_their_requests()
 {}
 
 /// Each connection that goes on by a link is mirrored below: at no moment of the run does the
-/// neighbor have a connection under the id that is named that does not mirror it.
+/// neighbour have a connection under the id that is named that does not mirror it.
 pub fn hops_are_mirrored()
     ensures { (t : Plan) → IsTopology t → (j : Journal) (m : ℕ) (config : Settings) → IsRun t j
         → IsModule t m config → (q : Triad) (h : Hop) (port : ℕ) (address : List ℕ)

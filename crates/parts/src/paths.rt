@@ -91,7 +91,7 @@ fn copied(alloc: Global, bytes: &[u8]) -> Option<String> {
     }
 }
 
-// Whether each front of the bytes ends within a segment.
+// Whether each prefix of the bytes ends within a segment.
 fn is_truncated_where_cut(bytes: &[u8]) -> bool {
     for len in 1..bytes.len() {
         if view_path(&bytes[..len]).err() != Some(PathFault::Truncated) {
@@ -120,7 +120,7 @@ fn spelled(alloc: Global, list: &[Segment]) -> Option<String> {
     }
 }
 
-// `PATH` of one segment: its shortest spelling. Each front of it ends within that segment.
+// `PATH` of one segment: its shortest spelling. Each prefix of it ends within that segment.
 fn spelled_once(alloc: Global, bytes: &[u8]) -> Option<String> {
     let list = segments(alloc, view_path(bytes).ok()?).ok()?;
     if list.len() != 1 || !is_truncated_where_cut(bytes) {

@@ -78,7 +78,7 @@ const PLAIN: Trial = Trial {
     failing_write: 0,
 };
 
-/// What the console answered, how much it wrote, and whether that is a front of the transcript.
+/// What the console answered, how much it wrote, and whether that is a prefix of the transcript.
 #[derive(Clone, Copy)]
 struct Outcome {
     result: Result<(), ConsoleFault>,
@@ -116,7 +116,7 @@ fn once(alloc: Global, script: &[u8], whole: &[u8], trial: Trial) -> Outcome {
     }
 }
 
-// Once more where an allocation was refused, and a front of the transcript was written.
+// Once more where an allocation was refused, and a prefix of the transcript was written.
 fn tried(alloc: Global, script: &[u8], whole: &[u8], trial: Trial) -> Outcome {
     let first = once(alloc, script, whole, trial);
     if first.result == Err(ConsoleFault::NoMemory) && first.is_front {

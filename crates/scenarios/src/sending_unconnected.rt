@@ -234,7 +234,7 @@ fn commands_that_are_refused(rt: HostRuntime) -> Result<(), Fail> {
     )
 }
 
-// A module that answers want of memory to each event keeps every clause. Here there is memory for
+// A module that answers NoMemory to each event keeps every clause. Here there is memory for
 // each step, for the tables,
 // and for the copies of configs, events and outputs on which the harness works.
 #[test]

@@ -2,9 +2,9 @@
 
 use crate::bridge::Bridge;
 use crate::fault::Fault;
-use test_harness::{AnyModule, Kinds, device_of, make};
 use cip_module::Module;
 use std::alloc::Global;
+use test_harness::{AnyModule, Kinds, device_of, make};
 
 /// What is done in a turn.
 #[derive(Clone, Copy)]

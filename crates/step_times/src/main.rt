@@ -10,11 +10,11 @@ mod case;
 mod fault;
 mod frames;
 
-use test_harness::Kinds;
 use case::{CASES, Case, case_of};
 use fault::Fault;
 use std::env;
 use std::process::ExitCode;
+use test_harness::Kinds;
 
 // So many turns, and a line about them.
 fn run_case(rt: &HostRuntime, case: Case, kinds: Kinds, times: u32) -> Result<(), Fault> {

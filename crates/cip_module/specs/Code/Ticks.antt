@@ -62,7 +62,7 @@ IsNoTick (events.Command command) = Unit {0}
 IsNoTick (events.Frame port from body) = Unit {0}
 IsNoTick (events.Tick by) = ⊥
 
--- a command that has one output at the most
+-- a command that has one output at most
 abbrev pub IsSingle : Command → Type 0
 IsSingle (commands.Open op timing path params) = Unit {0}
 IsSingle (commands.Close op of timing) = Unit {0}

@@ -9,7 +9,7 @@ use crate::device::Device;
 use cip_base::MAX_MESSAGE;
 use cip_unconnected::{UNCONNECTED_SEND, UnconnectedView};
 
-/// The rows of a command. The others than `Taken` refuse it.
+/// The rows of a command. All but `Taken` refuse it.
 #[derive(Clone, Copy, Debug, PartialEq, Eq)]
 pub enum CommandRow {
     OpUsed,

@@ -25,7 +25,7 @@ pub(crate) enum ReplyDecision<'a> {
     PassedUp,
 }
 
-// A failure tells no triad, or the one that was asked.
+// A failure carries no triad, or the request's.
 fn failed(triad: Triad, data_: &[u8]) -> ReplyDecision<'_>
     ensures row { reply_row_of result ≡ failure_row triad (failure_at data_.entry.now) }
     ensures leads { (kind : Kinds) → ReplyLeads kind result }

@@ -1,4 +1,4 @@
--- What was written so far is the front of the text.
+-- What was written so far is a prefix of the text.
 use Rattle.std.proofs.Common.{◌≤◌, ◌-◌, take, length}
 use Rattle.std.specs.Io.KnownBytes.{Appends}
 use Rattle.cip_console.proofs.source.write_text.Given as goal
