@@ -54,7 +54,8 @@ here_accepts s up o link e =
 on_accepts : (s : State) (up : HopUp) (o : Open) (hop : HopAt) (x : Option LinkRefusal) (link : EndLink) → on_row s up o hop x ≡ Accepted link → ⊥
 on_accepts s up o hop (Some fault) link e = cc
 on_accepts s up o hop None link e =
-    let tested = past (is_some (refusal s.hops o.fields.triad (ids_if_forwarded up))) (Refuses NoRoomToPassOn) (Forwarded hop.port hop.address hop.rest) (Accepted link) e
+    let tested = past (is_some (refusal s.hops o.fields.triad (ids_if_forwarded up))) (Refuses NoRoomToPassOn)
+    (Forwarded hop.port hop.address hop.rest) (Accepted link) e
     (λ other. cc) in
     let other : Forwarded hop.port hop.address hop.rest ≡ Accepted link = tested.1 in
     cc

@@ -115,8 +115,8 @@ pub record PassedBy (mid : State) (e : Effect) (x : Output) : Type 0 where
   pub stands : hop_at mid.hops triad ≡ Some hop
   pub is : datum_by side hop bytes ≡ x
 
--- where a datum goes: to the device above or to the command that opened, to the device below or to an
--- assembly here
+-- where a datum goes: to the device above or to the command that opened, to the device below or to
+-- an assembly here
 pub data DatumOf (hop : Hop) (side : Side) (bytes : Octets) (x : Output) : Type 0 where
   GoesUp : (port : PortIdentifier) (to : LinkAddress) (their_id : ConnectionId) → side ≡ Up
       → hop.opening.up ≡ UpLink port to their_id

@@ -284,7 +284,8 @@ pub record BeginsAs (config : ModuleSettings) (s : State) (event : Event) (sendi
       ≡ opens.Forwarded sending.port sending.address rest
   pub leads : LeadsOn config s o.fields.timing o.path sending.port sending.address rest
   pub free : map.get s.hops.held o.fields.triad ≡ None
-  pub room : refusal s.hops o.fields.triad (ids_if_forwarded (up_side_of sending.up o.fields.to_id)) ≡ None
+  pub room : refusal s.hops o.fields.triad
+      (ids_if_forwarded (up_side_of sending.up o.fields.to_id)) ≡ None
   pub bytes_are : sending.bytes ≡ open_on o s.hops.next rest
   pub wait_is : sending.wait ≡ wait_of o.fields.timing
   pub words_are : sending.words ≡ words_of o.path

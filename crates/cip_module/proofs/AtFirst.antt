@@ -18,10 +18,12 @@ no_items [] e = refl
 no_items (x ∷ xs) e = cc
 
 no_pendings : finite.entries (finite.empty {X = Entry} {R = nat_cmp}) ≡ []
-no_pendings = no_items (finite.entries (finite.empty {X = Entry} {R = nat_cmp})) (sym (finite.len-entries (finite.empty {X = Entry} {R = nat_cmp})) ∙ finite.len-empty nat_cmp Entry)
+no_pendings = no_items (finite.entries (finite.empty {X = Entry} {R = nat_cmp})) (sym (finite.len-entries (finite.empty {X = Entry} {R = nat_cmp}))
+    ∙ finite.len-empty nat_cmp Entry)
 
 no_connections : finite.entries (finite.empty {X = Held} {R = triad_cmp}) ≡ []
-no_connections = no_items (finite.entries (finite.empty {X = Held} {R = triad_cmp})) (sym (finite.len-entries (finite.empty {X = Held} {R = triad_cmp})) ∙ finite.len-empty triad_cmp Held)
+no_connections = no_items (finite.entries (finite.empty {X = Held} {R = triad_cmp})) (sym (finite.len-entries (finite.empty {X = Held} {R = triad_cmp}))
+    ∙ finite.len-empty triad_cmp Held)
 
 module _ (config : ModuleSettings) (tables : Tables) where
   shown_pendings : map row_of (finite.entries (initial_state config).pendings.entries) ≡ []
@@ -30,7 +32,8 @@ module _ (config : ModuleSettings) (tables : Tables) where
   shown_hops : map hop_row_of (filter_map (λ e. as_hop e.1) (finite.entries (initial_state config).hops.held)) ≡ []
   shown_hops = ap (λ es. map hop_row_of (filter_map (λ e. as_hop e.1) es)) no_connections
 
-  pub first_shown : HasFirstCounts config tables → HoldsNothing tables → tables.assemblies ≡ assemblies_of (initial_state config) → ShowsState (initial_state config) tables
+  pub first_shown : HasFirstCounts config tables → HoldsNothing tables → tables.assemblies ≡ assemblies_of (initial_state config)
+      → ShowsState (initial_state config) tables
   first_shown counts nothing assemblies = record {
     now = counts.now;
     last_id = counts.last_id;

@@ -158,7 +158,8 @@ module _ (old new : Device) (came d : List ℕ) (o : Output) (port : ℕ) (addre
 
   pub closed : (up : UpSide) (c : Close) → IsAsked up → IsReceived FORWARD_CLOSE d came → close_at d ≡ Ok c
       → closes.Forwarded port address rest ≡ close_row s up c
-      → Did (with_spending up (Removes c.fields.triad ∷ Forwards (with_bytes (close_below up c port address []) lacking) (Closing c.fields.triad) ∷ [])) (o ∷ [])
+      → Did (with_spending up (Removes c.fields.triad ∷ Forwards (with_bytes (close_below up c port address []) lacking)
+      (Closing c.fields.triad) ∷ [])) (o ∷ [])
       → Puts ClosedOn (close_effects up c (close_row s up c))
   closed (Link by from number) c asked received read e done =
       let up = Link by from number in

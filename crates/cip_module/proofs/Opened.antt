@@ -49,7 +49,8 @@ ready_by old new (Local op) id port address o e can multiplier room =
 -- an opening that goes on by a link, after its op is spent
 pub ready : (old new : Device) (up : UpSide) (id port : ℕ) (address : List ℕ) (o : Open) (opening : Opening)
     → state_of_device new ≡ applied old.config (state_of_device old) (with_spending up []) → CanSpend old up
-    → opening ≡ opening_with (up_side_of up id) (DownLink port address) o → o.fields.multiplier < 8 → refusal old.hops o.fields.triad (ids_if_forwarded (up_side_of up id)) ≡ None
+    → opening ≡ opening_with (up_side_of up id) (DownLink port address) o → o.fields.multiplier < 8
+    → refusal old.hops o.fields.triad (ids_if_forwarded (up_side_of up id)) ≡ None
     → IsReady new opening
 ready old new up id port address o opening e can is multiplier room = subst (IsReady new) (sym is) (ready_by old new up id port address o e can multiplier room)
 
@@ -62,7 +63,8 @@ at_most : (n : ℕ) → leb n 7 ≡ true → n < 8
 at_most n e = grind (arith, nat_tests)
 
 pub supported_below : (o : Open) → is_supported o ≡ true → o.fields.multiplier < 8
-supported_below o e = at_most o.fields.multiplier (both_last (is_supported_direction (params_of o.fields.ot_params)) (is_supported_direction (params_of o.fields.to_params))
+supported_below o e = at_most o.fields.multiplier
+    (both_last (is_supported_direction (params_of o.fields.ot_params)) (is_supported_direction (params_of o.fields.to_params))
     (leb o.fields.multiplier 7) e)
 
 unless_refused : (b : Bool) (row other : OpenRow) → row ≡ cond (not b) (Refuses ConnectionTypeNotSupported) other

@@ -57,7 +57,8 @@ here_forwards s up o port address rest e =
 
 -- the link, and room for the connection
 abbrev pub GoesOn : ModuleSettings → State → HopUp → Open → ℕ → List ℕ → List ℕ → Type 0
-GoesOn config s up o port address rest = LeadsOn config s o.fields.timing o.path port address rest × (refusal s.hops o.fields.triad (ids_if_forwarded up) ≡ None)
+GoesOn config s up o port address rest = LeadsOn config s o.fields.timing o.path port address rest
+    × (refusal s.hops o.fields.triad (ids_if_forwarded up) ≡ None)
 
 on_forwards : (config : ModuleSettings) (s : State) (up : HopUp) (o : Open) (hop : HopAt) (x : Option LinkRefusal) (port : ℕ) (address rest : List ℕ)
     → hop_of o.path ≡ Some hop → link_refusal config s.pendings o.fields.timing hop.port hop.address ≡ x → on_row s up o hop x ≡ Forwarded port address rest

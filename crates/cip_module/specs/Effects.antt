@@ -205,8 +205,8 @@ abbrev pub reply_up : UpSide → Octets → Output
 reply_up (Link port address number) bytes = outputs.Send port address (bodies.Reply number bytes)
 reply_up (Local op) bytes = outputs.Done op bytes
 
--- a success as it goes up: with the own up id, and the T→O id of the device above; a command gets the
--- bytes as received
+-- a success as it goes up: with the own up id, and the T→O id of the device above; a command gets
+-- the bytes as received
 abbrev pub success_up : HopUp → OwnIds → Octets → OpenSuccess → Octets
 success_up (UpLink port address their_id) ids bytes success =
     success_with success (option_map_or (λ id. id) ids.up 0) their_id

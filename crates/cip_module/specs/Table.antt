@@ -112,8 +112,8 @@ unconnected_data_effects config s up sent (Ok u) =
 
 -- ---- open
 
--- the up side of a connection: the device that asked, which is sent data under its own T→O id, or the
--- op of a command
+-- the up side of a connection: the device that asked, which is sent data under its own T→O id, or
+-- the op of a command
 abbrev pub up_side_of : UpSide → ConnectionId → HopUp
 up_side_of (Link port address number) to_id = UpLink port address to_id
 up_side_of (Local op) to_id = UpLocal op

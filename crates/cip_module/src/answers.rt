@@ -120,8 +120,8 @@ pub(crate) fn close_failed(
     write_close_failure(alloc, status, &failure)
 }
 
-/// The failure of a Forward_Close that cannot be read: nothing where its fixed part is cut, else its
-/// triad and its path size.
+/// The failure of a Forward_Close that cannot be read: nothing where its fixed part is cut, else
+/// its triad and its path size.
 pub(crate) fn unread_close(alloc: Global, data_: &[u8], fault: DataFault) -> Result<Bytes, NoMemory>
     ensures { IfOk result (λ b. b ≡ unread_close_bytes data_.now fault) }
 {

@@ -52,8 +52,8 @@ impl Device {
     /// What a command does uses its op up.
     pub(crate) fn spend_for(&mut self, up: &UpSide)
         requires { CanSpend self.old up.now }
-        ensures after { state_of_device self.new ≡ applied self.old.config (state_of_device self.old)
-            (with_spending up.now []) }
+        ensures after { state_of_device self.new ≡ applied self.old.config
+            (state_of_device self.old) (with_spending up.now []) }
         ensures config { self.new.config ≡ self.old.config }
         ensures target { self.new.target ≡ self.old.target }
     {
@@ -250,8 +250,8 @@ impl Device {
     /// One due pending goes, that of the least number; whether there was one.
     pub(crate) fn time_out_pending(&mut self, now: u64) -> bool
         ensures value { result ≡ is_some (first_due now self.old.pendings) }
-        ensures after { state_of_device self.new ≡ applied self.old.config (state_of_device self.old)
-            (pending_time_out (first_due now self.old.pendings)) }
+        ensures after { state_of_device self.new ≡ applied self.old.config
+            (state_of_device self.old) (pending_time_out (first_due now self.old.pendings)) }
         ensures due { due now self.old.pendings ≡ option_to_list (first_due now self.old.pendings)
             ++ due now self.new.pendings }
         ensures hops { hop.due now self.new.hops ≡ hop.due now self.old.hops }
@@ -269,8 +269,8 @@ impl Device {
     /// One due connection goes, that of the least triad; whether there was one.
     pub(crate) fn time_out_hop(&mut self, now: u64) -> bool
         ensures value { result ≡ is_some (hop.first_due now self.old.hops) }
-        ensures after { state_of_device self.new ≡ applied self.old.config (state_of_device self.old)
-            (hop_time_out (hop.first_due now self.old.hops)) }
+        ensures after { state_of_device self.new ≡ applied self.old.config
+            (state_of_device self.old) (hop_time_out (hop.first_due now self.old.hops)) }
         ensures due { hop.due now self.old.hops ≡ option_to_list (hop.first_due now self.old.hops)
             ++ hop.due now self.new.hops }
         ensures config { self.new.config ≡ self.old.config }

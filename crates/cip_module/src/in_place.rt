@@ -220,8 +220,8 @@ impl Device {
 }
 
 impl Device {
-    // What goes up of a success: with the own up id, and the T to O id of the device above; a command
-    // gets the bytes as they came.
+    // What goes up of a success: with the own up id, and the T to O id of the device above; a
+    // command gets the bytes as they came.
     fn success_edit(&self, triad: &Triad) -> Edit
         ensures { (came : Octets) (s : OpenSuccess) → IsOpenSuccess came s
             → Becomes came result (succeeded (map.get self.now.hops.held triad.now) came s) }

@@ -176,8 +176,8 @@ pub(crate) fn bytes(alloc: Global, word: &str) -> Result<Option<Vec<u8>>, AllocE
     }
 }
 
-/// The bytes of pairs of hexadecimal digits, written at the beginning of a room, and how many they are;
-/// None for a dash too, and for more than have room.
+/// The bytes of pairs of hexadecimal digits, written at the beginning of a room, and how many they
+/// are; None for a dash too, and for more than have room.
 pub(crate) fn bytes_into(word: &str, room: &mut [u8]) -> Option<usize>
     ensures within { IfSome result (λ count. count ≤ length room.new) }
     ensures found { IfSome result (λ count. bytes_of word.now ≡ Some (take count room.new)) }

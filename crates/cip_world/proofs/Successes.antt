@@ -281,7 +281,8 @@ module _ (config : ModuleSettings) (port n : ℕ) (from : List ℕ) (oo : Open) 
         let same : o ≡ oo = open_asked s0 turn.event only o (inl k) in
         let v : UpSide = Link k.came.port k.came.from k.came.number in
         let opening : Opening = opening_with (up_side_of v o.fields.to_id) (end_down link) o in
-        let row : open_row config s0 (up_side_of v o.fields.to_id) o ≡ opens.Accepted link = ap (λ (u : UpSide). open_row config s0 (up_side_of u o.fields.to_id) o)
+        let row : open_row config s0 (up_side_of v o.fields.to_id) o ≡ opens.Accepted link =
+        ap (λ (u : UpSide). open_row config s0 (up_side_of u o.fields.to_id) o)
         (sym k.came.up_is) ∙ meets in
         let born_is : born config s0 turn.event ≡ Some opening =
         ap (born config s0) k.came.event_is

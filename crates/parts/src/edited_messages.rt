@@ -1,4 +1,5 @@
-//! Messages that are edited in the buffer in which they came, by bytes from outside: an open over two modules to a third
+//! Messages that are edited in the buffer in which they came, by bytes from outside: an open over
+//! two modules to a third
 //! one, its success, its close, and requests that are sent unconnected.
 ghost use Rattle.std.specs.Prelude.{◌≡◌, ◌<◌, ◌≤◌, IfSome, IsTrue, Some, length};
 ghost use Rattle.cip_segment.specs.Reading.{HopAt, hop_of};
@@ -224,7 +225,8 @@ fn an_open_in_other_spellings(rt: HostRuntime) -> Result<(), Fail> {
         open_on 0x21 54_0220062401_07F9_00000000_11000000_4200_0101_0D0C0B0A_00_A55AFF_10270000_0648_10270000_0448_01_06_0103_0207_2004_2464_2C65_2C66 = 54_0220062401_07F8_00000000_21000000_4200_0101_0D0C0B0A_00_000000_10270000_0648_10270000_0448_01_05_0207_2004_2464_2C65_2C66
         # The request's path in its longer forms, and with an attribute.
         open_on 0x21 54_05_2100_0600_2500_0100_3001_07F9_00000000_11000000_4200_0101_0D0C0B0A_00_000000_10270000_0648_10270000_0448_01_06_0103_0207_2004_2464_2C65_2C66 = 54_0220062401_07F8_00000000_21000000_4200_0101_0D0C0B0A_00_000000_10270000_0648_10270000_0448_01_05_0207_2004_2464_2C65_2C66
-        # A key goes with the port segment behind it; the last id; the last tick; nothing is left of the path.
+        # A key goes with the port segment behind it; the last id; the last tick; nothing is left of
+        # the path.
         open_on 0xFFFFFFFF 54_0220062401_0701_00000000_11000000_4200_0101_0D0C0B0A_00_000000_10270000_0648_10270000_0448_01_06_3404_0101_0C00_0100_8102_0103 = 54_0220062401_0700_00000000_FFFFFFFF_4200_0101_0D0C0B0A_00_000000_10270000_0648_10270000_0448_01_00
         ",
     )
@@ -265,7 +267,8 @@ fn a_request_goes_on_and_arrives(rt: HostRuntime) -> Result<(), Fail> {
         send_on 52_0220062401_07F9_0900_1003200424643003AA_00_02_00_0103_0207 = 52_0220062401_07F8_0900_1003200424643003AA_00_01_00_0207
         send_on 52_0220062401_07F8_0900_1003200424643003AA_00_01_00_0207 = 1003200424643003AA
         send_on 52_0220062401_07F9_0A00_1003200424643003AABB_02_00_0103_0207 = 52_0220062401_07F8_0A00_1003200424643003AABB_01_00_0207
-        # The pad and the reserved byte of any value are written 00, and the request's path in its shortest form.
+        # The pad and the reserved byte of any value are written 00, and the request's path in its
+        # shortest form.
         send_on 52_04_2100_0600_2401_3001_07F9_0900_1003200424643003AA_5A_02_A5_0103_0207 = 52_0220062401_07F8_0900_1003200424643003AA_00_01_00_0207
         # A key goes with the port segment behind it.
         send_on 52_0220062401_07F9_0600_010220012401_06_00_3404_0101_0C00_0100_8102_0103 = 010220012401

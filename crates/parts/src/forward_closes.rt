@@ -1,4 +1,5 @@
-//! Forward_Close and its replies, by bytes from outside: a close over two port segments to three points of an Assembly.
+//! Forward_Close and its replies, by bytes from outside: a close over two port segments to three
+//! points of an Assembly.
 use crate::messages::play_messages;
 use std::test::Fail;
 

@@ -1,4 +1,5 @@
-//! Forward_Open and its replies, by bytes from outside: an open over two port segments to three points of an Assembly.
+//! Forward_Open and its replies, by bytes from outside: an open over two port segments to three
+//! points of an Assembly.
 use crate::messages::play_messages;
 use std::test::Fail;
 
@@ -92,7 +93,8 @@ fn failures_are_written_and_read(rt: HostRuntime) -> Result<(), Fail> {
     play_messages(
         &rt,
         "
-        # No such port, with 5 words of path left; the triad in use, with 5 words; another triad's output owned, with 4 words.
+        # No such port, with 5 words of path left; the triad in use, with 5 words; another triad's
+        # output owned, with 4 words.
         write_open_failure 1 0x0311 5 66 257 168496141 = D4_00_01_01_1103_4200_0101_0D0C0B0A_05_00
         reply D4_00_01_01_1103_4200_0101_0D0C0B0A_05_00 = 212 1 785 4200_0101_0D0C0B0A_05_00
         open_failure 4200_0101_0D0C0B0A_05_00 = 5 66 257 168496141

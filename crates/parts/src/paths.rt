@@ -406,7 +406,8 @@ fn the_texts_of_faults(rt: HostRuntime) -> Result<(), Fail> {
     play_paths(&rt, "text 22 = the byte 34 is reserved")
 }
 
-// How long reading takes is told by the run of this test alone, timed from outside (docs/PERFORMANCE.md).
+// How long reading takes is told by the run of this test alone, timed from outside
+// (docs/PERFORMANCE.md).
 #[test]
 fn reads_a_path_of_255_words_again_and_again(rt: HostRuntime) -> Result<(), Fail> {
     let mut bytes = [0x20; 510];

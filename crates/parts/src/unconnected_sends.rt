@@ -46,7 +46,8 @@ fn a_pad_stands_behind_an_odd_request(rt: HostRuntime) -> Result<(), Fail> {
     play_messages(
         &rt,
         "
-        # Setting an attribute of an Assembly, sent on through port 1 to slot 3 and port 2 to address 7.
+        # Setting an attribute of an Assembly, sent on through port 1 to slot 3 and port 2 to
+        # address 7.
         write_unconnected 7 249 1003200424643003AA 0103_0207 = 52_0220062401_07F9_0900_1003200424643003AA_00_02_00_0103_0207
         write_unconnected 7 249 1003200424643003AABB 0103_0207 = 52_0220062401_07F9_0A00_1003200424643003AABB_02_00_0103_0207
         # The pad and the reserved byte have any value.

@@ -75,7 +75,8 @@ fn entry(op: u32, deadline: u64) -> Option<Entry> {
     })
 }
 
-// `PORT ADDRESS NUMBER PORT ADDRESS DEADLINE WORDS TRIAD`: an opening of a node on a link, and whether it is its copy.
+// `PORT ADDRESS NUMBER PORT ADDRESS DEADLINE WORDS TRIAD`: an opening of a node on a link, and
+// whether it is its copy.
 fn copied(alloc: Global, words: &mut Words) -> Option<String> {
     let opening = Entry {
         up: UpSide::Link {

@@ -31,7 +31,8 @@ abbrev pub Reacted : Octets → Device → Device → List Effect → Reaction �
 Reacted came old new es reaction = PutsOut came reaction (λ out. Handled old new es (out ∷ []))
 
 -- the same on Ok; else nothing changed
-abbrev pub Reacts : {E : Type 0} → Octets → Device → Device → List Effect → Result Reaction E → Type 0
+abbrev pub Reacts : {E : Type 0} → Octets → Device → Device → List Effect → Result Reaction E
+    → Type 0
 Reacts came old new es (Ok reaction) = Reacted came old new es reaction
 Reacts came old new es (Err fault) =
     IsUnchanged old.config (state_of_device old) new.config (state_of_device new)

@@ -20,8 +20,8 @@ use cip_hops::{HopDown, Onward, Side};
 impl Device {
     // An end writes a datum without its sequence count, and keeps the count.
     fn write_datum(&mut self, triad: &Triad, writing: Writing, bytes: &[u8])
-        ensures after { state_of_device self.new ≡ applied self.old.config (state_of_device self.old)
-            (written_effects triad.now bytes.now (Some writing)) }
+        ensures after { state_of_device self.new ≡ applied self.old.config
+            (state_of_device self.old) (written_effects triad.now bytes.now (Some writing)) }
         ensures config { self.new.config ≡ self.old.config }
     {
         match writing.count {
@@ -42,8 +42,8 @@ impl Device {
         bytes: Bytes,
     ) -> Output
         ensures value { result ≡ outputs.Consumed triad instance bytes }
-        ensures after { state_of_device self.new ≡ applied self.old.config (state_of_device self.old)
-            (written_effects triad bytes writing) }
+        ensures after { state_of_device self.new ≡ applied self.old.config
+            (state_of_device self.old) (written_effects triad bytes writing) }
         ensures config { self.new.config ≡ self.old.config }
     {
         if let Some(writing) = writing {

@@ -160,8 +160,8 @@ impl Device {
     /// The row that answers a Forward_Open which was read (Volume 1, chapter 3, Forward_Open).
     #[tactic(auto, unfolding(crate::specs::OpenRows::open_row))]
     pub(crate) fn open_row<'a>(&self, up: &HopUp, view: &OpenView<'a>) -> OpenDecision<'a>
-        ensures row { open_row_of result ≡ open_row self.now.config (state_of_device self.now) up.now
-            (open_of view.now) }
+        ensures row { open_row_of result ≡ open_row self.now.config
+            (state_of_device self.now) up.now (open_of view.now) }
         ensures leads { OpenLeads self.now up.now (open_of view.now) result }
     {
         if !is_supported(view) {

@@ -227,8 +227,8 @@ impl Device {
         requires spend { CanSpend self.old up }
         ensures { Handles self.old self.new (with_spending up
             (open_effects (state_of_device self.old) up (open_of view.now)
-            (open_row self.old.config (state_of_device self.old) (up_side_of up view.now.fields.to_id)
-            (open_of view.now)))) result }
+            (open_row self.old.config (state_of_device self.old)
+            (up_side_of up view.now.fields.to_id) (open_of view.now)))) result }
     {
         let asker = up_side_of(&up, view.fields.to_id);
         let decision = self.open_row(&asker, view);

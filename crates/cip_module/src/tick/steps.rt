@@ -41,8 +41,8 @@ impl Device {
 
     // Takes out the pendings that are due.
     fn clear_pendings(&mut self, now: u64)
-        ensures after { state_of_device self.new ≡ applied self.old.config (state_of_device self.old)
-            (pending_time_outs now self.old.pendings) }
+        ensures after { state_of_device self.new ≡ applied self.old.config
+            (state_of_device self.old) (pending_time_outs now self.old.pendings) }
         ensures hops { due now self.new.hops ≡ due now self.old.hops }
         ensures config { self.new.config ≡ self.old.config }
     {
@@ -51,8 +51,8 @@ impl Device {
 
     // Takes out the connections that are due.
     fn clear_hops(&mut self, now: u64)
-        ensures after { state_of_device self.new ≡ applied self.old.config (state_of_device self.old)
-            (hop_time_outs now self.old.hops) }
+        ensures after { state_of_device self.new ≡ applied self.old.config
+            (state_of_device self.old) (hop_time_outs now self.old.hops) }
         ensures config { self.new.config ≡ self.old.config }
     {
         while self.time_out_hop(now) {}
@@ -60,8 +60,8 @@ impl Device {
 
     // Takes out all that are due.
     fn clear_due(&mut self, now: u64)
-        ensures after { state_of_device self.new ≡ applied self.old.config (state_of_device self.old)
-            (pending_time_outs now self.old.pendings ++ hop_time_outs now self.old.hops) }
+        ensures after { state_of_device self.new ≡ applied self.old.config
+            (state_of_device self.old) (pending_time_outs now self.old.pendings ++ hop_time_outs now self.old.hops) }
         ensures config { self.new.config ≡ self.old.config }
     {
         self.clear_pendings(now);

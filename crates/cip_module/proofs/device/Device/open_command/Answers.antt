@@ -8,7 +8,8 @@ pub returns : goal.returns
 returns c =
     let m = c.args.self.now in
     let spelled = λ (path : List ℕ). open_of m.config.identity c.args.timing path c.args.params.now in
-    opens m.config (state_of_device m) (record (state_of_device m) { ops = c.reserve.new.self.ops.items }) c.open.new.self.config (state_of_device c.open.new.self)
+    opens m.config (state_of_device m) (record (state_of_device m) { ops = c.reserve.new.self.ops.items }) c.open.new.self.config
+    (state_of_device c.open.new.self)
     c.args.op c.open.result (spelled c.args.path.now) (record { fields = c.open_fields-fields.result; path = c.view.result.bytes.now })
     (sym c.contains.ensures ∙ c.if-contains.false) (ap (λ (ops : List ℕ). record (state_of_device m) { ops = ops }) c.reserve.ensures.same)
     (c.open_fields-fields.ensures c.view.result.bytes.now ∙ ap spelled c.view.ensures) c.open.ensures

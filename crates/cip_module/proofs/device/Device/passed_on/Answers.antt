@@ -15,7 +15,8 @@ pub returns-clause-on : goal.returns-clause-on
 returns-clause-on c = if_some c.pass_on.result _ (λ onward is.
     let m = c.args.self.now in
     let hop = hop_by c.args.side m.hops c.args.id c.args.port c.args.from.now in
-    let after = ap (λ (h : Hops). record (state_of_device m) { hops = h }) (c.pass_on.ensures.after ∙ ap (after_onward m.hops c.args.side c.now-now.result hop) is
+    let after = ap (λ (h : Hops). record (state_of_device m) { hops = h }) (c.pass_on.ensures.after
+    ∙ ap (after_onward m.hops c.args.side c.now-now.result hop) is
     ∙ ap (λ now. after_onward m.hops c.args.side now hop (Some onward)) c.now-now.ensures.value) in
     goes_on m.config _ (state_of_device m) _ c.is_within.ensures c.args.port c.args.from.now c.args.id c.args.bytes.now onward refl c.args.side (search rules)
     (sym is ∙ c.pass_on.ensures.value) after)

@@ -16,7 +16,8 @@ returns-in-Some-finishes c =
     finished_up m c.finishes.new.self c.args.port c.args.number c.args.from.now b c.no_bytes.result c.in-Some.entry.now c.in-Some-finishes.up
     c.reply_to.result c.in-Some.ensures c.in-Some-finishes.ensures.value c.reply_to.ensures c.in-Some-finishes.ensures.config c.in-OpenSucceeded.triad
     (success_of c.in-OpenSucceeded.success) c.success_edit-edit.result
-    (c.in-OpenSucceeded.ensures.row ∙ row_is m.config (state_of_device m) c.args.port c.args.from.now c.args.number b c.in-Some.entry.now fits c.in-Some.ensures)
+    (c.in-OpenSucceeded.ensures.row
+    ∙ row_is m.config (state_of_device m) c.args.port c.args.from.now c.args.number b c.in-Some.entry.now fits c.in-Some.ensures)
     c.success_edit-edit.ensures c.in-Some-finishes.ensures.after
 
 pub returns-in-Some-takes : goal.returns-in-Some-takes

@@ -13,7 +13,8 @@ returns-in-UnconnectedSend c =
     let m = c.args.self.now in
     let b = c.args.bytes.now in
     let asked = UnconnectedSend c.in-UnconnectedSend.data_.now in
-    let meets : asked ≡ request_row m.config c.args.port b = c.in-UnconnectedSend.ensures.row ∙ ap (λ (config : ModuleSettings). request_row config c.args.port b) c.settings.ensures.value in
+    let meets : asked ≡ request_row m.config c.args.port b = c.in-UnconnectedSend.ensures.row
+    ∙ ap (λ (config : ModuleSettings). request_row config c.args.port b) c.settings.ensures.value in
     subst (λ (row : RequestRow). Reacts b m c.unconnected_send_in_place.new.self
     (request_effects m.config (state_of_device m) (Link c.args.port c.args.from.now c.args.number) row) c.unconnected_send_in_place.result) meets
     (subst (λ (from : List ℕ). Reacts b m c.unconnected_send_in_place.new.self
@@ -25,7 +26,8 @@ returns-in-ForwardOpen c =
     let m = c.args.self.now in
     let b = c.args.bytes.now in
     let asked = ForwardOpen c.in-ForwardOpen.data_.now in
-    let meets : asked ≡ request_row m.config c.args.port b = c.in-ForwardOpen.ensures.row ∙ ap (λ (config : ModuleSettings). request_row config c.args.port b) c.settings.ensures.value in
+    let meets : asked ≡ request_row m.config c.args.port b = c.in-ForwardOpen.ensures.row
+    ∙ ap (λ (config : ModuleSettings). request_row config c.args.port b) c.settings.ensures.value in
     subst (λ (row : RequestRow). Reacts b m c.forward_open_in_place.new.self
     (request_effects m.config (state_of_device m) (Link c.args.port c.args.from.now c.args.number) row) c.forward_open_in_place.result) meets
     (subst (λ (from : List ℕ). Reacts b m c.forward_open_in_place.new.self
@@ -37,7 +39,8 @@ returns-in-ForwardClose c =
     let m = c.args.self.now in
     let b = c.args.bytes.now in
     let asked = ForwardClose c.in-ForwardClose.data_.now in
-    let meets : asked ≡ request_row m.config c.args.port b = c.in-ForwardClose.ensures.row ∙ ap (λ (config : ModuleSettings). request_row config c.args.port b) c.settings.ensures.value in
+    let meets : asked ≡ request_row m.config c.args.port b = c.in-ForwardClose.ensures.row
+    ∙ ap (λ (config : ModuleSettings). request_row config c.args.port b) c.settings.ensures.value in
     subst (λ (row : RequestRow). Reacts b m c.forward_close_in_place.new.self
     (request_effects m.config (state_of_device m) (Link c.args.port c.args.from.now c.args.number) row) c.forward_close_in_place.result) meets
     (subst (λ (from : List ℕ). Reacts b m c.forward_close_in_place.new.self

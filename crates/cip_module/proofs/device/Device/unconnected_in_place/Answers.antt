@@ -11,4 +11,5 @@ returns-in-Forwarded c = λ came d received read.
     let asked = unconnected_of c.args.view in
     sent m c.send_on-output.new.self came d c.send_on-output.result c.in-Forwarded.port c.in-Forwarded.address
     c.in-Forwarded.rest.bytes.now c.no_bytes.result c.args.up asked c.send_edit-edit.result c.send_edit-edit.ensures received read
-    (c.in-Forwarded.ensures.row ∙ ap (λ (config : ModuleSettings). unconnected_row config m.pendings asked) c.settings.ensures.value) c.send_on-output.ensures.handled
+    (c.in-Forwarded.ensures.row ∙ ap (λ (config : ModuleSettings). unconnected_row config m.pendings asked) c.settings.ensures.value)
+    c.send_on-output.ensures.handled
