@@ -1,12 +1,12 @@
 -- The data group: which row a datum of a connection meets.
 --
 -- The rows in their order; the first that fits answers.
---     unknown id                           UnknownId
---     wrong size                           WrongSize
---     passed on                            PassedOn
---     consumed                             Consumed
---     repeated, looked at before consumed  Repeated
---     arrived                              Arrived
+--     unknown id  UnknownId
+--     wrong size  WrongSize
+--     passed on   PassedOn
+--     repeated    Repeated
+--     consumed    Consumed
+--     arrived     Arrived
 use Rattle.std.specs.Prelude.{ℕ, ◌==◌, Bool, not, false, if◌then◌else◌, Option, Some, None, length, drop, is_some}
 use Rattle.std.specs.Option.{option_map_or}
 use Rattle.cip_base.specs.Words.{ConnectionId, InstanceNumber, LinkAddress, Octets, PortIdentifier}
