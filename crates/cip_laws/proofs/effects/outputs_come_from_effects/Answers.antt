@@ -4,7 +4,7 @@ use Rattle.cip_laws.proofs.GivenBy.{answered_by, ended_by}
 use Rattle.cip_laws.proofs.Numbers.{request_number}
 use Rattle.cip_laws.proofs.PassedBy.{passed_by}
 use Rattle.cip_laws.proofs.RequestBy.{request_by}
-use Rattle.cip_module.proofs.laws.outputs_come_from_effects.Goals as goal
+use Rattle.cip_laws.proofs.effects.outputs_come_from_effects.Goals as goal
 
 pub returns-clause-each : goal.returns-clause-each
 returns-clause-each c = gave_then
