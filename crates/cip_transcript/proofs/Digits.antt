@@ -7,7 +7,7 @@ use Rattle.std.specs.Fmt.{decimal}
 use Rattle.hex.specs.Hex.{encode_upper, encode_with, upper_digits}
 use lib.Ieee.Fits.{and_l, and_r}
 use Rattle.cip_transcript.specs.Show.{four_digits}
-use Rattle.cip_transcript.specs.declared.put.TheConstants.{TENS, PAIRS}
+use Rattle.cip_transcript.specs.declared.pieces.TheConstants.{TENS, PAIRS}
 
 abbrev are_tens : ℕ → Bool
 are_tens zero = true

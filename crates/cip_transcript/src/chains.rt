@@ -4,7 +4,7 @@ ghost use Rattle.cip_world.specs.Worlds.{Stand};
 ghost use Rattle.cip_transcript.specs.Chained.{chain_of};
 ghost use Rattle.cip_transcript.specs.Show.{chain_text};
 
-use crate::put::put;
+use crate::pieces::put;
 use crate::show::{name_in, put_broken, put_chain};
 use cip_base::{Bytes, ModuleId, NoMemory};
 use cip_chain::{ChainFault, chain};

@@ -3,12 +3,12 @@
 
 mod chains;
 mod names;
-mod put;
+mod pieces;
 mod show;
 mod show_tables;
 
 pub use chains::put_chain_of;
 pub use names::names_of;
-pub use put::put;
+pub use pieces::put;
 pub use show::{name_in, put_entry, put_trail};
 pub use show_tables::put_tables;

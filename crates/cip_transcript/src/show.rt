@@ -6,7 +6,7 @@ ghost use Rattle.cip_transcript.specs.Show.{frame_text, arrived_text, command_te
 ghost use Rattle.cip_transcript.specs.Show.{name_of, numbers_text, trail_text, names_text};
 ghost use Rattle.cip_transcript.specs.Show.{chain_text, head_text, lost_text, entry_text};
 
-use crate::put::{put, put_bytes, put_number, put_number_then};
+use crate::pieces::{put, put_bytes, put_number, put_number_then};
 use cip_base::{Address, Bytes, ModuleId, NoMemory, PortNumber, Triad};
 use cip_chain::ChainView;
 use cip_module::{Body, Command, Dropped, Output, Refused};

@@ -5,7 +5,7 @@ ghost use Rattle.cip_transcript.specs.TablesText.{watch_text, hop_line, assembly
 ghost use Rattle.cip_transcript.specs.TablesText.{pendings_text, hops_text, assemblies_text};
 ghost use Rattle.cip_transcript.specs.TablesText.{counts_text, tables_text};
 
-use crate::put::{put, put_bytes, put_number, put_optional};
+use crate::pieces::{put, put_bytes, put_number, put_optional};
 use crate::show::put_triad;
 use cip_base::{Address, NoMemory, PortNumber};
 use cip_hops::{HopDown, HopUp};

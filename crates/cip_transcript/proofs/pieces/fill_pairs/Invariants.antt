@@ -1,6 +1,6 @@
 use Rattle.std.proofs.Common.{◌≡◌, ◌*◌, ◌++◌, take, drop}
 use Rattle.hex.specs.Hex.{encode_upper}
-use Rattle.cip_transcript.proofs.put.fill_pairs.Given as goal
+use Rattle.cip_transcript.proofs.pieces.fill_pairs.Given as goal
 
 abbrev pub invariant-bytes : goal.invariant-bytes
 invariant-bytes l =

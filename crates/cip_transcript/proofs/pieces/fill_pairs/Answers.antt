@@ -1,7 +1,7 @@
 use Rattle.std.proofs.Common.{arith, slice_index}
 use Rattle.hex.specs.Hex.{upper_digits}
 use Rattle.cip_transcript.proofs.Digits.{PAIRS_at, encode_step, encode_done}
-use Rattle.cip_transcript.proofs.put.fill_pairs.Goals as goal
+use Rattle.cip_transcript.proofs.pieces.fill_pairs.Goals as goal
 
 pub bytes-preserved : goal.bytes-preserved
 bytes-preserved c =

@@ -1,6 +1,6 @@
 use Rattle.std.proofs.Common.{append_assoc}
 use Rattle.cip_transcript.proofs.Digits.{two_at, three_at}
-use Rattle.cip_transcript.proofs.put.put_short.Goals as goal
+use Rattle.cip_transcript.proofs.pieces.put_short.Goals as goal
 
 pub returns-then-number-lt100 : goal.returns-then-number-lt100
 returns-then-number-lt100 c = rw (append_assoc, ← two_at c.args.number c.args.then c.requires.0 c.if-number-lt100.true) c.put.ensures

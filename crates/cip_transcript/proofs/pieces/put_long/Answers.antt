@@ -1,6 +1,6 @@
 use Rattle.std.proofs.Common.{append_assoc, arith}
 use Rattle.cip_transcript.proofs.Digits.{decimal_four, decimal_long}
-use Rattle.cip_transcript.proofs.put.put_long.Goals as goal
+use Rattle.cip_transcript.proofs.pieces.put_long.Goals as goal
 
 pub returns-then-number-lt10000 : goal.returns-then-number-lt10000
 returns-then-number-lt10000 c = rw (decimal_four c.args.number c.if-number-lt1000.false c.if-number-lt10000.true) c.put_four.ensures
