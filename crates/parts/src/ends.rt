@@ -1,4 +1,5 @@
-//! Opens that end at a target whose assemblies are 100 of no bytes, 101 of 4, 102 of 2 and 103 of 3. Most are of class 1, with
+//! Opens that end at a target whose assemblies are 100 of no bytes, 101 of 4, 102 of 2 and 103 of
+//! 3. Most are of class 1, with
 //! 4 bytes O to T and 2 bytes T to O, each behind the sequence count.
 use crate::target::{identity, play_target};
 use cip_target::{AssemblyConfig, Target};
@@ -79,7 +80,8 @@ fn inhibits_and_keys(rt: HostRuntime) -> Result<(), Fail> {
         status 0x4806 0x4804 1 3404_0000_0000_0000_00_00_2004_2464_2C65_2C66 = fits
         status 0x4806 0x4804 1 3404_0000_0000_0000_00_00_4305_2004_2464_2C65_2C66 = fits
         status 0x4806 0x4804 1 4305_3404_0000_0000_0000_00_00_2004_2464_2C65_2C66 = 0x0315
-        status 0x4806 0x4804 1 3404_0000_0000_0000_00_00_3404_0000_0000_0000_00_00_2004_2464_2C65_2C66 = 0x0315
+        status 0x4806 0x4804 1 3404_0000_0000_0000_00_00_3404_0000_0000_0000_00_00_2004_2464_2C65_\
+            2C66 = 0x0315
         ",
     )
 }
@@ -109,7 +111,8 @@ fn the_first_of_two_rows(rt: HostRuntime) -> Result<(), Fail> {
         &rt,
         "
         open 0x4806 0x4804 1 2004_2464_2C65_2C66 = fits
-        # Of class 3: another path, no configuration, output or input of that instance, no configuration bytes, and what fits else.
+        # Of class 3: another path, no configuration, output or input of that instance, no
+        # configuration bytes, and what fits else.
         status 0x4806 0x4804 3 2005_2401 = 0x0315
         status 0x4806 0x4804 3 2004_2401_2465_2466 = 0x0117
         status 0x4806 0x4804 3 2004_2464_2401_2466 = 0x0117

@@ -1,4 +1,5 @@
-//! Forward_Close and its replies, by bytes from outside: a close over two port segments to three points of an Assembly.
+//! Forward_Close and its replies, by bytes from outside: a close over two port segments to three
+//! points of an Assembly.
 use crate::messages::play_messages;
 use std::test::Fail;
 
@@ -7,11 +8,15 @@ fn a_close_is_written_and_read(rt: HostRuntime) -> Result<(), Fail> {
     play_messages(
         &rt,
         "
-        write_close 7 249 66 257 168496141 0103_0207_2004_2464_2C65_2C66 = 4E_0220062401_07F9_4200_0101_0D0C0B0A_06_00_0103_0207_2004_2464_2C65_2C66
-        request_head 4E_0220062401_07F9_4200_0101_0D0C0B0A_06_00_0103_0207_2004_2464_2C65_2C66 = 78 2006_2401
-        close 07F9_4200_0101_0D0C0B0A_06_00_0103_0207_2004_2464_2C65_2C66 = 7 249 66 257 168496141 0103_0207_2004_2464_2C65_2C66
+        write_close 7 249 66 257 168496141 0103_0207_2004_2464_2C65_2C66 = \
+            4E_0220062401_07F9_4200_0101_0D0C0B0A_06_00_0103_0207_2004_2464_2C65_2C66
+        request_head 4E_0220062401_07F9_4200_0101_0D0C0B0A_06_00_0103_0207_2004_2464_2C65_2C66 = \
+            78 2006_2401
+        close 07F9_4200_0101_0D0C0B0A_06_00_0103_0207_2004_2464_2C65_2C66 = 7 249 66 257 168496141 \
+            0103_0207_2004_2464_2C65_2C66
         # The reserved byte has any value.
-        close 07F9_4200_0101_0D0C0B0A_06_A5_0103_0207_2004_2464_2C65_2C66 = 7 249 66 257 168496141 0103_0207_2004_2464_2C65_2C66
+        close 07F9_4200_0101_0D0C0B0A_06_A5_0103_0207_2004_2464_2C65_2C66 = 7 249 66 257 168496141 \
+            0103_0207_2004_2464_2C65_2C66
         ",
     )
 }
@@ -23,7 +28,8 @@ fn each_shorter_close_is_cut_off(rt: HostRuntime) -> Result<(), Fail> {
         "
         cut 0 24 close 07F9_4200_0101_0D0C0B0A_06_00_0103_0207_2004_2464_2C65_2C66 = Short
         cut 0 10 close_triad 07F9_4200_0101_0D0C0B0A_06_00_0103_0207_2004_2464_2C65_2C66 = none
-        cut 10 24 close_triad 07F9_4200_0101_0D0C0B0A_06_00_0103_0207_2004_2464_2C65_2C66 = 66 257 168496141
+        cut 10 24 close_triad 07F9_4200_0101_0D0C0B0A_06_00_0103_0207_2004_2464_2C65_2C66 = 66 257 \
+            168496141
         cut 0 11 close_words 07F9_4200_0101_0D0C0B0A_06_00_0103_0207_2004_2464_2C65_2C66 = none
         cut 11 24 close_words 07F9_4200_0101_0D0C0B0A_06_00_0103_0207_2004_2464_2C65_2C66 = 6
         ",

@@ -1,4 +1,5 @@
-//! Tests of the parts below a module, as rows: small values, paths, messages, times, tables and the target.
+//! Tests of the parts below a module, as rows: small values, paths, messages, times, tables and the
+//! target.
 #![tactic(auto)]
 
 #[cfg(test)]

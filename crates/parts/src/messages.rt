@@ -214,7 +214,8 @@ fn read(alloc: Global, name: &str, bytes: &[u8]) -> Option<String> {
     }
 }
 
-// `FROM TO NAME BYTES`: what each front of the bytes is read as that has a length from FROM on and below TO, where it is the
+// `FROM TO NAME BYTES`: what each front of the bytes is read as that has a length from FROM on and
+// below TO, where it is the
 // same.
 fn cut(alloc: Global, words: &mut Words) -> Option<String> {
     let from = usize::from(words.u16()?);
@@ -240,7 +241,8 @@ fn followed(alloc: Global, bytes: &[u8], last: u8) -> Option<Vec<u8>> {
     Some(longer)
 }
 
-// `NAME BYTES`: what the bytes are read as with one more behind them, where it is the same whichever that is.
+// `NAME BYTES`: what the bytes are read as with one more behind them, where it is the same
+// whichever that is.
 fn over(alloc: Global, words: &mut Words) -> Option<String> {
     let name = words.word()?;
     let bytes = words.bytes()?;

@@ -332,7 +332,8 @@ fn write_path_never_has_memory(rt: HostRuntime) -> Result<(), Fail> {
         &rt,
         "
         copy 0205_0103_2004_2464_2C65_2C66 = 6 words true
-        segments 0205_0103_2004_2464_2C65_2C66 = [port 2 05][port 1 03][class 4][instance 100][point 101][point 102]
+        segments 0205_0103_2004_2464_2C65_2C66 = [port 2 05][port 1 03][class 4][instance \
+            100][point 101][point 102]
         written 0205_0103_2004_2464_2C65_2C66 = 0205_0103_2004_2464_2C65_2C66
         ",
     )
@@ -406,7 +407,8 @@ fn the_texts_of_faults(rt: HostRuntime) -> Result<(), Fail> {
     play_paths(&rt, "text 22 = the byte 34 is reserved")
 }
 
-// How long reading takes is told by the run of this test alone, timed from outside (docs/PERFORMANCE.md).
+// How long reading takes is told by the run of this test alone, timed from outside
+// (docs/PERFORMANCE.md).
 #[test]
 fn reads_a_path_of_255_words_again_and_again(rt: HostRuntime) -> Result<(), Fail> {
     let mut bytes = [0x20; 510];

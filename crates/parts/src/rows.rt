@@ -1,14 +1,17 @@
 //! Rows that are played: a question in words, ` = ` and the answer as text.
 //!
-//! Spaces before a row, empty rows and rows that begin with `#` mean nothing. Numbers are decimal, or hexadecimal after `0x`.
-//! Bytes are pairs of hexadecimal digits, `-` for none; `_` between them means nothing, and `XX*N` is the byte XX so many times.
+//! Spaces before a row, empty rows and rows that begin with `#` mean nothing. Numbers are decimal,
+//! or hexadecimal after `0x`.
+//! Bytes are pairs of hexadecimal digits, `-` for none; `_` between them means nothing, and `XX*N`
+//! is the byte XX so many times.
 use cip_base::{Address, PortNumber, Timing, Triad};
 use std::alloc::Global;
 use std::fmt;
 use std::str::SplitAsciiWhitespace;
 use std::test::Fail;
 
-/// The words of a question that were not read yet. Each call reads the next one, or the next ones; None where they are missing
+/// The words of a question that were not read yet. Each call reads the next one, or the next ones;
+/// None where they are missing
 /// or not what is asked for.
 #[derive(Drop)]
 pub struct Words<'a> {

@@ -32,7 +32,8 @@ fn truth(alloc: Global, is_so: bool) -> Option<String> {
     format!(in alloc; "{is_so}").ok()
 }
 
-// `BYTES BYTES`: the first written over by the second, which are as many, and whether that changed them.
+// `BYTES BYTES`: the first written over by the second, which are as many, and whether that changed
+// them.
 fn overwritten(alloc: Global, words: &mut Words) -> Option<String> {
     let mut bytes = Bytes::of(words.bytes()?);
     let same = Bytes::of(bytes.as_slice().to_vec(alloc).ok()?);

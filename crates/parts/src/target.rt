@@ -34,7 +34,8 @@ fn bytes_text(alloc: Global, bytes: &[u8]) -> Option<String> {
     format!(in alloc; "{}", Pairs(bytes)).ok()
 }
 
-// `MAJOR NAME`: whether an identity of this major revision and name is legal, and then is its own copy.
+// `MAJOR NAME`: whether an identity of this major revision and name is legal, and then is its own
+// copy.
 fn is_legal(alloc: Global, words: &mut Words) -> Option<bool> {
     let major = words.u8()?;
     let name = words.bytes()?;
@@ -93,7 +94,8 @@ impl Asked {
         }
     }
 
-    // `OT_PARAMS TO_PARAMS TRANSPORT PATH`: the additional status of an open, which is taken where it fits and is to be.
+    // `OT_PARAMS TO_PARAMS TRANSPORT PATH`: the additional status of an open, which is taken where
+    // it fits and is to be.
     fn open(&mut self, is_taken: bool, words: &mut Words) -> Option<String> {
         let fields = fields(words)?;
         let path = words.bytes()?;

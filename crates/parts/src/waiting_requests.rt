@@ -75,7 +75,8 @@ fn entry(op: u32, deadline: u64) -> Option<Entry> {
     })
 }
 
-// `PORT ADDRESS NUMBER PORT ADDRESS DEADLINE WORDS TRIAD`: an opening of a node on a link, and whether it is its copy.
+// `PORT ADDRESS NUMBER PORT ADDRESS DEADLINE WORDS TRIAD`: an opening of a node on a link, and
+// whether it is its copy.
 fn copied(alloc: Global, words: &mut Words) -> Option<String> {
     let opening = Entry {
         up: UpSide::Link {
@@ -234,7 +235,8 @@ fn copies_are_equal(rt: HostRuntime) -> Result<(), Fail> {
         1,
         1,
         "
-        copy 1 00 9 2 05 40000 6 66 257 168496141 = 1 00 9 to 2 05 due 40000 words 6 opening 66 257 168496141 true
+        copy 1 00 9 2 05 40000 6 66 257 168496141 = 1 00 9 to 2 05 due 40000 words 6 opening 66 \
+            257 168496141 true
         ",
     )
 }
