@@ -214,7 +214,7 @@ fn read(alloc: Global, name: &str, bytes: &[u8]) -> Option<String> {
     }
 }
 
-// `FROM TO NAME BYTES`: what each prefix of the bytes is read as that has a length from FROM on and
+// `FROM TO NAME BYTES`: what each front of the bytes is read as that has a length from FROM on and
 // below TO, where it is the
 // same.
 fn cut(alloc: Global, words: &mut Words) -> Option<String> {

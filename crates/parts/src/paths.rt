@@ -91,7 +91,7 @@ fn copied(alloc: Global, bytes: &[u8]) -> Option<String> {
     }
 }
 
-// Whether each prefix of the bytes ends within a segment.
+// Whether each front of the bytes ends within a segment.
 fn is_truncated_where_cut(bytes: &[u8]) -> bool {
     for len in 1..bytes.len() {
         if view_path(&bytes[..len]).err() != Some(PathFault::Truncated) {
@@ -120,7 +120,7 @@ fn spelled(alloc: Global, list: &[Segment]) -> Option<String> {
     }
 }
 
-// `PATH` of one segment: its shortest spelling. Each prefix of it ends within that segment.
+// `PATH` of one segment: its shortest spelling. Each front of it ends within that segment.
 fn spelled_once(alloc: Global, bytes: &[u8]) -> Option<String> {
     let list = segments(alloc, view_path(bytes).ok()?).ok()?;
     if list.len() != 1 || !is_truncated_where_cut(bytes) {
@@ -332,7 +332,8 @@ fn write_path_never_has_memory(rt: HostRuntime) -> Result<(), Fail> {
         &rt,
         "
         copy 0205_0103_2004_2464_2C65_2C66 = 6 words true
-        segments 0205_0103_2004_2464_2C65_2C66 = [port 2 05][port 1 03][class 4][instance 100][point 101][point 102]
+        segments 0205_0103_2004_2464_2C65_2C66 = [port 2 05][port 1 03][class 4][instance \
+            100][point 101][point 102]
         written 0205_0103_2004_2464_2C65_2C66 = 0205_0103_2004_2464_2C65_2C66
         ",
     )

@@ -9,7 +9,8 @@ fn a_message_is_written_and_read(rt: HostRuntime) -> Result<(), Fail> {
         "
         # A request for all attributes of the Identity, sent on through port 1 to slot 3.
         write_unconnected 7 249 010220012401 0103 = 52_0220062401_07F9_0600_010220012401_01_00_0103
-        request 52_0220062401_07F9_0600_010220012401_01_00_0103 = 82 2006_2401 07F9_0600_010220012401_01_00_0103
+        request 52_0220062401_07F9_0600_010220012401_01_00_0103 = 82 2006_2401 \
+            07F9_0600_010220012401_01_00_0103
         unconnected 07F9_0600_010220012401_01_00_0103 = 7 249 010220012401 0103
         route_words 07F9_0600_010220012401_01_00_0103 = 1
         ",
@@ -48,11 +49,15 @@ fn a_pad_stands_behind_an_odd_request(rt: HostRuntime) -> Result<(), Fail> {
         "
         # Setting an attribute of an Assembly, sent on through port 1 to slot 3 and port 2 to
         # address 7.
-        write_unconnected 7 249 1003200424643003AA 0103_0207 = 52_0220062401_07F9_0900_1003200424643003AA_00_02_00_0103_0207
-        write_unconnected 7 249 1003200424643003AABB 0103_0207 = 52_0220062401_07F9_0A00_1003200424643003AABB_02_00_0103_0207
+        write_unconnected 7 249 1003200424643003AA 0103_0207 = 52_0220062401_07F9_0900_\
+            1003200424643003AA_00_02_00_0103_0207
+        write_unconnected 7 249 1003200424643003AABB 0103_0207 = 52_0220062401_07F9_0A00_\
+            1003200424643003AABB_02_00_0103_0207
         # The pad and the reserved byte have any value.
-        unconnected 07F9_0900_1003200424643003AA_5A_02_A5_0103_0207 = 7 249 1003200424643003AA 0103_0207
-        unconnected 07F9_0A00_1003200424643003AABB_02_00_0103_0207 = 7 249 1003200424643003AABB 0103_0207
+        unconnected 07F9_0900_1003200424643003AA_5A_02_A5_0103_0207 = 7 249 1003200424643003AA \
+            0103_0207
+        unconnected 07F9_0A00_1003200424643003AABB_02_00_0103_0207 = 7 249 1003200424643003AABB \
+            0103_0207
         ",
     )
 }

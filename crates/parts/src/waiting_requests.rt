@@ -235,7 +235,8 @@ fn copies_are_equal(rt: HostRuntime) -> Result<(), Fail> {
         1,
         1,
         "
-        copy 1 00 9 2 05 40000 6 66 257 168496141 = 1 00 9 to 2 05 due 40000 words 6 opening 66 257 168496141 true
+        copy 1 00 9 2 05 40000 6 66 257 168496141 = 1 00 9 to 2 05 due 40000 words 6 opening 66 \
+            257 168496141 true
         ",
     )
 }

@@ -1,64 +1,77 @@
-//! Topologies, and their modules in boxes.
-use cip_indexed::IndexedModule;
-use cip_module::{AdapterModule, Module, ModuleConfig, ModuleKind, PlainModule};
+//! Topologies, their modules in boxes, and worlds of them.
+ghost use Rattle.std.specs.Prelude.{IfSome, map};
+ghost use Rattle.cip_world.specs.Worlds.{Stand};
+
+use cip_module::Module;
 use cip_topology::{CHASSIS, Topology, load};
+use cip_world::World;
 use std::alloc::Global;
-use std::test::Fail;
+use test_harness::{NewModule, modules_at, new_modules};
 
 /// The topology of a text.
-pub fn topology(alloc: Global, text: &str) -> Result<Topology, Fail> {
-    match load(alloc, text) {
-        Ok(topology) => Ok(topology),
-        Err(fault) => Err(Fail::new(format_args!("{fault}"))),
-    }
+pub fn topology(alloc: Global, text: &str) -> Option<Topology> {
+    load(alloc, text).ok()
 }
 
 /// The scanner S, the bridges A and B, and the adapter E.
-pub fn chassis(alloc: Global) -> Result<Topology, Fail> {
+pub fn chassis(alloc: Global) -> Option<Topology> {
     topology(alloc, CHASSIS)
 }
 
-/// A new module of a config.
-pub fn boxed(alloc: Global, config: &ModuleConfig) -> Option<Box<dyn Module + Send>> {
-    let config = config.copy(alloc).ok()?;
-    match config.settings().kind {
-        ModuleKind::Plain => {
-            let module_ = PlainModule::new(alloc, config).ok()?;
-            let boxed: Box<dyn Module + Send> = Box::new(alloc, module_).ok()?;
-            Some(boxed)
-        }
-        ModuleKind::Adapter => {
-            let module_ = AdapterModule::new(alloc, config).ok()?;
-            let boxed: Box<dyn Module + Send> = Box::new(alloc, module_).ok()?;
-            Some(boxed)
-        }
-        ModuleKind::Indexed => {
-            let module_ = IndexedModule::new(alloc, config).ok()?;
-            let boxed: Box<dyn Module + Send> = Box::new(alloc, module_).ok()?;
-            Some(boxed)
+/// Puts new modules behind others.
+pub fn put_boxes(modules: &mut Vec<Box<dyn Module + Send>>, made: Vec<NewModule>) -> Option<()> {
+    for new in made {
+        let pushed = match new {
+            NewModule::Plain(module_) => modules.push(module_),
+            NewModule::Adapter(module_) => modules.push(module_),
+            NewModule::Indexed(module_) => modules.push(module_),
+        };
+        if pushed.is_err() {
+            return None;
         }
     }
+    Some(())
 }
 
 /// New modules of the topology, in this order.
-pub fn boxes_of(
+pub fn boxes_at(
     alloc: Global,
     topology: &Topology,
     places: &[usize],
-) -> Result<Vec<Box<dyn Module + Send>>, Fail> {
+) -> Option<Vec<Box<dyn Module + Send>>> {
+    let made = modules_at(alloc, topology.configs(), places)?;
     let mut modules = Vec::new(alloc);
-    for place in places {
-        let config = topology.configs().get(*place).ok_or("no such module")?;
-        modules.push(boxed(alloc, config).ok_or("no memory")?)?;
-    }
-    Ok(modules)
+    put_boxes(&mut modules, made)?;
+    Some(modules)
 }
 
 /// New modules of the topology, in its order.
-pub fn boxes(alloc: Global, topology: &Topology) -> Result<Vec<Box<dyn Module + Send>>, Fail> {
+fn boxes(alloc: Global, topology: &Topology) -> Option<Vec<Box<dyn Module + Send>>> {
+    let made = new_modules(alloc, topology.configs())?;
     let mut modules = Vec::new(alloc);
-    for config in topology.configs() {
-        modules.push(boxed(alloc, config).ok_or("no memory")?)?;
+    put_boxes(&mut modules, made)?;
+    Some(modules)
+}
+
+/// A world of new modules of the topology of a text.
+pub fn world(alloc: Global, text: &str) -> Option<World>
+    ensures stand { IfSome result (λ w. Stand w.ledger
+        (map (λ b. config_of (b.vtable, b.value)) w.modules.items)
+        (map (λ b. state_of (b.vtable, b.value)) w.modules.items)) }
+{
+    let topology = topology(alloc, text)?;
+    let modules = boxes(alloc, &topology)?;
+    match World::new(alloc, topology, modules) {
+        Ok(world) => Some(world),
+        Err(_) => None,
     }
-    Ok(modules)
+}
+
+/// A world of the chassis.
+pub fn chassis_world(alloc: Global) -> Option<World>
+    ensures stand { IfSome result (λ w. Stand w.ledger
+        (map (λ b. config_of (b.vtable, b.value)) w.modules.items)
+        (map (λ b. state_of (b.vtable, b.value)) w.modules.items)) }
+{
+    world(alloc, CHASSIS)
 }

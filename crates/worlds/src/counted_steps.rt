@@ -1,7 +1,11 @@
 //! A module of the tests' own, which counts its steps: the world steps the box that it was given.
-use crate::boxes::{boxed, chassis};
-use crate::given::{THROUGH_A_TO_B, send};
-use cip_base::{Address, ModuleId, NoMemory, PortNumber};
+ghost use Rattle.std.specs.Prelude.{IfSome, map};
+ghost use Rattle.cip_world.specs.Worlds.{Stand};
+
+use crate::boxes::{chassis, put_boxes};
+use crate::calls::{Answer, Call, first_other};
+use crate::given::THROUGH_A_TO_B;
+use cip_base::{Address, NoMemory, PortNumber};
 use cip_hops::Hop;
 use cip_module::{Event, Module, ModuleConfig, ModuleKind, Output, PlainModule, StepFault, Tables};
 use cip_topology::Topology;
@@ -10,6 +14,7 @@ use std::alloc::Global;
 use std::sync::Arc;
 use std::sync::atomic::{AtomicU64, Ordering};
 use std::test::Fail;
+use test_harness::modules_at;
 
 /// A plain module, and how many steps it took, which the test sees.
 #[derive(Drop)]
@@ -57,47 +62,62 @@ fn counted(
     alloc: Global,
     config: &ModuleConfig,
     steps: &Arc<AtomicU64, Global>,
-) -> Option<Box<dyn Module + Send>> {
+) -> Option<Box<CountedModule>> {
     let config = config.copy(alloc).ok()?;
     if config.settings().kind != ModuleKind::Plain {
         return None;
     }
     let inner = PlainModule::new(alloc, config).ok()?;
     let steps = Arc::try_clone(steps).ok()?;
-    let boxed: Box<dyn Module + Send> = Box::new(alloc, CountedModule { inner, steps }).ok()?;
-    Some(boxed)
+    Box::new(alloc, CountedModule { inner, steps }).ok()
 }
 
-// The modules of a topology, the first of which counts its steps.
+// New modules of the chassis, the first of which counts its steps.
 fn first_counted(
     alloc: Global,
     topology: &Topology,
     steps: &Arc<AtomicU64, Global>,
-) -> Result<Vec<Box<dyn Module + Send>>, Fail> {
-    let mut modules = Vec::new(alloc);
-    for (place, config) in topology.configs().iter().enumerate() {
-        let module_ = if place == 0 {
-            counted(alloc, config, steps)
-        } else {
-            boxed(alloc, config)
-        };
-        modules.push(module_.ok_or("no memory")?)?;
+) -> Option<Vec<Box<dyn Module + Send>>> {
+    let others = modules_at(alloc, topology.configs(), &[1, 2, 3])?;
+    let first = counted(alloc, topology.configs().first()?, steps)?;
+    let mut modules: Vec<Box<dyn Module + Send>> = Vec::new(alloc);
+    if modules.push(first).is_err() {
+        return None;
     }
-    Ok(modules)
+    put_boxes(&mut modules, others)?;
+    Some(modules)
 }
+
+// A world of the chassis, whose scanner counts its steps.
+fn counted_world(alloc: Global, steps: &Arc<AtomicU64, Global>) -> Option<World>
+    ensures stand { IfSome result (λ w. Stand w.ledger
+        (map (λ b. config_of (b.vtable, b.value)) w.modules.items)
+        (map (λ b. state_of (b.vtable, b.value)) w.modules.items)) }
+{
+    let topology = chassis(alloc)?;
+    let modules = first_counted(alloc, &topology, steps)?;
+    match World::new(alloc, topology, modules) {
+        Ok(world) => Some(world),
+        Err(_) => None,
+    }
+}
+
+const SENT: &[(Call, Answer)] = &[(Call::Send(0, 1, THROUGH_A_TO_B), Answer::Entry(0))];
+
+const RAN: &[(Call, Answer)] = &[
+    (Call::Run(10), Answer::Ended(End::Quiet)),
+    (Call::Pendings(0), Answer::Count(0)),
+];
 
 #[test]
 fn the_box_itself_is_stepped(rt: HostRuntime) -> Result<(), Fail> {
     let alloc = rt.alloc();
     let steps = Arc::new(alloc, AtomicU64::new(0))?;
-    let topology = chassis(alloc)?;
-    let modules = first_counted(alloc, &topology, &steps)?;
-    let mut world = World::new(alloc, topology, modules)?;
+    let mut world = counted_world(alloc, &steps).ok_or("no world")?;
     assert_eq!(&rt; steps.load(Ordering::SeqCst), 0);
-    world.feed(ModuleId(0), send(alloc, 1, &THROUGH_A_TO_B)?)?;
+    assert_eq!(&rt; first_other(alloc, &mut world, SENT), None);
     assert_eq!(&rt; steps.load(Ordering::SeqCst), 1);
-    assert_eq!(&rt; world.run(10), Ok(End::Quiet));
+    assert_eq!(&rt; first_other(alloc, &mut world, RAN), None);
     assert_eq!(&rt; steps.load(Ordering::SeqCst), 2);
-    assert_eq!(&rt; world.tables(ModuleId(0))?.pendings.as_slice().len(), 0);
     Ok(())
 }

@@ -3,24 +3,23 @@ use cip_base::{Bytes, Ms, Timing};
 use cip_module::Command;
 use cip_segment::read_path;
 use std::alloc::Global;
-use std::test::Fail;
 
 /// Asks for the attribute 1 of the identity.
 pub const ASKED: [u8; 6] = [0x01, 0x02, 0x20, 0x01, 0x24, 0x01];
 
 /// From the scanner through the first bridge to the second.
-pub const THROUGH_A_TO_B: [u8; 4] = [0x02, 0x05, 0x01, 0x03];
+pub const THROUGH_A_TO_B: &[u8] = &[0x02, 0x05, 0x01, 0x03];
 
 /// So many milliseconds.
-pub fn ms(count: u16) -> Result<Ms, Fail> {
-    Ok(Ms::new(count).ok_or("no time")?)
+pub fn ms(count: u16) -> Option<Ms> {
+    Ms::new(count)
 }
 
 /// Sends the request ASKED unconnected along a path.
-pub fn send(alloc: Global, op: u32, path: &[u8]) -> Result<Command, Fail> {
-    let path = read_path(alloc, path)?;
-    let request = Bytes::of(Vec::from_slice(alloc, &ASKED)?);
-    Ok(Command::Send {
+pub fn send(alloc: Global, op: u32, path: &[u8]) -> Option<Command> {
+    let path = read_path(alloc, path).ok()?;
+    let request = Bytes::of(Vec::from_slice(alloc, &ASKED).ok()?);
+    Some(Command::Send {
         op,
         timing: Timing {
             tick: 0x07,

@@ -4,6 +4,8 @@
 #[cfg(test)]
 mod boxes;
 #[cfg(test)]
+mod calls;
+#[cfg(test)]
 mod counted_steps;
 #[cfg(test)]
 mod given;

@@ -1,7 +1,7 @@
 //! What a world refuses, and that nothing happens then.
-use crate::boxes::{boxes, boxes_of, chassis, topology};
-use crate::given::{THROUGH_A_TO_B, ms, send};
-use crate::journals::first_of;
+use crate::boxes::{boxes_at, chassis, chassis_world, world};
+use crate::calls::{Answer, Call, first_other};
+use crate::given::{THROUGH_A_TO_B, ms};
 use cip_base::ModuleId;
 use cip_clock::ClockFull;
 use cip_module::{Event, Module};
@@ -11,10 +11,10 @@ use std::alloc::Global;
 use std::test::Fail;
 
 // Why no world is made of the chassis and these of its modules, in this order.
-fn refusal(alloc: Global, places: &[usize]) -> Result<Option<NewFault>, Fail> {
+fn refusal(alloc: Global, places: &[usize]) -> Option<Option<NewFault>> {
     let topology = chassis(alloc)?;
-    let modules = boxes_of(alloc, &topology, places)?;
-    Ok(World::new(alloc, topology, modules).err())
+    let modules = boxes_at(alloc, &topology, places)?;
+    Some(World::new(alloc, topology, modules).err())
 }
 
 const REFUSALS: &[(&[usize], Option<NewFault>)] = &[
@@ -31,10 +31,18 @@ const REFUSALS: &[(&[usize], Option<NewFault>)] = &[
 fn other_modules(rt: HostRuntime) -> Result<(), Fail> {
     let alloc = rt.alloc();
     for (places, want) in REFUSALS {
-        let given = refusal(alloc, places)?;
-        assert_eq!(&rt; given, *want, "{places:?}");
+        assert_eq!(&rt; refusal(alloc, places), Some(*want), "{places:?}");
     }
     Ok(())
+}
+
+// A millisecond passes at one of the modules.
+fn tick(modules: &mut [Box<dyn Module + Send>], at: usize) -> Option<()> {
+    let by = ms(1)?;
+    match modules.get_mut(at)?.step(Event::Tick(by)) {
+        Ok(_) => Some(()),
+        Err(_) => None,
+    }
 }
 
 // Why no world is made of these of the modules after a millisecond at one of them.
@@ -42,12 +50,11 @@ fn refusal_after_a_tick(
     alloc: Global,
     places: &[usize],
     ticked: usize,
-) -> Result<Option<NewFault>, Fail> {
+) -> Option<Option<NewFault>> {
     let topology = chassis(alloc)?;
-    let mut modules = boxes_of(alloc, &topology, places)?;
-    let module_ = modules.get_mut(ticked).ok_or("no such module")?;
-    module_.step(Event::Tick(ms(1)?))?;
-    Ok(World::new(alloc, topology, modules).err())
+    let mut modules = boxes_at(alloc, &topology, places)?;
+    tick(&mut modules, ticked)?;
+    Some(World::new(alloc, topology, modules).err())
 }
 
 const STALE: &[(&[usize], usize, NewFault)] = &[
@@ -61,61 +68,70 @@ const STALE: &[(&[usize], usize, NewFault)] = &[
 fn modules_that_took_a_step(rt: HostRuntime) -> Result<(), Fail> {
     let alloc = rt.alloc();
     for (places, ticked, want) in STALE {
-        let given = refusal_after_a_tick(alloc, places, *ticked)?;
-        assert_eq!(&rt; given, Some(*want), "{places:?}");
+        let given = refusal_after_a_tick(alloc, places, *ticked);
+        assert_eq!(&rt; given, Some(Some(*want)), "{places:?}");
     }
     Ok(())
 }
 
+const NO_MODULE: &[(Call, Answer)] = &[
+    (
+        Call::Send(9, 1, THROUGH_A_TO_B),
+        Answer::Refused(WorldFault::NoModule),
+    ),
+    (Call::Tick(4, 1), Answer::Refused(WorldFault::NoModule)),
+    (Call::Pendings(9), Answer::Refused(WorldFault::NoModule)),
+    (Call::Entries, Answer::Count(0)),
+];
+
 #[test]
 fn a_module_that_is_not_there(rt: HostRuntime) -> Result<(), Fail> {
     let alloc = rt.alloc();
-    let topology = chassis(alloc)?;
-    let modules = boxes(alloc, &topology)?;
-    let mut world = World::new(alloc, topology, modules)?;
-    let fed = world.feed(ModuleId(9), send(alloc, 1, &THROUGH_A_TO_B)?);
-    assert_eq!(&rt; fed, Err(WorldFault::NoModule));
-    let ticked = world.tick(ModuleId(4), ms(1)?);
-    assert_eq!(&rt; ticked, Err(WorldFault::NoModule));
-    assert_eq!(&rt; world.tables(ModuleId(9)).err(), Some(WorldFault::NoModule));
-    assert_eq!(&rt; world.journal().len(), 0);
+    let mut world = chassis_world(alloc).ok_or("no world")?;
+    assert_eq!(&rt; first_other(alloc, &mut world, NO_MODULE), None);
     Ok(())
 }
+
+const NO_FRAME: &[(Call, Answer)] = &[
+    (Call::Deliver(0), Answer::Refused(WorldFault::NoFrame)),
+    (Call::Send(0, 1, THROUGH_A_TO_B), Answer::Entry(0)),
+    (Call::Deliver(0), Answer::Entry(1)),
+    (Call::Deliver(0), Answer::Refused(WorldFault::NoFrame)),
+    (Call::Lose(0), Answer::Refused(WorldFault::NoFrame)),
+    (Call::Lose(1), Answer::Entry(2)),
+    (Call::Deliver(1), Answer::Refused(WorldFault::NoFrame)),
+    (Call::Entries, Answer::Count(3)),
+];
 
 #[test]
 fn a_frame_that_does_not_wait(rt: HostRuntime) -> Result<(), Fail> {
     let alloc = rt.alloc();
-    let topology = chassis(alloc)?;
-    let modules = boxes(alloc, &topology)?;
-    let mut world = World::new(alloc, topology, modules)?;
-    assert_eq!(&rt; world.deliver(first_of(0)), Err(WorldFault::NoFrame));
-    world.feed(ModuleId(0), send(alloc, 1, &THROUGH_A_TO_B)?)?;
-    assert_eq!(&rt; world.deliver(first_of(0)), Ok(1));
-    assert_eq!(&rt; world.deliver(first_of(0)), Err(WorldFault::NoFrame));
-    assert_eq!(&rt; world.lose(first_of(0)), Err(WorldFault::NoFrame));
-    assert_eq!(&rt; world.lose(first_of(1)), Ok(2));
-    assert_eq!(&rt; world.deliver(first_of(1)), Err(WorldFault::NoFrame));
-    assert_eq!(&rt; world.journal().len(), 3);
+    let mut world = chassis_world(alloc).ok_or("no world")?;
+    assert_eq!(&rt; first_other(alloc, &mut world, NO_FRAME), None);
     Ok(())
 }
 
 // The chassis, in which the scanner's clock has come to its end.
-fn late_chassis(alloc: Global) -> Result<String, Fail> {
-    let (before, after) = CHASSIS.split_once("first_id = 0x11\n").ok_or("no scanner")?;
-    let text = format!(in alloc; "{before}first_id = 0x11\nclock = 9223372036854775807\n{after}")?;
-    Ok(text)
+fn late_chassis(alloc: Global) -> Option<String> {
+    let (before, after) = CHASSIS.split_once("first_id = 0x11\n")?;
+    let text = format!(in alloc; "{before}first_id = 0x11\nclock = 9223372036854775807\n{after}");
+    text.ok()
 }
+
+const CLOCK_FULL: &[(Call, Answer)] = &[
+    (
+        Call::Tick(0, 1),
+        Answer::Refused(WorldFault::Step(ClockFull)),
+    ),
+    (Call::Entries, Answer::Count(0)),
+    (Call::Tick(1, 1), Answer::Entry(0)),
+];
 
 #[test]
 fn a_full_clock(rt: HostRuntime) -> Result<(), Fail> {
     let alloc = rt.alloc();
-    let text = late_chassis(alloc)?;
-    let topology = topology(alloc, text.as_str())?;
-    let modules = boxes(alloc, &topology)?;
-    let mut world = World::new(alloc, topology, modules)?;
-    let ticked = world.tick(ModuleId(0), ms(1)?);
-    assert_eq!(&rt; ticked, Err(WorldFault::Step(ClockFull)));
-    assert_eq!(&rt; world.journal().len(), 0);
-    assert_eq!(&rt; world.tick(ModuleId(1), ms(1)?), Ok(0));
+    let text = late_chassis(alloc).ok_or("no text")?;
+    let mut world = world(alloc, text.as_str()).ok_or("no world")?;
+    assert_eq!(&rt; first_other(alloc, &mut world, CLOCK_FULL), None);
     Ok(())
 }

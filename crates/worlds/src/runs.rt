@@ -1,10 +1,10 @@
 //! Runs: an unconnected request through the first bridge to the second, and its reply.
-use crate::boxes::{boxes, chassis};
-use crate::given::{THROUGH_A_TO_B, ms, send};
+use crate::boxes::chassis_world;
+use crate::calls::{Answer, Call, first_other};
+use crate::given::THROUGH_A_TO_B;
 use crate::journals::{Came, came_with, first_of, is_done, is_lost, is_sent};
-use cip_base::{ModuleId, NoMemory};
 use cip_chain::root;
-use cip_world::{End, Entry, FrameName, World};
+use cip_world::{End, Entry, FrameName};
 use std::test::Fail;
 
 const ALL_FOUR: [Came; 4] = [
@@ -61,83 +61,80 @@ fn is_the_run(journal: &[Entry]) -> bool {
     is_done(journal, 4, 1, &REPLY)
 }
 
+const ENDS: &[(Call, Answer)] = &[
+    (Call::Run(0), Answer::Ended(End::Quiet)),
+    (Call::Send(0, 1, THROUGH_A_TO_B), Answer::Entry(0)),
+    (Call::Run(1), Answer::Ended(End::Limit)),
+    (Call::Run(0), Answer::Ended(End::Limit)),
+    (Call::Run(10), Answer::Ended(End::Quiet)),
+    (Call::Run(0), Answer::Ended(End::Quiet)),
+    (Call::Entries, Answer::Count(5)),
+];
+
 #[test]
 fn ends_of_runs(rt: HostRuntime) -> Result<(), Fail> {
     let alloc = rt.alloc();
-    let topology = chassis(alloc)?;
-    let modules = boxes(alloc, &topology)?;
-    let mut world = World::new(alloc, topology, modules)?;
-    assert_eq!(&rt; world.run(0), Ok(End::Quiet));
-    world.feed(ModuleId(0), send(alloc, 1, &THROUGH_A_TO_B)?)?;
-    assert_eq!(&rt; world.run(1), Ok(End::Limit));
-    assert_eq!(&rt; world.run(0), Ok(End::Limit));
-    assert_eq!(&rt; world.run(10), Ok(End::Quiet));
-    assert_eq!(&rt; world.run(0), Ok(End::Quiet));
+    let mut world = chassis_world(alloc).ok_or("no world")?;
+    assert_eq!(&rt; first_other(alloc, &mut world, ENDS), None);
     assert!(&rt; is_the_run(world.journal()));
     assert_eq!(&rt; root(world.journal(), 4), Some(0));
     assert_eq!(&rt; root(world.journal(), 5), None);
-    assert_eq!(&rt; world.journal().len(), 5);
     Ok(())
 }
 
-// Whether those that wait are the first outputs of these entries.
-fn they_wait(world: &World, entries: &[usize]) -> Result<bool, NoMemory> {
-    let waiting = world.waiting()?;
-    for (place, entry) in entries.iter().enumerate() {
-        if waiting.get(place).copied() != Some(first_of(*entry)) {
-            return Ok(false);
-        }
-    }
-    Ok(waiting.len() == entries.len())
-}
+const WAITS: &[(Call, Answer)] = &[
+    (Call::AreWaiting(&[]), Answer::Is(true)),
+    (Call::Send(0, 1, THROUGH_A_TO_B), Answer::Entry(0)),
+    (Call::AreWaiting(&[0]), Answer::Is(true)),
+    (Call::Send(0, 2, THROUGH_A_TO_B), Answer::Entry(1)),
+    (Call::AreWaiting(&[0, 1]), Answer::Is(true)),
+    (Call::Deliver(1), Answer::Entry(2)),
+    (Call::AreWaiting(&[0, 2]), Answer::Is(true)),
+    (Call::Lose(0), Answer::Entry(3)),
+    (Call::AreWaiting(&[2]), Answer::Is(true)),
+];
 
 #[test]
 fn what_waits(rt: HostRuntime) -> Result<(), Fail> {
     let alloc = rt.alloc();
-    let topology = chassis(alloc)?;
-    let modules = boxes(alloc, &topology)?;
-    let mut world = World::new(alloc, topology, modules)?;
-    assert!(&rt; world.waiting()?.is_empty());
-    world.feed(ModuleId(0), send(alloc, 1, &THROUGH_A_TO_B)?)?;
-    assert!(&rt; they_wait(&world, &[0])?);
-    world.feed(ModuleId(0), send(alloc, 2, &THROUGH_A_TO_B)?)?;
-    assert!(&rt; they_wait(&world, &[0, 1])?);
-    world.deliver(first_of(1))?;
-    assert!(&rt; they_wait(&world, &[0, 2])?);
-    world.lose(first_of(0))?;
-    assert!(&rt; they_wait(&world, &[2])?);
+    let mut world = chassis_world(alloc).ok_or("no world")?;
+    assert_eq!(&rt; first_other(alloc, &mut world, WAITS), None);
     assert!(&rt; is_lost(world.journal(), 3, first_of(0)));
     Ok(())
 }
 
+const ONE_BY_ONE: &[(Call, Answer)] = &[
+    (Call::DeliverLeast, Answer::Is(false)),
+    (Call::Send(0, 1, THROUGH_A_TO_B), Answer::Entry(0)),
+    (Call::DeliverLeast, Answer::Is(true)),
+    (Call::Deliver(1), Answer::Entry(2)),
+    (Call::Deliver(2), Answer::Entry(3)),
+    (Call::Deliver(3), Answer::Entry(4)),
+    (Call::DeliverLeast, Answer::Is(false)),
+];
+
 #[test]
 fn frames_one_by_one(rt: HostRuntime) -> Result<(), Fail> {
     let alloc = rt.alloc();
-    let topology = chassis(alloc)?;
-    let modules = boxes(alloc, &topology)?;
-    let mut world = World::new(alloc, topology, modules)?;
-    assert_eq!(&rt; world.deliver_least(), Ok(false));
-    world.feed(ModuleId(0), send(alloc, 1, &THROUGH_A_TO_B)?)?;
-    assert_eq!(&rt; world.deliver_least(), Ok(true));
-    assert_eq!(&rt; world.deliver(first_of(1)), Ok(2));
-    assert_eq!(&rt; world.deliver(first_of(2)), Ok(3));
-    assert_eq!(&rt; world.deliver(first_of(3)), Ok(4));
-    assert_eq!(&rt; world.deliver_least(), Ok(false));
+    let mut world = chassis_world(alloc).ok_or("no world")?;
+    assert_eq!(&rt; first_other(alloc, &mut world, ONE_BY_ONE), None);
     assert!(&rt; is_the_run(world.journal()));
     Ok(())
 }
 
+const TABLES: &[(Call, Answer)] = &[
+    (Call::Tick(1, 7), Answer::Entry(0)),
+    (Call::Send(0, 1, THROUGH_A_TO_B), Answer::Entry(1)),
+    (Call::Now(1), Answer::Count(7000)),
+    (Call::Now(0), Answer::Count(0)),
+    (Call::Pendings(0), Answer::Count(1)),
+];
+
 #[test]
 fn tables_of_modules(rt: HostRuntime) -> Result<(), Fail> {
     let alloc = rt.alloc();
-    let topology = chassis(alloc)?;
-    let modules = boxes(alloc, &topology)?;
-    let mut world = World::new(alloc, topology, modules)?;
+    let mut world = chassis_world(alloc).ok_or("no world")?;
     assert_eq!(&rt; world.topology().configs().len(), 4);
-    world.tick(ModuleId(1), ms(7)?)?;
-    world.feed(ModuleId(0), send(alloc, 1, &THROUGH_A_TO_B)?)?;
-    assert_eq!(&rt; world.tables(ModuleId(1))?.now, 7000);
-    assert_eq!(&rt; world.tables(ModuleId(0))?.now, 0);
-    assert_eq!(&rt; world.tables(ModuleId(0))?.pendings.as_slice().len(), 1);
+    assert_eq!(&rt; first_other(alloc, &mut world, TABLES), None);
     Ok(())
 }

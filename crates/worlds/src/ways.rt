@@ -1,9 +1,8 @@
 //! Addresses that lead back to the sender, or nowhere.
-use crate::boxes::{boxes, chassis, topology};
-use crate::given::{ms, send};
+use crate::boxes::{chassis_world, world};
+use crate::calls::{Answer, Call, first_other};
 use crate::journals::{Came, came_with, first_of, is_done, is_sent};
-use cip_base::ModuleId;
-use cip_world::{End, World, WorldFault};
+use cip_world::{End, WorldFault};
 use std::test::Fail;
 
 // The identity of the scanner.
@@ -12,14 +11,17 @@ const SCANNER: [u8; 21] = [
     0x0B, 0x0A, 0x02, 0x53, 0x43,
 ];
 
+const TO_ITSELF: &[(Call, Answer)] = &[
+    (Call::Send(0, 1, &[0x02, 0x01]), Answer::Entry(0)),
+    (Call::Run(10), Answer::Ended(End::Quiet)),
+    (Call::Entries, Answer::Count(3)),
+];
+
 #[test]
 fn a_module_names_its_own_address(rt: HostRuntime) -> Result<(), Fail> {
     let alloc = rt.alloc();
-    let topology = chassis(alloc)?;
-    let modules = boxes(alloc, &topology)?;
-    let mut world = World::new(alloc, topology, modules)?;
-    world.feed(ModuleId(0), send(alloc, 1, &[0x02, 0x01])?)?;
-    assert_eq!(&rt; world.run(10), Ok(End::Quiet));
+    let mut world = chassis_world(alloc).ok_or("no world")?;
+    assert_eq!(&rt; first_other(alloc, &mut world, TO_ITSELF), None);
     let there = Came {
         at: 0,
         port: 2,
@@ -28,26 +30,27 @@ fn a_module_names_its_own_address(rt: HostRuntime) -> Result<(), Fail> {
     };
     assert_eq!(&rt; came_with(world.journal(), 1), Some(there));
     assert!(&rt; is_done(world.journal(), 2, 1, &SCANNER));
-    assert_eq!(&rt; world.journal().len(), 3);
     Ok(())
 }
 
 // What is answered where nobody has the address.
 const NO_ANSWER: [u8; 7] = [0xD2, 0x00, 0x01, 0x01, 0x04, 0x02, 0x01];
 
+const TO_NOBODY: &[(Call, Answer)] = &[
+    (Call::Send(0, 1, &[0x02, 0x09]), Answer::Entry(0)),
+    (Call::AreWaiting(&[]), Answer::Is(true)),
+    (Call::Deliver(0), Answer::Refused(WorldFault::NoFrame)),
+    (Call::Lose(0), Answer::Refused(WorldFault::NoFrame)),
+    (Call::Run(5), Answer::Ended(End::Quiet)),
+    (Call::Tick(0, 32_000), Answer::Entry(1)),
+];
+
 #[test]
 fn nobody_has_the_address(rt: HostRuntime) -> Result<(), Fail> {
     let alloc = rt.alloc();
-    let topology = chassis(alloc)?;
-    let modules = boxes(alloc, &topology)?;
-    let mut world = World::new(alloc, topology, modules)?;
-    world.feed(ModuleId(0), send(alloc, 1, &[0x02, 0x09])?)?;
+    let mut world = chassis_world(alloc).ok_or("no world")?;
+    assert_eq!(&rt; first_other(alloc, &mut world, TO_NOBODY), None);
     assert!(&rt; is_sent(world.journal(), 0));
-    assert!(&rt; world.waiting()?.is_empty());
-    assert_eq!(&rt; world.deliver(first_of(0)), Err(WorldFault::NoFrame));
-    assert_eq!(&rt; world.lose(first_of(0)), Err(WorldFault::NoFrame));
-    assert_eq!(&rt; world.run(5), Ok(End::Quiet));
-    world.tick(ModuleId(0), ms(32_000)?)?;
     assert!(&rt; is_done(world.journal(), 1, 1, &NO_ANSWER));
     Ok(())
 }
@@ -81,14 +84,16 @@ link = "L"
 address = "04"
 "#;
 
+const OUT_AND_IN: &[(Call, Answer)] = &[
+    (Call::Send(0, 1, &[0x01, 0x04]), Answer::Entry(0)),
+    (Call::Run(10), Answer::Ended(End::Quiet)),
+];
+
 #[test]
 fn two_ports_on_one_link(rt: HostRuntime) -> Result<(), Fail> {
     let alloc = rt.alloc();
-    let topology = topology(alloc, TWO_PORTS_ON_ONE_LINK)?;
-    let modules = boxes(alloc, &topology)?;
-    let mut world = World::new(alloc, topology, modules)?;
-    world.feed(ModuleId(0), send(alloc, 1, &[0x01, 0x04])?)?;
-    assert_eq!(&rt; world.run(10), Ok(End::Quiet));
+    let mut world = world(alloc, TWO_PORTS_ON_ONE_LINK).ok_or("no world")?;
+    assert_eq!(&rt; first_other(alloc, &mut world, OUT_AND_IN), None);
     let there = Came {
         at: 0,
         port: 2,
