@@ -61,7 +61,8 @@ impl Device {
     // Takes out all that are due.
     fn clear_due(&mut self, now: u64)
         ensures after { state_of_device self.new ≡ applied self.old.config
-            (state_of_device self.old) (pending_time_outs now self.old.pendings ++ hop_time_outs now self.old.hops) }
+            (state_of_device self.old)
+            (pending_time_outs now self.old.pendings ++ hop_time_outs now self.old.hops) }
         ensures config { self.new.config ≡ self.old.config }
     {
         self.clear_pendings(now);
