@@ -327,7 +327,10 @@ impl World {
             ↔ (waiting self.new.ledger.plan self.new.ledger.journal ≡ [])) }
     {
         self.ledger.prepare()?;
-        Ok(self.ledger.least().is_none())
+        match self.ledger.least() {
+            None => Ok(true),
+            Some(_) => Ok(false),
+        }
     }
 
     /// The state of a module. NoModule where the topology has no such module, and NoMemory.
