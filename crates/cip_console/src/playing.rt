@@ -16,7 +16,7 @@ use cip_chain::trail;
 use cip_module::Command;
 use cip_script::{ScriptFault, Step};
 use cip_transcript::{name_in, put, put_chain_of, put_entry, put_tables, put_trail};
-use cip_world::{End, Entry, FrameName, World, WorldFault};
+use cip_world::{Entry, FrameName, World, WorldFault};
 use std::alloc::Global;
 
 /// Why a step of a script was not played to its end.
@@ -166,10 +166,10 @@ fn put_end(world: &mut World, text: &mut Vec<u8>) -> Result<(), NoMemory>
     ensures ok { OnOk result (text.new.items ≡ text.old.items
         ++ end_text (waiting world.old.ledger.plan world.old.ledger.journal)) }
 {
-    match world.run(0) {
-        Ok(End::Quiet) => put(text, b"quiet\n"),
-        Ok(End::Limit) => put(text, b"limit\n"),
-        Err(_) => Err(NoMemory),
+    if world.is_quiet()? {
+        put(text, b"quiet\n")
+    } else {
+        put(text, b"limit\n")
     }
 }
 
