@@ -175,23 +175,25 @@ run_text : (t : Plan) (limit : ℕ) (j k : Journal) → (deliveries t limit j).a
 run_text t limit j k e = ap (λ (o : Result Journal ScriptFault). continued (deliveries t limit j).text o (ended t)) e
 
 -- the deliveries were played, and then the end was printed
-pub run_played : (t : Plan) (limit : ℕ) (j k l : Journal) (old new : Option (List ℕ)) (before between after : List ℕ)
-    → Played (deliveries t limit j) old new before between k → l ≡ k
-    → after ≡ between ++ end_text (waiting t k) → Played (ran t limit j) old new before after l
-run_played t limit j k l old new before between after p same e =
+pub run_played : (t : Plan) (limit : ℕ) (j k l : Journal) (old mid new : Option (List ℕ)) (before between after : List ℕ)
+    → Played (deliveries t limit j) old mid before between k → l ≡ k
+    → Prints mid new between after (end_text (waiting t k)) → Played (ran t limit j) old new before after l
+run_played t limit j k l old mid new before between after p same e =
     let is = run_text t limit j k p.ends in
     record {
       ends = ap (λ (x : Part). x.after) is ∙ ap (λ (x : Journal). Ok x) (sym same);
-      prints = subst (Prints old new before after) (sym (ap (λ (x : Part). x.text) is)) (prints_more _ _ _ _ _ _ _ p.prints e);
+      prints = subst (Prints old new before after) (sym (ap (λ (x : Part). x.text) is))
+          (prints_then old mid new before between after (deliveries t limit j).text (end_text (waiting t k)) p.prints e);
     }
 
--- memory ran out for the end
-pub run_unended : (t : Plan) (limit : ℕ) (j k : Journal) (old new : Option (List ℕ)) (before between : List ℕ)
-    → Played (deliveries t limit j) old new before between k
+-- the end could not be gathered or written
+pub run_unended : (t : Plan) (limit : ℕ) (j k : Journal) (old mid new : Option (List ℕ)) (before between : List ℕ)
+    → Played (deliveries t limit j) old mid before between k
+    → AppendsFront mid new (between ++ end_text (waiting t k))
     → AppendsFront old new (before ++ (ran t limit j).text)
-run_unended t limit j k old new before between p =
+run_unended t limit j k old mid new before between p f =
     subst (λ (x : Part). AppendsFront old new (before ++ x.text)) (sym (run_text t limit j k p.ends))
-    (front_of_prints old new before between (deliveries t limit j).text (ended t k).text p.prints)
+    (front_then old mid new before between (deliveries t limit j).text (end_text (waiting t k)) p.prints f)
 
 -- what could not be written or gathered was a prefix
 pub unwritten_as : (part : Part) (old new : Option (List ℕ)) (before after : List ℕ) (j : Journal) (fault : PlayFault)

@@ -117,6 +117,11 @@ abbrev pub Done : Plan → ℕ → Option (List ℕ) → Option (List ℕ) → F
 Done t turns old new (Err first) = ⊥
 Done t turns old new (Ok given) = Whole t turns given old new
 
+-- nothing is faulty in the script, and a prefix of a run was written
+abbrev pub Cut : Plan → ℕ → Option (List ℕ) → Option (List ℕ) → Feeds → Type 0
+Cut t turns old new (Err first) = ⊥
+Cut t turns old new (Ok given) = Begun t turns given old new
+
 -- nothing was written, or a prefix of a run
 abbrev pub Front : Plan → ℕ → Option (List ℕ) → Option (List ℕ) → Feeds → Type 0
 Front t turns old new (Err first) = Keeps old new
@@ -142,7 +147,7 @@ WroteLive t turns old new given (Ok u) = Done t turns old new given
 WroteLive t turns old new given (Err (Script line fault)) =
     (given ≡ Err (line, fault)) × Keeps old new
 WroteLive t turns old new given (Err Read) = Keeps old new
-WroteLive t turns old new given (Err Write) = Front t turns old new given
+WroteLive t turns old new given (Err Write) = Cut t turns old new given
 WroteLive t turns old new given (Err NoMemory) = Front t turns old new given
 WroteLive t turns old new given (Err (New fault)) = NotBegun old new given (λ all. Unit {0})
 WroteLive t turns old new given (Err (Run fault)) =

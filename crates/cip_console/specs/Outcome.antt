@@ -30,6 +30,11 @@ Fails t old new (Err first) line fault = (first ≡ (line, fault)) × Keeps old 
 Fails t old new (Ok steps) line fault =
     (stop_of t steps ≡ Some (line, fault)) × Appends old new (transcript t steps)
 
+-- the script has no faulty line, and a prefix of the transcript was written
+abbrev pub Cut : Plan → Option (List ℕ) → Option (List ℕ) → Steps → Type 0
+Cut t old new (Err first) = ⊥
+Cut t old new (Ok steps) = AppendsFront old new (transcript t steps)
+
 -- a prefix of the transcript was written
 abbrev pub Front : Plan → Option (List ℕ) → Option (List ℕ) → Steps → Type 0
 Front t old new (Err first) = Keeps old new
@@ -46,7 +51,7 @@ abbrev pub Wrote : Plan → Option (List ℕ) → Option (List ℕ) → Steps
 Wrote t old new script (Ok u) = Done t old new script
 Wrote t old new script (Err (Script line fault)) = Fails t old new script line fault
 Wrote t old new script (Err Read) = Keeps old new
-Wrote t old new script (Err Write) = Front t old new script
+Wrote t old new script (Err Write) = Cut t old new script
 Wrote t old new script (Err NoMemory) = Front t old new script
 Wrote t old new script (Err (New fault)) = NotBegun old new script
 Wrote t old new script (Err (Run fault)) = ⊥

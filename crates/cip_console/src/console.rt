@@ -1,5 +1,6 @@
 //! The run of a script over the modules of a topology.
 ghost use Rattle.std.specs.Prelude.{◌≡◌, ◌≢◌, ◌⊎◌, ◌+◌, ◌<◌, ◌≤◌, [], length, map, IfSome};
+ghost use Rattle.cip_threads.specs.Reports.{IsTellable};
 ghost use Rattle.cip_world.specs.Fresh.{IsNewFault};
 ghost use Rattle.cip_world.specs.Worlds.{Stand};
 ghost use Rattle.cip_console.specs.Outcome.{Wrote, WroteOf};
@@ -36,13 +37,14 @@ pub enum ConsoleFault {
     /// An allocation was refused. A prefix of the transcript was written.
     #[error("out of memory")]
     NoMemory,
-    /// The modules are not those of the topology, or not as at the beginning. Nothing was written.
-    #[error("{0}")]
-    New(NewFault),
     /// A run of modules on threads came to no end: no thread could be made, a clock is full, or a
     /// thread and the journal differ. Nothing was written.
     #[error("{0}")]
     Run(RunFault),
+    /// The modules are not those of the topology, or not as at the beginning: Count, Config or
+    /// NotFresh. Nothing was written.
+    #[error("{0}")]
+    New(NewFault),
 }
 
 impl From<AllocError> for ConsoleFault {
@@ -78,7 +80,9 @@ fn run_steps<W: Sink>(
         (Ok steps.items) result }
     ensures read { result ≢ Err ConsoleFault.Read }
     ensures new { (fault : _) → result ≢ Err (ConsoleFault.New fault) }
-    ensures write { result ≡ Err ConsoleFault.Write → W.has_refused writer.new }
+    ensures taken { result ≢ Err ConsoleFault.Write → W.has_refused writer.new
+        → W.has_refused writer.old }
+    ensures refused { result ≡ Err ConsoleFault.Write → W.has_refused writer.new }
 {
     let mut left = VecDeque::from(steps);
     let mut text = Vec::new(alloc);
@@ -100,8 +104,8 @@ fn run_steps<W: Sink>(
     }
 }
 
-/// Reads the steps of a script, and runs them over the modules.
-pub(crate) fn run_script<W: Sink>(
+// Reads the steps of a script, and runs them over the modules.
+fn run_steps_of<W: Sink>(
     alloc: Global,
     script: &[u8],
     writer: &mut W,
@@ -111,20 +115,49 @@ pub(crate) fn run_script<W: Sink>(
     ensures wrote { Wrote topology (W.contents writer.old) (W.contents writer.new)
         (steps Mode.InTurn (names_of topology) script.now) result }
     ensures read { result ≢ Err ConsoleFault.Read }
-    ensures new { (f : _) → result ≡ Err (ConsoleFault.New f) → IsNewFault topology
-        (map (λ b. config_of b) modules.items) (map (λ b. state_of b) modules.items) f }
-    ensures write { result ≡ Err ConsoleFault.Write → W.has_refused writer.new }
+    ensures new { (f : _) → result ≡ Err (ConsoleFault.New f)
+        → IsTellable f × IsNewFault topology (map (λ b. config_of b) modules.items)
+        (map (λ b. state_of b) modules.items) f }
+    ensures taken { result ≢ Err ConsoleFault.Write → W.has_refused writer.new
+        → W.has_refused writer.old }
+    ensures refused { result ≡ Err ConsoleFault.Write → W.has_refused writer.new }
 {
     let names = names_of(alloc, &topology)?;
     match read_steps(alloc, Mode::InTurn, names.as_slice(), script) {
         Ok(steps) => match World::new(alloc, topology, modules) {
             Ok(mut world) => run_steps(alloc, &mut world, names.as_slice(), steps, writer),
+            Err(NewFault::Count) => Err(ConsoleFault::New(NewFault::Count)),
+            Err(NewFault::Config(m)) => Err(ConsoleFault::New(NewFault::Config(m))),
+            Err(NewFault::NotFresh(m)) => Err(ConsoleFault::New(NewFault::NotFresh(m))),
             Err(NewFault::NoMemory) => Err(ConsoleFault::NoMemory),
-            Err(fault) => Err(ConsoleFault::New(fault)),
         },
         Err(StepsFault::Script(line, fault)) => Err(ConsoleFault::Script(line, fault)),
         Err(StepsFault::NoMemory) => Err(ConsoleFault::NoMemory),
     }
+}
+
+// Runs a script that lies in memory.
+fn run_in_memory<W: Sink>(
+    alloc: Global,
+    script: &[u8],
+    writer: &mut W,
+    topology: Topology,
+    modules: Vec<Box<dyn Module + Send>>,
+) -> Result<(), ConsoleFault>
+    ensures wrote { Wrote topology (W.contents writer.old) (W.contents writer.new)
+        (steps Mode.InTurn (names_of topology) script.now) result }
+    ensures read { result ≡ Err ConsoleFault.Read → SCRIPT_LIMIT < length script.now }
+    ensures new { (f : _) → result ≡ Err (ConsoleFault.New f)
+        → IsTellable f × IsNewFault topology (map (λ b. config_of b) modules.items)
+        (map (λ b. state_of b) modules.items) f }
+    ensures taken { result ≢ Err ConsoleFault.Write → W.has_refused writer.new
+        → W.has_refused writer.old }
+    ensures refused { result ≡ Err ConsoleFault.Write → W.has_refused writer.new }
+{
+    if script.len() > SCRIPT_LIMIT {
+        return Err(ConsoleFault::Read);
+    }
+    run_steps_of(alloc, script, writer, topology, modules)
 }
 
 /// Reads a whole script, runs it over the modules of a topology, in its order and each as at its
@@ -140,18 +173,24 @@ pub fn run<R: Source, W: Sink>(
     ensures wrote { WroteOf topology (R.remaining reader.old) (W.contents writer.old)
         (W.contents writer.new) result }
     // New only where the modules are not those of the topology at their beginning.
-    ensures new { (f : _) → result ≡ Err (ConsoleFault.New f) → IsNewFault topology
-        (map (λ b. config_of b) modules.items) (map (λ b. state_of b) modules.items) f }
+    ensures new { (f : _) → result ≡ Err (ConsoleFault.New f)
+        → IsTellable f × IsNewFault topology (map (λ b. config_of b) modules.items)
+        (map (λ b. state_of b) modules.items) f }
     // Read only where the reader failed or has too much.
     ensures read { result ≡ Err ConsoleFault.Read
         → R.has_failed reader.new ⊎ IfSome (R.remaining reader.old)
         (λ bytes. SCRIPT_LIMIT < length bytes) }
-    // Write only where the writer failed or took no byte.
-    ensures write { result ≡ Err ConsoleFault.Write → W.has_refused writer.new }
+    // Write where a write failed or took no byte, and nowhere else, for a writer that tells it.
+    ensures taken { result ≢ Err ConsoleFault.Write → W.has_refused writer.new
+        → W.has_refused writer.old }
+    ensures refused { result ≡ Err ConsoleFault.Write → W.has_refused writer.new }
     ensures asked { R.asks reader.new ≤ R.asks reader.old + 1048577 }
 {
+    if let Some(script) = reader.in_memory() {
+        return run_in_memory(alloc, script, writer, topology, modules);
+    }
     match read_script(alloc, reader) {
-        Ok(script) => run_script(alloc, script.as_slice(), writer, topology, modules),
+        Ok(script) => run_steps_of(alloc, script.as_slice(), writer, topology, modules),
         Err(ReadFault::NoMemory) => Err(ConsoleFault::NoMemory),
         Err(ReadFault::Failed) => Err(ConsoleFault::Read),
         Err(ReadFault::TooLong) => Err(ConsoleFault::Read),

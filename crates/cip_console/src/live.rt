@@ -2,6 +2,7 @@
 ghost use Rattle.std.specs.Prelude.{◌≡◌, ◌≢◌, ◌⊎◌, ◌++◌, ◌∷◌, ◌+◌, ◌<◌, ◌≤◌, [], All, length, map};
 ghost use Rattle.std.specs.Prelude.{IfOk, IfSome, OnOk, OnErr};
 ghost use Rattle.std.specs.Io.KnownBytes.{Appends};
+ghost use Rattle.cip_threads.specs.Reports.{IsTellable};
 ghost use Rattle.cip_world.specs.Fresh.{IsNewFault};
 ghost use Rattle.cip_console.specs.Known.{AppendsFront};
 ghost use Rattle.cip_console.specs.Live.{GivesFeeds, HasRun, WroteLive, WroteLiveOf, entries_text};
@@ -119,7 +120,9 @@ fn write_journal<W: Sink>(
         text.new.items (entries_text names.now 0 journal.now)) }
     ensures err { OnErr result (AppendsFront (W.contents writer.old) (W.contents writer.new)
         (text.old.items ++ entries_text names.now 0 journal.now)) }
-    ensures write { result ≡ Err WritingFault.Write → W.has_refused writer.new }
+    ensures taken { result ≢ Err WritingFault.Write → W.has_refused writer.new
+        → W.has_refused writer.old }
+    ensures refused { result ≡ Err WritingFault.Write → W.has_refused writer.new }
 {
     for (k, entry) in journal.iter().enumerate() {
         match put_entry(text, names, k, entry) {
@@ -156,7 +159,9 @@ fn write_run<W: Sink>(
         (entries_text names.now 0 journal.now ++ last_text end)) }
     ensures err { OnErr result (AppendsFront (W.contents writer.old) (W.contents writer.new)
         (entries_text names.now 0 journal.now ++ last_text end)) }
-    ensures write { result ≡ Err WritingFault.Write → W.has_refused writer.new }
+    ensures taken { result ≢ Err WritingFault.Write → W.has_refused writer.new
+        → W.has_refused writer.old }
+    ensures refused { result ≡ Err WritingFault.Write → W.has_refused writer.new }
 {
     let mut text = Vec::new(alloc);
     match write_journal(names, journal, writer, &mut text) {
@@ -190,9 +195,12 @@ fn run_feeds<T: Threads + Wait + Sync, W: Sink, G: Gate + Sync>(
     ensures wrote { WroteLive topology turns (W.contents writer.old) (W.contents writer.new)
         (Ok feeds.items) result }
     ensures read { result ≢ Err ConsoleFault.Read }
-    ensures new { (f : _) → result ≡ Err (ConsoleFault.New f) → IsNewFault topology
-        (map (λ b. config_of b) modules.items) (map (λ b. state_of b) modules.items) f }
-    ensures write { result ≡ Err ConsoleFault.Write → W.has_refused writer.new }
+    ensures new { (f : _) → result ≡ Err (ConsoleFault.New f)
+        → IsTellable f × IsNewFault topology (map (λ b. config_of b) modules.items)
+        (map (λ b. state_of b) modules.items) f }
+    ensures taken { result ≢ Err ConsoleFault.Write → W.has_refused writer.new
+        → W.has_refused writer.old }
+    ensures refused { result ≡ Err ConsoleFault.Write → W.has_refused writer.new }
 {
     let report = match run_threads(rt, alloc, topology, modules, feeds, turns, gate) {
         Ok(report) => report,
@@ -210,8 +218,8 @@ fn run_feeds<T: Threads + Wait + Sync, W: Sink, G: Gate + Sync>(
     }
 }
 
-/// Reads what a script gives to the modules, and runs these on threads of their own.
-pub(crate) fn play_live<T: Threads + Wait + Sync, W: Sink, G: Gate + Sync>(
+// Reads what a script gives to the modules, and runs these on threads of their own.
+fn play_live<T: Threads + Wait + Sync, W: Sink, G: Gate + Sync>(
     rt: &T,
     alloc: Global,
     script: &[u8],
@@ -224,9 +232,12 @@ pub(crate) fn play_live<T: Threads + Wait + Sync, W: Sink, G: Gate + Sync>(
     ensures wrote { WroteLive topology turns (W.contents writer.old) (W.contents writer.new)
         (given_by topology script.now) result }
     ensures read { result ≢ Err ConsoleFault.Read }
-    ensures new { (f : _) → result ≡ Err (ConsoleFault.New f) → IsNewFault topology
-        (map (λ b. config_of b) modules.items) (map (λ b. state_of b) modules.items) f }
-    ensures write { result ≡ Err ConsoleFault.Write → W.has_refused writer.new }
+    ensures new { (f : _) → result ≡ Err (ConsoleFault.New f)
+        → IsTellable f × IsNewFault topology (map (λ b. config_of b) modules.items)
+        (map (λ b. state_of b) modules.items) f }
+    ensures taken { result ≢ Err ConsoleFault.Write → W.has_refused writer.new
+        → W.has_refused writer.old }
+    ensures refused { result ≡ Err ConsoleFault.Write → W.has_refused writer.new }
 {
     let names = names_of(alloc, &topology)?;
     let names = names.as_slice();
@@ -237,6 +248,33 @@ pub(crate) fn play_live<T: Threads + Wait + Sync, W: Sink, G: Gate + Sync>(
         Err(StepsFault::Script(line, fault)) => Err(ConsoleFault::Script(line, fault)),
         Err(StepsFault::NoMemory) => Err(ConsoleFault::NoMemory),
     }
+}
+
+// Runs on threads what a script in memory gives.
+fn play_in_memory<T: Threads + Wait + Sync, W: Sink, G: Gate + Sync>(
+    rt: &T,
+    alloc: Global,
+    script: &[u8],
+    writer: &mut W,
+    topology: Topology,
+    modules: Vec<Box<dyn Module + Send>>,
+    turns: usize,
+    gate: &G,
+) -> Result<(), ConsoleFault>
+    ensures wrote { WroteLive topology turns (W.contents writer.old) (W.contents writer.new)
+        (given_by topology script.now) result }
+    ensures read { result ≡ Err ConsoleFault.Read → SCRIPT_LIMIT < length script.now }
+    ensures new { (f : _) → result ≡ Err (ConsoleFault.New f)
+        → IsTellable f × IsNewFault topology (map (λ b. config_of b) modules.items)
+        (map (λ b. state_of b) modules.items) f }
+    ensures taken { result ≢ Err ConsoleFault.Write → W.has_refused writer.new
+        → W.has_refused writer.old }
+    ensures refused { result ≡ Err ConsoleFault.Write → W.has_refused writer.new }
+{
+    if script.len() > SCRIPT_LIMIT {
+        return Err(ConsoleFault::Read);
+    }
+    play_live(rt, alloc, script, writer, topology, modules, turns, gate)
 }
 
 /// Reads a whole script of commands and ticks, gives them to the modules of a topology, in its
@@ -258,16 +296,22 @@ pub fn run_live<T: Threads + Wait + Sync, R: Source, W: Sink, G: Gate + Sync>(
     ensures wrote { WroteLiveOf topology turns (R.remaining reader.old) (W.contents writer.old)
         (W.contents writer.new) result }
     // New only where the modules are not those of the topology at their beginning.
-    ensures new { (f : _) → result ≡ Err (ConsoleFault.New f) → IsNewFault topology
-        (map (λ b. config_of b) modules.items) (map (λ b. state_of b) modules.items) f }
+    ensures new { (f : _) → result ≡ Err (ConsoleFault.New f)
+        → IsTellable f × IsNewFault topology (map (λ b. config_of b) modules.items)
+        (map (λ b. state_of b) modules.items) f }
     // Read only where the reader failed or has too much.
     ensures read { result ≡ Err ConsoleFault.Read
         → R.has_failed reader.new ⊎ IfSome (R.remaining reader.old)
         (λ bytes. SCRIPT_LIMIT < length bytes) }
-    // Write only where the writer failed or took no byte.
-    ensures write { result ≡ Err ConsoleFault.Write → W.has_refused writer.new }
+    // Write where a write failed or took no byte, and nowhere else, for a writer that tells it.
+    ensures taken { result ≢ Err ConsoleFault.Write → W.has_refused writer.new
+        → W.has_refused writer.old }
+    ensures refused { result ≡ Err ConsoleFault.Write → W.has_refused writer.new }
     ensures asked { R.asks reader.new ≤ R.asks reader.old + 1048577 }
 {
+    if let Some(script) = reader.in_memory() {
+        return play_in_memory(rt, alloc, script, writer, topology, modules, turns, gate);
+    }
     match read_script(alloc, reader) {
         Ok(script) => {
             let script = script.as_slice();

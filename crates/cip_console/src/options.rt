@@ -18,19 +18,27 @@ pub struct Options {
     pub turns: u32,
 }
 
+/// What words that ask for no run ask for.
+#[derive(Clone, Copy, Debug, PartialEq, Eq, Error)]
+pub enum Usage {
+    /// Nothing that the program has: a word is none of its options, or its value is no such value.
+    #[error("usage: cipbridge [--topology FILE] [--script FILE] [--threads] [--turns N]; \
+        `cipbridge --help` says more")]
+    Wrong,
+    /// What the program does.
+    #[error("{HELP}")]
+    Help,
+    /// Which program this is.
+    #[error("cipbridge {VERSION}")]
+    Version,
+}
+
 /// Why there are no options.
 #[derive(Clone, Copy, Debug, PartialEq, Eq, Error)]
 pub enum OptionsFault {
-    /// The words are none of the program's.
-    #[error("usage: cipbridge [--topology FILE] [--script FILE] [--threads] [--turns N]; \
-        `cipbridge --help` says more")]
-    Usage,
-    /// What the program does was asked for.
-    #[error("{HELP}")]
-    Help,
-    /// Which program this is was asked for.
-    #[error("cipbridge {VERSION}")]
-    Version,
+    /// The words ask for no run.
+    #[error("{0}")]
+    Usage(Usage),
     /// An allocation was refused.
     #[error("out of memory")]
     NoMemory,
@@ -117,16 +125,16 @@ fn turns_at(matches: &ArgMatches<'_>) -> Result<u32, OptionsFault>
     }
     match matches.get_one::<u32>("turns") {
         Some(turns) if 1 <= turns && turns <= MOST_TURNS => Ok(turns),
-        _ => Err(OptionsFault::Usage),
+        _ => Err(OptionsFault::Usage(Usage::Wrong)),
     }
 }
 
 fn fault_of(error: &clap::Error) -> OptionsFault {
     match error.kind() {
         ErrorKind::OutOfMemory => OptionsFault::NoMemory,
-        ErrorKind::DisplayHelp => OptionsFault::Help,
-        ErrorKind::DisplayVersion => OptionsFault::Version,
-        _ => OptionsFault::Usage,
+        ErrorKind::DisplayHelp => OptionsFault::Usage(Usage::Help),
+        ErrorKind::DisplayVersion => OptionsFault::Usage(Usage::Version),
+        _ => OptionsFault::Usage(Usage::Wrong),
     }
 }
 
@@ -146,8 +154,9 @@ fn options_of(alloc: Global, matches: &ArgMatches<'_>) -> Result<Options, Option
 
 /// Reads the words after the program's name: `--topology FILE`, `--script FILE`, `--threads` and
 /// `--turns N`, each at most once, and `--help` and `--version`. N is 1 to 1,000,000, and 100,000
-/// where it is not given; it means nothing without `--threads`. Every other word is Usage. NoMemory
-/// where an allocation is refused.
+/// where it is not given; it means nothing without `--threads`. Usage where they ask for no run:
+/// Help and Version are asked for by name, every other word is Wrong. NoMemory where an allocation
+/// is refused.
 pub fn read_options(alloc: Global, words: &[String]) -> Result<Options, OptionsFault>
     ensures { IfOk result (λ options. (1 ≤ options.turns) × (options.turns ≤ MOST_TURNS)) }
 {

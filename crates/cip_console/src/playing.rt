@@ -42,6 +42,7 @@ pub(crate) fn flush<W: Sink>(
     ensures all { OnOk result (least ≡ 0 → text.new.items ≡ []) }
     ensures err { OnErr result (AppendsFront (W.contents writer.old) (W.contents writer.new)
         text.old.items) }
+    ensures taken { OnOk result (W.has_refused writer.new → W.has_refused writer.old) }
     ensures refused { OnErr result (W.has_refused writer.new) }
 {
     if text.len() >= least {
@@ -64,7 +65,8 @@ fn put_newest(names: &[Bytes], journal: &[Entry], text: &mut Vec<u8>) -> Result<
 
 // How far the run is, where that is due.
 fn tell<W: Sink>(world: &World, writer: &mut W)
-    ensures { W.contents writer.new ≡ W.contents writer.old }
+    ensures contents { W.contents writer.new ≡ W.contents writer.old }
+    ensures taken { W.has_refused writer.new → W.has_refused writer.old }
 {
     if writer.is_due() {
         if let Ok(waiting) = world.waiting() {
@@ -84,6 +86,7 @@ fn flush_if_full<W: Sink>(
         text.new.items []) }
     ensures err { OnErr result (AppendsFront (W.contents writer.old) (W.contents writer.new)
         text.old.items) }
+    ensures taken { OnOk result (W.has_refused writer.new → W.has_refused writer.old) }
     ensures refused { OnErr result (W.has_refused writer.new) }
 {
     if text.len() < FULL {
@@ -108,7 +111,9 @@ fn show<W: Sink>(
     ensures err { OnErr result (AppendsFront (W.contents writer.old) (W.contents writer.new)
         (text.old.items ++ newest names.now world.now.ledger.journal)) }
     ensures step { (fault : _) → result ≢ Err (PlayFault.Stopped fault) }
-    ensures write { result ≡ Err PlayFault.Write → W.has_refused writer.new }
+    ensures taken { result ≢ Err PlayFault.Write → W.has_refused writer.new
+        → W.has_refused writer.old }
+    ensures refused { result ≡ Err PlayFault.Write → W.has_refused writer.new }
 {
     match put_newest(names, world.journal(), text) {
         Ok(()) => match flush_if_full(world, writer, text) {
@@ -138,7 +143,9 @@ fn deliver<W: Sink>(
     ensures plays { Plays (deliveries world.old.ledger.plan limit world.old.ledger.journal)
         (W.contents writer.old) (W.contents writer.new) text.old.items text.new.items
         world.new.ledger.journal result }
-    ensures write { result ≡ Err PlayFault.Write → W.has_refused writer.new }
+    ensures taken { result ≢ Err PlayFault.Write → W.has_refused writer.new
+        → W.has_refused writer.old }
+    ensures refused { result ≡ Err PlayFault.Write → W.has_refused writer.new }
 {
     for i in 0..limit {
         match world.deliver_least() {
@@ -173,6 +180,39 @@ fn put_end(world: &mut World, text: &mut Vec<u8>) -> Result<(), NoMemory>
     }
 }
 
+// Whether a frame is left that waits: it is printed, and what was gathered is written once there is
+// enough of it.
+fn show_end<W: Sink>(
+    world: &mut World,
+    writer: &mut W,
+    text: &mut Vec<u8>,
+) -> Result<(), PlayFault>
+    requires stand { Stand world.old.ledger
+        (map (λ b. config_of (b.vtable, b.value)) world.old.modules.items)
+        (map (λ b. state_of (b.vtable, b.value)) world.old.modules.items) }
+    ensures stand { Stand world.new.ledger
+        (map (λ b. config_of (b.vtable, b.value)) world.new.modules.items)
+        (map (λ b. state_of (b.vtable, b.value)) world.new.modules.items) }
+    ensures plan { world.new.ledger.plan ≡ world.old.ledger.plan }
+    ensures journal { world.new.ledger.journal ≡ world.old.ledger.journal }
+    ensures ok { OnOk result (Prints (W.contents writer.old) (W.contents writer.new) text.old.items
+        text.new.items (end_text (waiting world.old.ledger.plan world.old.ledger.journal))) }
+    ensures err { OnErr result (AppendsFront (W.contents writer.old) (W.contents writer.new)
+        (text.old.items ++ end_text (waiting world.old.ledger.plan world.old.ledger.journal))) }
+    ensures step { (fault : _) → result ≢ Err (PlayFault.Stopped fault) }
+    ensures taken { result ≢ Err PlayFault.Write → W.has_refused writer.new
+        → W.has_refused writer.old }
+    ensures refused { result ≡ Err PlayFault.Write → W.has_refused writer.new }
+{
+    match put_end(world, text) {
+        Ok(()) => match flush_if_full(world, writer, text) {
+            Ok(()) => Ok(()),
+            Err(WriteFault) => Err(PlayFault::Write),
+        },
+        Err(NoMemory) => Err(PlayFault::NoMemory),
+    }
+}
+
 // A command to a module.
 fn feed<W: Sink>(
     world: &mut World,
@@ -194,7 +234,9 @@ fn feed<W: Sink>(
         (inputs.Command command))
         (W.contents writer.old) (W.contents writer.new) text.old.items text.new.items
         world.new.ledger.journal result }
-    ensures write { result ≡ Err PlayFault.Write → W.has_refused writer.new }
+    ensures taken { result ≢ Err PlayFault.Write → W.has_refused writer.new
+        → W.has_refused writer.old }
+    ensures refused { result ≡ Err PlayFault.Write → W.has_refused writer.new }
 {
     match world.feed(at, command) {
         Ok(_) => show(world, names, writer, text),
@@ -225,7 +267,9 @@ fn tick<W: Sink>(
     ensures plays { Plays (given world.old.ledger.plan world.old.ledger.journal at (inputs.Tick by))
         (W.contents writer.old) (W.contents writer.new) text.old.items text.new.items
         world.new.ledger.journal result }
-    ensures write { result ≡ Err PlayFault.Write → W.has_refused writer.new }
+    ensures taken { result ≢ Err PlayFault.Write → W.has_refused writer.new
+        → W.has_refused writer.old }
+    ensures refused { result ≡ Err PlayFault.Write → W.has_refused writer.new }
 {
     match world.tick(at, by) {
         Ok(_) => show(world, names, writer, text),
@@ -255,7 +299,9 @@ fn deliver_frame<W: Sink>(
     ensures plays { Plays (brought world.old.ledger.plan world.old.ledger.journal frame)
         (W.contents writer.old) (W.contents writer.new) text.old.items text.new.items
         world.new.ledger.journal result }
-    ensures write { result ≡ Err PlayFault.Write → W.has_refused writer.new }
+    ensures taken { result ≢ Err PlayFault.Write → W.has_refused writer.new
+        → W.has_refused writer.old }
+    ensures refused { result ≡ Err PlayFault.Write → W.has_refused writer.new }
 {
     match world.deliver(frame) {
         Ok(_) => show(world, names, writer, text),
@@ -283,7 +329,9 @@ fn lose<W: Sink>(
     ensures plays { Plays (lost world.old.ledger.plan world.old.ledger.journal frame)
         (W.contents writer.old) (W.contents writer.new) text.old.items text.new.items
         world.new.ledger.journal result }
-    ensures write { result ≡ Err PlayFault.Write → W.has_refused writer.new }
+    ensures taken { result ≢ Err PlayFault.Write → W.has_refused writer.new
+        → W.has_refused writer.old }
+    ensures refused { result ≡ Err PlayFault.Write → W.has_refused writer.new }
 {
     match world.lose(frame) {
         Ok(_) => show(world, names, writer, text),
@@ -311,12 +359,14 @@ fn run_line<W: Sink>(
     ensures plays { Plays (ran world.old.ledger.plan limit world.old.ledger.journal)
         (W.contents writer.old) (W.contents writer.new) text.old.items text.new.items
         world.new.ledger.journal result }
-    ensures write { result ≡ Err PlayFault.Write → W.has_refused writer.new }
+    ensures taken { result ≢ Err PlayFault.Write → W.has_refused writer.new
+        → W.has_refused writer.old }
+    ensures refused { result ≡ Err PlayFault.Write → W.has_refused writer.new }
 {
     match deliver(world, names, limit, writer, text) {
-        Ok(()) => match put_end(world, text) {
+        Ok(()) => match show_end(world, writer, text) {
             Ok(()) => Ok(()),
-            Err(NoMemory) => Err(PlayFault::NoMemory),
+            Err(fault) => Err(fault),
         },
         Err(fault) => Err(fault),
     }
@@ -337,7 +387,9 @@ fn show_tables<W: Sink>(
     ensures plays { Plays (tabled world.now.ledger.plan world.now.ledger.journal at)
         (W.contents writer.old) (W.contents writer.new) text.old.items text.new.items
         world.now.ledger.journal result }
-    ensures write { result ≡ Err PlayFault.Write → W.has_refused writer.new }
+    ensures taken { result ≢ Err PlayFault.Write → W.has_refused writer.new
+        → W.has_refused writer.old }
+    ensures refused { result ≡ Err PlayFault.Write → W.has_refused writer.new }
 {
     match world.tables(at) {
         Ok(tables) => match put_tables(text, name_in(names, at.0), &tables) {
@@ -364,7 +416,9 @@ fn show_trail<W: Sink>(
     ensures plays { Plays (trailed world.now.ledger.journal at op)
         (W.contents writer.old) (W.contents writer.new) text.old.items text.new.items
         world.now.ledger.journal result }
-    ensures write { result ≡ Err PlayFault.Write → W.has_refused writer.new }
+    ensures taken { result ≢ Err PlayFault.Write → W.has_refused writer.new
+        → W.has_refused writer.old }
+    ensures refused { result ≡ Err PlayFault.Write → W.has_refused writer.new }
 {
     match trail(alloc, world.journal(), at, op) {
         Ok(entries) => match put_trail(text, entries.as_slice()) {
@@ -395,7 +449,9 @@ fn show_chain<W: Sink>(
     ensures plays { Plays (chained world.now.ledger.plan world.now.ledger.journal at op)
         (W.contents writer.old) (W.contents writer.new) text.old.items text.new.items
         world.now.ledger.journal result }
-    ensures write { result ≡ Err PlayFault.Write → W.has_refused writer.new }
+    ensures taken { result ≢ Err PlayFault.Write → W.has_refused writer.new
+        → W.has_refused writer.old }
+    ensures refused { result ≡ Err PlayFault.Write → W.has_refused writer.new }
 {
     match put_chain_of(alloc, world, names, at, op, text) {
         Ok(()) => match flush(writer, text, FULL) {
@@ -426,7 +482,9 @@ pub(crate) fn play<W: Sink>(
     ensures plays { Plays (played world.old.ledger.plan world.old.ledger.journal step)
         (W.contents writer.old) (W.contents writer.new) text.old.items text.new.items
         world.new.ledger.journal result }
-    ensures write { result ≡ Err PlayFault.Write → W.has_refused writer.new }
+    ensures taken { result ≢ Err PlayFault.Write → W.has_refused writer.new
+        → W.has_refused writer.old }
+    ensures refused { result ≡ Err PlayFault.Write → W.has_refused writer.new }
 {
     match step {
         Step::Feed { module_, command } => feed(world, names, module_, command, writer, text),

@@ -32,6 +32,13 @@ pub trait Source {
         ensures bytes { ReadConsumes (remaining self.old) (remaining self.new) result buf.new }
         ensures failed { OnErr result (has_failed self.new) }
         ensures asked { asks self.new ≤ asks self.old + 1 };
+
+    /// All that is left, where it lies in memory: then nothing of it has to be read.
+    fn in_memory(&self) -> Option<&[u8]>
+        ensures { IfSome result (λ bytes. remaining self.now ≡ Some bytes.now) }
+    {
+        None
+    }
 }
 
 /// Any reader. Nothing is known of its failures.
@@ -67,6 +74,10 @@ impl Source for Script<'_> {
 
     fn read(&mut self, buf: &mut [u8]) -> io::Result<usize> {
         Read::read(&mut self.rest, buf)
+    }
+
+    fn in_memory(&self) -> Option<&[u8]> {
+        Some(self.rest)
     }
 }
 
@@ -125,11 +136,14 @@ pub trait Sink {
         ensures bound { WritesAtMost result buf.now }
         ensures bytes { WriteAppends (contents self.old) (contents self.new) result buf.now }
         ensures failed { OnErr result (has_refused self.new) }
-        ensures no_byte { result ≡ Ok 0 → 0 < length buf.now → has_refused self.new };
+        ensures no_byte { result ≡ Ok 0 → 0 < length buf.now → has_refused self.new }
+        ensures taken { IfOk result
+            (λ count. 0 < count → has_refused self.new → has_refused self.old) };
 
     /// Whether to tell now how far the run is.
     fn is_due(&mut self) -> bool
-        ensures { contents self.new ≡ contents self.old }
+        ensures contents { contents self.new ≡ contents self.old }
+        ensures taken { has_refused self.new → has_refused self.old }
     {
         false
     }
@@ -137,7 +151,8 @@ pub trait Sink {
     /// How far the run is: so many entries are done, and so many frames wait. Nothing of it goes
     /// where the transcript goes.
     fn tell(&mut self, _done: usize, _waiting: usize)
-        ensures { contents self.new ≡ contents self.old }
+        ensures contents { contents self.new ≡ contents self.old }
+        ensures taken { has_refused self.new → has_refused self.old }
     {}
 }
 
@@ -161,10 +176,11 @@ impl<W: Write> Sink for Out<W> {
 #[derive(Clone, Copy, Debug, PartialEq, Eq)]
 pub struct WriteFault;
 
-/// Writes all of a text. At an error the sink refused, and got a prefix of it.
+/// Writes all of a text. At an error the sink refused once, and got a prefix of it.
 pub fn write_text<S: Sink>(sink: &mut S, text: &[u8]) -> Result<(), WriteFault>
     ensures ok { OnOk result (Appends (S.contents sink.old) (S.contents sink.new) text.now) }
     ensures err { OnErr result (AppendsFront (S.contents sink.old) (S.contents sink.new) text.now) }
+    ensures taken { OnOk result (S.has_refused sink.new → S.has_refused sink.old) }
     ensures refused { OnErr result (S.has_refused sink.new) }
 {
     let mut at = 0;

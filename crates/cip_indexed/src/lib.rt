@@ -3,5 +3,7 @@
 
 mod edited;
 mod indexed;
+mod new_module;
 
 pub use indexed::IndexedModule;
+pub use new_module::{NewModule, new_modules, put_boxes};

@@ -1,6 +1,6 @@
 //! Why the program ends with an exit status above 0.
 use cip_base::NoMemory;
-use cip_console::{ConsoleFault, Explained, OptionsFault};
+use cip_console::{ConsoleFault, Explained, OptionsFault, Usage};
 use cip_threads::RunFault;
 use cip_topology::LoadFault;
 use thiserror::Error;
@@ -10,9 +10,15 @@ use thiserror::Error;
 pub enum Fault {
     #[error("{0}")]
     Options(OptionsFault),
+    /// A word of the command line, from 1, is no text.
+    #[error("argument {0}: not UTF-8")]
+    Argument(usize),
     /// The topology file breaks a rule.
     #[error("{0}: {1}")]
     Topology(String, LoadFault),
+    /// The chassis that stands where no topology file is given breaks a rule.
+    #[error("the chassis: {0}")]
+    Chassis(LoadFault),
     /// The topology file is no text.
     #[error("{0}: not UTF-8")]
     NotText(String),
@@ -58,12 +64,14 @@ impl Fault {
     /// journal differ; 0 for a text that was asked for.
     pub fn status(&self) -> u8 {
         match self {
-            Fault::Options(OptionsFault::Help) => 0,
-            Fault::Options(OptionsFault::Version) => 0,
-            Fault::Options(OptionsFault::Usage) => 2,
+            Fault::Options(OptionsFault::Usage(Usage::Help)) => 0,
+            Fault::Options(OptionsFault::Usage(Usage::Version)) => 0,
+            Fault::Options(OptionsFault::Usage(Usage::Wrong)) => 2,
             Fault::Options(OptionsFault::NoMemory) => 5,
+            Fault::Argument(_) => 2,
             Fault::Topology(_, LoadFault::NoMemory) => 5,
             Fault::Topology(..) => 3,
+            Fault::Chassis(_) => 3,
             Fault::NotText(_) => 3,
             Fault::Read(_) => 4,
             Fault::Script(..) => 1,

@@ -8,7 +8,7 @@ mod terminal;
 use std::process::ExitCode;
 
 fn main(rt: HostRuntime) -> ExitCode {
-    match program::run(&rt, &rt) {
+    match program::run_program(&rt, &rt) {
         Ok(()) => ExitCode::SUCCESS,
         Err(fault) => {
             let _ = eprintln!(rt; "cipbridge: {fault}");

@@ -4,16 +4,22 @@ use crate::fault::Fault;
 use crate::terminal::Terminal;
 use cip_base::NoMemory;
 use cip_console::{
-    ConsoleFault, Options, OptionsFault, Out, Plain, ReadFault, ScriptFault, Source, Watched,
-    chassis, explain, read_options, read_script, run_new_script, run_new_script_live,
+    ConsoleFault, Options, OptionsFault, Out, Plain, ReadFault, Script, ScriptFault, Source, Usage,
+    Watched, explain, read_options, read_script, run, run_live,
 };
+use cip_indexed::{new_modules, put_boxes};
+use cip_module::Module;
 use cip_threads::OpenGate;
-use cip_topology::{LoadFault, Topology, load};
+use cip_topology::{CHASSIS, LoadFault, Topology, load};
 use std::alloc::Global;
+use std::env::Env;
 use std::fs::File;
 use std::sync::Wait;
 use std::thread::Threads;
 use std::{env, io};
+
+// The most bytes of one word of the command line, as Linux has it.
+const WORD_LIMIT: usize = 131_072;
 
 // A name of its own for a fault.
 fn named(alloc: Global, name: &str) -> Result<String, Fault> {
@@ -61,10 +67,26 @@ fn fault_of(alloc: Global, name: &str, script: &[u8], fault: ConsoleFault) -> Fa
     }
 }
 
+// The words of the command line can't be had: there is no memory, or one of them is no text.
+fn words_fault(rt: &HostRuntime, alloc: Global) -> Fault {
+    let Ok(mut word) = Vec::from_elem(alloc, 0u8, WORD_LIMIT) else {
+        return Fault::NoMemory;
+    };
+    for i in 0..usize::MAX {
+        let Ok(count) = rt.arg(i, word.as_mut_slice()) else {
+            return Fault::NoMemory;
+        };
+        if std::str::from_utf8(&word[..count]).is_err() {
+            return Fault::Argument(i);
+        }
+    }
+    Fault::NoMemory
+}
+
 // The words after the program's name.
 fn options(rt: &HostRuntime, alloc: Global) -> Result<Options, Fault> {
     let Ok(args) = env::args(rt) else {
-        return Err(Fault::NoMemory);
+        return Err(words_fault(rt, alloc));
     };
     let mut words = Vec::new(alloc);
     for word in args.skip(1) {
@@ -117,9 +139,10 @@ fn topology_at(rt: &HostRuntime, alloc: Global, path: &str) -> Result<Topology, 
 fn topology(rt: &HostRuntime, alloc: Global, options: &Options) -> Result<Topology, Fault> {
     match &options.topology {
         Some(path) => topology_at(rt, alloc, path.as_str()),
-        None => match chassis(alloc) {
+        None => match load(alloc, CHASSIS) {
             Ok(topology) => Ok(topology),
-            Err(NoMemory) => Err(Fault::NoMemory),
+            Err(LoadFault::NoMemory) => Err(Fault::NoMemory),
+            Err(fault) => Err(Fault::Chassis(fault)),
         },
     }
 }
@@ -142,7 +165,40 @@ fn script(rt: &HostRuntime, alloc: Global, options: &Options) -> Result<Vec<u8>,
     }
 }
 
-// Runs a script over new modules of a topology, and writes the transcript to the standard output.
+// Runs a script over modules of a topology, and writes the transcript to the standard output.
+fn play_over<T: Threads + Wait + Sync>(
+    rt: &HostRuntime,
+    workers: &T,
+    options: &Options,
+    script: &[u8],
+    topology: Topology,
+    modules: Vec<Box<dyn Module + Send>>,
+) -> Result<(), ConsoleFault> {
+    let alloc = rt.alloc();
+    let mut reader = Script { rest: script };
+    let out = Out {
+        inner: io::writer(rt),
+    };
+    let mut writer = Watched::of(out, Terminal::new(rt));
+    let result = if options.threads {
+        run_live(
+            workers,
+            alloc,
+            &mut reader,
+            &mut writer,
+            topology,
+            modules,
+            options.turns as usize,
+            &OpenGate,
+        )
+    } else {
+        run(alloc, &mut reader, &mut writer, topology, modules)
+    };
+    writer.clear();
+    result
+}
+
+// Makes the modules of a topology, each in its box, and runs a script over them.
 fn play<T: Threads + Wait + Sync>(
     rt: &HostRuntime,
     workers: &T,
@@ -151,26 +207,10 @@ fn play<T: Threads + Wait + Sync>(
     topology: Topology,
 ) -> Result<(), ConsoleFault> {
     let alloc = rt.alloc();
-    let out = Out {
-        inner: io::writer(rt),
-    };
-    let mut writer = Watched::of(out, Terminal::new(rt));
-    let result = if options.threads {
-        let turns = options.turns as usize;
-        run_new_script_live(
-            workers,
-            alloc,
-            script,
-            &mut writer,
-            topology,
-            turns,
-            &OpenGate,
-        )
-    } else {
-        run_new_script(alloc, script, &mut writer, topology)
-    };
-    writer.clear();
-    result
+    let made = new_modules(alloc, topology.configs())?;
+    let mut modules = Vec::new(alloc);
+    put_boxes(&mut modules, made)?;
+    play_over(rt, workers, options, script, topology, modules)
 }
 
 // What the program does once it knows what is asked for.
@@ -189,7 +229,7 @@ fn run_with<T: Threads + Wait + Sync>(
 }
 
 // A text that was asked for goes to the standard output.
-fn say(rt: &HostRuntime, asked: OptionsFault) -> Result<(), Fault> {
+fn say(rt: &HostRuntime, asked: Usage) -> Result<(), Fault> {
     match println!(rt; "{asked}") {
         Ok(()) => Ok(()),
         Err(_) => Err(Fault::Console(ConsoleFault::Write)),
@@ -198,11 +238,11 @@ fn say(rt: &HostRuntime, asked: OptionsFault) -> Result<(), Fault> {
 
 /// The whole program, but for what it says of a fault and for its exit status. `workers` is the
 /// same runtime, as what can start threads.
-pub fn run<T: Threads + Wait + Sync>(rt: &HostRuntime, workers: &T) -> Result<(), Fault> {
+pub fn run_program<T: Threads + Wait + Sync>(rt: &HostRuntime, workers: &T) -> Result<(), Fault> {
     match options(rt, rt.alloc()) {
         Ok(options) => run_with(rt, workers, &options),
-        Err(Fault::Options(OptionsFault::Help)) => say(rt, OptionsFault::Help),
-        Err(Fault::Options(OptionsFault::Version)) => say(rt, OptionsFault::Version),
+        Err(Fault::Options(OptionsFault::Usage(Usage::Help))) => say(rt, Usage::Help),
+        Err(Fault::Options(OptionsFault::Usage(Usage::Version))) => say(rt, Usage::Version),
         Err(fault) => Err(fault),
     }
 }

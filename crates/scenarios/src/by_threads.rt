@@ -1,9 +1,8 @@
 //! Scripts that modules on threads of their own play, and the options that ask for them.
+use crate::over_new::run_chassis_live;
 use cip_console::{
-    ConsoleFault, Options, OptionsFault, Out, Script, ScriptFault, chassis, read_options,
-    run_new_live,
+    ConsoleFault, Options, OptionsFault, Out, Script, ScriptFault, Usage, read_options,
 };
-use cip_threads::OpenGate;
 use std::alloc::Global;
 use std::sync::Wait;
 use std::test::Fail;
@@ -46,16 +45,7 @@ fn written<T: Threads + Wait + Sync>(
     let mut writer = Out {
         inner: Vec::new(alloc),
     };
-    let topology = chassis(alloc)?;
-    let result = run_new_live(
-        rt,
-        alloc,
-        &mut reader,
-        &mut writer,
-        topology,
-        turns,
-        &OpenGate,
-    );
+    let result = run_chassis_live(rt, alloc, &mut reader, &mut writer, turns);
     Ok((result, writer.inner))
 }
 
@@ -122,7 +112,7 @@ fn options(alloc: Global, words: &[&str]) -> Result<Result<Options, OptionsFault
 
 fn is_usage(alloc: Global, words: &[&str]) -> Result<bool, Fail> {
     match options(alloc, words)? {
-        Err(OptionsFault::Usage) => Ok(true),
+        Err(OptionsFault::Usage(Usage::Wrong)) => Ok(true),
         _ => Ok(false),
     }
 }

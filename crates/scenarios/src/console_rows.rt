@@ -1,5 +1,6 @@
 //! Scripts of every word over the chassis, and lines that their transcripts have, in this order.
-use cip_console::{ConsoleFault, Out, Script, ScriptFault, run_chassis};
+use crate::over_new::run_chassis;
+use cip_console::{ConsoleFault, Out, Script, ScriptFault};
 use std::alloc::Global;
 use std::test::Fail;
 

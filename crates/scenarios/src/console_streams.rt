@@ -2,7 +2,8 @@
 //! fault of a script. Each test passes too where one allocation, whichever, is refused.
 ghost use Rattle.std.specs.Prelude.{None};
 
-use cip_console::{ConsoleFault, Out, Plain, SCRIPT_LIMIT, ScriptFault, Sink, Source, run_chassis};
+use crate::over_new::run_chassis;
+use cip_console::{ConsoleFault, Out, Plain, SCRIPT_LIMIT, ScriptFault, Sink, Source};
 use std::alloc::Global;
 use std::io;
 use std::test::Fail;

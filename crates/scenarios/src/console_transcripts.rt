@@ -1,5 +1,6 @@
 //! The console over scripts in memory.
-use cip_console::{ConsoleFault, Out, Script, ScriptFault, run_chassis};
+use crate::over_new::run_chassis;
+use cip_console::{ConsoleFault, Out, Script, ScriptFault};
 use std::alloc::Global;
 use std::test::Fail;
 

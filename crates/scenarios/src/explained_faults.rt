@@ -1,5 +1,6 @@
 //! What is told of faulty lines: the word that was found, and what is allowed there.
-use cip_console::{ConsoleFault, Out, Script, explain, run_chassis};
+use crate::over_new::run_chassis;
+use cip_console::{ConsoleFault, Out, Script, explain};
 use std::test::Fail;
 
 /// A script, and what is told of its first faulty line.

@@ -18,11 +18,14 @@ mod explained_faults;
 #[cfg(test)]
 mod falling_silent;
 #[cfg(test)]
+mod handed_in;
+#[cfg(test)]
 mod moving_data;
 #[cfg(test)]
 mod opening;
 #[cfg(test)]
 mod opening_at_the_adapter;
+mod over_new;
 #[cfg(test)]
 mod progress_lines;
 #[cfg(test)]

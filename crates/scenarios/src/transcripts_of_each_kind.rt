@@ -1,6 +1,7 @@
 //! Whole transcripts over the chassis with its scanner and bridges of each kind: whatever they are,
 //! the same bytes.
-use cip_console::{Out, Script, run_new};
+use crate::over_new::run_new;
+use cip_console::{Out, Script};
 use cip_topology::{CHASSIS, load};
 use std::alloc::{AllocError, Global};
 use std::test::Fail;

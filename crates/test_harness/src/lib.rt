@@ -10,6 +10,6 @@ mod player;
 mod told;
 mod words;
 
-pub use boxes::{NewModule, modules_at, new_module, new_modules};
+pub use boxes::{modules_at, new_module};
 pub use chassis::{AnyModule, Device, Kinds, device_of, make};
 pub use player::{play, play_adapter, play_open};

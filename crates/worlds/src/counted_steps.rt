@@ -2,7 +2,8 @@
 ghost use Rattle.std.specs.Prelude.{IfSome, map};
 ghost use Rattle.cip_world.specs.Worlds.{Stand};
 
-use crate::boxes::{chassis, put_boxes};
+use crate::boxes::chassis;
+use cip_indexed::put_boxes;
 use crate::calls::{Answer, Call, first_other};
 use crate::given::THROUGH_A_TO_B;
 use cip_base::{Address, NoMemory, PortNumber};
@@ -84,7 +85,7 @@ fn first_counted(
     if modules.push(first).is_err() {
         return None;
     }
-    put_boxes(&mut modules, others)?;
+    put_boxes(&mut modules, others).ok()?;
     Some(modules)
 }
 

@@ -15,6 +15,7 @@ loop-numbered-preserved g c =
     record {
       stand = c.play.ensures.stand;
       plan = c.play.ensures.plan ∙ c.loop-numbered.invariant.plan;
+      taken = λ h. c.loop-numbered.invariant.taken (c.in-Ok.ensures.taken (λ e. absurd (cc)) h);
       running = running_step t c.args.steps.items _ _ _ _ _ j c.play.new.world.ledger.journal c.in-Some.numbered c.pop_front.new.self.items running
           (subst (λ (p : Plan). Plays (played p j c.in-Some.numbered.step) (g.W.Sink.contents c.loop-numbered.writer) (g.W.Sink.contents c.play.new.writer)
           c.loop-numbered.text.items

@@ -9,6 +9,7 @@ invariant-loop-numbered g l =
       stand : Stand l.world.ledger (map (λ b. (goal.Module-dyn g (b.vtable, b.value)).config_of b.value) l.world.modules.items)
           (map (λ b. (goal.Module-dyn g (b.vtable, b.value)).state_of b.value) l.world.modules.items);
       plan : l.world.ledger.plan ≡ l.initial.world.ledger.plan;
+      taken : g.W.Sink.has_refused l.writer → g.W.Sink.has_refused l.initial.writer;
       running : Running l.initial.world.ledger.plan l.fn.steps.items (g.W.Sink.contents l.initial.writer) (g.W.Sink.contents l.writer) l.text.items
           l.world.ledger.journal l.left.items;
     }

@@ -39,6 +39,7 @@ loop-i-preserved g c =
     record {
       stand = c.deliver_least.ensures.stand;
       plan = plan;
+      taken = λ h. c.loop-i.invariant.taken (c.in-Ok.ensures.taken (λ e. absurd (cc)) h);
       playing = one_played t _ _ _ _ _ _ _ c.args.limit c.loop-i.i j k c.loop-i-test.true c.loop-i.invariant.playing
           (subst (λ (p : Plan). DeliversOne p j k) c.loop-i.invariant.plan
           (one_more c.loop-i.world.ledger.plan j k c.in-Ok-true.field-0 c.in-Ok-true.field-0-test c.in-Ok-true.ensures.ok))

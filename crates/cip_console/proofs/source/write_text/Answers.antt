@@ -12,7 +12,11 @@ loop-at-preserved g c =
     let text = c.args.text.now in
     let taken = rw (take_rest text at) at c.in-Ok.ensures.bytes in
     let bound = rw (take_rest text at, length-drop at text) at c.in-Ok.ensures.bound in
-    (omega (arith, bound), rw (take-add at n text) (Appends-trans _ _ _ _ _ c.loop-at.invariant.1 taken))
+    record {
+      within = omega (arith, bound);
+      wrote = rw (take-add at n text) (Appends-trans _ _ _ _ _ c.loop-at.invariant.wrote taken);
+      taken = λ h. c.loop-at.invariant.taken (c.in-Ok.ensures.taken (omega arith) h);
+    }
 
 pub returns-in-Ok-eq0-clause-err : goal.returns-in-Ok-eq0-clause-err
 returns-in-Ok-eq0-clause-err g c =
@@ -22,7 +26,7 @@ returns-in-Ok-eq0-clause-err g c =
       front = take at text ++ [];
       rest = drop at text;
       split = rw (append-nil (take at text)) (sym (take-append-drop at text));
-      wrote = Appends-trans _ _ _ _ _ c.loop-at.invariant.1 (rw c.in-Ok-eq0.field-0-test at c.in-Ok-eq0.ensures.bytes);
+      wrote = Appends-trans _ _ _ _ _ c.loop-at.invariant.wrote (rw c.in-Ok-eq0.field-0-test at c.in-Ok-eq0.ensures.bytes);
     }
 
 pub returns-in-Err-clause-err : goal.returns-in-Err-clause-err
@@ -33,5 +37,5 @@ returns-in-Err-clause-err g c =
       front = take at text;
       rest = drop at text;
       split = sym (take-append-drop at text);
-      wrote = Appends-kept _ _ _ _ c.loop-at.invariant.1 c.in-Err.ensures.bytes;
+      wrote = Appends-kept _ _ _ _ c.loop-at.invariant.wrote c.in-Err.ensures.bytes;
     }

@@ -1,0 +1,78 @@
+//! New modules, each in a box of its own kind.
+ghost use Rattle.std.specs.Prelude.{◌≡◌, ◌++◌, IfOk, OnOk, map};
+ghost use Rattle.cip_module.specs.State.{initial_state};
+ghost use Rattle.cip_indexed.specs.NewModules.{config_of_new, state_of_new};
+
+use crate::indexed::IndexedModule;
+use cip_base::NoMemory;
+use cip_module::{AdapterModule, Module, ModuleConfig, ModuleKind, PlainModule};
+use std::alloc::Global;
+
+/// A new module in its box, of one of the three kinds. `put_boxes` makes it a box of any module.
+#[derive(Drop)]
+pub enum NewModule {
+    Plain(Box<PlainModule>),
+    Adapter(Box<AdapterModule>),
+    Indexed(Box<IndexedModule>),
+}
+
+impl NewModule {
+    /// A module of the config's kind, in the initial state of the config. NoMemory where an
+    /// allocation is refused.
+    pub fn new(alloc: Global, config: ModuleConfig) -> Result<NewModule, NoMemory>
+        ensures config { IfOk result (λ m. config_of_new m ≡ config) }
+        ensures state { IfOk result (λ m. state_of_new m ≡ initial_state config) }
+    {
+        match config.settings().kind {
+            ModuleKind::Plain => {
+                let module_ = PlainModule::new(alloc, config)?;
+                Ok(NewModule::Plain(Box::new(alloc, module_)?))
+            }
+            ModuleKind::Adapter => {
+                let module_ = AdapterModule::new(alloc, config)?;
+                Ok(NewModule::Adapter(Box::new(alloc, module_)?))
+            }
+            ModuleKind::Indexed => {
+                let module_ = IndexedModule::new(alloc, config)?;
+                Ok(NewModule::Indexed(Box::new(alloc, module_)?))
+            }
+        }
+    }
+}
+
+/// New modules of these configs, in their order. NoMemory where an allocation is refused.
+pub fn new_modules(alloc: Global, configs: &[ModuleConfig]) -> Result<Vec<NewModule>, NoMemory>
+    ensures configs { IfOk result (λ made. map config_of_new made.items ≡ configs.now) }
+    ensures states { IfOk result
+        (λ made. map state_of_new made.items ≡ map initial_state configs.now) }
+{
+    let mut made = Vec::new(alloc);
+    for config in configs {
+        made.push(NewModule::new(alloc, config.copy(alloc)?)?)?;
+    }
+    Ok(made)
+}
+
+/// Puts new modules behind others, each as a box of any module. NoMemory where an allocation is
+/// refused.
+pub fn put_boxes(
+    boxes: &mut Vec<Box<dyn Module + Send>>,
+    made: Vec<NewModule>,
+) -> Result<(), NoMemory>
+    ensures configs { OnOk result (map (λ b. config_of b) boxes.new.items
+        ≡ map (λ b. config_of b) boxes.old.items ++ map config_of_new made.items) }
+    ensures states { OnOk result (map (λ b. state_of b) boxes.new.items
+        ≡ map (λ b. state_of b) boxes.old.items ++ map state_of_new made.items) }
+{
+    for new in made {
+        let pushed = match new {
+            NewModule::Plain(module_) => boxes.push(module_),
+            NewModule::Adapter(module_) => boxes.push(module_),
+            NewModule::Indexed(module_) => boxes.push(module_),
+        };
+        if pushed.is_err() {
+            return Err(NoMemory);
+        }
+    }
+    Ok(())
+}
