@@ -182,11 +182,7 @@ fn put_end(world: &mut World, text: &mut Vec<u8>) -> Result<(), NoMemory>
 
 // Whether a frame is left that waits: it is printed, and what was gathered is written once there is
 // enough of it.
-fn show_end<W: Sink>(
-    world: &mut World,
-    writer: &mut W,
-    text: &mut Vec<u8>,
-) -> Result<(), PlayFault>
+fn show_end<W: Sink>(world: &mut World, writer: &mut W, text: &mut Vec<u8>) -> Result<(), PlayFault>
     requires stand { Stand world.old.ledger
         (map (λ b. config_of (b.vtable, b.value)) world.old.modules.items)
         (map (λ b. state_of (b.vtable, b.value)) world.old.modules.items) }

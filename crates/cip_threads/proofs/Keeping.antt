@@ -26,7 +26,7 @@ use Rattle.cip_world.proofs.Named.{name_eq, same_self, all_stay}
 use Rattle.cip_world.proofs.Waits.{IsFrom, from_in, filter_all, listed_waits, waiting_rise}
 use Rattle.cip_threads.specs.declared.feed.Feed.{Feed}
 use Rattle.cip_threads.specs.declared.feed.Feed.TheVariants as feed
-use Rattle.cip_threads.specs.declared.shelf.Shelf.{Shelf}
+use Rattle.cip_threads.specs.declared.views.BookView.{BookView}
 use Rattle.cip_threads.specs.Feeds.{feeds_of, fed, fed_by, input_of}
 use Rattle.cip_threads.specs.Queues.{queue_at, enqueue, count_all}
 use Rattle.cip_threads.specs.QueueSteps.{AreSplit}
@@ -121,7 +121,7 @@ open_to_feed : (t : Plan) (j : Journal) (m : ℕ) (x : Feed) → IsOpenTo t j m 
 open_to_feed t j m (feed.Command command) = record { event = events.Command command; given = refl }
 open_to_feed t j m (feed.Tick ms) = record { event = events.Tick ms; given = refl }
 
-pub feed_keeps : (s : Shelf) (m : ℕ) (feed : Feed) (rest : List Feed) → IsKept s → m < length s.hands → hand_at s.hands m ≡ None → s.taken < s.turns
+pub feed_keeps : (s : BookView) (m : ℕ) (feed : Feed) (rest : List Feed) → IsKept s → m < length s.hands → hand_at s.hands m ≡ None → s.taken < s.turns
     → queue_at s.feeds m ≡ feed ∷ rest → IsKept (with_hand (with_feeds s m rest) m (input_of feed))
 feed_keeps s m feed rest k within free left is =
     let input : Input = input_of feed in
@@ -210,7 +210,7 @@ unfolding IsStrictlySortedBy
 rest_stays x rest rising =
     ap (λ b. cond (not b) (x ∷ filter (λ g. not (same_name g x)) rest) (filter (λ g. not (same_name g x)) rest)) (same_self x) ∙ all_stay x rest rising.0
 
-pub frame_keeps : (s : Shelf) (m : ℕ) (name : FrameName) (rest : List FrameName) (port : ℕ) (from : List ℕ) (event : Event) → IsKept s → m < length s.hands
+pub frame_keeps : (s : BookView) (m : ℕ) (name : FrameName) (rest : List FrameName) (port : ℕ) (from : List ℕ) (event : Event) → IsKept s → m < length s.hands
     → hand_at s.hands m ≡ None → s.taken < s.turns → queue_at s.frames m ≡ name ∷ rest → Comes s.topology s.journal name m port from event
     → IsKept (with_hand (with_frames s m rest) m (Frame port from name))
 frame_keeps s m name rest port from event k within free left is comes =
@@ -276,7 +276,7 @@ frame_keeps s m name rest port from event k within free left is comes =
     }
 
 -- what is in a module's queue comes to it
-pub queue_goes : (s : Shelf) → IsKept s → (m : ℕ) (name : FrameName) (rest : List FrameName) → queue_at s.frames m ≡ name ∷ rest
+pub queue_goes : (s : BookView) → IsKept s → (m : ℕ) (name : FrameName) (rest : List FrameName) → queue_at s.frames m ≡ name ∷ rest
     → goes_to s.topology s.journal m name ≡ true
 queue_goes s k m name rest is = first_passes (goes_to s.topology s.journal m) (unheld s) name rest (sym (k.frames m) ∙ is)
 
@@ -293,7 +293,7 @@ fed_other : (b : Bool) → b ≡ false → (xs ys : List Feed) → cond b ys xs 
 fed_other true e xs ys = cc
 fed_other false e xs ys = refl
 
-feeds_own : (s : Shelf) (id : ModuleId) (input : Input) (outputs : List Output) → IsKept s → hand_at s.hands id.0 ≡ Some input → id.0 < length s.hands
+feeds_own : (s : BookView) (id : ModuleId) (input : Input) (outputs : List Output) → IsKept s → hand_at s.hands id.0 ≡ Some input → id.0 < length s.hands
     → feeds_of id.0 s.given ≡ fed id.0 (Step id input outputs ∷ s.journal) ++ (fed_in (hand_at (set s.hands id.0 None) id.0) ++ queue_at s.feeds id.0)
 feeds_own s id input outputs k held within =
     k.feeds id.0
@@ -313,7 +313,7 @@ all_unheld t j hands (f ∷ fs) held h =
       all_unheld t j hands fs held h.1,
     )
 
-pub enter_keeps : (s : Shelf) (id : ModuleId) (input : Input) (outputs : List Output) → IsKept s → hand_at s.hands id.0 ≡ Some input
+pub enter_keeps : (s : BookView) (id : ModuleId) (input : Input) (outputs : List Output) → IsKept s → hand_at s.hands id.0 ≡ Some input
     → IsKept (entered s id input outputs)
 enter_keeps s id input outputs k held =
     let t = s.topology in
@@ -371,11 +371,11 @@ filter_whole : (p : FrameName → Bool) (xs : List FrameName) → ((x : FrameNam
 filter_whole p [] all = refl
 filter_whole p (x ∷ xs) all = ap (λ b. cond b (x ∷ filter p xs) (filter p xs)) (all x) ∙ ap (λ (l : List FrameName). x ∷ l) (filter_whole p xs all)
 
-unheld_idle : (s : Shelf) → count_hands s.hands ≡ 0 → unheld s ≡ waiting s.topology s.journal
+unheld_idle : (s : BookView) → count_hands s.hands ≡ 0 → unheld s ≡ waiting s.topology s.journal
 unheld_idle s idle = filter_whole (λ f. not (is_held s.hands f)) (waiting s.topology s.journal) (λ f. ap not (idle_held s.hands f idle))
 
 -- where nothing is in hand, each frame that waits is in the queue of one module
-pub split_is : (s : Shelf) → IsKept s → count_hands s.hands ≡ 0 → AreSplit (goes_to s.topology s.journal) s.frames (waiting s.topology s.journal)
+pub split_is : (s : BookView) → IsKept s → count_hands s.hands ≡ 0 → AreSplit (goes_to s.topology s.journal) s.frames (waiting s.topology s.journal)
 split_is s k idle =
     record {
       rising = waiting_rise s.topology s.journal;
@@ -385,16 +385,16 @@ split_is s k idle =
     }
 
 -- all turns are in the journal
-pub all_turns : (s : Shelf) → IsKept s → count_hands s.hands ≡ 0 → s.turns ≤ s.taken → length s.journal ≡ s.turns
+pub all_turns : (s : BookView) → IsKept s → count_hands s.hands ≡ 0 → s.turns ≤ s.taken → length s.journal ≡ s.turns
 all_turns s k idle done = let a = k.taken in let b = k.turns in omega (arith, a, b, idle, done)
 
-end_is : (s : Shelf) (feeds : List (ModuleId × Feed)) (frames : List FrameName) (end : End) → IsKept s → count_hands s.hands ≡ 0
+end_is : (s : BookView) (feeds : List (ModuleId × Feed)) (frames : List FrameName) (end : End) → IsKept s → count_hands s.hands ≡ 0
     → length feeds ≡ count_all s.feeds
     → length frames ≡ count_all s.frames → MayEnd s end → IsEnd s.turns s.journal feeds frames end
 end_is s feeds frames Quiet k idle a b may = (nil_from_length feeds (a ∙ may.0), nil_from_length frames (b ∙ may.1))
 end_is s feeds frames Limit k idle a b may = let some = may.0 in (omega (arith, a, b, some), all_turns s k idle may.1)
 
-pub finish_is : (s : Shelf) (feeds : List (ModuleId × Feed)) (frames : List FrameName) (end : End) → IsKept s → count_hands s.hands ≡ 0
+pub finish_is : (s : BookView) (feeds : List (ModuleId × Feed)) (frames : List FrameName) (end : End) → IsKept s → count_hands s.hands ≡ 0
     → ((m : ℕ) → feeds_of m feeds ≡ queue_at s.feeds m) → length feeds ≡ count_all s.feeds → frames ≡ waiting s.topology s.journal
     → length frames ≡ count_all s.frames
     → MayEnd s end → IsFinished s.topology s.given s.turns s.journal feeds frames end

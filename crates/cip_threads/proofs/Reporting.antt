@@ -19,7 +19,7 @@ use Rattle.cip_world.specs.declared.world.End.{End}
 use Rattle.cip_world.specs.Journals.{Journal, event_of, with_turn, part}
 use Rattle.cip_world.specs.Runs.{IsModule}
 use Rattle.cip_threads.specs.declared.feed.Feed.{Feed}
-use Rattle.cip_threads.specs.declared.shelf.Done.{Done}
+use Rattle.cip_threads.specs.declared.views.TakenTurn.{TakenTurn}
 use Rattle.cip_threads.specs.Ends.{IsFinished}
 use Rattle.cip_threads.specs.Messages.{turn_of, turns_of}
 use Rattle.cip_threads.specs.Reports.{Agrees, AgreeTo, IsReport}
@@ -38,7 +38,7 @@ cond_no true e x y = cc
 cond_no false e x y = refl
 
 -- an entry of the module, and the next step
-pub part_more : (j : List Entry) (h : List Done) (i at m : ℕ) (n : ModuleId) (input : Input) (outs : List Output) (done : Done)
+pub part_more : (j : List Entry) (h : List TakenTurn) (i at m : ℕ) (n : ModuleId) (input : Input) (outs : List Output) (done : TakenTurn)
     → i < length j → Step n input outs ≡ get_or j i (Step n input outs) → n.0 ≡ m → at < length h → done ≡ get_or h at done
     → event_of (reverse (take i j)) input ≡ Some done.event → outs ≡ done.outputs
     → part m (reverse (take i j)) ≡ turns_of (reverse (take at h)) → part m (reverse (take (i + 1) j)) ≡ turns_of (reverse (take (at + 1) h))
@@ -128,7 +128,7 @@ report_is t given turns j tables feeds frames end f a =
     }
 
 -- a history that is what the journal has of the module agrees with it
-pub agrees_is : (config other : ModuleSettings) (h : List Done) (j : Journal) (m : ℕ) (tables : Tables) → IsHistory config (turns_of h)
+pub agrees_is : (config other : ModuleSettings) (h : List TakenTurn) (j : Journal) (m : ℕ) (tables : Tables) → IsHistory config (turns_of h)
     → ShowsState (state_after config (turns_of h)) tables
     → config ≡ other → part m j ≡ turns_of h → Agrees other j m tables
 agrees_is config other h j m tables history shows same is =

@@ -5,7 +5,7 @@ use Rattle.cip_world.specs.declared.journal.Input.{Input}
 use Rattle.cip_world.specs.Journals.{brought_by, is_that}
 use Rattle.cip_world.specs.Waiting.{waiting}
 use Rattle.cip_threads.specs.declared.feed.Feed.{Feed}
-use Rattle.cip_threads.specs.declared.shelf.Shelf.{Shelf}
+use Rattle.cip_threads.specs.declared.views.BookView.{BookView}
 use Rattle.cip_threads.specs.Feeds.{feeds_of, fed, fed_by}
 use Rattle.cip_threads.specs.Flows.{IsFlow, IsOpenTo, goes_to}
 use Rattle.cip_threads.specs.Queues.{queue_at, count_all}
@@ -38,14 +38,14 @@ fed_in None = []
 fed_in (Some input) = fed_by input
 
 -- the waiting frames that are in no hand
-abbrev pub unheld : Shelf → List FrameName
+abbrev pub unheld : BookView → List FrameName
 unheld s = filter (λ f. not (is_held s.hands f)) (waiting s.topology s.journal)
 
 -- Each event in the journal or in hand was the module's to take when it was; the queue of a module
 -- has exactly the waiting frames that come to it and are in no hand, in their order; the feeds of a
 -- module are those committed, then the one in hand, then its queue; entries and hands together are
 -- the turns taken.
-pub record IsKept (s : Shelf) : Type 0 where
+pub record IsKept (s : BookView) : Type 0 where
   pub flow : IsFlow s.topology s.journal
   pub count : length s.hands ≡ length s.topology.modules
   pub feed_queues : length s.feeds ≡ length s.topology.modules
@@ -60,7 +60,7 @@ pub record IsKept (s : Shelf) : Type 0 where
   pub turns : s.taken ≤ s.turns
 
 -- what the book keeps, with how many feeds and how many frames wait in all
-pub record IsBook (s : Shelf) (feeds frames : ℕ) : Type 0 where
+pub record IsBook (s : BookView) (feeds frames : ℕ) : Type 0 where
   pub kept : IsKept s
   pub feed_count : count_all s.feeds ≡ feeds
   pub frame_count : count_all s.frames ≡ frames

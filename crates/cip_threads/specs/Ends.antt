@@ -11,7 +11,7 @@ use Rattle.cip_threads.specs.declared.feed.Feed.{Feed}
 use Rattle.cip_threads.specs.Feeds.{feeds_of, fed}
 use Rattle.cip_threads.specs.Flows.{IsFlow}
 use Rattle.cip_threads.specs.Queues.{count_all}
-use Rattle.cip_threads.specs.declared.shelf.Shelf.{Shelf}
+use Rattle.cip_threads.specs.declared.views.BookView.{BookView}
 
 -- Quiet only where nothing waits; Limit only where something waits and the journal has all turns
 abbrev pub IsEnd : ℕ → Journal → List (ModuleId × Feed) → List FrameName → End → Type 0
@@ -27,6 +27,6 @@ pub record IsFinished (t : Plan) (given : List (ModuleId × Feed)) (turns : ℕ)
   pub ends : IsEnd turns j feeds frames end
 
 -- the same of a book's queues
-abbrev pub MayEnd : Shelf → End → Type 0
+abbrev pub MayEnd : BookView → End → Type 0
 MayEnd s Quiet = (count_all s.feeds ≡ 0) × (count_all s.frames ≡ 0)
 MayEnd s Limit = (0 < count_all s.feeds + count_all s.frames) × (s.turns ≤ s.taken)

@@ -9,7 +9,7 @@ use Rattle.cip_world.specs.declared.journal.Input.{Input}
 use Rattle.cip_world.specs.declared.journal.Input.TheVariants.{Frame}
 use Rattle.cip_world.specs.declared.journal.Entry.TheVariants.{Step}
 use Rattle.cip_threads.specs.declared.feed.Feed.{Feed}
-use Rattle.cip_threads.specs.declared.shelf.Shelf.{Shelf}
+use Rattle.cip_threads.specs.declared.views.BookView.{BookView}
 use Rattle.cip_threads.specs.declared.state.Handed.{Handed}
 use Rattle.cip_threads.specs.declared.state.Handed.TheVariants.{Work, Stop, Held, NotYet}
 use Rattle.cip_threads.specs.declared.state.CommitFault.{CommitFault}
@@ -20,7 +20,7 @@ use Rattle.cip_threads.specs.Flows.{Comes, sends_of}
 use Rattle.cip_threads.specs.Books.{hand_at, count_hands}
 
 -- at first nothing is in hand, and every feed waits in its module's queue
-abbrev pub opened : Plan → List (ModuleId × Feed) → ℕ → Shelf
+abbrev pub opened : Plan → List (ModuleId × Feed) → ℕ → BookView
 opened t feeds turns =
     record {
       topology = t;
@@ -37,7 +37,7 @@ opened t feeds turns =
 -- ---- hand
 
 -- module m has this in hand, and one more turn is taken
-abbrev pub with_hand : Shelf → ℕ → Input → Shelf
+abbrev pub with_hand : BookView → ℕ → Input → BookView
 with_hand s m input =
     record {
       topology = s.topology;
@@ -52,7 +52,7 @@ with_hand s m input =
     }
 
 -- these feeds are left in the queue of module m
-abbrev pub with_feeds : Shelf → ℕ → List Feed → Shelf
+abbrev pub with_feeds : BookView → ℕ → List Feed → BookView
 with_feeds s m rest =
     record {
       topology = s.topology;
@@ -67,7 +67,7 @@ with_feeds s m rest =
     }
 
 -- these frames are left in the queue of module m
-abbrev pub with_frames : Shelf → ℕ → List FrameName → Shelf
+abbrev pub with_frames : BookView → ℕ → List FrameName → BookView
 with_frames s m rest =
     record {
       topology = s.topology;
@@ -82,7 +82,7 @@ with_frames s m rest =
     }
 
 -- the first feed of the module went into its hand
-pub record GaveFeed (old new : Shelf) (m : ℕ) (event : Event) : Type 0 where
+pub record GaveFeed (old new : BookView) (m : ℕ) (event : Event) : Type 0 where
   pub feed : Feed
   pub rest : List Feed
   pub first : queue_at old.feeds m ≡ feed ∷ rest
@@ -90,7 +90,7 @@ pub record GaveFeed (old new : Shelf) (m : ℕ) (event : Event) : Type 0 where
   pub gives : new ≡ with_hand (with_feeds old m rest) m (input_of feed)
 
 -- the first frame that waits for the module went into its hand
-pub record GaveFrame (old new : Shelf) (m : ℕ) (event : Event) : Type 0 where
+pub record GaveFrame (old new : BookView) (m : ℕ) (event : Event) : Type 0 where
   pub name : FrameName
   pub rest : List FrameName
   pub port : ℕ
@@ -100,36 +100,36 @@ pub record GaveFrame (old new : Shelf) (m : ℕ) (event : Event) : Type 0 where
   pub gives : new ≡ with_hand (with_frames old m rest) m (Frame port from name)
 
 -- the book is not stopped, and the module is one of its own and has nothing in hand
-pub record IsFree (s : Shelf) (m : ℕ) : Type 0 where
+pub record IsFree (s : BookView) (m : ℕ) : Type 0 where
   pub running : s.stopped ≡ false
   pub within : m < length s.hands
   pub free : hand_at s.hands m ≡ None
 
 -- no feed and no frame waits for the module
-pub record NothingFor (s : Shelf) (m : ℕ) : Type 0 where
+pub record NothingFor (s : BookView) (m : ℕ) : Type 0 where
   pub feeds : queue_at s.feeds m ≡ []
   pub frames : queue_at s.frames m ≡ []
 
 -- nothing waits for any module, and nothing is in hand
-pub record IsQuiet (s : Shelf) : Type 0 where
+pub record IsQuiet (s : BookView) : Type 0 where
   pub feeds : count_all s.feeds ≡ 0
   pub frames : count_all s.frames ≡ 0
   pub idle : count_hands s.hands ≡ 0
 
 -- a turn is left, and the module got a feed or a frame
-pub record Gave (old new : Shelf) (m : ℕ) (event : Event) : Type 0 where
+pub record Gave (old new : BookView) (m : ℕ) (event : Event) : Type 0 where
   pub ready : IsFree old m
   pub left : old.taken < old.turns
   pub gave : GaveFeed old new m event ⊎ GaveFrame old new m event
 
 -- why a module is told to stop
-abbrev pub IsOver : Shelf → ℕ → Type 0
+abbrev pub IsOver : BookView → ℕ → Type 0
 IsOver s m =
     (s.stopped ≡ true) ⊎ ((length s.hands ≤ m)
     ⊎ (IsFree s m × ((s.turns ≤ s.taken) ⊎ (NothingFor s m × IsQuiet s))))
 
 -- what a call of `hand` did, by its answer
-abbrev pub IsHanded : Shelf → Shelf → ℕ → Handed → Type 0
+abbrev pub IsHanded : BookView → BookView → ℕ → Handed → Type 0
 IsHanded old new m (Work event) = Gave old new m event
 IsHanded old new m Stop = (new ≡ old) × IsOver old m
 IsHanded old new m Held =
@@ -143,7 +143,7 @@ IsHanded old new m NotYet =
 
 -- the book after the entry of what the module had in hand: its frames go to the queues of the
 -- modules that they come to
-abbrev pub entered : Shelf → ModuleId → Input → List Output → Shelf
+abbrev pub entered : BookView → ModuleId → Input → List Output → BookView
 entered s m input outputs =
     record {
       topology = s.topology;
@@ -157,19 +157,19 @@ entered s m input outputs =
       stopped = s.stopped;
     }
 
-pub record IsEntered (old new : Shelf) (m : ModuleId) (outputs : List Output) : Type 0 where
+pub record IsEntered (old new : BookView) (m : ModuleId) (outputs : List Output) : Type 0 where
   pub input : Input
   pub held : hand_at old.hands m.0 ≡ Some input
   pub gives : new ≡ entered old m input outputs
 
 -- a module outside the topology has nothing in hand either
-abbrev pub IsNotEntered : Shelf → ModuleId → CommitFault → Type 0
+abbrev pub IsNotEntered : BookView → ModuleId → CommitFault → Type 0
 IsNotEntered s m faults.NoMemory = Unit {0}
 IsNotEntered s m faults.NothingInHand = hand_at s.hands m.0 ≡ None
 
 -- ---- stop
 
-abbrev pub stopped_of : Shelf → Shelf
+abbrev pub stopped_of : BookView → BookView
 stopped_of s =
     record {
       topology = s.topology;

@@ -7,7 +7,7 @@ ghost use Rattle.cip_threads.specs.Messages.{turns_of};
 ghost use Rattle.cip_threads.specs.Reports.{Agrees};
 
 use crate::same::is_step_of;
-use crate::shelf::{Done, Told};
+use crate::views::{MessageView, TakenTurn};
 use cip_base::ModuleId;
 use cip_module::{ModuleConfig, Tables};
 use cip_world::Entry;
@@ -19,16 +19,16 @@ use std::marker::Model;
 pub(crate) struct Message {
     m: ModuleId,
     config: ModuleConfig,
-    history: Vec<Done>,
+    history: Vec<TakenTurn>,
     tables: Tables,
 }
 
 impl Model for Message {
     ghost use Rattle.std.specs.Prelude.{reverse};
-    ghost use Rattle.cip_threads.specs.declared.shelf.Told.{Told};
+    ghost use Rattle.cip_threads.specs.declared.views.MessageView.{MessageView};
     ghost use Rattle.cip_threads.specs.Messages.{IsTold};
 
-    ghost Value = { Told };
+    ghost Value = { MessageView };
 
     ghost view = { λ x. record {
       m = x.m;
@@ -46,7 +46,7 @@ impl Model for Message {
 }
 
 // Whether a history is what a journal has of a module.
-fn is_part(journal: &[Entry], history: &[Done], m: usize) -> bool
+fn is_part(journal: &[Entry], history: &[TakenTurn], m: usize) -> bool
     ensures { IsTrue result → part m (reverse journal.now) ≡ turns_of (reverse history.now) }
 {
     let mut at = 0;
@@ -77,7 +77,7 @@ impl Message {
     pub(crate) fn new(
         m: ModuleId,
         config: ModuleConfig,
-        history: Vec<Done>,
+        history: Vec<TakenTurn>,
         tables: Tables,
     ) -> Message
         requires leads { IsHistory config (turns_of (reverse history.items)) }

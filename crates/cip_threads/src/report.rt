@@ -1,5 +1,6 @@
 //! What a run of threads answers.
 use crate::feed::Feed;
+use crate::lists::Items;
 use cip_base::ModuleId;
 use cip_clock::ClockFull;
 use cip_module::Tables;
@@ -10,16 +11,16 @@ use thiserror::Error;
 /// frames that did not arrive, in rising name.
 #[derive(Drop)]
 pub struct Waiting {
-    pub feeds: Vec<(ModuleId, Feed)>,
-    pub frames: Vec<FrameName>,
+    pub feeds: Items<(ModuleId, Feed)>,
+    pub frames: Items<FrameName>,
 }
 
 /// What the threads did: the journal, oldest entry first; the tables of each module after it; what
 /// waits; and whether nothing waits or all turns are taken.
 #[derive(Drop)]
 pub struct Report {
-    pub journal: Vec<Entry>,
-    pub tables: Vec<Tables>,
+    pub journal: Items<Entry>,
+    pub tables: Items<Tables>,
     pub waiting: Waiting,
     pub end: End,
 }

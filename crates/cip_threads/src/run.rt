@@ -7,6 +7,7 @@ ghost use Rattle.cip_threads.specs.Reports.{Agrees, AgreeTo, IsReport, IsRunFaul
 use crate::book::Book;
 use crate::feed::Feed;
 use crate::gate::Gate;
+use crate::lists::Items;
 use crate::message::Message;
 use crate::report::{CompareFault, Report, RunFault, Waiting};
 use crate::state::{BookState, Finished, copy_feeds};
@@ -137,18 +138,18 @@ fn compare(
 }
 
 fn report_of(finished: Finished, tables: Vec<Tables>) -> Report
-    ensures journal { result.journal.items ≡ finished.journal.items }
-    ensures tables { result.tables.items ≡ tables.items }
-    ensures feeds { result.waiting.feeds.items ≡ finished.feeds.items }
-    ensures frames { result.waiting.frames.items ≡ finished.frames.items }
+    ensures journal { result.journal ≡ finished.journal.items }
+    ensures tables { result.tables ≡ tables.items }
+    ensures feeds { result.waiting.feeds ≡ finished.feeds.items }
+    ensures frames { result.waiting.frames ≡ finished.frames.items }
     ensures end { result.end ≡ finished.end }
 {
     Report {
-        journal: finished.journal,
-        tables,
+        journal: Items::of(finished.journal),
+        tables: Items::of(tables),
         waiting: Waiting {
-            feeds: finished.feeds,
-            frames: finished.frames,
+            feeds: Items::of(finished.feeds),
+            frames: Items::of(finished.frames),
         },
         end: finished.end,
     }
@@ -228,8 +229,7 @@ fn report(
 ) -> Result<Report, RunFault>
     requires { vec_len messages ≡ length topology.now.modules }
     ensures ok { IfOk result (λ r. IsReport topology.now feeds.now turns
-        (reverse r.journal.items) r.tables.items r.waiting.feeds.items r.waiting.frames.items
-        r.end) }
+        (reverse r.journal) r.tables r.waiting.feeds r.waiting.frames r.end) }
     ensures fault { IfErr result (IsWorkerFault topology.now feeds.now) }
 {
     let finished = match state.finish(topology, feeds, turns) {
@@ -257,8 +257,7 @@ fn run_fresh<R: Threads + Wait + Sync, G: Gate + Sync>(
 ) -> Result<Report, RunFault>
     requires { All (λ fed. fed.0.0 < length topology.now.modules) feeds.now }
     ensures ok { IfOk result (λ r. IsReport topology.now feeds.now turns
-        (reverse r.journal.items) r.tables.items r.waiting.feeds.items r.waiting.frames.items
-        r.end) }
+        (reverse r.journal) r.tables r.waiting.feeds r.waiting.frames r.end) }
     ensures fault { IfErr result (IsWorkerFault topology.now feeds.now) }
 {
     let Ok(own) = topology.copy(alloc) else {
@@ -309,8 +308,7 @@ pub fn run_threads<R: Threads + Wait + Sync, G: Gate + Sync>(
 ) -> Result<Report, RunFault>
     requires { All (λ fed. fed.0.0 < length topology.modules) feeds.items }
     ensures ok { IfOk result (λ r. IsReport topology feeds.items turns
-        (reverse r.journal.items) r.tables.items r.waiting.feeds.items r.waiting.frames.items
-        r.end) }
+        (reverse r.journal) r.tables r.waiting.feeds r.waiting.frames r.end) }
     ensures fresh { OnOk result (AreFresh topology (map (λ b. config_of b) modules.items)
         (map (λ b. state_of b) modules.items)) }
     ensures fault { IfErr result (IsRunFault topology (map (λ b. config_of b) modules.items)

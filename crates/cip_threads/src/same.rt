@@ -2,7 +2,7 @@
 ghost use Rattle.std.specs.Prelude.{◌≡◌, IsTrue, Some, reverse};
 ghost use Rattle.cip_world.specs.Journals.{Flight, event_of, frame_at};
 
-use crate::shelf::Done;
+use crate::views::TakenTurn;
 use cip_base::{Bytes, Timing};
 use cip_module::{Body, Command, Event, OpenParams, Output};
 use cip_segment::Path;
@@ -164,7 +164,12 @@ fn is_event_of(before: &[Entry], input: &Input, event: &Event) -> bool
 }
 
 /// Whether an entry after these is this step.
-pub(crate) fn is_step_of(before: &[Entry], input: &Input, outputs: &Outputs, done: &Done) -> bool
+pub(crate) fn is_step_of(
+    before: &[Entry],
+    input: &Input,
+    outputs: &Outputs,
+    done: &TakenTurn,
+) -> bool
     ensures event { IsTrue result
         → event_of (reverse before.now) input.now ≡ Some done.now.event }
     ensures outputs { IsTrue result → outputs.now ≡ done.now.outputs }

@@ -12,7 +12,7 @@ use crate::queues::{
     deal, feeds_left, first_in, merge, no_queues, push_all, reserve_all, take_first,
 };
 use crate::report::CompareFault;
-use crate::shelf::{Row, Shelf};
+use crate::views::BookView;
 use cip_base::{ModuleId, NoMemory};
 use cip_module::{Event, Output};
 use cip_topology::Topology;
@@ -58,7 +58,7 @@ pub(crate) struct Finished {
 }
 
 /// What the workers of a topology's modules share: the feeds and frames that wait, what each module
-/// has in hand, and the journal. Contracts see it as a `Shelf`.
+/// has in hand, and the journal. Contracts see it as a `BookView`.
 #[derive(Drop)]
 pub struct BookState {
     alloc: Global,
@@ -80,10 +80,10 @@ pub struct BookState {
 
 impl Model for BookState {
     ghost use Rattle.std.specs.Prelude.{map, reverse};
-    ghost use Rattle.cip_threads.specs.declared.shelf.Shelf.{Shelf};
+    ghost use Rattle.cip_threads.specs.declared.views.BookView.{BookView};
     ghost use Rattle.cip_threads.specs.Books.{IsBook};
 
-    ghost Value = { Shelf };
+    ghost Value = { BookView };
 
     ghost view = { λ b. record {
       topology = b.topology;
@@ -447,7 +447,7 @@ impl BookState {
     }
 
     // The module that something waits for.
-    fn goal(&self) -> ModuleId {
+    fn first_with_work(&self) -> ModuleId {
         if let Some(m) = first_waiting(self.feeds.as_slice()) {
             return m;
         }
@@ -506,7 +506,7 @@ impl BookState {
             return self.leave(End::Quiet);
         }
         if self.taken < self.turns {
-            return Err(CompareFault::Differs(self.goal()));
+            return Err(CompareFault::Differs(self.first_with_work()));
         }
         self.leave(End::Limit)
     }

@@ -6,8 +6,8 @@ ghost use Rattle.cip_threads.specs.Messages.{Leads};
 use crate::book::{Book, Taken};
 use crate::gate::Gate;
 use crate::message::Message;
-use crate::shelf::Done;
 use crate::state::CommitFault;
+use crate::views::TakenTurn;
 use cip_base::{ModuleId, NoMemory};
 use cip_module::{Event, Module, Output, StepFault};
 use cip_world::{Outputs, is_fresh};
@@ -41,7 +41,7 @@ fn copy_outputs(alloc: Global, outputs: &[Output]) -> Result<Vec<Output>, NoMemo
 fn turn(
     alloc: Global,
     boxed: &mut Box<dyn Module + Send>,
-    history: &mut Vec<Done>,
+    history: &mut Vec<TakenTurn>,
     event: Event,
 ) -> Result<Vec<Output>, StepFault>
     requires { Leads (config_of boxed.old) (reverse history.old.items) (state_of boxed.old) }
@@ -59,7 +59,7 @@ fn turn(
     let Ok(copies) = copy_outputs(alloc, outputs.as_slice()) else {
         return Err(StepFault::NoMemory(kept));
     };
-    history.push_reserved(Done {
+    history.push_reserved(TakenTurn {
         event: kept,
         outputs: Outputs::of(outputs),
     });
@@ -75,7 +75,7 @@ fn round<R: Wait, G: Gate>(
     m: ModuleId,
     commits: usize,
     boxed: &mut Box<dyn Module + Send>,
-    history: &mut Vec<Done>,
+    history: &mut Vec<TakenTurn>,
 ) -> Option<Ended>
     requires { Leads (config_of boxed.old) (reverse history.old.items) (state_of boxed.old) }
     ensures config { config_of boxed.new ≡ config_of boxed.old }
@@ -111,7 +111,7 @@ fn work<R: Wait, G: Gate>(
     gate: &G,
     m: ModuleId,
     boxed: &mut Box<dyn Module + Send>,
-    history: &mut Vec<Done>,
+    history: &mut Vec<TakenTurn>,
 ) -> Ended
     requires { Leads (config_of boxed.old) (reverse history.old.items) (state_of boxed.old) }
     ensures config { config_of boxed.new ≡ config_of boxed.old }
@@ -129,7 +129,7 @@ fn work<R: Wait, G: Gate>(
 }
 
 // The message of a module that took all its turns.
-fn message_of<R: Wait, G: Gate>(
+fn run_worker<R: Wait, G: Gate>(
     rt: &R,
     alloc: Global,
     book: &Book,
@@ -189,7 +189,7 @@ impl<G: Gate> Post for Shared<'_, G> {
         m: ModuleId,
         boxed: Box<dyn Module + Send>,
     ) -> Ended {
-        match message_of(rt, alloc, self.book, self.gate, m, boxed) {
+        match run_worker(rt, alloc, self.book, self.gate, m, boxed) {
             Ok(message) => {
                 if self.to.send(rt, message).is_err() {
                     self.book.stop(rt);

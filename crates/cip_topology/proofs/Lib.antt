@@ -10,3 +10,8 @@ pub mod PortsKept
 pub mod ModulesKept
 pub mod Indexed
 pub mod TopologyKept
+pub mod Before
+pub mod Written
+pub mod LinksWritten
+pub mod PortsWritten
+pub mod ModulesWritten

@@ -10,11 +10,11 @@ pub or_parts : (a b : Bool) → (a || b) ≡ false → (a ≡ false) × (b ≡ f
 or_parts true b h = cc
 or_parts false b h = (refl, h)
 
-not_true : (b : Bool) → not b ≡ true → b ≡ false
+pub not_true : (b : Bool) → not b ≡ true → b ≡ false
 not_true true h = sym h
 not_true false h = refl
 
-other_way : (a b : ℕ) → eqb a b ≡ false → eqb b a ≡ false
+pub other_way : (a b : ℕ) → eqb a b ≡ false → eqb b a ≡ false
 other_way a b h = elim (cases_Bool (eqb b a)) [
   | inl t ↦ let back : eqb a b ≡ true = eq-eqb a b (sym (eqb-true b a t)) in let no : true ≡ false = sym back ∙ h in absurd (cc)
   | inr f ↦ f

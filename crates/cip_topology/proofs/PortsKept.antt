@@ -32,11 +32,11 @@ use Rattle.cip_topology.proofs.Rules.{bind_ok, same_ok, passed, le_true, not_ove
 
 -- ---- numbers that differ
 
-numbers_are : (ps : List PortConfig) → numbers_differ ps ≡ differ (λ (p : PortConfig). p.number) ps
+pub numbers_are : (ps : List PortConfig) → numbers_differ ps ≡ differ (λ (p : PortConfig). p.number) ps
 numbers_are [] = refl
 numbers_are (p ∷ ps) = ap (λ b. not (list_any (has_number p.number) ps) && b) (numbers_are ps)
 
-instances_are : (as' : List AssemblyConfig) → instances_differ as' ≡ differ (λ (a : AssemblyConfig). a.instance) as'
+pub instances_are : (as' : List AssemblyConfig) → instances_differ as' ≡ differ (λ (a : AssemblyConfig). a.instance) as'
 instances_are [] = refl
 instances_are (a ∷ as') = ap (λ b. not (list_any (has_instance a.instance) as') && b) (instances_are as')
 

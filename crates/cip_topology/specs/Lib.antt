@@ -12,3 +12,4 @@ pub mod Files
 pub mod Seats
 pub mod Kept
 pub mod Ways
+pub mod Documents

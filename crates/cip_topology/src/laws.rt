@@ -1,7 +1,10 @@
 //! What holds of every topology.
-ghost use Rattle.std.specs.Prelude.{◌≡◌, ℕ, Option, Some, None, option_and_then};
+ghost use Rattle.std.specs.Prelude.{◌≡◌, ℕ, Ok, Option, Some, None, option_and_then};
+ghost use Rattle.toml.specs.Data.{Members};
 ghost use Rattle.cip_base.specs.Words.{Octets};
 ghost use Rattle.cip_segment.specs.Reading.{HopAt, hop_of};
+ghost use Rattle.cip_topology.specs.Documents.{HasTypes, Writes};
+ghost use Rattle.cip_topology.specs.Files.{topology_of};
 ghost use Rattle.cip_topology.specs.Plan.{Plan, IsTopology};
 ghost use Rattle.cip_topology.specs.Nodes.{Way, across, node};
 ghost use Rattle.cip_topology.specs.Walk.{walk};
@@ -20,4 +23,10 @@ pub fn walks_go_by_hops()
     ensures goes { (t : Plan) (m : ℕ) (path : Octets) (hop : HopAt) → hop_of path ≡ Some hop
         → walk t m path
         ≡ option_and_then (λ n. walk t n hop.rest) (node t m hop.port hop.address) }
+{}
+
+/// A document that writes out a topology, key by key, is loaded as that topology.
+pub fn what_keeps_every_rule_is_loaded()
+    ensures { (t : Plan) → IsTopology t → HasTypes t → (m : Members) → Writes t m
+        → topology_of m ≡ Ok t }
 {}

@@ -17,9 +17,9 @@ fn one_turn(rt: HostRuntime) -> Result<(), Fail> {
     }
     let report = run_threads(&rt, alloc, topology, modules, feeds, 1, &OpenGate)?;
     assert_eq!(&rt; report.end, End::Limit);
-    assert_eq!(&rt; report.journal.len(), 1);
-    assert_eq!(&rt; report.waiting.feeds.len(), 1);
-    assert_eq!(&rt; report.waiting.frames.len(), 1);
+    assert_eq!(&rt; report.journal.as_slice().len(), 1);
+    assert_eq!(&rt; report.waiting.feeds.as_slice().len(), 1);
+    assert_eq!(&rt; report.waiting.frames.as_slice().len(), 1);
     Ok(())
 }
 
@@ -34,7 +34,7 @@ fn all_turns(rt: HostRuntime) -> Result<(), Fail> {
     }
     let report = run_threads(&rt, alloc, topology, modules, feeds, 100, &OpenGate)?;
     assert_eq!(&rt; report.end, End::Quiet);
-    assert_eq!(&rt; report.journal.len(), 10);
+    assert_eq!(&rt; report.journal.as_slice().len(), 10);
     Ok(())
 }
 
@@ -49,8 +49,8 @@ fn nothing_to_do(rt: HostRuntime) -> Result<(), Fail> {
     }
     let report = run_threads(&rt, alloc, topology, modules, feeds, 100, &OpenGate)?;
     assert_eq!(&rt; report.end, End::Quiet);
-    assert_eq!(&rt; report.journal.len(), 0);
-    assert_eq!(&rt; report.tables.len(), 4);
+    assert_eq!(&rt; report.journal.as_slice().len(), 0);
+    assert_eq!(&rt; report.tables.as_slice().len(), 4);
     Ok(())
 }
 

@@ -50,11 +50,11 @@ fn two_steps_at_once(rt: HostRuntime) -> Result<(), Fail> {
     assert_eq!(&rt; gate.hold.passed(), 2);
     let report = report?;
     assert_eq!(&rt; report.end, End::Quiet);
-    assert_eq!(&rt; report.journal.len(), 10);
+    assert_eq!(&rt; report.journal.as_slice().len(), 10);
     assert_eq!(&rt; count_done(report.journal.as_slice(), S), 1);
     assert_eq!(&rt; count_done(report.journal.as_slice(), S2), 1);
-    assert_eq!(&rt; report.waiting.feeds.len(), 0);
-    assert_eq!(&rt; report.waiting.frames.len(), 0);
+    assert_eq!(&rt; report.waiting.feeds.as_slice().len(), 0);
+    assert_eq!(&rt; report.waiting.frames.as_slice().len(), 0);
 
     let topology = two_scanners(alloc)?;
     let hold = Arc::new(alloc, Hold::new(5))?;
@@ -67,16 +67,17 @@ fn two_steps_at_once(rt: HostRuntime) -> Result<(), Fail> {
     assert_eq!(&rt; hold.passed(), 5);
     let report = report?;
     assert_eq!(&rt; report.end, End::Quiet);
-    assert_eq!(&rt; report.journal.len(), 5);
+    assert_eq!(&rt; report.journal.as_slice().len(), 5);
     assert_eq!(&rt;
         report
             .journal
+            .as_slice()
             .iter()
             .filter(|entry| has_outputs(entry))
             .count(),
         0
     );
-    assert_eq!(&rt; report.tables.len(), 5);
+    assert_eq!(&rt; report.tables.as_slice().len(), 5);
     for tables in report.tables.as_slice() {
         assert_eq!(&rt; tables.now, 1000);
     }

@@ -3,11 +3,11 @@ ghost use Rattle.std.specs.Prelude.{IfSome, map};
 ghost use Rattle.cip_world.specs.Worlds.{Stand};
 
 use crate::boxes::chassis;
-use cip_indexed::put_boxes;
 use crate::calls::{Answer, Call, first_other};
 use crate::given::THROUGH_A_TO_B;
 use cip_base::{Address, NoMemory, PortNumber};
 use cip_hops::Hop;
+use cip_indexed::put_boxes;
 use cip_module::{Event, Module, ModuleConfig, ModuleKind, Output, PlainModule, StepFault, Tables};
 use cip_topology::Topology;
 use cip_world::{End, World};
