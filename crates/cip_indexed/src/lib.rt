@@ -6,4 +6,4 @@ mod indexed;
 mod new_module;
 
 pub use indexed::IndexedModule;
-pub use new_module::{NewModule, new_modules, put_boxes};
+pub use new_module::{NewModule, new_modules};

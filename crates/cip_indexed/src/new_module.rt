@@ -1,14 +1,15 @@
 //! New modules, each in a box of its own kind.
-ghost use Rattle.std.specs.Prelude.{◌≡◌, ◌++◌, IfOk, OnOk, map};
+ghost use Rattle.std.specs.Prelude.{◌≡◌, IfOk, map};
 ghost use Rattle.cip_module.specs.State.{initial_state};
 ghost use Rattle.cip_indexed.specs.NewModules.{config_of_new, state_of_new};
 
 use crate::indexed::IndexedModule;
 use cip_base::NoMemory;
-use cip_module::{AdapterModule, Module, ModuleConfig, ModuleKind, PlainModule};
+use cip_module::{AdapterModule, ModuleConfig, ModuleKind, PlainModule};
 use std::alloc::Global;
 
-/// A new module in its box, of one of the three kinds. `put_boxes` makes it a box of any module.
+/// A new module in its box, of one of the three kinds. It becomes a box of any module where such boxes
+/// are handed on: a function that made it so and handed it out could not say what is in it.
 #[derive(Drop)]
 pub enum NewModule {
     Plain(Box<PlainModule>),
@@ -47,32 +48,9 @@ pub fn new_modules(alloc: Global, configs: &[ModuleConfig]) -> Result<Vec<NewMod
         (λ made. map state_of_new made.items ≡ map initial_state configs.now) }
 {
     let mut made = Vec::new(alloc);
-    for config in configs {
-        made.push(NewModule::new(alloc, config.copy(alloc)?)?)?;
+    for i in 0..configs.len() {
+        let config = configs[i].copy(alloc)?;
+        made.push(NewModule::new(alloc, config)?)?;
     }
     Ok(made)
-}
-
-/// Puts new modules behind others, each as a box of any module. NoMemory where an allocation is
-/// refused.
-pub fn put_boxes(
-    boxes: &mut Vec<Box<dyn Module + Send>>,
-    made: Vec<NewModule>,
-) -> Result<(), NoMemory>
-    ensures configs { OnOk result (map (λ b. config_of b) boxes.new.items
-        ≡ map (λ b. config_of b) boxes.old.items ++ map config_of_new made.items) }
-    ensures states { OnOk result (map (λ b. state_of b) boxes.new.items
-        ≡ map (λ b. state_of b) boxes.old.items ++ map state_of_new made.items) }
-{
-    for new in made {
-        let pushed = match new {
-            NewModule::Plain(module_) => boxes.push(module_),
-            NewModule::Adapter(module_) => boxes.push(module_),
-            NewModule::Indexed(module_) => boxes.push(module_),
-        };
-        if pushed.is_err() {
-            return Err(NoMemory);
-        }
-    }
-    Ok(())
 }

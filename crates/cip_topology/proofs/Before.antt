@@ -38,9 +38,9 @@ module _ {X : Type 0} where
 
   -- where none can pass, none does
   pub none_passes : (f : X → Bool) (xs : List X) → (Passing f xs → ⊥) → list_any f xs ≡ false
-  none_passes f xs no =
+  none_passes f xs never =
       elim (list_any f xs) as (λ b. list_any f xs ≡ b → b ≡ false) [
-        | true ↦ λ t. absurd (no (passing f xs t))
+        | true ↦ λ t. absurd (never (passing f xs t))
         | false ↦ λ t. refl
       ] refl
 

@@ -20,7 +20,7 @@ use Rattle.cip_topology.specs.Keys.{Read, ◌>>=◌, value_at, out_of_range, num
 use Rattle.cip_topology.specs.LinkTables.{bytes_at, text_bytes_at, legal_of, legal_at, is_linked, new_link, link_of_table, link_of, links_after}
 use Rattle.cip_topology.proofs.Before.{apart_before}
 use Rattle.cip_topology.proofs.Rules.{le_of}
-use Rattle.cip_topology.proofs.Written.{then_ok, if_true, if_false, value_is, number_is, text_is}
+use Rattle.cip_topology.proofs.Written.{then_ok, if_false, value_is, number_is, text_is}
 
 legal_is : (place : Place) (legal : LegalAddresses) (m : Members) → WritesRange legal m → is_range legal ≡ true → IsRangeOfBytes legal
     → legal_at place m ≡ Ok legal
@@ -28,8 +28,7 @@ legal_is place (Byte first last) m w range fits =
     let below : first ≤ last = le_of first last range in
     then_ok (value_at place key.Kind m) (λ d. legal_of place m d (as_str d)) (string (codes "byte")) (Ok (Byte first last))
     (value_is place key.Kind m (string (codes "byte")) w.0)
-    (if_true (bytes_eq (codes "byte") (codes "byte")) (bytes_at place m) _ refl
-    ∙ then_ok (number_at place key.First 0 255 m) (λ n. number_at place key.Last n 255 m >>= λ l. Ok (Byte n l)) first (Ok (Byte first last))
+    (then_ok (number_at place key.First 0 255 m) (λ n. number_at place key.Last n 255 m >>= λ l. Ok (Byte n l)) first (Ok (Byte first last))
     (number_is place key.First 0 255 first m w.1 (omega arith) (omega (arith, below, fits)))
     (then_ok (number_at place key.Last first 255 m) (λ l. Ok (Byte first l)) last (Ok (Byte first last))
     (number_is place key.Last first 255 last m w.2 below fits) refl))
@@ -37,10 +36,8 @@ legal_is place (Text longest) m w range fits =
     let both = and_parts (nat_le 1 longest) (nat_le longest 16) range in
     then_ok (value_at place key.Kind m) (λ d. legal_of place m d (as_str d)) (string (codes "text")) (Ok (Text longest))
     (value_is place key.Kind m (string (codes "text")) w.0)
-    (if_false (bytes_eq (codes "text") (codes "byte")) (bytes_at place m) _ refl
-    ∙ (if_true (bytes_eq (codes "text") (codes "text")) (text_bytes_at place m) _ refl
-    ∙ then_ok (number_at place key.Longest 1 16 m) (λ n. Ok (Text n)) longest (Ok (Text longest))
-    (number_is place key.Longest 1 16 longest m w.1 (le_of 1 longest both.0) (le_of longest 16 both.1)) refl))
+    (then_ok (number_at place key.Longest 1 16 m) (λ n. Ok (Text n)) longest (Ok (Text longest))
+    (number_is place key.Longest 1 16 longest m w.1 (le_of 1 longest both.0) (le_of longest 16 both.1)) refl)
 
 link_is : (number : ℕ) (links : List Link) (l : Link) (m : Members) → WritesLink l m → is_name l.name ≡ true → is_range l.legal ≡ true
     → IsRangeOfBytes l.legal → is_linked l.name links ≡ false → link_of number links (table m) ≡ Ok l
@@ -61,12 +58,15 @@ AreGood ls = (i : ℕ) (l : Link) → slice_get ls i ≡ Some l → (is_name l.n
 pub links_are : (links ls : List Link) (ds : Items) → AreTables WritesLink ls ds → AreGood ls → TellsApart (λ (l : Link). l.name) (links ++ ls)
     → links_after links ds ≡ Ok (links ++ ls)
 links_are links [] no_items w good apart = ap (λ (x : List Link). Ok x) (sym (append-nil links))
-links_are links (l ∷ ls) (item (table m) ds) w good apart =
+links_are links [] (item d ds) w good apart = elim w [ ]
+links_are links (l ∷ ls) no_items w good apart = elim w [ ]
+links_are links (l ∷ ls) (item d ds) w good apart =
     let fine = good 0 l refl in
     let new = apart_before (λ (x : Link). x.name) (λ (x : Link). bytes_eq x.name l.name) links ls l apart
     (λ a t. (bytes_eq-Decides a.name l.name).0 t) in
     let whole : (links ++ l ∷ []) ++ ls ≡ links ++ l ∷ ls = append_assoc links (l ∷ []) ls in
-    then_ok (link_of (length links + 1) links (table m)) (λ x. links_after (links ++ x ∷ []) ds) l (Ok (links ++ l ∷ ls))
-    (link_is (length links + 1) links l m w.0 fine.0 fine.1 fine.2 new)
+    then_ok (link_of (length links + 1) links d) (λ x. links_after (links ++ x ∷ []) ds) l (Ok (links ++ l ∷ ls))
+    (ap (link_of (length links + 1) links) w.0.is
+    ∙ link_is (length links + 1) links l w.0.members w.0.written fine.0 fine.1 fine.2 new)
     (links_are (links ++ l ∷ []) ls ds w.1 (λ i a at. good (suc i) a at) (subst (TellsApart (λ (x : Link). x.name)) (sym whole) apart)
     ∙ ap (λ (x : List Link). Ok x) whole)

@@ -49,18 +49,13 @@ use Rattle.cip_topology.proofs.Written.{then_ok, if_true, if_false, value_is, nu
 kind_is : (place : Place) (kind : ModuleKind) (m : Members) → get_member (codes "kind") m ≡ Some (string (kind_word kind)) → kind_at place m ≡ Ok kind
 kind_is place Plain m w =
     then_ok (value_at place key.Kind m) (λ d. kind_of place d (as_str d)) (string (codes "plain")) (Ok Plain)
-    (value_is place key.Kind m (string (codes "plain")) w) (if_true (bytes_eq (codes "plain") (codes "plain")) (Ok Plain) _ refl)
+    (value_is place key.Kind m (string (codes "plain")) w) refl
 kind_is place Adapter m w =
     then_ok (value_at place key.Kind m) (λ d. kind_of place d (as_str d)) (string (codes "adapter")) (Ok Adapter)
-    (value_is place key.Kind m (string (codes "adapter")) w)
-    (if_false (bytes_eq (codes "adapter") (codes "plain")) (Ok Plain) _ refl
-    ∙ if_true (bytes_eq (codes "adapter") (codes "adapter")) (Ok Adapter) _ refl)
+    (value_is place key.Kind m (string (codes "adapter")) w) refl
 kind_is place Indexed m w =
     then_ok (value_at place key.Kind m) (λ d. kind_of place d (as_str d)) (string (codes "indexed")) (Ok Indexed)
-    (value_is place key.Kind m (string (codes "indexed")) w)
-    (if_false (bytes_eq (codes "indexed") (codes "plain")) (Ok Plain) _ refl
-    ∙ (if_false (bytes_eq (codes "indexed") (codes "adapter")) (Ok Adapter) _ refl
-    ∙ if_true (bytes_eq (codes "indexed") (codes "indexed")) (Ok Indexed) _ refl))
+    (value_is place key.Kind m (string (codes "indexed")) w) refl
 
 identity_is : (place : Place) (c : ModuleSettings) (m : Members) → WritesIdentity c.identity m → FitsTypes c → identity_at place m ≡ Ok c.identity
 identity_is place c m w f =
@@ -82,7 +77,7 @@ identity_is place c m w f =
     (then_ok (text_at is_product_name place key.ProductName m) _ c.identity.name (Ok c.identity)
     (text_is is_product_name place key.ProductName c.identity.name m w.name own.1) refl)))))))
 
-counts_of : ModuleSettings → Counts
+abbrev counts_of : ModuleSettings → Counts
 counts_of c = record {
   clock = c.clock;
   first_id = c.first_id;
@@ -238,10 +233,13 @@ modules_are : (links : List Link) (modules cs : List ModuleSettings) (ds : Items
     → ((i : ℕ) (c : ModuleSettings) → slice_get cs i ≡ Some c → FitsTypes c)
     → modules_after links modules ds ≡ Ok (modules ++ cs)
 modules_are links modules [] no_items w apart k f = ap (λ (x : List ModuleSettings). Ok x) (sym (append-nil modules))
-modules_are links modules (c ∷ cs) (item (table m) ds) w apart k f =
+modules_are links modules [] (item d ds) w apart k f = elim w [ ]
+modules_are links modules (c ∷ cs) no_items w apart k f = elim w [ ]
+modules_are links modules (c ∷ cs) (item d ds) w apart k f =
     let whole : (modules ++ c ∷ []) ++ cs ≡ modules ++ c ∷ cs = append_assoc modules (c ∷ []) cs in
-    then_ok (settings_of (length modules + 1) links modules (table m)) (λ x. modules_after links (modules ++ x ∷ []) ds) c (Ok (modules ++ c ∷ cs))
-    (module_is (length modules + 1) links modules cs c m w.0 apart k (f 0 c refl))
+    then_ok (settings_of (length modules + 1) links modules d) (λ x. modules_after links (modules ++ x ∷ []) ds) c (Ok (modules ++ c ∷ cs))
+    (ap (settings_of (length modules + 1) links modules) w.0.is
+    ∙ module_is (length modules + 1) links modules cs c w.0.members w.0.written apart k (f 0 c refl))
     (modules_are links (modules ++ c ∷ []) cs ds w.1 apart (subst (ModulesKept links) (sym whole) k) (λ i a at. f (suc i) a at)
     ∙ ap (λ (x : List ModuleSettings). Ok x) whole)
 

@@ -38,7 +38,9 @@ use Rattle.cip_topology.proofs.Written.{then_ok, if_true, if_false, number_is, t
 -- as many tables as elements
 pub as_many : {X : Type 0} (writes : X → Members → Type 0) (xs : List X) (ds : Items) → AreTables writes xs ds → item_count ds ≡ length xs
 as_many writes [] no_items w = refl
-as_many writes (x ∷ xs) (item (table m) ds) w = ap suc (as_many writes xs ds w.1)
+as_many writes (x ∷ xs) (item d ds) w = ap suc (as_many writes xs ds w.1)
+as_many writes [] (item d ds) w = elim w [ ]
+as_many writes (x ∷ xs) no_items w = elim w [ ]
 
 -- ---- a port
 
@@ -59,6 +61,10 @@ named i (x ∷ links) (suc k) l apart at =
     ap (λ (b : Bool). cond b (Some (i, x)) (link_from (i + 1) links l.name)) other
     ∙ named (i + 1) links k l (λ p q a b ap' bq e. let same : suc p ≡ suc q = apart (suc p) (suc q) a b ap' bq e in omega (arith, same)) at
     ∙ ap (λ (n : ℕ). Some (n, l)) (omega arith)
+
+named_here : (links : List Link) (k : ℕ) (l : Link) → TellsApart (λ (x : Link). x.name) links → slice_get links k ≡ Some l
+    → link_from 0 links l.name ≡ Some (k, l)
+named_here links k l apart at = named 0 links k l apart at ∙ ap (λ (n : ℕ). Some (n, l)) (omega arith)
 
 not_back : (b : Bool) → b ≡ true → not b ≡ false
 not_back b e = ap not e
@@ -89,7 +95,7 @@ port_is place links taken ports p m w apart on range fine new free alone =
     (then_ok (address_at place m) (λ address. link_named place links l.name >>= port_on place taken ports p.number address) p.address (Ok p)
     (address_is place p.address m w.address range.some range.short)
     (then_ok (link_named place links l.name) (port_on place taken ports p.number p.address) (p.link, l) (Ok p)
-    (ap (link_or place l.name) (named 0 links p.link l apart on.at))
+    (ap (link_or place l.name) (named_here links p.link l apart on.at))
     (if_false (not (is_legal l.legal p.address)) _ _ (not_back (is_legal l.legal p.address) legal)
     ∙ (if_false (taken p.link p.address || list_any (is_at p.link p.address) ports) _ _
     (neither (taken p.link p.address) (list_any (is_at p.link p.address) ports) free alone) ∙ made))))))
@@ -111,7 +117,9 @@ ports_are : (place : Place) (links : List Link) (taken : ℕ → List ℕ → Bo
     → TellsApart (λ (x : Link). x.name) links → AreTables (WritesPort links) ps ds → AreGood links taken ports ps
     → ports_after place links taken ports ds ≡ Ok (ports ++ ps)
 ports_are place links taken ports [] no_items apart w good = ap (λ (x : List PortConfig). Ok x) (sym (append-nil ports))
-ports_are place links taken ports (p ∷ ps) (item (table m) ds) apart w good =
+ports_are place links taken ports [] (item d ds) apart w good = elim w [ ]
+ports_are place links taken ports (p ∷ ps) no_items apart w good = elim w [ ]
+ports_are place links taken ports (p ∷ ps) (item d ds) apart w good =
     let here = port_in place (length ports + 1) in
     let whole : (ports ++ p ∷ []) ++ ps ≡ ports ++ p ∷ ps = append_assoc ports (p ∷ []) ps in
     let new : list_any (has_number p.number) ports ≡ false = differ_before (λ (x : PortConfig). x.number) ports ps p good.numbers in
@@ -120,8 +128,8 @@ ports_are place links taken ports (p ∷ ps) (item (table m) ds) apart w good =
     let same : q.one ≡ p = good.alone q.place (length ports) q.one p (get_before ports (p ∷ ps) q.place q.one q.at) (get_here ports ps p) there.0 there.1 in
     let number : eqb q.one.number p.number ≡ true = eq-eqb q.one.number p.number (ap (λ (x : PortConfig). x.number) same) in
     let no : true ≡ false = sym (any_at (has_number p.number) ports q.place q.one q.at number) ∙ new in cc) in
-    then_ok (port_of here links taken ports (table m)) (λ x. ports_after place links taken (ports ++ x ∷ []) ds) p (Ok (ports ++ p ∷ ps))
-    (port_is here links taken ports p m w.0 apart (good.on 0 p refl) (good.range 0 p refl) (good.fine 0 p refl) new (good.free 0 p refl) alone)
+    then_ok (port_of here links taken ports d) (λ x. ports_after place links taken (ports ++ x ∷ []) ds) p (Ok (ports ++ p ∷ ps))
+    (ap (port_of here links taken ports) w.0.is ∙ port_is here links taken ports p w.0.members w.0.written apart (good.on 0 p refl) (good.range 0 p refl) (good.fine 0 p refl) new (good.free 0 p refl) alone)
     (ports_are place links taken (ports ++ p ∷ []) ps ds apart w.1 (record {
       range = λ i q at. good.range (suc i) q at;
       fine = λ i q at. good.fine (suc i) q at;
@@ -182,11 +190,13 @@ assembly_is place assemblies a m w least most size new =
 assemblies_are : (place : Place) (assemblies as' : List AssemblyConfig) (ds : Items) → AreTables WritesAssembly as' ds
     → AreGoodAssemblies assemblies as' → assemblies_after place assemblies ds ≡ Ok (assemblies ++ as')
 assemblies_are place assemblies [] no_items w good = ap (λ (x : List AssemblyConfig). Ok x) (sym (append-nil assemblies))
-assemblies_are place assemblies (a ∷ as') (item (table m) ds) w good =
+assemblies_are place assemblies [] (item d ds) w good = elim w [ ]
+assemblies_are place assemblies (a ∷ as') no_items w good = elim w [ ]
+assemblies_are place assemblies (a ∷ as') (item d ds) w good =
     let here = assembly_in place (length assemblies + 1) in
     let whole : (assemblies ++ a ∷ []) ++ as' ≡ assemblies ++ a ∷ as' = append_assoc assemblies (a ∷ []) as' in
-    then_ok (assembly_of here assemblies (table m)) (λ x. assemblies_after place (assemblies ++ x ∷ []) ds) a (Ok (assemblies ++ a ∷ as'))
-    (assembly_is here assemblies a m w.0 (good.least 0 a refl) (good.most 0 a refl) (good.size 0 a refl)
+    then_ok (assembly_of here assemblies d) (λ x. assemblies_after place (assemblies ++ x ∷ []) ds) a (Ok (assemblies ++ a ∷ as'))
+    (ap (assembly_of here assemblies) w.0.is ∙ assembly_is here assemblies a w.0.members w.0.written (good.least 0 a refl) (good.most 0 a refl) (good.size 0 a refl)
     (differ_before (λ (x : AssemblyConfig). x.instance) assemblies as' a good.instances))
     (assemblies_are place (assemblies ++ a ∷ []) as' ds w.1 (record {
       least = λ i b at. good.least (suc i) b at;

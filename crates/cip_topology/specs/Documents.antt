@@ -2,7 +2,7 @@
 use Rattle.std.specs.Prelude.{◌≡◌, ◌⊎◌, ℕ, ◌*◌, ◌≤◌, IsTrue, List, [], ◌∷◌, length, codes, Some, None, Ok, pos}
 use Rattle.std.specs.Prelude.{slice_get}
 use Rattle.hex.specs.Hex.{decode_of}
-use Rattle.toml.specs.Data.{Items, no_items, item, Members, get_member, string, integer, array, table}
+use Rattle.toml.specs.Data.{Data, Items, no_items, item, Members, get_member, string, integer, array, table}
 use Rattle.cip_base.specs.Words.{Octets, LinkAddress}
 use Rattle.cip_module.specs.declared.config.LegalAddresses.{LegalAddresses}
 use Rattle.cip_module.specs.declared.config.LegalAddresses.TheVariants.{Byte, Text}
@@ -39,10 +39,16 @@ pub record HasAddress (a : LinkAddress) (m : Members) : Type 0 where
   pub count : length digits ≡ 2 * length a
   pub decoded : decode_of digits ≡ Ok a
 
--- the items are tables, one for each of the list in its order, and each writes it
+-- a table, which writes this
+pub record IsTable {X : Type 0} (writes : X → Members → Type 0) (x : X) (d : Data) : Type 0 where
+  pub members : Members
+  pub is : d ≡ table members
+  pub written : writes x members
+
+-- the items are tables, one for each of the list in its order
 abbrev pub AreTables : {X : Type 0} → (X → Members → Type 0) → List X → Items → Type 0
 AreTables writes [] no_items = Unit {0}
-AreTables writes (x ∷ xs) (item (table m) ds) = writes x m × AreTables writes xs ds
+AreTables writes (x ∷ xs) (item d ds) = IsTable writes x d × AreTables writes xs ds
 AreTables writes _ _ = ⊥
 
 pub record HasTables {X : Type 0} (writes : X → Members → Type 0) (k : Key) (xs : List X)

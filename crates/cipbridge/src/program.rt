@@ -7,7 +7,7 @@ use cip_console::{
     ConsoleFault, Options, OptionsFault, Out, Plain, ReadFault, Script, ScriptFault, Source, Usage,
     Watched, explain, read_options, read_script, run, run_live,
 };
-use cip_indexed::{new_modules, put_boxes};
+use cip_indexed::{NewModule, new_modules};
 use cip_module::Module;
 use cip_threads::OpenGate;
 use cip_topology::{CHASSIS, LoadFault, Topology, load};
@@ -208,8 +208,17 @@ fn play<T: Threads + Wait + Sync>(
 ) -> Result<(), ConsoleFault> {
     let alloc = rt.alloc();
     let made = new_modules(alloc, topology.configs())?;
-    let mut modules = Vec::new(alloc);
-    put_boxes(&mut modules, made)?;
+    let mut modules: Vec<Box<dyn Module + Send>> = Vec::new(alloc);
+    for new in made {
+        let pushed = match new {
+            NewModule::Plain(module_) => modules.push(module_),
+            NewModule::Adapter(module_) => modules.push(module_),
+            NewModule::Indexed(module_) => modules.push(module_),
+        };
+        if pushed.is_err() {
+            return Err(ConsoleFault::NoMemory);
+        }
+    }
     play_over(rt, workers, options, script, topology, modules)
 }
 

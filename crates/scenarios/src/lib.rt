@@ -18,8 +18,6 @@ mod explained_faults;
 #[cfg(test)]
 mod falling_silent;
 #[cfg(test)]
-mod handed_in;
-#[cfg(test)]
 mod moving_data;
 #[cfg(test)]
 mod opening;

@@ -2,7 +2,7 @@
 ghost use Rattle.std.specs.Prelude.{IfSome, map};
 ghost use Rattle.cip_world.specs.Worlds.{Stand};
 
-use cip_indexed::{new_modules, put_boxes};
+use cip_indexed::{NewModule, new_modules};
 use cip_module::Module;
 use cip_topology::{CHASSIS, Topology, load};
 use cip_world::World;
@@ -19,6 +19,21 @@ pub fn chassis(alloc: Global) -> Option<Topology> {
     topology(alloc, CHASSIS)
 }
 
+/// Puts new modules behind others.
+pub fn put_boxes(modules: &mut Vec<Box<dyn Module + Send>>, made: Vec<NewModule>) -> Option<()> {
+    for new in made {
+        let pushed = match new {
+            NewModule::Plain(module_) => modules.push(module_),
+            NewModule::Adapter(module_) => modules.push(module_),
+            NewModule::Indexed(module_) => modules.push(module_),
+        };
+        if pushed.is_err() {
+            return None;
+        }
+    }
+    Some(())
+}
+
 /// New modules of the topology, in this order.
 pub fn boxes_at(
     alloc: Global,
@@ -27,7 +42,7 @@ pub fn boxes_at(
 ) -> Option<Vec<Box<dyn Module + Send>>> {
     let made = modules_at(alloc, topology.configs(), places)?;
     let mut modules = Vec::new(alloc);
-    put_boxes(&mut modules, made).ok()?;
+    put_boxes(&mut modules, made)?;
     Some(modules)
 }
 
@@ -35,7 +50,7 @@ pub fn boxes_at(
 fn boxes(alloc: Global, topology: &Topology) -> Option<Vec<Box<dyn Module + Send>>> {
     let made = new_modules(alloc, topology.configs()).ok()?;
     let mut modules = Vec::new(alloc);
-    put_boxes(&mut modules, made).ok()?;
+    put_boxes(&mut modules, made)?;
     Some(modules)
 }
 

@@ -2,12 +2,11 @@
 ghost use Rattle.std.specs.Prelude.{IfSome, map};
 ghost use Rattle.cip_world.specs.Worlds.{Stand};
 
-use crate::boxes::chassis;
+use crate::boxes::{chassis, put_boxes};
 use crate::calls::{Answer, Call, first_other};
 use crate::given::THROUGH_A_TO_B;
 use cip_base::{Address, NoMemory, PortNumber};
 use cip_hops::Hop;
-use cip_indexed::put_boxes;
 use cip_module::{Event, Module, ModuleConfig, ModuleKind, Output, PlainModule, StepFault, Tables};
 use cip_topology::Topology;
 use cip_world::{End, World};
@@ -85,7 +84,7 @@ fn first_counted(
     if modules.push(first).is_err() {
         return None;
     }
-    put_boxes(&mut modules, others).ok()?;
+    put_boxes(&mut modules, others)?;
     Some(modules)
 }
 
