@@ -61,6 +61,16 @@ pub record IsReport (t : Plan) (given : List (ModuleId × Feed)) (turns : ℕ) (
   pub fed_all : (m : ℕ) → feeds_of m given ≡ fed m j ++ feeds_of m feeds
   pub ends : IsEnd turns j feeds frames end
 
+-- the journal of a report of modules that were given some feeds, with so many turns
+pub record IsReported (t : Plan) (j : Journal) : Type 0 where
+  pub given : List (ModuleId × Feed)
+  pub turns : ℕ
+  pub tables : List Tables
+  pub feeds : List (ModuleId × Feed)
+  pub frames : List FrameName
+  pub end : End
+  pub report : IsReport t given turns j tables feeds frames end
+
 -- the first clock of some module and all its ticks together pass the last time
 pub record Passes (t : Plan) (given : List (ModuleId × Feed)) : Type 0 where
   pub m : ℕ

@@ -1,6 +1,7 @@
-//! How runs of threads end.
+//! How runs of threads end, and what the journal of one tells.
 use crate::boxes::{boxes, boxes_of, chassis};
 use crate::given::{S, S2, late_chassis, sends, ticks, two_scanners};
+use cip_chain::{root, trail};
 use cip_clock::ClockFull;
 use cip_threads::{OpenGate, RunFault, feeds_fit, run_threads};
 use cip_world::{End, NewFault};
@@ -33,8 +34,14 @@ fn all_turns(rt: HostRuntime) -> Result<(), Fail> {
         return Err("no such module".into());
     }
     let report = run_threads(&rt, alloc, topology, modules, feeds, 100, &OpenGate)?;
+    let journal = report.journal.as_slice();
     assert_eq!(&rt; report.end, End::Quiet);
-    assert_eq!(&rt; report.journal.as_slice().len(), 10);
+    assert_eq!(&rt; journal.len(), 10);
+    // where the request of S went, and what the last of these entries came from
+    let went = trail(alloc, journal, S, 1)?;
+    let last = went.last().ok_or("no trail")?;
+    assert_eq!(&rt; went.len(), 3);
+    assert_eq!(&rt; root(journal, *last).as_ref(), went.first());
     Ok(())
 }
 
