@@ -1,6 +1,6 @@
--- What goes on is an edit of what came.
-use Rattle.std.proofs.Common.{◌≡◌, ◌<◌, ℕ, Bool, true, false, cond, eqb, List, [], ◌∷◌, ◌++◌, length, map as map_list, refl, sym, ap, subst, ◌∙◌, arith, Option, Some, Ok}
-use Rattle.std.specs.Option.{option_map}
+-- What goes on, or goes up, is an edit of what came; and a function that puts out what was made, anew or so, keeps its promise.
+use Rattle.std.proofs.Common.{◌≡◌, ◌<◌, ℕ, Bool, true, false, cond, eqb, List, [], ◌∷◌, ◌++◌, length, map as map_list, refl, sym, ap, subst, ◌∙◌, arith, Option, Some, Result, Ok, Err, IfOk}
+use Rattle.std.specs.Option.{option_map, option_map_or}
 use Rattle.std.specs.FinMap as map
 use Rattle.std.proofs.lemmas.Bool.{eqb-true, eqb-false}
 use Rattle.cip_base.specs.declared.triad.Triad.{Triad}
@@ -13,7 +13,7 @@ use Rattle.cip_unconnected.specs.GoesOn.{lowered, message_on}
 use Rattle.cip_open.specs.declared.request.TheConstants.{FORWARD_OPEN}
 use Rattle.cip_open.specs.Open.{Open}
 use Rattle.cip_open.specs.OpenAt.{open_at}
-use Rattle.cip_open.specs.GoesOn.{open_on, IsOpenSuccess}
+use Rattle.cip_open.specs.GoesOn.{open_on, success_with, IsOpenSuccess}
 use Rattle.cip_open.specs.Success.{OpenSuccess}
 use Rattle.cip_close.specs.declared.request.TheConstants.{FORWARD_CLOSE}
 use Rattle.cip_close.specs.Close.{Close}
@@ -26,12 +26,20 @@ use Rattle.cip_pending.specs.Pendings.{waiting_at, without}
 use Rattle.cip_pending.specs.declared.entry.Kind.TheVariants.{Unconnected as UnconnectedKind, Closing}
 use Rattle.cip_hops.specs.declared.opening.HopUp.{HopUp}
 use Rattle.cip_hops.specs.declared.opening.HopDown.TheVariants.{Link as DownLink}
-use Rattle.cip_hops.specs.Hops.{finished}
+use Rattle.cip_hops.specs.declared.opening.HopUp.TheVariants.{Link as UpLink}
+use Rattle.cip_hops.specs.declared.hop.Held.{Held}
+use Rattle.cip_hops.specs.Hops.{finished, opening_of, ids_of}
 use Rattle.cip_module.specs.declared.config.ModuleSettings.{ModuleSettings}
+use Rattle.cip_module.specs.declared.event.Event.{Event}
 use Rattle.cip_module.specs.declared.event.Output.{Output}
+use Rattle.cip_module.specs.declared.making.Making.{Making}
+use Rattle.cip_module.specs.declared.making.Making.TheVariants.{Anew, Edited}
+use Rattle.cip_module.specs.declared.making.Outgoing.{Outgoing}
+use Rattle.cip_module.specs.declared.reaction.Reaction.{Reaction}
+use Rattle.cip_module.specs.declared.reaction.Reaction.TheVariants as reactions
 use Rattle.cip_module.specs.declared.reaction.Edit.{Edit}
-use Rattle.cip_module.specs.declared.reaction.Edit.TheVariants.{AsTheyCame, Unwrapped, SentOn, OpenedOn, ClosedOn}
-use Rattle.cip_module.specs.Effects.{Effect, Forwards, Begins, Removes, given_up, succeeded, replied, reply_up, applied, outputs_of}
+use Rattle.cip_module.specs.declared.reaction.Edit.TheVariants.{AsTheyCame, Unwrapped, SentOn, OpenedOn, ClosedOn, SuccessUp}
+use Rattle.cip_module.specs.Effects.{Effect, Forwards, Begins, Removes, Finishes, Takes, given_up, success_up, succeeded, replied, reply_up, applied, outputs_of}
 use Rattle.cip_module.specs.OpenRows as opens
 use Rattle.cip_module.specs.OpenRows.{OpenRow, open_row, opening_with}
 use Rattle.cip_module.specs.CloseRows as closes
@@ -40,15 +48,15 @@ use Rattle.cip_module.specs.UnconnectedRows as unconnected
 use Rattle.cip_module.specs.UnconnectedRows.{UnconnectedRow, unconnected_row}
 use Rattle.cip_module.specs.RequestRows.{is_malformed}
 use Rattle.cip_module.specs.ReplyRows.{ReplyRow, UnknownPortOrTooLong, OpenSucceeded, PassedUp, read_row, waiting_row, reply_row}
-use Rattle.cip_module.specs.Reactions.{Becomes, filled}
+use Rattle.cip_module.specs.Reactions.{Becomes, PutsOut, filled}
+use Rattle.cip_module.specs.Steps.{IsStep}
 use Rattle.cip_module.specs.State.{State}
-use Rattle.cip_module.specs.Table.{up_side_of, send_below, open_below, close_below, unconnected_effects, open_effects, close_effects, reply_effects, with_spending}
+use Rattle.cip_module.specs.Table.{up_side_of, send_below, open_below, close_below, unconnected_effects, open_effects, close_effects, reply_effects, with_spending, decide, after_effects, Stepped}
 use Rattle.cip_module.specs.Links.{LeadsOn}
 use Rattle.cip_module.specs.declared.device.Device.{Device}
 use Rattle.cip_module.specs.Code.Device.{state_of_device}
-use Rattle.cip_module.specs.Code.Does.{HasDone}
-use Rattle.cip_module.specs.Code.Reacts.{with_bytes, send_edit}
-use Rattle.cip_module.specs.Code.Ready.{IsAsked}
+use Rattle.cip_module.specs.Code.Does.{Does, HasDone}
+use Rattle.cip_module.specs.Code.Reacts.{with_bytes, send_edit, outgoing_of, IsMade, reaction_of, SendCame, OpenCame, CloseCame, Reacted, Reacts}
 use Rattle.cip_module.proofs.CameIn.{SaysSuccess, success_came}
 use Rattle.cip_module.proofs.Waiting.{waits_at}
 use Rattle.cip_module.proofs.SendsForwarded.{sent_on}
@@ -104,6 +112,9 @@ close_becomes came d s sender c port address rest received is e =
 
 -- ---- a request that lacks its bytes goes on as it would with them
 
+abbrev stepped : State → List Output → Option Stepped
+stepped t outs = Some (record { state = t; outputs = outs })
+
 module _ (config : ModuleSettings) (s : State) (after : ModuleSettings) (new : State) (o : Output) (b : List ℕ) where
   filled_done : (lacking es : List Effect) → applied config s es ≡ applied config s lacking
       → outputs_of config s es ≡ map_list (λ x. filled x b) (outputs_of config s lacking)
@@ -113,70 +124,168 @@ module _ (config : ModuleSettings) (s : State) (after : ModuleSettings) (new : S
     same_config = done.same_config;
   }
 
--- ---- what the functions react that take a request on
+-- ---- a reply that lacks its bytes goes up as it would with them
 
-module _ (old new : Device) (came d : List ℕ) (o : Output) (port : ℕ) (address rest lacking : List ℕ) where
+reply_with : (up : UpSide) (old b : List ℕ) → filled (reply_up up old) b ≡ reply_up up b
+reply_with (Link port address number) old b = refl
+reply_with (Local op) old b = refl
+
+-- ---- what was made is put into an output
+
+module _ (old new : Device) where
   abbrev s : State
   s = state_of_device old
 
   abbrev Did : List Effect → List Output → Type 0
   Did es os = HasDone old.config s new.config (state_of_device new) es os
 
-  abbrev Puts : Edit → List Effect → Type 0
-  Puts edit es = (b : List ℕ) × Becomes came edit b × Did es (filled o b ∷ [])
+  on_by : (m : Making) (Came : List ℕ → Type 0) (o : Output) (effects : List ℕ → List Effect) (b : List ℕ) (edit : Edit)
+      → ((came : List ℕ) → Came came → Becomes came edit b)
+      → ((x y : List ℕ) → applied old.config s (effects x) ≡ applied old.config s (effects y))
+      → ((x y : List ℕ) → outputs_of old.config s (effects x) ≡ map_list (λ p. filled p x) (outputs_of old.config s (effects y)))
+      → Did (effects (outgoing_of m b edit).bytes) (o ∷ []) → Reacted m Came old new (effects b) (reaction_of (outgoing_of m b edit).edit o)
+  on_by Anew Came o effects b edit becomes same out done = done
+  on_by Edited Came o effects b edit becomes same out done = (
+    tt,
+    λ came is. (b, becomes came is, filled_done old.config s new.config (state_of_device new) o b (effects []) (effects b) (same b []) (out b []) done),
+  )
 
-  pub sent : (up : UpSide) (u : Unconnected) (edit : Edit) → edit ≡ send_edit rest → IsReceived UNCONNECTED_SEND d came → unconnected_at d ≡ Ok u
-      → unconnected.Forwarded port address rest ≡ unconnected_row old.config old.pendings u
-      → Did (Forwards (with_bytes (send_below up u port address []) lacking) UnconnectedKind ∷ []) (o ∷ [])
-      → Puts edit (unconnected_effects up u (unconnected_row old.config old.pendings u))
-  sent up u edit is received read e done =
-      subst (λ (x : Edit). Puts x (unconnected_effects up u (unconnected_row old.config old.pendings u))) (sym is)
-      (subst (λ (row : UnconnectedRow). Puts (send_edit rest) (unconnected_effects up u row)) e (
-        message_on u rest,
-        send_becomes came d old.config s u port address rest received read (sym e),
-        filled_done old.config s new.config (state_of_device new) o (message_on u rest)
-            (Forwards (with_bytes (send_below up u port address []) lacking) UnconnectedKind ∷ [])
-            (Forwards (send_below up u port address rest) UnconnectedKind ∷ []) refl refl done,
-      ))
+  -- a request that goes on with what was made
+  goes_on : (m : Making) (Came : List ℕ → Type 0) (o : Output) (effects : List ℕ → List Effect) (b : List ℕ) (edit : Edit) (made : Outgoing) (r : Reaction)
+      → made ≡ outgoing_of m b edit
+      → ((came : List ℕ) → Came came → Becomes came edit b)
+      → ((x y : List ℕ) → applied old.config s (effects x) ≡ applied old.config s (effects y))
+      → ((x y : List ℕ) → outputs_of old.config s (effects x) ≡ map_list (λ p. filled p x) (outputs_of old.config s (effects y)))
+      → Did (effects made.bytes) (o ∷ []) → r ≡ reaction_of made.edit o → Reacted m Came old new (effects b) r
+  goes_on m Came o effects b edit made r is becomes same out done puts =
+      subst (λ (x : Reaction). Reacted m Came old new (effects b) x) (sym (puts ∙ ap (λ (x : Outgoing). reaction_of x.edit o) is))
+      (on_by m Came o effects b edit becomes same out (subst (λ (x : Outgoing). Did (effects x.bytes) (o ∷ [])) is done))
 
-  pub opened : (up : UpSide) (q : Open) (id : ℕ) → id ≡ old.hops.next → IsAsked up → IsReceived FORWARD_OPEN d came → open_at d ≡ Ok q
-      → opens.Forwarded port address rest ≡ open_row old.config s (up_side_of up q.fields.to_id) q
-      → Did (with_spending up (Begins (with_bytes (open_below s up q port address []) lacking)
-      (opening_with (up_side_of up q.fields.to_id) (DownLink port address) q) ∷ [])) (o ∷ [])
-      → Puts (OpenedOn id) (open_effects s up q (open_row old.config s (up_side_of up q.fields.to_id) q))
-  opened (Link by from number) q id is asked received read e done =
-      let up = Link by from number in
-      subst (λ (x : ℕ). Puts (OpenedOn x) (open_effects s up q (open_row old.config s (up_side_of up q.fields.to_id) q))) (sym is)
-      (subst (λ (row : OpenRow). Puts (OpenedOn s.hops.next) (open_effects s up q row)) e (
-        open_on q s.hops.next rest,
-        open_becomes came d old.config s (up_side_of up q.fields.to_id) q port s.hops.next address rest received read (sym e),
-        filled_done old.config s new.config (state_of_device new) o (open_on q s.hops.next rest)
-            (Begins (with_bytes (open_below s up q port address []) lacking) (opening_with (up_side_of up q.fields.to_id) (DownLink port address) q) ∷ [])
-            (Begins (open_below s up q port address rest) (opening_with (up_side_of up q.fields.to_id) (DownLink port address) q) ∷ []) refl refl done,
-      ))
-  opened (Local op) q id is asked received read e done = absurd asked
+  up_by : (m : Making) (Came : List ℕ → Type 0) (up : UpSide) (es : List Effect) (b : List ℕ) (edit : Edit)
+      → ((came : List ℕ) → Came came → Becomes came edit b) → Did es (reply_up up b ∷ [])
+      → Reacted m Came old new es (reaction_of (outgoing_of m b edit).edit (reply_up up (outgoing_of m b edit).bytes))
+  up_by Anew Came up es b edit becomes done = done
+  up_by Edited Came up es b edit becomes done =
+      (tt, λ came is. (b, becomes came is, subst (λ (o : Output). Did es (o ∷ [])) (sym (reply_with up [] b)) done))
 
-  pub closed : (up : UpSide) (c : Close) → IsAsked up → IsReceived FORWARD_CLOSE d came → close_at d ≡ Ok c
-      → closes.Forwarded port address rest ≡ close_row s up c
-      → Did (with_spending up (Removes c.fields.triad ∷ Forwards (with_bytes (close_below up c port address []) lacking)
-      (Closing c.fields.triad) ∷ [])) (o ∷ [])
-      → Puts ClosedOn (close_effects up c (close_row s up c))
-  closed (Link by from number) c asked received read e done =
-      let up = Link by from number in
-      subst (λ (row : CloseRow). Puts ClosedOn (close_effects up c row)) e (
-        close_on c rest,
-        close_becomes came d s up c port address rest received read (sym e),
-        filled_done old.config s new.config (state_of_device new) o (close_on c rest)
-            (Removes c.fields.triad ∷ Forwards (with_bytes (close_below up c port address []) lacking) (Closing c.fields.triad) ∷ [])
-            (Removes c.fields.triad ∷ Forwards (close_below up c port address rest) (Closing c.fields.triad) ∷ []) refl refl done,
-      )
-  closed (Local op) c asked received read e done = absurd asked
+  -- a reply that goes up with what was made
+  goes_up : (m : Making) (Came : List ℕ → Type 0) (up : UpSide) (es : List Effect) (b : List ℕ) (made : Outgoing) (o : Output) (r : Reaction)
+      → IsMade m Came b made → Did es (reply_up up b ∷ []) → o ≡ reply_up up made.bytes → r ≡ reaction_of made.edit o → Reacted m Came old new es r
+  goes_up m Came up es b made o r is done puts with_edit =
+      subst (λ (x : Reaction). Reacted m Came old new es x)
+      (sym (with_edit ∙ ap (reaction_of made.edit) puts ∙ ap (λ (x : Outgoing). reaction_of x.edit (reply_up up x.bytes)) is.so))
+      (up_by m Came up es b is.edit is.becomes done)
 
--- ---- a reply that lacks its bytes goes up as it would with them
+  -- ---- what the functions react that take a request on
 
-reply_with : (up : UpSide) (old b : List ℕ) → filled (reply_up up old) b ≡ reply_up up b
-reply_with (Link port address number) old b = refl
-reply_with (Local op) old b = refl
+  pub sent : (m : Making) (o : Output) (up : UpSide) (u : Unconnected) (port : ℕ) (address rest : List ℕ) (made : Outgoing) (r : Reaction)
+      → unconnected.Forwarded port address rest ≡ unconnected_row old.config old.pendings u → made ≡ outgoing_of m (message_on u rest) (send_edit rest)
+      → Did (Forwards (with_bytes (send_below up u port address []) made.bytes) UnconnectedKind ∷ []) (o ∷ []) → r ≡ reaction_of made.edit o
+      → Reacted m (SendCame u) old new (unconnected_effects up u (unconnected_row old.config old.pendings u)) r
+  sent m o up u port address rest made r e is done puts =
+      subst (λ (row : UnconnectedRow). Reacted m (SendCame u) old new (unconnected_effects up u row) r) e
+      (goes_on m (SendCame u) o (λ b. Forwards (with_bytes (send_below up u port address []) b) UnconnectedKind ∷ []) (message_on u rest) (send_edit rest)
+      made r is (λ came c. send_becomes came c.0 old.config s u port address rest c.1 c.2 (sym e)) (λ x y. refl) (λ x y. refl) done puts)
+
+  abbrev beginning : UpSide → Open → ℕ → List ℕ → List ℕ → List Effect
+  beginning up q port address b =
+      with_spending up (Begins (with_bytes (open_below s up q port address []) b) (opening_with (up_side_of up q.fields.to_id) (DownLink port address) q) ∷ [])
+
+  begun_same : (up : UpSide) (q : Open) (port : ℕ) (address x y : List ℕ)
+      → applied old.config s (beginning up q port address x) ≡ applied old.config s (beginning up q port address y)
+  begun_same (Link by from number) q port address x y = refl
+  begun_same (Local op) q port address x y = refl
+
+  begun_out : (up : UpSide) (q : Open) (port : ℕ) (address x y : List ℕ)
+      → outputs_of old.config s (beginning up q port address x) ≡ map_list (λ p. filled p x) (outputs_of old.config s (beginning up q port address y))
+  begun_out (Link by from number) q port address x y = refl
+  begun_out (Local op) q port address x y = refl
+
+  pub opened : (m : Making) (o : Output) (up : UpSide) (q : Open) (port id : ℕ) (address rest : List ℕ) (made : Outgoing) (r : Reaction) → id ≡ old.hops.next
+      → opens.Forwarded port address rest ≡ open_row old.config s (up_side_of up q.fields.to_id) q → made ≡ outgoing_of m (open_on q id rest) (OpenedOn id)
+      → Did (beginning up q port address made.bytes) (o ∷ []) → r ≡ reaction_of made.edit o
+      → Reacted m (OpenCame q) old new (with_spending up (open_effects s up q (open_row old.config s (up_side_of up q.fields.to_id) q))) r
+  opened m o up q port id address rest made r next e is done puts =
+      subst (λ (row : OpenRow). Reacted m (OpenCame q) old new (with_spending up (open_effects s up q row)) r) e
+      (goes_on m (OpenCame q) o (beginning up q port address) (open_on q s.hops.next rest) (OpenedOn s.hops.next) made r
+      (is ∙ ap (λ (x : ℕ). outgoing_of m (open_on q x rest) (OpenedOn x)) next)
+      (λ came c. open_becomes came c.0 old.config s (up_side_of up q.fields.to_id) q port s.hops.next address rest c.1 c.2 (sym e)) (begun_same up q port address)
+      (begun_out up q port address) done puts)
+
+  abbrev closing : UpSide → Close → ℕ → List ℕ → List ℕ → List Effect
+  closing up c port address b =
+      with_spending up (Removes c.fields.triad ∷ Forwards (with_bytes (close_below up c port address []) b) (Closing c.fields.triad) ∷ [])
+
+  closed_same : (up : UpSide) (c : Close) (port : ℕ) (address x y : List ℕ)
+      → applied old.config s (closing up c port address x) ≡ applied old.config s (closing up c port address y)
+  closed_same (Link by from number) c port address x y = refl
+  closed_same (Local op) c port address x y = refl
+
+  closed_out : (up : UpSide) (c : Close) (port : ℕ) (address x y : List ℕ)
+      → outputs_of old.config s (closing up c port address x) ≡ map_list (λ p. filled p x) (outputs_of old.config s (closing up c port address y))
+  closed_out (Link by from number) c port address x y = refl
+  closed_out (Local op) c port address x y = refl
+
+  pub closed : (m : Making) (o : Output) (up sender : UpSide) (c : Close) (port : ℕ) (address rest : List ℕ) (made : Outgoing) (r : Reaction)
+      → closes.Forwarded port address rest ≡ close_row s sender c → made ≡ outgoing_of m (close_on c rest) ClosedOn
+      → Did (closing up c port address made.bytes) (o ∷ []) → r ≡ reaction_of made.edit o
+      → Reacted m (CloseCame c) old new (with_spending up (close_effects up c (close_row s sender c))) r
+  closed m o up sender c port address rest made r e is done puts =
+      subst (λ (row : CloseRow). Reacted m (CloseCame c) old new (with_spending up (close_effects up c row)) r) e
+      (goes_on m (CloseCame c) o (closing up c port address) (close_on c rest) ClosedOn made r is
+      (λ came k. close_becomes came k.0 s sender c port address rest k.1 k.2 (sym e)) (closed_same up c port address) (closed_out up c port address) done puts)
+
+  -- what holds of more bytes that came holds of fewer
+  pub narrowed : {E : Type 0} (m : Making) (More Fewer : List ℕ → Type 0) (es : List Effect) (r : Result Reaction E)
+      → ((came : List ℕ) → Fewer came → More came) → Reacts m More old new es r → Reacts m Fewer old new es r
+  narrowed m More Fewer es (Ok (reactions.Whole o)) more reacts = reacts
+  narrowed m More Fewer es (Ok (reactions.Edited o edit)) more reacts = (reacts.0, λ came is. reacts.1 came (more came is))
+  narrowed m More Fewer es (Err fault) more reacts = reacts
+
+-- ---- a success goes up with the ids of the sides above
+
+pub success_made : {E : Type 0} (m : Making) (held : Option Held) (x : Held) (port : ℕ) (address : List ℕ) (their_id up_id : ℕ) (came : List ℕ)
+    (s : OpenSuccess) (r : Result Outgoing E) → held ≡ Some x → (opening_of x).up ≡ UpLink port address their_id
+    → up_id ≡ option_map_or (λ id. id) (ids_of x).up 0
+    → IfOk r (λ made. made ≡ outgoing_of m (success_with s up_id their_id) (SuccessUp up_id their_id))
+    → IfOk r (λ made. IsMade m (λ b. (b ≡ came) × IsOpenSuccess b s) (succeeded held came s) made)
+success_made m held x port address their_id up_id came s (Ok made) stands above own so =
+    let is : succeeded held came s ≡ success_with s up_id their_id =
+    ap (λ (h : Option Held). succeeded h came s) stands
+    ∙ ap (λ (up : HopUp). success_up up (ids_of x) came s) above
+    ∙ ap (λ (id : ℕ). success_with s id their_id) (sym own) in record {
+      edit = SuccessUp up_id their_id;
+      so = so ∙ ap (λ (b : List ℕ). outgoing_of m b (SuccessUp up_id their_id)) (sym is);
+      becomes = λ b e. (s, e.1, is);
+    }
+success_made m held x port address their_id up_id came s (Err fault) stands above own so = tt
+
+-- ---- a step of the routing table, whose bytes stay where they are
+
+pub is_step : (config : ModuleSettings) (s new : State) (event : Event) (es : List Effect) (outs : List Output) → decide config s event ≡ Some es
+    → Does config s es new outs → IsStep config s event new outs
+is_step config s new event es outs decides does =
+    ap (after_effects config s) decides
+    ∙ ap (λ (t : State). stepped t (outputs_of config s es)) does.state
+    ∙ ap (stepped new) does.out
+
+module _ {E : Type 0} (old new : Device) (came : List ℕ) (es : List Effect) (event : Event)
+    (decides : decide old.config (state_of_device old) event ≡ Some es) where
+  pub stepped_on : (r : Result Reaction E) → Reacts Edited (λ b. b ≡ came) old new es r
+      → IfOk r (λ reaction. PutsOut came reaction (λ output. IsStep old.config (state_of_device old) event (state_of_device new) (output ∷ [])))
+  stepped_on (Ok (reactions.Whole o)) reacts =
+      is_step old.config (state_of_device old) (state_of_device new) event es (o ∷ []) decides reacts.does
+  stepped_on (Ok (reactions.Edited o edit)) reacts =
+      let g = reacts.1 came refl in
+      (g.0, g.1, is_step old.config (state_of_device old) (state_of_device new) event es (filled o g.0 ∷ []) decides g.2.does)
+  stepped_on (Err fault) reacts = tt
+
+  pub kept_on : (r : Result Reaction E) → Reacts Edited (λ b. b ≡ came) old new es r → new.config ≡ old.config
+  kept_on (Ok (reactions.Whole o)) reacts = reacts.same_config
+  kept_on (Ok (reactions.Edited o edit)) reacts = (reacts.1 came refl).2.same_config
+  kept_on (Err fault) reacts = reacts.same_config
+
+-- ---- a reply
 
 pub row_is : (config : ModuleSettings) (s : State) (port : ℕ) (from : List ℕ) (number : ℕ) (b : List ℕ) (entry : Entry) → is_malformed config port b ≡ false
     → Some entry ≡ waiting_at s.pendings number port from → read_row entry.kind (reply_at b) ≡ reply_row config s port from number b
@@ -185,12 +294,15 @@ row_is config s port from number b entry fits waits =
     ap (waiting_row b) waits
     ∙ ap (λ (t : Bool). cond t UnknownPortOrTooLong (waiting_row b (waiting_at s.pendings number port from))) (sym fits)
 
-module _ (old new : Device) (port number : ℕ) (from came lacking : List ℕ) (entry : Entry) (up : UpSide) (o : Output)
+module _ (old new : Device) (m : Making) (port number : ℕ) (from came : List ℕ) (entry : Entry) (up : UpSide) (made : Outgoing) (o : Output) (r : Reaction)
     (waits : Some entry ≡ waiting_at old.pendings number port from)
-    (value : Some up ≡ option_map (λ (e : Entry). e.up) (waiting_at old.pendings number port from)) (is : o ≡ reply_up up lacking)
-    (kept : new.config ≡ old.config) where
+    (value : Some up ≡ option_map (λ (e : Entry). e.up) (waiting_at old.pendings number port from)) (is : o ≡ reply_up up made.bytes)
+    (puts : r ≡ reaction_of made.edit o) (kept : new.config ≡ old.config) where
   abbrev before : State
   before = state_of_device old
+
+  abbrev AsCame : List ℕ → Type 0
+  AsCame b = b ≡ came
 
   own : up ≡ entry.up
   own = let both : Some up ≡ Some entry.up = value ∙ ap (option_map (λ (e : Entry). e.up)) (sym waits) in cc
@@ -198,36 +310,35 @@ module _ (old new : Device) (port number : ℕ) (from came lacking : List ℕ) (
   stands : map.get old.pendings.entries number ≡ Some entry
   stands = waits_at old.pendings number port from entry (sym waits)
 
-  goes_up : (b : List ℕ) → replied (map.get old.pendings.entries number) b ++ [] ≡ filled o b ∷ []
-  goes_up b =
+  told : (b : List ℕ) → replied (map.get old.pendings.entries number) b ++ [] ≡ reply_up up b ∷ []
+  told b =
       ap (λ (e : Option Entry). replied e b ++ []) stands
-      ∙ ap (λ (x : Output). x ∷ []) (ap (λ (v : UpSide). reply_up v b) (sym own) ∙ sym (reply_with up lacking b) ∙ ap (λ (x : Output). filled x b) (sym is))
+      ∙ ap (λ (x : Output). x ∷ []) (ap (λ (v : UpSide). reply_up v b) (sym own))
 
-  abbrev Answered : Edit → Type 0
-  Answered edit = (b : List ℕ) × Becomes came edit b × HasDone old.config before new.config (state_of_device new)
-      (reply_effects number came (reply_row old.config before port from number came)) (filled o b ∷ [])
+  abbrev Answered : Type 0
+  Answered = Reacted m AsCame old new (reply_effects number came (reply_row old.config before port from number came)) r
 
-  pub finished_up : (triad : Triad) (success : OpenSuccess) (edit : Edit)
-      → OpenSucceeded triad success ≡ reply_row old.config before port from number came
-      → ((b : List ℕ) (s : OpenSuccess) → IsOpenSuccess b s → Becomes b edit (succeeded (map.get old.hops.held triad) b s))
+  pub finished_up : (triad : Triad) (success : OpenSuccess) → OpenSucceeded triad success ≡ reply_row old.config before port from number came
+      → IsMade m (λ b. (b ≡ came) × IsOpenSuccess b success) (succeeded (map.get old.hops.held triad) came success) made
       → state_of_device new
       ≡ record before { pendings = without before.pendings number; hops = finished before.hops triad success.ot_id before.now }
-      → Answered edit
-  finished_up triad success edit row becomes after =
-      let b = succeeded (map.get old.hops.held triad) came success in (
-        b,
-        becomes came success (subst (SaysSuccess came) (sym row) (success_came old.config before port from number came)),
-        subst (λ (r : ReplyRow). HasDone old.config before new.config (state_of_device new) (reply_effects number came r) (filled o b ∷ [])) row
-            (record { does = record { state = sym after; out = goes_up b }; same_config = kept }),
-      )
+      → Answered
+  finished_up triad success row made_up after =
+      let says = subst (SaysSuccess came) (sym row) (success_came old.config before port from number came) in
+      subst (λ (x : ReplyRow). Reacted m AsCame old new (reply_effects number came x) r) row
+      (goes_up old new m AsCame up (Finishes number triad came success ∷ []) (succeeded (map.get old.hops.held triad) came success) made o r
+      (record {
+        edit = made_up.edit;
+        so = made_up.so;
+        becomes = λ b e. made_up.becomes b (e, subst (λ (x : List ℕ). IsOpenSuccess x success) (sym e) says);
+      })
+      (record { does = record { state = sym after; out = told (succeeded (map.get old.hops.held triad) came success) }; same_config = kept }) is puts)
 
-  pub passed_up : PassedUp ≡ reply_row old.config before port from number came
+  pub passed_up : PassedUp ≡ reply_row old.config before port from number came → made ≡ outgoing_of m came AsTheyCame
       → state_of_device new
       ≡ record before { pendings = without before.pendings number; hops = given_up (map.get before.pendings.entries number) before.hops }
-      → Answered AsTheyCame
-  passed_up row after = (
-    came,
-    refl,
-    subst (λ (r : ReplyRow). HasDone old.config before new.config (state_of_device new) (reply_effects number came r) (filled o came ∷ [])) row
-        (record { does = record { state = sym after; out = goes_up came }; same_config = kept }),
-  )
+      → Answered
+  passed_up row so after =
+      subst (λ (x : ReplyRow). Reacted m AsCame old new (reply_effects number came x) r) row
+      (goes_up old new m AsCame up (Takes number came ∷ []) came made o r (record { edit = AsTheyCame; so = so; becomes = λ b e. sym e })
+      (record { does = record { state = sym after; out = told came }; same_config = kept }) is puts)

@@ -8,6 +8,7 @@ use Rattle.cip_module.specs.declared.event.Output.{Output}
 use Rattle.cip_module.specs.Code.Does.{Does}
 use Rattle.cip_module.specs.Effects.{Effect, applied}
 use Rattle.cip_module.specs.Code.Fit.{AreSpent}
+use Rattle.cip_module.specs.Code.Ready.{IsAsked}
 use Rattle.cip_module.specs.State.{State, is_spent, spent_with}
 use Rattle.cip_module.specs.Table.{with_spending}
 
@@ -18,6 +19,11 @@ spending config s mid new (Link port address number) es outs e d = subst (λ (x 
 spending config s mid new (Local op) es outs e d =
     let from : Does config (record s { ops = spent_with op s.ops }) es new outs = subst (λ (x : State). Does config x es new outs) e d in
     record { state = from.state; out = from.out }
+
+-- what came in by a link uses up none
+pub asked_alone : (P : List Effect → Type 0) (up : UpSide) (es : List Effect) → IsAsked up → P (with_spending up es) → P es
+asked_alone P (Link port address number) es asked p = p
+asked_alone P (Local op) es asked p = absurd asked
 
 -- an op that was not used is that of no connection
 pub new_op : (h : Hops) (ops : List ℕ) (op : ℕ) → AreSpent h ops → is_spent op ops ≡ false → IsOpFree h (Some op)

@@ -40,7 +40,7 @@ pub(crate) fn reply_to(up: UpSide, bytes: Bytes) -> Output
 
 /// What goes on of an Unconnected_Send: the embedded request itself where no path is left, else an
 /// Unconnected_Send with what is left of its route and one tick less.
-pub(crate) fn message_on(
+pub(crate) fn message_anew(
     alloc: Global,
     view: UnconnectedView<'_>,
     rest: PathView<'_>,

@@ -16,10 +16,10 @@ ghost use Rattle.cip_module.specs.declared.event.Command.TheVariants.{Enter};
 use crate::contract::StepFault;
 use crate::device::Device;
 use crate::event::{Body, Command, Event, Output};
+use crate::making::Making;
 use crate::reaction::{Edit, Reaction};
 use crate::tick::steps::TickFault;
 use cip_base::{Address, Bytes, NoMemory, PortNumber};
-use cip_hops::{Onward, Side};
 use cip_unconnected::UnconnectedView;
 
 impl Device {
@@ -30,11 +30,23 @@ impl Device {
             from.now body.now) result }
     {
         match body {
-            Body::Request { number, bytes } => self.request(port, from, *number, bytes.as_slice()),
-            Body::Reply { number, bytes } => self.reply(port, from, *number, bytes),
+            Body::Request { number, bytes } => {
+                let bytes = bytes.as_slice();
+                match self.request(Making::Anew, port, from, *number, bytes)? {
+                    Reaction::Whole(output) => Ok(output),
+                    Reaction::Edited { .. } => unreachable!(),
+                }
+            }
+            Body::Reply { number, bytes } => {
+                let bytes = bytes.as_slice();
+                match self.reply(Making::Anew, port, from, *number, bytes)? {
+                    Reaction::Whole(output) => Ok(output),
+                    Reaction::Edited { .. } => unreachable!(),
+                }
+            }
             Body::Data { id, bytes } => {
                 let copied = Bytes::of(Vec::from_slice(self.alloc, bytes.as_slice())?);
-                Ok(self.datum(port, from, *id, copied))
+                Ok(self.take_datum(port, from, *id, copied))
             }
         }
     }
@@ -112,7 +124,7 @@ impl Device {
         ensures same { OnErr result (state_of_device self.new ≡ state_of_device self.old) }
         ensures config { self.new.config ≡ self.old.config }
     {
-        self.request_in_place(port, from, number, bytes)
+        self.request(Making::Edited, port, from, number, bytes)
     }
 
     /// A reply, in the same way. It takes no memory.
@@ -129,40 +141,10 @@ impl Device {
             (state_of_device self.new) (output ∷ [])) }
         ensures config { self.new.config ≡ self.old.config }
     {
-        self.reply_in_place(port, from, number, bytes)
-    }
-
-    /// Where a datum goes on that comes in by this side of a connection. The new state is that of
-    /// the routing table, and its one output is this datum, sent so. None where it does not go on
-    /// from this side: nothing changes. It takes no memory.
-    #[inline(always)]
-    pub fn pass_on(
-        &mut self,
-        side: Side,
-        port: PortNumber,
-        from: &Address,
-        id: u32,
-        bytes: &[u8],
-    ) -> Option<Onward>
-        ensures on { IfSome result (λ onward. IsStep self.old.config (state_of_device self.old)
-            (events.Frame port from.now (bodies.Data id bytes.now)) (state_of_device self.new)
-            (outputs.Send onward.port onward.address (bodies.Data onward.id bytes.now) ∷ [])) }
-        ensures stays { result ≡ None → state_of_device self.new ≡ state_of_device self.old }
-        ensures config { self.new.config ≡ self.old.config }
-    {
-        self.passed_on(side, port, from, id, bytes)
-    }
-
-    /// A datum: the new state and the output are those of the routing table. What goes on has the
-    /// bytes that came. It takes no memory.
-    #[inline(never)]
-    pub fn take_datum(&mut self, port: PortNumber, from: &Address, id: u32, bytes: Bytes) -> Output
-        ensures done { IsStep self.old.config (state_of_device self.old)
-            (events.Frame port from.now (bodies.Data id bytes)) (state_of_device self.new)
-            (result ∷ []) }
-        ensures config { self.new.config ≡ self.old.config }
-    {
-        self.datum(port, from, id, bytes)
+        match self.reply(Making::Edited, port, from, number, bytes) {
+            Ok(reaction) => reaction,
+            Err(_) => unreachable!(),
+        }
     }
 
     /// An Enter, its bytes left where they are: nothing changes, and the output is that of the

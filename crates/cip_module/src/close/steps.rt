@@ -1,15 +1,15 @@
 //! The close group: Forward_Close at a router, at an end and at its originator.
 ghost use Rattle.std.specs.Prelude.{◌≡◌, ◌≤◌, ◌∷◌, [], IfOk, OnErr, None};
+ghost use Rattle.cip_message.specs.Received.{IsReceived};
+ghost use Rattle.cip_close.specs.declared.request.TheConstants.{FORWARD_CLOSE};
 ghost use Rattle.cip_close.specs.Reading.{close_of};
-ghost use Rattle.cip_close.specs.Close.{Close};
 ghost use Rattle.cip_close.specs.CloseAt.{close_at};
 ghost use Rattle.cip_pending.specs.Pendings.{refusal};
-ghost use Rattle.cip_module.specs.CloseRows.{close_row, Forwarded, ClosedAtTheEnd};
+ghost use Rattle.cip_module.specs.CloseRows.{close_row, ClosedAtTheEnd};
 ghost use Rattle.cip_pending.specs.declared.entry.Kind.TheVariants.{Closing};
 ghost use Rattle.cip_module.specs.Effects.{Removes, Forwards};
 ghost use Rattle.cip_module.specs.Table.{close_on, close_below, close_effects, close_data_effects, with_spending};
-ghost use Rattle.cip_module.specs.Code.Decisions.{close_row_of, CloseLeads};
-ghost use Rattle.cip_module.specs.Code.Reacts.{with_bytes};
+ghost use Rattle.cip_module.specs.Code.Reacts.{Reacts, CloseCame, outgoing_of, with_bytes};
 ghost use Rattle.cip_module.specs.Code.Ready.{CanSpend, IsAsked};
 ghost use Rattle.cip_module.specs.Code.Does.{Handles, Handled};
 ghost use Rattle.cip_module.specs.Code.Device.{state_of_device};
@@ -18,26 +18,39 @@ use crate::answers::{close_failed, unread_close};
 use crate::close::rows::CloseDecision;
 use crate::device::Device;
 use crate::event::{Body, Output};
+use crate::making::{Making, Outgoing};
 use crate::messages::reply_to;
-use cip_base::{Address, Bytes, NoMemory, PortNumber, Triad};
+use crate::reaction::{Edit, Reaction};
+use cip_base::{Address, Bytes, NoMemory, PortNumber};
 use cip_close::{CloseReply, CloseView, read_close, write_close, write_close_reply};
 use cip_pending::{Entry, Kind, UpSide};
 use cip_segment::PathView;
 use std::alloc::Global;
 
 // What goes on: one tick less, and what is left of the path.
-fn close_on(alloc: Global, view: &CloseView<'_>, rest: PathView<'_>) -> Result<Bytes, NoMemory>
+fn close_on(
+    alloc: Global,
+    making: Making,
+    view: &CloseView<'_>,
+    rest: PathView<'_>,
+) -> Result<Outgoing, NoMemory>
     requires { 2 ≤ view.now.fields.timing.ticks }
-    ensures { IfOk result (λ b. b ≡ close_on (close_of view.now) rest.entry.bytes.now) }
+    ensures { IfOk result (λ made. made ≡ outgoing_of making
+        (close_on (close_of view.now) rest.entry.bytes.now) Edit.ClosedOn) }
 {
-    let mut fields = view.fields;
-    fields.timing.ticks -= 1;
-    write_close(alloc, &fields, rest)
+    match making {
+        Making::Anew => {
+            let mut fields = view.fields;
+            fields.timing.ticks -= 1;
+            Ok(Outgoing::anew(write_close(alloc, &fields, rest)?))
+        }
+        Making::Edited => Ok(Outgoing::edited(alloc, Edit::ClosedOn)),
+    }
 }
 
 impl Device {
-    /// The connection is removed, and its Forward_Close goes on by a link as these bytes.
-    pub(crate) fn close_below(
+    // The connection is removed, and its Forward_Close goes on by a link as these bytes.
+    fn close_below(
         &mut self,
         up: UpSide,
         view: &CloseView<'_>,
@@ -71,33 +84,13 @@ impl Device {
         }
     }
 
-    // The close goes on by a link.
-    fn close_by(
-        &mut self,
-        up: UpSide,
-        view: &CloseView<'_>,
-        port: PortNumber,
-        address: Address,
-        rest: PathView<'_>,
-    ) -> Result<Output, NoMemory>
-        requires spend { CanSpend self.old up }
-        requires ticks { 2 ≤ view.now.fields.timing.ticks }
-        requires pending { refusal self.old.pendings ≡ None }
-        ensures { Handles self.old self.new (with_spending up
-            (close_effects up (close_of view.now)
-            (Forwarded port address rest.entry.bytes.now))) result }
-    {
-        let bytes = close_on(self.alloc, view, rest)?;
-        Ok(self.close_below(up, view, port, address, bytes))
-    }
-
     // The connection ends here, and is removed.
-    fn close_at_end(&mut self, up: UpSide, triad: Triad) -> Result<Output, NoMemory>
+    fn close_at_end(&mut self, up: UpSide, view: &CloseView<'_>) -> Result<Output, NoMemory>
         requires spend { CanSpend self.old up }
-        ensures { (c : Close) → c.fields.triad ≡ triad
-            → Handles self.old self.new (with_spending up (close_effects up c ClosedAtTheEnd))
-            result }
+        ensures { Handles self.old self.new (with_spending up
+            (close_effects up (close_of view.now) ClosedAtTheEnd)) result }
     {
+        let triad = view.fields.triad;
         let reply = CloseReply { triad, reply: &[] };
         let bytes = write_close_reply(self.alloc, &reply)?;
         self.spend_for(&up);
@@ -105,66 +98,62 @@ impl Device {
         Ok(reply_to(up, bytes))
     }
 
-    /// A Forward_Close of which the row was found.
-    pub(crate) fn carry_out_close(
+    /// A Forward_Close that was read. `sender` is whom it has to come from: a device, or the op of
+    /// the Open.
+    pub(crate) fn close(
         &mut self,
+        making: Making,
         up: UpSide,
+        sender: &UpSide,
         view: &CloseView<'_>,
-        decision: CloseDecision<'_>,
-    ) -> Result<Output, NoMemory>
+    ) -> Result<Reaction, NoMemory>
         requires spend { CanSpend self.old up }
-        requires leads { CloseLeads self.old.pendings view.now.fields.timing decision }
-        ensures { Handles self.old self.new (with_spending up
-            (close_effects up (close_of view.now) (close_row_of decision.entry))) result }
+        ensures { Reacts making (CloseCame (close_of view.now)) self.old self.new
+            (with_spending up (close_effects up (close_of view.now)
+            (close_row (state_of_device self.old) sender.now (close_of view.now)))) result }
     {
-        match decision {
+        match self.close_row(sender, view) {
             CloseDecision::Refuses(refusal) => {
                 let words = view.path.words();
                 let bytes = close_failed(self.alloc, refusal.status(), view.fields.triad, words)?;
                 self.spend_for(&up);
-                Ok(reply_to(up, bytes))
+                Ok(Reaction::Whole(reply_to(up, bytes)))
             }
             CloseDecision::Forwarded {
                 port,
                 address,
                 rest,
-            } => self.close_by(up, view, port, address, rest),
-            CloseDecision::ClosedAtTheEnd => self.close_at_end(up, view.fields.triad),
+            } => {
+                let made = close_on(self.alloc, making, view, rest)?;
+                let output = self.close_below(up, view, port, address, made.bytes);
+                Ok(Reaction::with(output, made.edit))
+            }
+            CloseDecision::ClosedAtTheEnd => {
+                Ok(Reaction::Whole(self.close_at_end(up, view)?))
+            }
         }
     }
 
-    /// A Forward_Close that was read. `sender` is whom it has to come from: a device, or the op of
-    /// the Open.
-    pub(crate) fn close(
-        &mut self,
-        up: UpSide,
-        sender: &UpSide,
-        view: &CloseView<'_>,
-    ) -> Result<Output, NoMemory>
-        requires spend { CanSpend self.old up }
-        ensures { Handles self.old self.new (with_spending up
-            (close_effects up (close_of view.now)
-            (close_row (state_of_device self.old) sender.now (close_of view.now)))) result }
-    {
-        let decision = self.close_row(sender, view);
-        self.carry_out_close(up, view, decision)
-    }
-
     /// A Forward_Close, by its data.
-    pub(crate) fn forward_close(&mut self, up: UpSide, data_: &[u8]) -> Result<Output, NoMemory>
+    pub(crate) fn forward_close(
+        &mut self,
+        making: Making,
+        up: UpSide,
+        data_: &[u8],
+    ) -> Result<Reaction, NoMemory>
         requires { IsAsked up }
-        ensures { Handles self.old self.new
-            (close_data_effects (state_of_device self.old) up data_.now
-            (close_at data_.now)) result }
+        ensures { Reacts making (IsReceived FORWARD_CLOSE data_.now) self.old self.new
+            (close_data_effects (state_of_device self.old) up data_.now (close_at data_.now))
+            result }
     {
         match read_close(data_) {
             Ok(view) => {
                 let sender = up.copy();
-                self.close(up, &sender, &view)
+                self.close(making, up, &sender, &view)
             }
             Err(fault) => {
                 let bytes = unread_close(self.alloc, data_, fault)?;
-                Ok(reply_to(up, bytes))
+                Ok(Reaction::Whole(reply_to(up, bytes)))
             }
         }
     }

@@ -17,7 +17,9 @@ use crate::command::rows::CommandRow;
 use crate::data::outputs::datum_down;
 use crate::device::Device;
 use crate::event::{OpenParams, Output, Refused};
+use crate::making::Making;
 use crate::messages::no_bytes;
+use crate::reaction::Reaction;
 use cip_base::{Bytes, NoMemory, Timing, Triad};
 use cip_close::{CloseFields, CloseView};
 use cip_open::{OpenFields, OpenView};
@@ -36,7 +38,10 @@ impl Device {
             result }
     {
         self.ops.reserve()?;
-        let output = self.unconnected(UpSide::Local { op }, view)?;
+        let Reaction::Whole(output) = self.unconnected(Making::Anew, UpSide::Local { op }, view)?
+        else {
+            unreachable!()
+        };
         self.spends(op);
         Ok(output)
     }
@@ -103,7 +108,10 @@ impl Device {
             path: path.view(),
         };
         self.ops.reserve()?;
-        self.open(UpSide::Local { op }, &view)
+        match self.open(Making::Anew, UpSide::Local { op }, &view)? {
+            Reaction::Whole(output) => Ok(output),
+            Reaction::Edited { .. } => unreachable!(),
+        }
     }
 
     /// A Close of the connection that the op `of` opened: handled as the Forward_Close that it
@@ -135,7 +143,10 @@ impl Device {
             path: path.view(),
         };
         let sender = UpSide::Local { op: of };
-        self.close(UpSide::Local { op }, &sender, &view)
+        match self.close(Making::Anew, UpSide::Local { op }, &sender, &view)? {
+            Reaction::Whole(output) => Ok(output),
+            Reaction::Edited { .. } => unreachable!(),
+        }
     }
 
     /// What an Enter puts out, a datum by the connection that the op opened, which lacks its bytes;

@@ -2,9 +2,11 @@
 ghost use Rattle.std.specs.Prelude.{◌≡◌, ◌∷◌, [], None, Some, IfSome};
 ghost use Rattle.cip_hops.specs.Hops.{hop_by_up, hop_by_down};
 ghost use Rattle.cip_module.specs.declared.event.Body.TheVariants as bodies;
+ghost use Rattle.cip_module.specs.declared.event.Event.TheVariants as events;
 ghost use Rattle.cip_module.specs.declared.event.Output.TheVariants as outputs;
 ghost use Rattle.cip_module.specs.Effects.{applied};
-ghost use Rattle.cip_module.specs.DataRows.{id_row, data_row};
+ghost use Rattle.cip_module.specs.DataRows.{id_row};
+ghost use Rattle.cip_module.specs.Steps.{IsStep};
 ghost use Rattle.cip_module.specs.Table.{datum_effects};
 ghost use Rattle.cip_module.specs.Code.Plans.{written_effects};
 ghost use Rattle.cip_module.specs.Code.Does.{Handled};
@@ -34,7 +36,7 @@ impl Device {
     }
 
     // An end takes a datum, and writes it where it is not that of the last count.
-    fn takes_datum(
+    fn consume_datum(
         &mut self,
         triad: Triad,
         instance: u32,
@@ -78,7 +80,7 @@ impl Device {
                     let (triad, instance) = (hop.opening.triad, *consume);
                     let writing = written_of(hop, instance, bytes.as_slice());
                     self.renews(Side::Up, id);
-                    self.takes_datum(triad, instance, writing, bytes)
+                    self.consume_datum(triad, instance, writing, bytes)
                 }
             };
         }
@@ -95,11 +97,12 @@ impl Device {
         }
     }
 
-    /// Where a datum goes on that comes in by this side of a connection; None where it does not go
-    /// on from there.
+    /// Where a datum goes on that comes in by this side of a connection. The new state is that of
+    /// the routing table, and its one output is this datum, sent so. None where it does not go on
+    /// from this side: nothing changes. It takes no memory.
     #[tactic(auto, unfolding(crate::specs::DataRows::data_row))]
     #[inline(always)]
-    pub(crate) fn passed_on(
+    pub fn pass_on(
         &mut self,
         side: Side,
         port: PortNumber,
@@ -107,8 +110,8 @@ impl Device {
         id: u32,
         bytes: &[u8],
     ) -> Option<Onward>
-        ensures on { IfSome result (λ onward. Handled self.old self.new (datum_effects bytes.now
-            (data_row self.old.config (state_of_device self.old) port from.now id bytes.now))
+        ensures on { IfSome result (λ onward. IsStep self.old.config (state_of_device self.old)
+            (events.Frame port from.now (bodies.Data id bytes.now)) (state_of_device self.new)
             (outputs.Send onward.port onward.address (bodies.Data onward.id bytes.now) ∷ [])) }
         ensures stays { result ≡ None → state_of_device self.new ≡ state_of_device self.old }
         ensures config { self.new.config ≡ self.old.config }
@@ -121,20 +124,15 @@ impl Device {
         self.hops.pass_on(side, id, port, from, bytes.len(), now)
     }
 
-    /// A datum that came in by a port from an address, under an id: what goes on has its bytes. It
-    /// takes no memory.
+    /// A datum: the new state and the output are those of the routing table. What goes on has the
+    /// bytes that came. It takes no memory.
     #[tactic(auto, unfolding(crate::specs::DataRows::data_row))]
     #[inline(always)]
-    pub(crate) fn datum(
-        &mut self,
-        port: PortNumber,
-        from: &Address,
-        id: u32,
-        bytes: Bytes,
-    ) -> Output
-        ensures { Handled self.old self.new (datum_effects bytes
-            (data_row self.old.config (state_of_device self.old) port from.now id bytes))
+    pub fn take_datum(&mut self, port: PortNumber, from: &Address, id: u32, bytes: Bytes) -> Output
+        ensures done { IsStep self.old.config (state_of_device self.old)
+            (events.Frame port from.now (bodies.Data id bytes)) (state_of_device self.new)
             (result ∷ []) }
+        ensures config { self.new.config ≡ self.old.config }
     {
         if port_of(self.config.settings(), port).is_none() {
             return Output::Dropped(Dropped::UnknownId);

@@ -1,5 +1,7 @@
 //! The open group: Forward_Open at a router, at an end and at its originator.
 ghost use Rattle.std.specs.Prelude.{◌≡◌, ◌≤◌, ◌<◌, ◌∷◌, [], length, IfOk, OnErr, None, Some, Ok, true};
+ghost use Rattle.cip_message.specs.Received.{IsReceived};
+ghost use Rattle.cip_open.specs.declared.request.TheConstants.{FORWARD_OPEN};
 ghost use Rattle.cip_open.specs.Reading.{open_of};
 ghost use Rattle.cip_open.specs.OpenAt.{open_at};
 ghost use Rattle.cip_open.specs.declared.request.OpenView.{OpenView as Views};
@@ -7,12 +9,11 @@ ghost use Rattle.cip_pending.specs.Pendings.{refusal};
 ghost use Rattle.cip_hops.specs.Hops as hops;
 ghost use Rattle.cip_hops.specs.Sides.{up_is_link};
 ghost use Rattle.cip_target.specs.Ends.{row_at};
-ghost use Rattle.cip_module.specs.OpenRows.{open_row, opening_with, ids_if_forwarded, end_down, Forwarded, Accepted};
+ghost use Rattle.cip_module.specs.OpenRows.{open_row, opening_with, ids_if_forwarded, end_down, Accepted};
 ghost use Rattle.cip_hops.specs.declared.opening.HopDown.TheVariants.{Link as DownLink};
 ghost use Rattle.cip_module.specs.Effects.{Begins};
 ghost use Rattle.cip_module.specs.Table.{up_side_of, open_on, open_below, accepted_bytes, open_effects, open_data_effects, with_spending};
-ghost use Rattle.cip_module.specs.Code.Decisions.{open_row_of, OpenLeads};
-ghost use Rattle.cip_module.specs.Code.Reacts.{with_bytes};
+ghost use Rattle.cip_module.specs.Code.Reacts.{Reacts, OpenCame, outgoing_of, with_bytes};
 ghost use Rattle.cip_module.specs.Code.Ready.{CanSpend, IsAsked};
 ghost use Rattle.cip_module.specs.Code.Does.{Handles};
 ghost use Rattle.cip_module.specs.Code.Device.{state_of_device};
@@ -20,8 +21,10 @@ ghost use Rattle.cip_module.specs.Code.Device.{state_of_device};
 use crate::answers::{open_failed, unread_open};
 use crate::device::Device;
 use crate::event::{Body, Output};
+use crate::making::{Making, Outgoing};
 use crate::messages::reply_to;
 use crate::open::rows::OpenDecision;
+use crate::reaction::{Edit, Reaction};
 use cip_base::{Address, Bytes, NoMemory, PortNumber, Timing};
 use cip_hops::{HopDown, HopUp, Opening};
 use cip_open::{OpenFields, OpenReply, OpenView, params, read_open, write_open, write_open_reply};
@@ -65,17 +68,24 @@ fn opening_with(up: HopUp, down: HopDown, fields: &OpenFields, path: Path) -> Op
 // What goes on: one tick less, the own down id as T to O id, and what is left of the path.
 fn open_on(
     alloc: Global,
+    making: Making,
     view: &OpenView<'_>,
     down_id: u32,
     rest: PathView<'_>,
-) -> Result<Bytes, NoMemory>
+) -> Result<Outgoing, NoMemory>
     requires { 2 ≤ view.now.fields.timing.ticks }
-    ensures { IfOk result (λ b. b ≡ open_on (open_of view.now) down_id rest.entry.bytes.now) }
+    ensures { IfOk result (λ made. made ≡ outgoing_of making
+        (open_on (open_of view.now) down_id rest.entry.bytes.now) (Edit.OpenedOn down_id)) }
 {
-    let mut fields = view.fields;
-    fields.timing.ticks -= 1;
-    fields.to_id = down_id;
-    write_open(alloc, &fields, rest)
+    match making {
+        Making::Anew => {
+            let mut fields = view.fields;
+            fields.timing.ticks -= 1;
+            fields.to_id = down_id;
+            Ok(Outgoing::anew(write_open(alloc, &fields, rest)?))
+        }
+        Making::Edited => Ok(Outgoing::edited(alloc, Edit::OpenedOn { down_id })),
+    }
 }
 
 // The success of an end: its own up id, and no application reply.
@@ -95,8 +105,8 @@ fn accepted(alloc: Global, fields: &OpenFields, up_id: u32) -> Result<Bytes, NoM
 }
 
 impl Device {
-    /// The connection goes on by a link, and its Forward_Open as these bytes.
-    pub(crate) fn begin_below(
+    // The connection goes on by a link, and its Forward_Open as these bytes.
+    fn begin_below(
         &mut self,
         up: UpSide,
         view: &OpenView<'_>,
@@ -139,29 +149,6 @@ impl Device {
         })
     }
 
-    // The connection goes on by a link.
-    fn open_by(
-        &mut self,
-        up: UpSide,
-        view: &OpenView<'_>,
-        port: PortNumber,
-        address: Address,
-        rest: PathView<'_>,
-    ) -> Result<Output, NoMemory>
-        requires spend { CanSpend self.old up }
-        requires multiplier { view.now.fields.multiplier < 8 }
-        requires ticks { 2 ≤ view.now.fields.timing.ticks }
-        requires pending { refusal self.old.pendings ≡ None }
-        requires room { hops.refusal self.old.hops view.now.fields.triad
-            (ids_if_forwarded (up_side_of up view.now.fields.to_id)) ≡ None }
-        ensures { Handles self.old self.new (with_spending up
-            (open_effects (state_of_device self.old) up (open_of view.now)
-            (Forwarded port address rest.entry.bytes.now))) result }
-    {
-        let bytes = open_on(self.alloc, view, self.hops.last() + 1, rest)?;
-        self.begin_below(up, view, port, address, bytes)
-    }
-
     // The connection ends here.
     fn open_at_end(
         &mut self,
@@ -190,63 +177,60 @@ impl Device {
         Ok(reply_to(up, bytes))
     }
 
-    /// A Forward_Open of which the row was found.
-    pub(crate) fn carry_out_open(
+    /// A Forward_Open that was read.
+    pub(crate) fn open(
         &mut self,
+        making: Making,
         up: UpSide,
         view: &OpenView<'_>,
-        decision: OpenDecision<'_>,
-    ) -> Result<Output, NoMemory>
+    ) -> Result<Reaction, NoMemory>
         requires spend { CanSpend self.old up }
-        requires row { open_row_of decision ≡ open_row self.old.config (state_of_device self.old)
-            (up_side_of up view.now.fields.to_id) (open_of view.now) }
-        requires leads { OpenLeads self.old (up_side_of up view.now.fields.to_id) (open_of view.now)
-            decision }
-        ensures { Handles self.old self.new (with_spending up
-            (open_effects (state_of_device self.old) up (open_of view.now)
-            (open_row_of decision.entry))) result }
-    {
-        match decision {
-            OpenDecision::Refuses(refusal) => {
-                let words = view.path.words();
-                let bytes = open_failed(self.alloc, refusal.status(), view.fields.triad, words)?;
-                self.spend_for(&up);
-                Ok(reply_to(up, bytes))
-            }
-            OpenDecision::Forwarded {
-                port,
-                address,
-                rest,
-            } => self.open_by(up, view, port, address, rest),
-            OpenDecision::Accepted(link) => self.open_at_end(up, view, link),
-        }
-    }
-
-    /// A Forward_Open that was read.
-    pub(crate) fn open(&mut self, up: UpSide, view: &OpenView<'_>) -> Result<Output, NoMemory>
-        requires spend { CanSpend self.old up }
-        ensures { Handles self.old self.new (with_spending up
+        ensures { Reacts making (OpenCame (open_of view.now)) self.old self.new (with_spending up
             (open_effects (state_of_device self.old) up (open_of view.now)
             (open_row self.old.config (state_of_device self.old)
             (up_side_of up view.now.fields.to_id) (open_of view.now)))) result }
     {
         let asker = up_side_of(&up, view.fields.to_id);
-        let decision = self.open_row(&asker, view);
-        self.carry_out_open(up, view, decision)
+        match self.open_row(&asker, view) {
+            OpenDecision::Refuses(refusal) => {
+                let words = view.path.words();
+                let bytes = open_failed(self.alloc, refusal.status(), view.fields.triad, words)?;
+                self.spend_for(&up);
+                Ok(Reaction::Whole(reply_to(up, bytes)))
+            }
+            OpenDecision::Forwarded {
+                port,
+                address,
+                rest,
+            } => {
+                let down_id = self.hops.last() + 1;
+                let made = open_on(self.alloc, making, view, down_id, rest)?;
+                let output = self.begin_below(up, view, port, address, made.bytes)?;
+                Ok(Reaction::with(output, made.edit))
+            }
+            OpenDecision::Accepted(link) => {
+                Ok(Reaction::Whole(self.open_at_end(up, view, link)?))
+            }
+        }
     }
 
     /// A Forward_Open, by its data.
-    pub(crate) fn forward_open(&mut self, up: UpSide, data_: &[u8]) -> Result<Output, NoMemory>
+    pub(crate) fn forward_open(
+        &mut self,
+        making: Making,
+        up: UpSide,
+        data_: &[u8],
+    ) -> Result<Reaction, NoMemory>
         requires { IsAsked up }
-        ensures { Handles self.old self.new
+        ensures { Reacts making (IsReceived FORWARD_OPEN data_.now) self.old self.new
             (open_data_effects self.old.config (state_of_device self.old) up
             data_.now (open_at data_.now)) result }
     {
         match read_open(data_) {
-            Ok(view) => self.open(up, &view),
+            Ok(view) => self.open(making, up, &view),
             Err(fault) => {
                 let bytes = unread_open(self.alloc, data_, fault)?;
-                Ok(reply_to(up, bytes))
+                Ok(Reaction::Whole(reply_to(up, bytes)))
             }
         }
     }

@@ -1,81 +1,127 @@
 //! The reply group: a reply on its way up.
-ghost use Rattle.std.specs.Prelude.{◌≡◌, ◌≤◌, ◌%◌, ◌∷◌, [], length, IfOk, OnErr};
+ghost use Rattle.std.specs.Prelude.{◌≡◌, ◌≤◌, ◌%◌, ◌∷◌, [], length, IfOk, IsOk};
 ghost use Rattle.std.specs.FinMap as map;
 ghost use Rattle.cip_open.specs.Reading.{success_of};
+ghost use Rattle.cip_open.specs.GoesOn.{success_with, IsOpenSuccess};
 ghost use Rattle.cip_module.specs.Effects.{succeeded};
 ghost use Rattle.cip_module.specs.ReplyRows.{reply_row};
 ghost use Rattle.cip_module.specs.Code.Device.{state_of_device};
-ghost use Rattle.cip_module.specs.Code.Does.{Handles};
+ghost use Rattle.cip_module.specs.Code.Reacts.{Reacts, IsMade, outgoing_of};
 ghost use Rattle.cip_module.specs.Table.{reply_effects};
 
 use crate::device::Device;
 use crate::event::{Dropped, Output};
+use crate::making::{Making, Outgoing};
 use crate::messages::reply_to;
+use crate::reaction::{Edit, Reaction};
 use crate::reply::rows::{ReplyDecision, reply_row};
 use crate::request::rows::is_malformed;
 use cip_base::{Address, Bytes, NoMemory, PortNumber, Triad};
 use cip_hops::HopUp;
 use cip_open::{OpenReply, write_open_reply};
+use std::alloc::Global;
+
+// The success of a Forward_Open, with these ids.
+fn success_with(
+    alloc: Global,
+    making: Making,
+    success: OpenReply<'_>,
+    up_id: u32,
+    their_id: u32,
+) -> Result<Outgoing, NoMemory>
+    requires even { length success.reply.now % 2 ≡ 0 }
+    requires most { length success.reply.now ≤ 510 }
+    ensures made { IfOk result (λ made. made ≡ outgoing_of making
+        (success_with (success_of success.entry) up_id their_id)
+        (Edit.SuccessUp up_id their_id)) }
+    ensures edited { making ≡ Making.Edited → IsOk result }
+{
+    match making {
+        Making::Anew => {
+            let mut reply = success;
+            reply.ot_id = up_id;
+            reply.to_id = their_id;
+            Ok(Outgoing::anew(write_open_reply(alloc, &reply)?))
+        }
+        Making::Edited => Ok(Outgoing::edited(alloc, Edit::SuccessUp { up_id, their_id })),
+    }
+}
+
+// The bytes as they came.
+fn as_they_came(alloc: Global, making: Making, bytes: &[u8]) -> Result<Outgoing, NoMemory>
+    ensures made { IfOk result (λ made. made ≡ outgoing_of making bytes.now Edit.AsTheyCame) }
+    ensures edited { making ≡ Making.Edited → IsOk result }
+{
+    match making {
+        Making::Anew => Ok(Outgoing::anew(Bytes::of(Vec::from_slice(alloc, bytes)?))),
+        Making::Edited => Ok(Outgoing::edited(alloc, Edit::AsTheyCame)),
+    }
+}
 
 impl Device {
     // A success as it goes up: with the own up id, and the T to O id of the device above; a command
     // gets the bytes as received.
     fn success_up(
         &self,
+        making: Making,
         triad: &Triad,
         bytes: &[u8],
         success: OpenReply<'_>,
-    ) -> Result<Bytes, NoMemory>
+    ) -> Result<Outgoing, NoMemory>
         requires even { length success.reply.now % 2 ≡ 0 }
         requires most { length success.reply.now ≤ 510 }
-        ensures { IfOk result (λ b. b ≡ succeeded (map.get self.now.hops.held triad.now) bytes.now
-            (success_of success.entry)) }
+        ensures made { IfOk result (λ made. IsMade making
+            (λ came. came ≡ bytes.now × IsOpenSuccess came (success_of success.entry))
+            (succeeded (map.get self.now.hops.held triad.now) bytes.now
+            (success_of success.entry)) made) }
+        ensures edited { making ≡ Making.Edited → IsOk result }
     {
         if let Some(held) = self.hops.held(triad) {
             if let HopUp::Link { their_id, .. } = &held.opening().up {
-                let mut reply = success;
-                reply.ot_id = held.ids().up.unwrap_or(0);
-                reply.to_id = *their_id;
-                return write_open_reply(self.alloc, &reply);
+                let up_id = held.ids().up.unwrap_or(0);
+                return success_with(self.alloc, making, success, up_id, *their_id);
             }
         }
-        Ok(Bytes::of(Vec::from_slice(self.alloc, bytes)?))
+        as_they_came(self.alloc, making, bytes)
     }
 
-    /// A reply that came in by a port from an address.
+    /// A reply that came in by a port from an address. It takes no memory where its bytes are
+    /// edited.
     #[tactic(auto, unfolding(crate::specs::ReplyRows::reply_row))]
     pub(crate) fn reply(
         &mut self,
+        making: Making,
         port: PortNumber,
         from: &Address,
         number: u32,
-        bytes: &Bytes,
-    ) -> Result<Output, NoMemory>
-        ensures { Handles self.old self.new (reply_effects number bytes.now
-            (reply_row self.old.config (state_of_device self.old) port from.now number bytes.now))
-            result }
+        bytes: &[u8],
+    ) -> Result<Reaction, NoMemory>
+        ensures reacts { Reacts making (λ came. came ≡ bytes.now) self.old self.new
+            (reply_effects number bytes.now (reply_row self.old.config (state_of_device self.old)
+            port from.now number bytes.now)) result }
+        ensures edited { making ≡ Making.Edited → IsOk result }
     {
-        if is_malformed(self.config.settings(), port, bytes.as_slice()) {
-            return Ok(Output::Dropped(Dropped::Malformed));
+        if is_malformed(self.config.settings(), port, bytes) {
+            return Ok(Reaction::Whole(Output::Dropped(Dropped::Malformed)));
         }
         let Some(entry) = self.pendings.look(number, port, from) else {
-            return Ok(Output::Dropped(Dropped::Late));
+            return Ok(Reaction::Whole(Output::Dropped(Dropped::Late)));
         };
-        match reply_row(entry.kind, bytes.as_slice()) {
-            ReplyDecision::Malformed => Ok(Output::Dropped(Dropped::Malformed)),
+        match reply_row(entry.kind, bytes) {
+            ReplyDecision::Malformed => Ok(Reaction::Whole(Output::Dropped(Dropped::Malformed))),
             ReplyDecision::OpenSucceeded(triad, success) => {
-                let reply = self.success_up(&triad, bytes.as_slice(), success)?;
+                let made = self.success_up(making, &triad, bytes, success)?;
                 let Some(up) = self.finishes(number, port, from, &triad, success.ot_id) else {
                     unreachable!()
                 };
-                Ok(reply_to(up, reply))
+                Ok(Reaction::with(reply_to(up, made.bytes), made.edit))
             }
             ReplyDecision::PassedUp => {
-                let reply = Bytes::of(Vec::from_slice(self.alloc, bytes.as_slice())?);
+                let made = as_they_came(self.alloc, making, bytes)?;
                 let Some(up) = self.takes(number, port, from) else {
                     unreachable!()
                 };
-                Ok(reply_to(up, reply))
+                Ok(Reaction::with(reply_to(up, made.bytes), made.edit))
             }
         }
     }

@@ -1,28 +1,57 @@
 //! The unconnected send group: an Unconnected_Send at a router and at its end.
-ghost use Rattle.std.specs.Prelude.{◌≡◌, ◌≤◌, ◌<◌, ◌∷◌, [], length, None};
+ghost use Rattle.std.specs.Prelude.{◌≡◌, ◌≤◌, ◌<◌, ◌∷◌, [], length, None, IfOk};
+ghost use Rattle.cip_message.specs.Received.{IsReceived};
+ghost use Rattle.cip_unconnected.specs.declared.unconnected.TheConstants.{UNCONNECTED_SEND};
 ghost use Rattle.cip_unconnected.specs.Reading.{unconnected_of};
 ghost use Rattle.cip_unconnected.specs.Unconnected.{unconnected_bytes};
 ghost use Rattle.cip_unconnected.specs.UnconnectedAt.{unconnected_at};
 ghost use Rattle.cip_pending.specs.declared.entry.Kind.{Kind as Kinds};
 ghost use Rattle.cip_pending.specs.Pendings.{refusal};
+ghost use Rattle.cip_module.specs.Table.{message_on};
+ghost use Rattle.cip_module.specs.Code.Reacts.{Reacts, SendCame, outgoing_of, send_edit, with_bytes};
 
 use crate::answers::unconnected_failure;
 use crate::device::Device;
 use crate::event::{Body, Output};
-use crate::messages::{message_on, reply_to};
+use crate::making::{Making, Outgoing};
+use crate::messages::{message_anew, reply_to};
+use crate::reaction::{Edit, Reaction};
 use crate::unconnected_send::rows::{UnconnectedDecision, unconnected_row, unread_row};
 use cip_base::{Address, Bytes, NoMemory, PortNumber};
 use cip_pending::{Entry, Kind, UpSide};
+use cip_segment::PathView;
 use cip_unconnected::{UnconnectedView, read_unconnected, route_words};
+use std::alloc::Global;
+
+// What goes on: the embedded request itself where no path is left, else an Unconnected_Send with
+// what is left of its route and one tick less.
+fn message_on(
+    alloc: Global,
+    making: Making,
+    view: UnconnectedView<'_>,
+    rest: PathView<'_>,
+) -> Result<Outgoing, NoMemory>
+    requires fits { length (unconnected_bytes (unconnected_of view)) ≤ 1400 }
+    requires shorter { length rest.bytes.now ≤ length view.route.bytes.now }
+    requires ticks { 2 ≤ view.timing.ticks }
+    ensures { IfOk result (λ made. made ≡ outgoing_of making
+        (message_on (unconnected_of view.entry) rest.entry.bytes.now)
+        (send_edit rest.entry.bytes.now)) }
+{
+    match making {
+        Making::Anew => Ok(Outgoing::anew(message_anew(alloc, view, rest)?)),
+        Making::Edited if rest.bytes.is_empty() => Ok(Outgoing::edited(alloc, Edit::Unwrapped)),
+        Making::Edited => Ok(Outgoing::edited(alloc, Edit::SentOn)),
+    }
+}
 
 impl Device {
     ghost use Rattle.cip_module.specs.Code.Does.{Handled};
-    ghost use Rattle.cip_module.specs.Code.Reacts.{with_bytes};
     ghost use Rattle.cip_module.specs.Effects.{Forwards};
     ghost use Rattle.cip_module.specs.Table.{send_below};
 
-    /// An Unconnected_Send goes on as these bytes, under the next number.
-    pub(crate) fn send_on(
+    // An Unconnected_Send goes on as these bytes, under the next number.
+    fn send_on(
         &mut self,
         up: UpSide,
         view: UnconnectedView<'_>,
@@ -60,72 +89,62 @@ impl Device {
 
 impl Device {
     ghost use Rattle.cip_module.specs.Code.Device.{state_of_device};
-    ghost use Rattle.cip_module.specs.Code.Does.{Handles};
     ghost use Rattle.cip_module.specs.UnconnectedRows.{unconnected_row};
-    ghost use Rattle.cip_module.specs.Code.Decisions.{unconnected_row_of, Leads};
     ghost use Rattle.cip_module.specs.Table.{unconnected_effects, unconnected_data_effects};
 
-    /// An Unconnected_Send of which the row was found.
-    #[inline(always)]
-    pub(crate) fn carry_out_unconnected(
-        &mut self,
-        up: UpSide,
-        view: UnconnectedView<'_>,
-        decision: UnconnectedDecision<'_>,
-    ) -> Result<Output, NoMemory>
-        requires fits { length (unconnected_bytes (unconnected_of view)) ≤ 1400 }
-        requires leads { Leads self.old.pendings view.timing view.route.bytes.now decision }
-        ensures handled { Handles self.old self.new (unconnected_effects up
-            (unconnected_of view.entry) (unconnected_row_of decision.entry)) result }
-        ensures ops { self.new.ops ≡ self.old.ops }
-    {
-        match decision {
-            UnconnectedDecision::Refuses(refusal) => {
-                let words = Some(view.route.words());
-                let bytes = unconnected_failure(self.alloc, refusal, words)?;
-                Ok(reply_to(up, bytes))
-            }
-            UnconnectedDecision::AnsweredHere(request) => { self.answer_here(up, request) }
-            UnconnectedDecision::Forwarded {
-                port,
-                address,
-                rest,
-            } => {
-                let bytes = message_on(self.alloc, view, rest)?;
-                Ok(self.send_on(up, view, port, address, bytes))
-            }
-        }
-    }
-
-    // An Unconnected_Send that was read.
+    /// An Unconnected_Send that was read.
     pub(crate) fn unconnected(
         &mut self,
+        making: Making,
         up: UpSide,
         view: UnconnectedView<'_>,
-    ) -> Result<Output, NoMemory>
+    ) -> Result<Reaction, NoMemory>
         requires { length (unconnected_bytes (unconnected_of view)) ≤ 1400 }
-        ensures handled { Handles self.old self.new
+        ensures reacts { Reacts making (SendCame (unconnected_of view.entry)) self.old self.new
             (unconnected_effects up (unconnected_of view.entry)
             (unconnected_row self.old.config self.old.pendings (unconnected_of view.entry)))
             result }
         ensures ops { self.new.ops ≡ self.old.ops }
     {
-        let decision = unconnected_row(self.config.settings(), &self.pendings, view);
-        self.carry_out_unconnected(up, view, decision)
+        match unconnected_row(self.config.settings(), &self.pendings, view) {
+            UnconnectedDecision::Refuses(refusal) => {
+                let words = Some(view.route.words());
+                let bytes = unconnected_failure(self.alloc, refusal, words)?;
+                Ok(Reaction::Whole(reply_to(up, bytes)))
+            }
+            UnconnectedDecision::AnsweredHere(request) => {
+                Ok(Reaction::Whole(self.answer_here(up, request)?))
+            }
+            UnconnectedDecision::Forwarded {
+                port,
+                address,
+                rest,
+            } => {
+                let made = message_on(self.alloc, making, view, rest)?;
+                let output = self.send_on(up, view, port, address, made.bytes);
+                Ok(Reaction::with(output, made.edit))
+            }
+        }
     }
 
     /// An Unconnected_Send, by its data.
-    pub(crate) fn unconnected_send(&mut self, up: UpSide, data_: &[u8]) -> Result<Output, NoMemory>
+    pub(crate) fn unconnected_send(
+        &mut self,
+        making: Making,
+        up: UpSide,
+        data_: &[u8],
+    ) -> Result<Reaction, NoMemory>
         requires { length data_.now ≤ 1394 }
-        ensures { Handles self.old self.new (unconnected_data_effects self.old.config
-            (state_of_device self.old) up data_.now (unconnected_at data_.now)) result }
+        ensures { Reacts making (IsReceived UNCONNECTED_SEND data_.now) self.old self.new
+            (unconnected_data_effects self.old.config (state_of_device self.old) up data_.now
+            (unconnected_at data_.now)) result }
     {
         match read_unconnected(data_) {
-            Ok(view) => self.unconnected(up, view),
+            Ok(view) => self.unconnected(making, up, view),
             Err(fault) => {
                 let refusal = unread_row(data_, fault);
                 let bytes = unconnected_failure(self.alloc, refusal, route_words(data_))?;
-                Ok(reply_to(up, bytes))
+                Ok(Reaction::Whole(reply_to(up, bytes)))
             }
         }
     }

@@ -72,15 +72,15 @@ returns-in-End c =
     let named = up_named m.hops c.is_within.ensures c.args.id c.args.port c.args.from.now hop e in
     let at = found_held (is_hop_by_up c.args.id c.args.port c.args.from.now) m.hops hop e c.is_within.ensures in
     let renewed = c.renews-in-End.ensures.after hop.opening.triad named in
-    let after = c.takes_datum.ensures.after
+    let after = c.consume_datum.ensures.after
     ∙ ap (λ (config : ModuleSettings). applied config (state_of_device c.renews-in-End.new.self) es) c.renews-in-End.ensures.config
     ∙ ap (λ (t : State). applied m.config t es) renewed in
-    let out = c.takes_datum.ensures.value ∙ sym (ap (λ (d : HopDown). datum_down hop d c.args.bytes) c.in-End.is) in
+    let out = c.consume_datum.ensures.value ∙ sym (ap (λ (d : HopDown). datum_down hop d c.args.bytes) c.in-End.is) in
     by_row _ _ _ _ c.args.bytes _ _ _ (ap (datum_effects c.args.bytes) (row ∙ sym ends) ∙ end_effects hop.opening.triad c.args.bytes writing)
-    (subst (λ (out : Output). HasDone m.config (state_of_device m) c.takes_datum.new.self.config (state_of_device c.takes_datum.new.self)
+    (subst (λ (out : Output). HasDone m.config (state_of_device m) c.consume_datum.new.self.config (state_of_device c.consume_datum.new.self)
     (Passes hop.opening.triad Down c.args.bytes ∷ Renews hop.opening.triad Up ∷ es) (out ∷ [])) (sym out)
-    (ended m.config c.takes_datum.new.self.config (state_of_device m) (state_of_device c.takes_datum.new.self) hop.opening.triad hop c.args.bytes at
-    (c.takes_datum.ensures.config ∙ c.renews-in-End.ensures.config) writing (sym after)))
+    (ended m.config c.consume_datum.new.self.config (state_of_device m) (state_of_device c.consume_datum.new.self) hop.opening.triad hop c.args.bytes at
+    (c.consume_datum.ensures.config ∙ c.renews-in-End.ensures.config) writing (sym after)))
 
 pub returns-else-as_slice-from-2 : goal.returns-else-as_slice-from-2
 returns-else-as_slice-from-2 c =

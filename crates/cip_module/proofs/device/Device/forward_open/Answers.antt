@@ -1,0 +1,28 @@
+use Rattle.std.proofs.Common.{sym, subst, Result, List}
+use Rattle.cip_message.specs.Received.{IsReceived}
+use Rattle.cip_message.specs.declared.fault.DataFault.{DataFault}
+use Rattle.cip_open.specs.declared.request.TheConstants.{FORWARD_OPEN}
+use Rattle.cip_open.specs.Open.{Open}
+use Rattle.cip_open.specs.Reading.{open_of}
+use Rattle.cip_module.specs.OpenRows.{open_row}
+use Rattle.cip_module.specs.Effects.{Effect}
+use Rattle.cip_module.specs.Code.Device.{state_of_device}
+use Rattle.cip_module.specs.Code.Reacts.{Reacts, OpenCame}
+use Rattle.cip_module.specs.Table.{up_side_of, open_effects, open_data_effects}
+use Rattle.cip_module.proofs.InPlace.{narrowed}
+use Rattle.cip_module.proofs.Spending.{asked_alone}
+use Rattle.cip_module.proofs.device.Device.forward_open.Goals as goal
+
+pub returns-in-Ok : goal.returns-in-Ok
+returns-in-Ok c =
+    let m = c.args.self.now in
+    let new = c.open.new.self in
+    let up = c.args.up in
+    let d = c.args.data_.now in
+    let q = open_of c.in-Ok.view in
+    let es = open_effects (state_of_device m) up q (open_row m.config (state_of_device m) (up_side_of up q.fields.to_id) q) in
+    let P : List Effect → Type 0 = λ es. Reacts c.args.making (OpenCame q) m new es c.open.result in
+    subst (λ (r : Result Open DataFault). Reacts c.args.making (IsReceived FORWARD_OPEN d) m new (open_data_effects m.config (state_of_device m) up d r)
+    c.open.result) (sym c.in-Ok.ensures.gives)
+    (narrowed m new c.args.making (OpenCame q) (IsReceived FORWARD_OPEN d) es c.open.result (λ came received. (d, received, c.in-Ok.ensures.gives))
+    (asked_alone P up es c.requires c.open.ensures))
