@@ -5,6 +5,7 @@
 mod asked;
 mod boxes;
 mod chassis;
+mod harness;
 mod opened;
 mod player;
 mod told;
@@ -12,4 +13,5 @@ mod words;
 
 pub use boxes::{modules_at, new_module};
 pub use chassis::{AnyModule, Device, Kinds, device_of, make};
+pub use harness::Harness;
 pub use player::{play, play_adapter, play_open};

@@ -19,12 +19,9 @@
 //!
 //! An output is written as in a transcript. A step that did not happen has `clock full` or `no
 //! memory` in its place.
-use crate::asked::event;
-use crate::chassis::{AnyModule, Device, Kinds, NAMES, device_of, make};
+use crate::chassis::Kinds;
+use crate::harness::Harness;
 use crate::opened::OPENED;
-use crate::told::{Shown, Told, fault_text};
-use crate::words::Words;
-use cip_module::{Event, Output};
 use std::alloc::Global;
 use std::fmt::Write;
 use std::test::Fail;
@@ -32,75 +29,15 @@ use std::test::Fail;
 /// The kinds of modules for which each script is played.
 const KINDS: [Kinds; 3] = [Kinds::Plain, Kinds::Indexed, Kinds::OneIndexed];
 
-/// A module under its name.
+/// The modules with what the last event gave, and the lines that the script tells of it.
 #[derive(Drop)]
-struct Named {
-    name: &'static str,
-    module_: AnyModule,
-}
-
-/// The modules, of which the last of a name is played on, the lines that the last event gave, and
-/// those that the script tells of it.
-#[derive(Drop)]
-struct Harness {
+struct Player {
     alloc: Global,
     kinds: Kinds,
-    modules: Vec<Named>,
-    given: String,
+    harness: Harness,
     told: String,
     /// How often the last event was played.
     turns: u16,
-}
-
-// The place of the last module of this name.
-fn place_of(modules: &[Named], name: &str) -> Option<usize> {
-    let mut place = None;
-    for (at, module_) in modules.iter().enumerate() {
-        if module_.name == name {
-            place = Some(at);
-        }
-    }
-    place
-}
-
-fn make_named(alloc: Global, device: &Device) -> Option<Named> {
-    let module_ = make(alloc, device)?;
-    Some(Named {
-        name: device.name(),
-        module_,
-    })
-}
-
-fn all_modules(alloc: Global, kinds: Kinds) -> Option<Vec<Named>> {
-    let mut modules = Vec::new(alloc);
-    for name in NAMES {
-        let device = device_of(name, kinds)?;
-        modules.push(make_named(alloc, &device)?).ok()?;
-    }
-    Some(modules)
-}
-
-// A line for each output. It is written of a copy.
-fn put_outputs(alloc: Global, outputs: &[Output], text: &mut String) -> Option<()> {
-    for output in outputs {
-        let output = output.copy(alloc).ok()?;
-        writeln!(text, "{}", Told(&output)).ok()?;
-    }
-    Some(())
-}
-
-// One event at a module, which is given a copy of it.
-fn step(alloc: Global, module_: &mut AnyModule, event: &Event, text: &mut String) -> Option<()> {
-    match module_.step(event.copy(alloc).ok()?) {
-        Ok(outputs) => put_outputs(alloc, outputs.as_slice(), text),
-        Err(fault) => writeln!(text, "{}", fault_text(&fault)).ok(),
-    }
-}
-
-// The lines of a module's tables.
-fn show(module_: &AnyModule, text: &mut String) -> Option<()> {
-    let tables = module_.tables().ok()?;
-    write!(text, "{}", Shown(&tables)).ok()
 }
 
 // The line at a turn: each number in parentheses, and the turns before, as two bytes.
@@ -119,38 +56,15 @@ fn line_at(alloc: Global, line: &str, turn: u16) -> Option<String> {
     Some(text)
 }
 
-impl Harness {
-    fn new(alloc: Global, kinds: Kinds) -> Option<Harness> {
-        Some(Harness {
+impl Player {
+    fn new(alloc: Global, kinds: Kinds) -> Option<Player> {
+        Some(Player {
             alloc,
             kinds,
-            modules: all_modules(alloc, kinds)?,
-            given: String::new(alloc),
+            harness: Harness::new(alloc, kinds)?,
             told: String::new(alloc),
             turns: 0,
         })
-    }
-
-    // `M with SETTING NUMBER`
-    fn make_anew(&mut self, name: &str, words: &mut Words) -> Option<()> {
-        let device = device_of(name, self.kinds)?.with(words.word()?, words.u64()?)?;
-        self.modules.push(make_named(self.alloc, &device)?).ok()
-    }
-
-    // What a line asks for.
-    fn obey(&mut self, line: &str) -> Option<()> {
-        let mut words = Words::of(self.alloc, line);
-        let name = words.word()?;
-        let place = place_of(self.modules.as_slice(), name)?;
-        match words.word()? {
-            "with" => self.make_anew(name, &mut words),
-            "tables" => show(&self.modules.get(place)?.module_, &mut self.given),
-            kind => {
-                let event = event(kind, &mut words)?;
-                let module_ = &mut self.modules.get_mut(place)?.module_;
-                step(self.alloc, module_, &event, &mut self.given)
-            }
-        }
     }
 
     // `N M EVENT ..`: the event so many times.
@@ -159,7 +73,7 @@ impl Harness {
         self.turns = u16::from_str_radix(turns, 10).ok()?;
         for turn in 0..self.turns {
             let line = line_at(self.alloc, line, turn)?;
-            self.obey(line.as_str())?;
+            self.harness.obey(line.as_str())?;
         }
         Some(())
     }
@@ -168,7 +82,7 @@ impl Harness {
     fn obey_all(&mut self, line: &str) -> Option<()> {
         match line.strip_prefix("times ") {
             Some(line) => self.repeat(line),
-            None => self.obey(line),
+            None => self.harness.obey(line),
         }
     }
 
@@ -189,10 +103,11 @@ impl Harness {
 
     // That the outputs are those that were told.
     fn check(&mut self) -> Result<(), Fail> {
-        if self.given.as_str() != self.told.as_str() {
-            return Err(Fail::new(format_args!("{:?} gave {}", self.kinds, self.given)));
+        let given = self.harness.given();
+        if given != self.told.as_str() {
+            return Err(Fail::new(format_args!("{:?} gave {given}", self.kinds)));
         }
-        self.given.clear();
+        self.harness.forget();
         self.told.clear();
         Ok(())
     }
@@ -224,17 +139,17 @@ impl Harness {
 /// Plays a script on fresh modules of each kind; the failure tells the outputs that differ.
 pub fn play(alloc: Global, script: &str) -> Result<(), Fail> {
     for kinds in KINDS {
-        let mut harness = Harness::new(alloc, kinds).ok_or("no harness")?;
-        harness.play(script)?;
+        let mut player = Player::new(alloc, kinds).ok_or("no harness")?;
+        player.play(script)?;
     }
     Ok(())
 }
 
 // On modules of this kind along which the scanner opened a connection to the adapter.
 fn play_opened(alloc: Global, kinds: Kinds, script: &str) -> Result<(), Fail> {
-    let mut harness = Harness::new(alloc, kinds).ok_or("no harness")?;
-    harness.play(OPENED)?;
-    harness.play(script)
+    let mut player = Player::new(alloc, kinds).ok_or("no harness")?;
+    player.play(OPENED)?;
+    player.play(script)
 }
 
 /// Plays a script on modules of each kind along which the scanner opened a connection to the

@@ -1,4 +1,4 @@
-//! Why steps are not taken to their end.
+//! Why the program ends before its work is done.
 
 use cip_base::NoMemory;
 use cip_module::StepFault;
@@ -7,11 +7,13 @@ use std::io;
 use std::num::ParseIntError;
 use thiserror::Error;
 
-/// Why steps are not taken to their end.
+/// Why the program ends before its work is done.
 #[derive(Clone, Copy, Debug, PartialEq, Eq, Error)]
 pub enum Fault {
-    #[error("usage: step_times [send|open|datum|send-full|open-full|datum-full TIMES [indexed]]")]
+    #[error("usage: played plain|indexed|mixed, played times [send|open|datum|send-full|open-full|datum-full TIMES [indexed]]")]
     Usage,
+    #[error("a line cannot be played")]
+    Line,
     #[error("the system refused")]
     System,
     #[error("out of memory")]

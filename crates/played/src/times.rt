@@ -1,0 +1,44 @@
+//! Steps of a bridge, many times over.
+use crate::case::{CASES, Case, case_of};
+use crate::fault::Fault;
+use std::env::Args;
+use test_harness::Kinds;
+
+// So many turns, and a line about them.
+fn run_case(rt: &HostRuntime, case: Case, kinds: Kinds, times: u32) -> Result<(), Fault> {
+    case.run(rt.alloc(), kinds, times)?;
+    println!(rt; "{} {times} done", case.name)?;
+    Ok(())
+}
+
+fn run_all(rt: &HostRuntime) -> Result<(), Fault> {
+    for kinds in [Kinds::Plain, Kinds::Indexed] {
+        for case in CASES {
+            run_case(rt, case, kinds, 1_000)?;
+        }
+    }
+    Ok(())
+}
+
+// Of which kind the bridge is.
+fn kinds_of(word: Option<&str>) -> Result<Kinds, Fault> {
+    match word {
+        None => Ok(Kinds::Plain),
+        Some("indexed") => Ok(Kinds::Indexed),
+        Some(_) => Err(Fault::Usage),
+    }
+}
+
+/// Takes the steps that the words ask for, `STEP TIMES` or `STEP TIMES indexed`. Without words it
+/// takes each step of a plain and of an indexed bridge 1,000 times.
+pub fn run(rt: &HostRuntime, words: &mut Args) -> Result<(), Fault> {
+    let Some(name) = words.next() else {
+        return run_all(rt);
+    };
+    let case = case_of(name.as_str()).ok_or(Fault::Usage)?;
+    let times = words.next().ok_or(Fault::Usage)?;
+    let times = times.parse::<u32>()?;
+    let word = words.next();
+    let kinds = kinds_of(word.as_ref().map(|word| word.as_str()))?;
+    run_case(rt, case, kinds, times)
+}
