@@ -28,6 +28,7 @@ use cip_segment::PathView;
 use std::alloc::Global;
 
 // What goes on: one tick less, and what is left of the path.
+#[inline(always)]
 fn close_on(
     alloc: Global,
     making: Making,
@@ -100,6 +101,7 @@ impl Device {
 
     /// A Forward_Close that was read. `sender` is whom it has to come from: a device, or the op of
     /// the Open.
+    #[inline(always)]
     pub(crate) fn close(
         &mut self,
         making: Making,
@@ -128,13 +130,12 @@ impl Device {
                 let output = self.close_below(up, view, port, address, made.bytes);
                 Ok(Reaction::with(output, made.edit))
             }
-            CloseDecision::ClosedAtTheEnd => {
-                Ok(Reaction::Whole(self.close_at_end(up, view)?))
-            }
+            CloseDecision::ClosedAtTheEnd => { Ok(Reaction::Whole(self.close_at_end(up, view)?)) }
         }
     }
 
     /// A Forward_Close, by its data.
+    #[inline(always)]
     pub(crate) fn forward_close(
         &mut self,
         making: Making,

@@ -66,6 +66,7 @@ fn opening_with(up: HopUp, down: HopDown, fields: &OpenFields, path: Path) -> Op
 }
 
 // What goes on: one tick less, the own down id as T to O id, and what is left of the path.
+#[inline(always)]
 fn open_on(
     alloc: Global,
     making: Making,
@@ -178,6 +179,7 @@ impl Device {
     }
 
     /// A Forward_Open that was read.
+    #[inline(always)]
     pub(crate) fn open(
         &mut self,
         making: Making,
@@ -215,6 +217,7 @@ impl Device {
     }
 
     /// A Forward_Open, by its data.
+    #[inline(always)]
     pub(crate) fn forward_open(
         &mut self,
         making: Making,

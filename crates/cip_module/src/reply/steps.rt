@@ -22,6 +22,7 @@ use cip_open::{OpenReply, write_open_reply};
 use std::alloc::Global;
 
 // The success of a Forward_Open, with these ids.
+#[inline(always)]
 fn success_with(
     alloc: Global,
     making: Making,
@@ -48,6 +49,7 @@ fn success_with(
 }
 
 // The bytes as they came.
+#[inline(always)]
 fn as_they_came(alloc: Global, making: Making, bytes: &[u8]) -> Result<Outgoing, NoMemory>
     ensures made { IfOk result (λ made. made ≡ outgoing_of making bytes.now Edit.AsTheyCame) }
     ensures edited { making ≡ Making.Edited → IsOk result }
@@ -88,6 +90,7 @@ impl Device {
     /// A reply that came in by a port from an address. It takes no memory where its bytes are
     /// edited.
     #[tactic(auto, unfolding(crate::specs::ReplyRows::reply_row))]
+    #[inline(always)]
     pub(crate) fn reply(
         &mut self,
         making: Making,

@@ -19,6 +19,7 @@ use cip_pending::UpSide;
 
 impl Device {
     /// A request that came in by a port.
+    #[inline(always)]
     pub(crate) fn request(
         &mut self,
         making: Making,

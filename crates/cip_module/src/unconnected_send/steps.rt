@@ -25,6 +25,7 @@ use std::alloc::Global;
 
 // What goes on: the embedded request itself where no path is left, else an Unconnected_Send with
 // what is left of its route and one tick less.
+#[inline(always)]
 fn message_on(
     alloc: Global,
     making: Making,
@@ -93,6 +94,7 @@ impl Device {
     ghost use Rattle.cip_module.specs.Table.{unconnected_effects, unconnected_data_effects};
 
     /// An Unconnected_Send that was read.
+    #[inline(always)]
     pub(crate) fn unconnected(
         &mut self,
         making: Making,
@@ -128,6 +130,7 @@ impl Device {
     }
 
     /// An Unconnected_Send, by its data.
+    #[inline(always)]
     pub(crate) fn unconnected_send(
         &mut self,
         making: Making,
