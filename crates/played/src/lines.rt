@@ -2,7 +2,7 @@
 //!
 //! - `fresh` makes the modules anew; `opened` does so too, and then the scanner opens a connection to
 //!   the adapter.
-//! - `M EVENT ..`, `M tables` and `M with SETTING NUMBER` are those of the harness.
+//! - `M EVENT ..`, `M tables` and `M with SETTING NUMBER ..` are those of the harness.
 //! - `! M EVENT ..` is an event that is guarded (`guarded.rt`).
 //!
 //! What comes of a line is a line for each output, as in a transcript, and then an empty one.

@@ -162,6 +162,16 @@ pub fn device_of(name: &str, kinds: Kinds) -> Option<Device> {
     Some(device)
 }
 
+// The kind of a module, by its number: 0 plain, 1 indexed, 2 adapter.
+fn kind_of(number: u64) -> Option<ModuleKind> {
+    match number {
+        0 => Some(ModuleKind::Plain),
+        1 => Some(ModuleKind::Indexed),
+        2 => Some(ModuleKind::Adapter),
+        _ => None,
+    }
+}
+
 impl Device {
     /// Its name.
     pub(crate) fn name(&self) -> &'static str {
@@ -171,6 +181,7 @@ impl Device {
     /// The device with one setting changed.
     pub(crate) fn with(mut self, key: &str, value: u64) -> Option<Device> {
         match key {
+            "kind" => self.kind = kind_of(value)?,
             "clock" => self.clock = value,
             "first_id" => self.first_id = u32::try_from(value).ok()?,
             "first_number" => self.first_number = u32::try_from(value).ok()?,

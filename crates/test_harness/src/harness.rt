@@ -8,6 +8,9 @@ use cip_module::{Event, Output, StepFault};
 use std::alloc::Global;
 use std::fmt::Write;
 
+/// How many settings a line changes at most.
+const SETTINGS: usize = 6;
+
 /// A module under its name.
 #[derive(Drop)]
 struct Named {
@@ -79,6 +82,17 @@ fn show(module_: &AnyModule, text: &mut String) -> Option<()> {
     write!(text, "{}", Shown(&tables)).ok()
 }
 
+// The device with these settings changed, each a word and a number.
+fn changed(mut device: Device, words: &mut Words) -> Option<Device> {
+    for _ in 0..SETTINGS {
+        match words.word() {
+            Some(key) => device = device.with(key, words.u64()?)?,
+            None => return Some(device),
+        }
+    }
+    Some(device)
+}
+
 impl Harness {
     /// New modules of these kinds. None where an allocation is refused.
     pub fn new(alloc: Global, kinds: Kinds) -> Option<Harness> {
@@ -100,9 +114,9 @@ impl Harness {
         self.given.clear()
     }
 
-    // `M with SETTING NUMBER`
+    // `M with SETTING NUMBER ..`
     fn make_anew(&mut self, name: &str, words: &mut Words) -> Option<()> {
-        let device = device_of(name, self.kinds)?.with(words.word()?, words.u64()?)?;
+        let device = changed(device_of(name, self.kinds)?, words)?;
         self.modules.push(make_named(self.alloc, &device)?).ok()
     }
 

@@ -15,7 +15,9 @@
 //! each time. `(K)` in both
 //!   stands for K and the number of times before, as two bytes, the lower first.
 //! - `M tables` has for its outputs the lines of the module's tables.
-//! - `M with SETTING NUMBER` makes the module anew, with that setting.
+//! - `M with SETTING NUMBER ..` makes the module anew, with these settings: `clock`, `first_id`,
+//! `first_number`, `pending_room`, `hop_room`, and `kind`, which is 0 for a plain module, 1 for an
+//! indexed one and 2 for an adapter.
 //!
 //! An output is written as in a transcript. A step that did not happen has `clock full` or `no
 //! memory` in its place.
