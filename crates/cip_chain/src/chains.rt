@@ -1,5 +1,5 @@
 //! The modules through which a connection goes.
-ghost use Rattle.std.specs.Prelude.{◌≡◌, ℕ, List, ◌++◌, ◌∷◌, [], Some, length, map, OnOk, IfOk, IfErr};
+ghost use Rattle.std.specs.Prelude.{◌≡◌, ℕ, List, ◌++◌, ◌∷◌, [], Some, length, OnOk, IfOk, IfErr};
 ghost use Rattle.std.specs.FinMap as finite;
 ghost use Rattle.cip_base.specs.declared.triad.Triad.{Triad};
 ghost use Rattle.cip_hops.specs.declared.hop.Held.TheVariants.{Open};
@@ -12,13 +12,12 @@ ghost use Rattle.cip_world.specs.Chains.{Member, IsChain, last_of, AreDeliveries
 ghost use Rattle.cip_world.specs.Entering.{before_entry, IsEntered};
 ghost use Rattle.cip_world.specs.Mirrors.{IsMirrored};
 ghost use Rattle.cip_world.specs.Runs.{IsModule, IsRun, state_in};
-ghost use Rattle.cip_world.specs.Worlds.{Stand};
 ghost use Rattle.cip_chain.specs.Answers.{IsView, IsChainFault};
 ghost use Rattle.cip_chain.specs.declared.chains.ChainFault.TheVariants.{NoMemory as NoChainMemory};
 
 use crate::seeking::{Next, next_to, opened};
 use cip_base::{ModuleId, NoMemory};
-use cip_world::World;
+use cip_world::{Shown, World};
 use std::alloc::Global;
 use std::marker::Model;
 use thiserror::Error;
@@ -87,9 +86,7 @@ fn put(modules: &mut Vec<ModuleId>, at: ModuleId) -> Result<(), NoMemory>
 
 // The chain of an op, on a run of a topology.
 fn follow(alloc: Global, world: &World, at: ModuleId, op: u32) -> Result<ChainView, ChainFault>
-    requires stand { Stand world.now.ledger
-        (map (λ b. config_of (b.vtable, b.value)) world.now.modules.items)
-        (map (λ b. state_of (b.vtable, b.value)) world.now.modules.items) }
+    requires stand { ⟦<World as Shown>⟧.stands world.now }
     requires run { IsRun world.now.ledger.plan world.now.ledger.journal }
     requires topology { IsTopology world.now.ledger.plan }
     ensures ok { IfOk result
@@ -124,9 +121,7 @@ fn follow(alloc: Global, world: &World, at: ModuleId, op: u32) -> Result<ChainVi
 /// the world's run connections are mirrored below, and a datum that is entered on a chain of which
 /// nothing is removed comes to its end.
 pub fn chain(alloc: Global, world: &World, at: ModuleId, op: u32) -> Result<ChainView, ChainFault>
-    requires stand { Stand world.now.ledger
-        (map (λ b. config_of (b.vtable, b.value)) world.now.modules.items)
-        (map (λ b. state_of (b.vtable, b.value)) world.now.modules.items) }
+    requires stand { ⟦<World as Shown>⟧.stands world.now }
     ensures ok { IfOk result
         (IsView world.now.ledger.plan world.now.ledger.journal at.0 op) }
     ensures fault { IfErr result

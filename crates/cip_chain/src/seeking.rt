@@ -1,15 +1,14 @@
 //! Connections of modules, and what stands next to them.
-ghost use Rattle.std.specs.Prelude.{◌≡◌, map, IfOk, IfErr};
+ghost use Rattle.std.specs.Prelude.{◌≡◌, IfOk, IfErr};
 ghost use Rattle.cip_topology.specs.Plan.{IsTopology};
 ghost use Rattle.cip_world.specs.Runs.{IsRun};
-ghost use Rattle.cip_world.specs.Worlds.{Stand};
 ghost use Rattle.cip_world.specs.Chains.{HasHop};
 ghost use Rattle.cip_chain.specs.Found.{member, IsOpened, IsOpenedFault, IsNext, IsNextFault};
 
 use crate::chains::ChainFault;
 use cip_base::ModuleId;
 use cip_hops::{Hop, HopDown};
-use cip_world::World;
+use cip_world::{Shown, World};
 
 // A connection of a module.
 #[derive(Drop)]
@@ -27,9 +26,7 @@ pub(crate) enum Next<'a> {
 
 // The connection that an op opened.
 pub(crate) fn opened<'a>(world: &'a World, at: ModuleId, op: u32) -> Result<Here<'a>, ChainFault>
-    requires stand { Stand world.now.ledger
-        (map (λ b. config_of (b.vtable, b.value)) world.now.modules.items)
-        (map (λ b. state_of (b.vtable, b.value)) world.now.modules.items) }
+    requires stand { ⟦<World as Shown>⟧.stands world.now }
     requires run { IsRun world.now.ledger.plan world.now.ledger.journal }
     ensures ok { IfOk result
         (IsOpened world.now.ledger.plan world.now.ledger.journal at.0 op) }
@@ -45,9 +42,7 @@ pub(crate) fn opened<'a>(world: &'a World, at: ModuleId, op: u32) -> Result<Here
 // What stands next to a connection. On every run there is a module where it goes down to, and the
 // connection names an id there.
 pub(crate) fn next_to<'a>(world: &'a World, here: &Here<'_>) -> Result<Next<'a>, ChainFault>
-    requires stand { Stand world.now.ledger
-        (map (λ b. config_of (b.vtable, b.value)) world.now.modules.items)
-        (map (λ b. state_of (b.vtable, b.value)) world.now.modules.items) }
+    requires stand { ⟦<World as Shown>⟧.stands world.now }
     requires run { IsRun world.now.ledger.plan world.now.ledger.journal }
     requires topology { IsTopology world.now.ledger.plan }
     requires has { HasHop world.now.ledger.plan world.now.ledger.journal (member here.now) }

@@ -2,7 +2,6 @@
 ghost use Rattle.std.specs.Prelude.{◌≡◌, ◌≢◌, ◌⊎◌, ◌+◌, ◌<◌, ◌≤◌, [], length, map, IfSome};
 ghost use Rattle.cip_threads.specs.Reports.{IsTellable};
 ghost use Rattle.cip_world.specs.Fresh.{IsNewFault};
-ghost use Rattle.cip_world.specs.Worlds.{Stand};
 ghost use Rattle.cip_console.specs.Outcome.{Wrote, WroteOf};
 ghost use Rattle.cip_script.specs.Steps.{steps};
 ghost use Rattle.cip_transcript.specs.Show.{names_of};
@@ -16,7 +15,7 @@ use cip_script::{Mode, Numbered, ScriptFault, StepsFault, read_steps};
 use cip_threads::RunFault;
 use cip_topology::Topology;
 use cip_transcript::names_of;
-use cip_world::{NewFault, World};
+use cip_world::{NewFault, Shown, World};
 use std::alloc::{AllocError, Global};
 use std::collections::VecDeque;
 use thiserror::Error;
@@ -71,9 +70,7 @@ fn run_steps<W: Sink>(
     steps: Vec<Numbered>,
     writer: &mut W,
 ) -> Result<(), ConsoleFault>
-    requires stand { Stand world.old.ledger
-        (map (λ b. config_of (b.vtable, b.value)) world.old.modules.items)
-        (map (λ b. state_of (b.vtable, b.value)) world.old.modules.items) }
+    requires stand { ⟦<World as Shown>⟧.stands world.old }
     requires names { names.now ≡ names_of world.old.ledger.plan }
     requires first { world.old.ledger.journal ≡ [] }
     ensures wrote { Wrote world.old.ledger.plan (W.contents writer.old) (W.contents writer.new)

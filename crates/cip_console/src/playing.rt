@@ -1,9 +1,8 @@
 //! The steps of a script, played over a world.
-ghost use Rattle.std.specs.Prelude.{◌≡◌, ◌≢◌, ◌++◌, [], map, reverse, OnOk, OnErr};
+ghost use Rattle.std.specs.Prelude.{◌≡◌, ◌≢◌, ◌++◌, [], reverse, OnOk, OnErr};
 ghost use Rattle.cip_world.specs.declared.journal.Input.TheVariants as inputs;
 ghost use Rattle.cip_world.specs.Runs.{IsRun};
 ghost use Rattle.cip_world.specs.Waiting.{waiting};
-ghost use Rattle.cip_world.specs.Worlds.{Stand};
 ghost use Rattle.cip_console.specs.Known.{AppendsFront};
 ghost use Rattle.cip_console.specs.Playing.{Prints, Plays};
 ghost use Rattle.cip_transcript.specs.Show.{names_of};
@@ -16,7 +15,7 @@ use cip_chain::trail;
 use cip_module::Command;
 use cip_script::{ScriptFault, Step};
 use cip_transcript::{name_in, put, put_chain_of, put_entry, put_tables, put_trail};
-use cip_world::{Entry, FrameName, World, WorldFault};
+use cip_world::{Entry, FrameName, Shown, World, WorldFault};
 use std::alloc::Global;
 
 /// Why a step of a script was not played to its end.
@@ -132,13 +131,9 @@ fn deliver<W: Sink>(
     writer: &mut W,
     text: &mut Vec<u8>,
 ) -> Result<(), PlayFault>
-    requires stand { Stand world.old.ledger
-        (map (λ b. config_of (b.vtable, b.value)) world.old.modules.items)
-        (map (λ b. state_of (b.vtable, b.value)) world.old.modules.items) }
+    requires stand { ⟦<World as Shown>⟧.stands world.old }
     requires names { names.now ≡ names_of world.old.ledger.plan }
-    ensures stand { Stand world.new.ledger
-        (map (λ b. config_of (b.vtable, b.value)) world.new.modules.items)
-        (map (λ b. state_of (b.vtable, b.value)) world.new.modules.items) }
+    ensures stand { ⟦<World as Shown>⟧.stands world.new }
     ensures plan { world.new.ledger.plan ≡ world.old.ledger.plan }
     ensures plays { Plays (deliveries world.old.ledger.plan limit world.old.ledger.journal)
         (W.contents writer.old) (W.contents writer.new) text.old.items text.new.items
@@ -162,12 +157,8 @@ fn deliver<W: Sink>(
 
 // Whether a frame is left that waits.
 fn put_end(world: &mut World, text: &mut Vec<u8>) -> Result<(), NoMemory>
-    requires stand { Stand world.old.ledger
-        (map (λ b. config_of (b.vtable, b.value)) world.old.modules.items)
-        (map (λ b. state_of (b.vtable, b.value)) world.old.modules.items) }
-    ensures stand { Stand world.new.ledger
-        (map (λ b. config_of (b.vtable, b.value)) world.new.modules.items)
-        (map (λ b. state_of (b.vtable, b.value)) world.new.modules.items) }
+    requires stand { ⟦<World as Shown>⟧.stands world.old }
+    ensures stand { ⟦<World as Shown>⟧.stands world.new }
     ensures plan { world.new.ledger.plan ≡ world.old.ledger.plan }
     ensures journal { world.new.ledger.journal ≡ world.old.ledger.journal }
     ensures ok { OnOk result (text.new.items ≡ text.old.items
@@ -183,12 +174,8 @@ fn put_end(world: &mut World, text: &mut Vec<u8>) -> Result<(), NoMemory>
 // Whether a frame is left that waits: it is printed, and what was gathered is written once there is
 // enough of it.
 fn show_end<W: Sink>(world: &mut World, writer: &mut W, text: &mut Vec<u8>) -> Result<(), PlayFault>
-    requires stand { Stand world.old.ledger
-        (map (λ b. config_of (b.vtable, b.value)) world.old.modules.items)
-        (map (λ b. state_of (b.vtable, b.value)) world.old.modules.items) }
-    ensures stand { Stand world.new.ledger
-        (map (λ b. config_of (b.vtable, b.value)) world.new.modules.items)
-        (map (λ b. state_of (b.vtable, b.value)) world.new.modules.items) }
+    requires stand { ⟦<World as Shown>⟧.stands world.old }
+    ensures stand { ⟦<World as Shown>⟧.stands world.new }
     ensures plan { world.new.ledger.plan ≡ world.old.ledger.plan }
     ensures journal { world.new.ledger.journal ≡ world.old.ledger.journal }
     ensures ok { OnOk result (Prints (W.contents writer.old) (W.contents writer.new) text.old.items
@@ -218,13 +205,9 @@ fn feed<W: Sink>(
     writer: &mut W,
     text: &mut Vec<u8>,
 ) -> Result<(), PlayFault>
-    requires stand { Stand world.old.ledger
-        (map (λ b. config_of (b.vtable, b.value)) world.old.modules.items)
-        (map (λ b. state_of (b.vtable, b.value)) world.old.modules.items) }
+    requires stand { ⟦<World as Shown>⟧.stands world.old }
     requires names { names.now ≡ names_of world.old.ledger.plan }
-    ensures stand { Stand world.new.ledger
-        (map (λ b. config_of (b.vtable, b.value)) world.new.modules.items)
-        (map (λ b. state_of (b.vtable, b.value)) world.new.modules.items) }
+    ensures stand { ⟦<World as Shown>⟧.stands world.new }
     ensures plan { world.new.ledger.plan ≡ world.old.ledger.plan }
     ensures plays { Plays (given world.old.ledger.plan world.old.ledger.journal at
         (inputs.Command command))
@@ -252,13 +235,9 @@ fn tick<W: Sink>(
     writer: &mut W,
     text: &mut Vec<u8>,
 ) -> Result<(), PlayFault>
-    requires stand { Stand world.old.ledger
-        (map (λ b. config_of (b.vtable, b.value)) world.old.modules.items)
-        (map (λ b. state_of (b.vtable, b.value)) world.old.modules.items) }
+    requires stand { ⟦<World as Shown>⟧.stands world.old }
     requires names { names.now ≡ names_of world.old.ledger.plan }
-    ensures stand { Stand world.new.ledger
-        (map (λ b. config_of (b.vtable, b.value)) world.new.modules.items)
-        (map (λ b. state_of (b.vtable, b.value)) world.new.modules.items) }
+    ensures stand { ⟦<World as Shown>⟧.stands world.new }
     ensures plan { world.new.ledger.plan ≡ world.old.ledger.plan }
     ensures plays { Plays (given world.old.ledger.plan world.old.ledger.journal at (inputs.Tick by))
         (W.contents writer.old) (W.contents writer.new) text.old.items text.new.items
@@ -284,13 +263,9 @@ fn deliver_frame<W: Sink>(
     writer: &mut W,
     text: &mut Vec<u8>,
 ) -> Result<(), PlayFault>
-    requires stand { Stand world.old.ledger
-        (map (λ b. config_of (b.vtable, b.value)) world.old.modules.items)
-        (map (λ b. state_of (b.vtable, b.value)) world.old.modules.items) }
+    requires stand { ⟦<World as Shown>⟧.stands world.old }
     requires names { names.now ≡ names_of world.old.ledger.plan }
-    ensures stand { Stand world.new.ledger
-        (map (λ b. config_of (b.vtable, b.value)) world.new.modules.items)
-        (map (λ b. state_of (b.vtable, b.value)) world.new.modules.items) }
+    ensures stand { ⟦<World as Shown>⟧.stands world.new }
     ensures plan { world.new.ledger.plan ≡ world.old.ledger.plan }
     ensures plays { Plays (brought world.old.ledger.plan world.old.ledger.journal frame)
         (W.contents writer.old) (W.contents writer.new) text.old.items text.new.items
@@ -314,13 +289,9 @@ fn lose<W: Sink>(
     writer: &mut W,
     text: &mut Vec<u8>,
 ) -> Result<(), PlayFault>
-    requires stand { Stand world.old.ledger
-        (map (λ b. config_of (b.vtable, b.value)) world.old.modules.items)
-        (map (λ b. state_of (b.vtable, b.value)) world.old.modules.items) }
+    requires stand { ⟦<World as Shown>⟧.stands world.old }
     requires names { names.now ≡ names_of world.old.ledger.plan }
-    ensures stand { Stand world.new.ledger
-        (map (λ b. config_of (b.vtable, b.value)) world.new.modules.items)
-        (map (λ b. state_of (b.vtable, b.value)) world.new.modules.items) }
+    ensures stand { ⟦<World as Shown>⟧.stands world.new }
     ensures plan { world.new.ledger.plan ≡ world.old.ledger.plan }
     ensures plays { Plays (lost world.old.ledger.plan world.old.ledger.journal frame)
         (W.contents writer.old) (W.contents writer.new) text.old.items text.new.items
@@ -344,13 +315,9 @@ fn run_line<W: Sink>(
     writer: &mut W,
     text: &mut Vec<u8>,
 ) -> Result<(), PlayFault>
-    requires stand { Stand world.old.ledger
-        (map (λ b. config_of (b.vtable, b.value)) world.old.modules.items)
-        (map (λ b. state_of (b.vtable, b.value)) world.old.modules.items) }
+    requires stand { ⟦<World as Shown>⟧.stands world.old }
     requires names { names.now ≡ names_of world.old.ledger.plan }
-    ensures stand { Stand world.new.ledger
-        (map (λ b. config_of (b.vtable, b.value)) world.new.modules.items)
-        (map (λ b. state_of (b.vtable, b.value)) world.new.modules.items) }
+    ensures stand { ⟦<World as Shown>⟧.stands world.new }
     ensures plan { world.new.ledger.plan ≡ world.old.ledger.plan }
     ensures plays { Plays (ran world.old.ledger.plan limit world.old.ledger.journal)
         (W.contents writer.old) (W.contents writer.new) text.old.items text.new.items
@@ -376,9 +343,7 @@ fn show_tables<W: Sink>(
     writer: &mut W,
     text: &mut Vec<u8>,
 ) -> Result<(), PlayFault>
-    requires stand { Stand world.now.ledger
-        (map (λ b. config_of (b.vtable, b.value)) world.now.modules.items)
-        (map (λ b. state_of (b.vtable, b.value)) world.now.modules.items) }
+    requires stand { ⟦<World as Shown>⟧.stands world.now }
     requires names { names.now ≡ names_of world.now.ledger.plan }
     ensures plays { Plays (tabled world.now.ledger.plan world.now.ledger.journal at)
         (W.contents writer.old) (W.contents writer.new) text.old.items text.new.items
@@ -438,9 +403,7 @@ fn show_chain<W: Sink>(
     writer: &mut W,
     text: &mut Vec<u8>,
 ) -> Result<(), PlayFault>
-    requires stand { Stand world.now.ledger
-        (map (λ b. config_of (b.vtable, b.value)) world.now.modules.items)
-        (map (λ b. state_of (b.vtable, b.value)) world.now.modules.items) }
+    requires stand { ⟦<World as Shown>⟧.stands world.now }
     requires names { names.now ≡ names_of world.now.ledger.plan }
     ensures plays { Plays (chained world.now.ledger.plan world.now.ledger.journal at op)
         (W.contents writer.old) (W.contents writer.new) text.old.items text.new.items
@@ -467,13 +430,9 @@ pub(crate) fn play<W: Sink>(
     writer: &mut W,
     text: &mut Vec<u8>,
 ) -> Result<(), PlayFault>
-    requires stand { Stand world.old.ledger
-        (map (λ b. config_of (b.vtable, b.value)) world.old.modules.items)
-        (map (λ b. state_of (b.vtable, b.value)) world.old.modules.items) }
+    requires stand { ⟦<World as Shown>⟧.stands world.old }
     requires names { names.now ≡ names_of world.old.ledger.plan }
-    ensures stand { Stand world.new.ledger
-        (map (λ b. config_of (b.vtable, b.value)) world.new.modules.items)
-        (map (λ b. state_of (b.vtable, b.value)) world.new.modules.items) }
+    ensures stand { ⟦<World as Shown>⟧.stands world.new }
     ensures plan { world.new.ledger.plan ≡ world.old.ledger.plan }
     ensures plays { Plays (played world.old.ledger.plan world.old.ledger.journal step)
         (W.contents writer.old) (W.contents writer.new) text.old.items text.new.items

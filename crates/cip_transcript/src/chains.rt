@@ -1,6 +1,5 @@
 //! The chain of an op, as it stands in a run.
-ghost use Rattle.std.specs.Prelude.{◌≡◌, ◌++◌, map, OnOk};
-ghost use Rattle.cip_world.specs.Worlds.{Stand};
+ghost use Rattle.std.specs.Prelude.{◌≡◌, ◌++◌, OnOk};
 ghost use Rattle.cip_transcript.specs.Chained.{chain_of};
 ghost use Rattle.cip_transcript.specs.Show.{chain_text};
 
@@ -8,7 +7,7 @@ use crate::pieces::put;
 use crate::show::{name_in, put_broken, put_chain};
 use cip_base::{Bytes, ModuleId, NoMemory};
 use cip_chain::{ChainFault, chain};
-use cip_world::World;
+use cip_world::{Shown, World};
 use std::alloc::Global;
 
 /// Puts the chain of an op of a module behind a text: the modules through which its connection goes
@@ -22,9 +21,7 @@ pub fn put_chain_of(
     op: u32,
     text: &mut Vec<u8>,
 ) -> Result<(), NoMemory>
-    requires stand { Stand world.now.ledger
-        (map (λ b. config_of (b.vtable, b.value)) world.now.modules.items)
-        (map (λ b. state_of (b.vtable, b.value)) world.now.modules.items) }
+    requires stand { ⟦<World as Shown>⟧.stands world.now }
     ensures { OnOk result (text.new.items ≡ text.old.items ++ chain_text names.now
         (chain_of world.now.ledger.plan world.now.ledger.journal at.0 op)) }
 {

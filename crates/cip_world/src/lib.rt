@@ -20,4 +20,4 @@ pub use laws::{
     hops_are_mirrored, replies_answer_their_requests, requests_come_once, runs_are_histories,
     what_arrives_was_produced, what_is_consumed_was_entered, what_waits_is_listed,
 };
-pub use world::{End, World};
+pub use world::{End, Shown, World};

@@ -22,6 +22,12 @@ use cip_module::{Command, Event, Module, StepFault, Tables};
 use cip_topology::Topology;
 use std::alloc::Global;
 
+/// What a contract sees of a value over boxes.
+pub trait Shown {
+    // each module has the state that the journal gives
+    ghost stands: { Self → Type 0 };
+}
+
 /// Modules in boxes, joined by the links of a topology, and the journal of what they did.
 #[derive(Drop)]
 pub struct World {
@@ -29,6 +35,15 @@ pub struct World {
     // Given up before the ledger: a table is one large piece, an entry several small ones.
     modules: Vec<Box<dyn Module + Send>>,
     ledger: Ledger,
+}
+
+impl Shown for World {
+    ghost use Rattle.std.specs.Prelude.{map};
+    ghost use Rattle.cip_world.specs.Worlds.{Stand};
+
+    ghost stands = { λ w. Stand w.ledger
+        (map (λ b. (Module-box b).config_of b.value) w.modules.items)
+        (map (λ b. (Module-box b).state_of b.value) w.modules.items) };
 }
 
 // A module that the topology has takes a step, and the journal has one more entry.
@@ -86,8 +101,7 @@ impl World {
         topology: Topology,
         modules: Vec<Box<dyn Module + Send>>,
     ) -> Result<World, NewFault>
-        ensures stand { IfOk result (λ w. Stand w.ledger (map (λ b. config_of b) w.modules.items)
-            (map (λ b. state_of b) w.modules.items)) }
+        ensures stand { IfOk result (λ w. ⟦<World as Shown>⟧.stands w) }
         ensures plan { IfOk result (λ w. w.ledger.plan ≡ topology) }
         ensures journal { IfOk result (λ w. w.ledger.journal ≡ []) }
         ensures fresh { OnOk result (AreFresh topology (map (λ b. config_of b) modules.items)
@@ -130,10 +144,8 @@ impl World {
     /// Gives a module a command, and answers the number of the new entry. NoModule where the
     /// topology has no such module, and NoMemory; nothing is changed then.
     pub fn feed(&mut self, at: ModuleId, command: Command) -> Result<usize, WorldFault>
-        requires stand { Stand self.old.ledger (map (λ b. config_of b) self.old.modules.items)
-            (map (λ b. state_of b) self.old.modules.items) }
-        ensures stand { Stand self.new.ledger (map (λ b. config_of b) self.new.modules.items)
-            (map (λ b. state_of b) self.new.modules.items) }
+        requires stand { ⟦<World as Shown>⟧.stands self.old }
+        ensures stand { ⟦<World as Shown>⟧.stands self.new }
         ensures plan { self.new.ledger.plan ≡ self.old.ledger.plan }
         ensures ok { IfOk result (AddsStep self.old.ledger.journal self.new.ledger.journal at
             (inputs.Command command)) }
@@ -161,10 +173,8 @@ impl World {
     /// topology has no such module, Step where the module's clock would pass its last time,
     /// 9,223,372,036,854,775,807 microseconds, and NoMemory; nothing is changed then.
     pub fn tick(&mut self, at: ModuleId, by: Ms) -> Result<usize, WorldFault>
-        requires stand { Stand self.old.ledger (map (λ b. config_of b) self.old.modules.items)
-            (map (λ b. state_of b) self.old.modules.items) }
-        ensures stand { Stand self.new.ledger (map (λ b. config_of b) self.new.modules.items)
-            (map (λ b. state_of b) self.new.modules.items) }
+        requires stand { ⟦<World as Shown>⟧.stands self.old }
+        ensures stand { ⟦<World as Shown>⟧.stands self.new }
         ensures plan { self.new.ledger.plan ≡ self.old.ledger.plan }
         ensures ok { IfOk result (AddsStep self.old.ledger.journal self.new.ledger.journal at
             (inputs.Tick by)) }
@@ -190,12 +200,10 @@ impl World {
     // Brings a waiting frame to the module that it goes to.
     #[inline(always)]
     fn bring(&mut self, name: FrameName) -> Result<usize, WorldFault>
-        requires stand { Stand self.old.ledger (map (λ b. config_of b) self.old.modules.items)
-            (map (λ b. state_of b) self.old.modules.items) }
+        requires stand { ⟦<World as Shown>⟧.stands self.old }
         requires ready { self.old.ledger.ready ≡ true }
         requires waits { IsWaiting self.old.ledger.plan self.old.ledger.journal name }
-        ensures stand { Stand self.new.ledger (map (λ b. config_of b) self.new.modules.items)
-            (map (λ b. state_of b) self.new.modules.items) }
+        ensures stand { ⟦<World as Shown>⟧.stands self.new }
         ensures plan { self.new.ledger.plan ≡ self.old.ledger.plan }
         ensures ok { IfOk result
             (AddsArrival self.old.ledger.journal self.new.ledger.journal name) }
@@ -227,10 +235,8 @@ impl World {
     /// Brings a waiting frame to the module that it goes to, and answers the number of the new
     /// entry. NoFrame where no such frame waits, and NoMemory; nothing is changed then.
     pub fn deliver(&mut self, name: FrameName) -> Result<usize, WorldFault>
-        requires stand { Stand self.old.ledger (map (λ b. config_of b) self.old.modules.items)
-            (map (λ b. state_of b) self.old.modules.items) }
-        ensures stand { Stand self.new.ledger (map (λ b. config_of b) self.new.modules.items)
-            (map (λ b. state_of b) self.new.modules.items) }
+        requires stand { ⟦<World as Shown>⟧.stands self.old }
+        ensures stand { ⟦<World as Shown>⟧.stands self.new }
         ensures plan { self.new.ledger.plan ≡ self.old.ledger.plan }
         ensures ok { IfOk result
             (AddsArrival self.old.ledger.journal self.new.ledger.journal name) }
@@ -248,10 +254,8 @@ impl World {
     /// Loses a waiting frame on its link, and answers the number of the new entry. NoFrame where no
     /// such frame waits, and NoMemory; nothing is changed then.
     pub fn lose(&mut self, name: FrameName) -> Result<usize, WorldFault>
-        requires stand { Stand self.old.ledger (map (λ b. config_of b) self.old.modules.items)
-            (map (λ b. state_of b) self.old.modules.items) }
-        ensures stand { Stand self.new.ledger (map (λ b. config_of b) self.new.modules.items)
-            (map (λ b. state_of b) self.new.modules.items) }
+        requires stand { ⟦<World as Shown>⟧.stands self.old }
+        ensures stand { ⟦<World as Shown>⟧.stands self.new }
         ensures plan { self.new.ledger.plan ≡ self.old.ledger.plan }
         ensures ok { IfOk result (AddsLoss self.old.ledger.journal self.new.ledger.journal name) }
         ensures err { OnErr result (self.new.ledger.journal ≡ self.old.ledger.journal) }
@@ -270,10 +274,8 @@ impl World {
     /// Delivers the waiting frame of least name; false where none waits. NoMemory, and nothing is
     /// changed, where an allocation is refused.
     pub fn deliver_least(&mut self) -> Result<bool, WorldFault>
-        requires stand { Stand self.old.ledger (map (λ b. config_of b) self.old.modules.items)
-            (map (λ b. state_of b) self.old.modules.items) }
-        ensures stand { Stand self.new.ledger (map (λ b. config_of b) self.new.modules.items)
-            (map (λ b. state_of b) self.new.modules.items) }
+        requires stand { ⟦<World as Shown>⟧.stands self.old }
+        ensures stand { ⟦<World as Shown>⟧.stands self.new }
         ensures plan { self.new.ledger.plan ≡ self.old.ledger.plan }
         ensures ok { IfOk result (IsOneMore self.old.ledger.plan self.old.ledger.journal
             self.new.ledger.journal) }
@@ -294,10 +296,8 @@ impl World {
     /// where none waits in the end, Limit where some does. NoMemory: the frames that arrived before
     /// stay delivered.
     pub fn run(&mut self, limit: usize) -> Result<End, WorldFault>
-        requires stand { Stand self.old.ledger (map (λ b. config_of b) self.old.modules.items)
-            (map (λ b. state_of b) self.old.modules.items) }
-        ensures stand { Stand self.new.ledger (map (λ b. config_of b) self.new.modules.items)
-            (map (λ b. state_of b) self.new.modules.items) }
+        requires stand { ⟦<World as Shown>⟧.stands self.old }
+        ensures stand { ⟦<World as Shown>⟧.stands self.new }
         ensures plan { self.new.ledger.plan ≡ self.old.ledger.plan }
         ensures runs { RunsTo self.old.ledger.plan limit self.old.ledger.journal
             self.new.ledger.journal result }
@@ -317,10 +317,8 @@ impl World {
     /// Whether no frame waits. It looks at the newest entry, and changes nothing that a caller
     /// sees. NoMemory where an allocation is refused.
     pub fn is_quiet(&mut self) -> Result<bool, NoMemory>
-        requires stand { Stand self.old.ledger (map (λ b. config_of b) self.old.modules.items)
-            (map (λ b. state_of b) self.old.modules.items) }
-        ensures stand { Stand self.new.ledger (map (λ b. config_of b) self.new.modules.items)
-            (map (λ b. state_of b) self.new.modules.items) }
+        requires stand { ⟦<World as Shown>⟧.stands self.old }
+        ensures stand { ⟦<World as Shown>⟧.stands self.new }
         ensures plan { self.new.ledger.plan ≡ self.old.ledger.plan }
         ensures journal { self.new.ledger.journal ≡ self.old.ledger.journal }
         ensures quiet { IfOk result (λ quiet. IsTrue quiet
@@ -335,8 +333,7 @@ impl World {
 
     /// The state of a module. NoModule where the topology has no such module, and NoMemory.
     pub fn tables(&self, at: ModuleId) -> Result<Tables, WorldFault>
-        requires stand { Stand self.now.ledger (map (λ b. config_of b) self.now.modules.items)
-            (map (λ b. state_of b) self.now.modules.items) }
+        requires stand { ⟦<World as Shown>⟧.stands self.now }
         ensures ok { IfOk result
             (IsShownAt self.now.ledger.plan self.now.ledger.journal at.0) }
         ensures no_module { (result ≡ Err WorldFault.NoModule)
@@ -353,8 +350,7 @@ impl World {
     /// The connection at a module that a command of this op opened, of which there is at most one;
     /// None also where the topology has no such module.
     pub fn hop_by_op(&self, at: ModuleId, op: u32) -> Option<&Hop>
-        requires stand { Stand self.now.ledger (map (λ b. config_of b) self.now.modules.items)
-            (map (λ b. state_of b) self.now.modules.items) }
+        requires stand { ⟦<World as Shown>⟧.stands self.now }
         ensures { option_copied result ≡ looked_up self.now.ledger.plan self.now.ledger.journal
             at.0 (λ hops. hop_by_op hops op) }
     {
@@ -374,8 +370,7 @@ impl World {
         port: PortNumber,
         address: &Address,
     ) -> Option<&Hop>
-        requires stand { Stand self.now.ledger (map (λ b. config_of b) self.now.modules.items)
-            (map (λ b. state_of b) self.now.modules.items) }
+        requires stand { ⟦<World as Shown>⟧.stands self.now }
         ensures { option_copied result ≡ looked_up self.now.ledger.plan self.now.ledger.journal
             at.0 (λ hops. hop_by_up hops id port address.now) }
     {

@@ -1,11 +1,10 @@
 //! Topologies, their modules in boxes, and worlds of them.
-ghost use Rattle.std.specs.Prelude.{IfSome, map};
-ghost use Rattle.cip_world.specs.Worlds.{Stand};
+ghost use Rattle.std.specs.Prelude.{IfSome};
 
 use cip_indexed::{NewModule, new_modules};
 use cip_module::Module;
 use cip_topology::{CHASSIS, Topology, load};
-use cip_world::World;
+use cip_world::{Shown, World};
 use std::alloc::Global;
 use test_harness::modules_at;
 
@@ -56,9 +55,7 @@ fn boxes(alloc: Global, topology: &Topology) -> Option<Vec<Box<dyn Module + Send
 
 /// A world of new modules of the topology of a text.
 pub fn world(alloc: Global, text: &str) -> Option<World>
-    ensures stand { IfSome result (λ w. Stand w.ledger
-        (map (λ b. config_of (b.vtable, b.value)) w.modules.items)
-        (map (λ b. state_of (b.vtable, b.value)) w.modules.items)) }
+    ensures stand { IfSome result (λ w. ⟦<World as Shown>⟧.stands w) }
 {
     let topology = topology(alloc, text)?;
     let modules = boxes(alloc, &topology)?;
@@ -70,9 +67,7 @@ pub fn world(alloc: Global, text: &str) -> Option<World>
 
 /// A world of the chassis.
 pub fn chassis_world(alloc: Global) -> Option<World>
-    ensures stand { IfSome result (λ w. Stand w.ledger
-        (map (λ b. config_of (b.vtable, b.value)) w.modules.items)
-        (map (λ b. state_of (b.vtable, b.value)) w.modules.items)) }
+    ensures stand { IfSome result (λ w. ⟦<World as Shown>⟧.stands w) }
 {
     world(alloc, CHASSIS)
 }

@@ -1,11 +1,9 @@
 //! Calls of a world, and what it answers them.
-ghost use Rattle.std.specs.Prelude.{map};
-ghost use Rattle.cip_world.specs.Worlds.{Stand};
 
 use crate::given::{ms, send};
 use crate::journals::first_of;
 use cip_base::ModuleId;
-use cip_world::{End, World, WorldFault};
+use cip_world::{End, Shown, World, WorldFault};
 use std::alloc::Global;
 
 /// A call of a world. Modules are named by their places, frames by the entries whose first outputs
@@ -65,12 +63,8 @@ fn of_run(given: Result<End, WorldFault>) -> Answer {
 }
 
 fn feed(alloc: Global, world: &mut World, at: usize, op: u32, path: &[u8]) -> Answer
-    requires stand { Stand world.old.ledger
-        (map (λ b. config_of (b.vtable, b.value)) world.old.modules.items)
-        (map (λ b. state_of (b.vtable, b.value)) world.old.modules.items) }
-    ensures stand { Stand world.new.ledger
-        (map (λ b. config_of (b.vtable, b.value)) world.new.modules.items)
-        (map (λ b. state_of (b.vtable, b.value)) world.new.modules.items) }
+    requires stand { ⟦<World as Shown>⟧.stands world.old }
+    ensures stand { ⟦<World as Shown>⟧.stands world.new }
 {
     match send(alloc, op, path) {
         Some(command) => of_entry(world.feed(ModuleId(at), command)),
@@ -79,12 +73,8 @@ fn feed(alloc: Global, world: &mut World, at: usize, op: u32, path: &[u8]) -> An
 }
 
 fn tick(world: &mut World, at: usize, by: u16) -> Answer
-    requires stand { Stand world.old.ledger
-        (map (λ b. config_of (b.vtable, b.value)) world.old.modules.items)
-        (map (λ b. state_of (b.vtable, b.value)) world.old.modules.items) }
-    ensures stand { Stand world.new.ledger
-        (map (λ b. config_of (b.vtable, b.value)) world.new.modules.items)
-        (map (λ b. state_of (b.vtable, b.value)) world.new.modules.items) }
+    requires stand { ⟦<World as Shown>⟧.stands world.old }
+    ensures stand { ⟦<World as Shown>⟧.stands world.new }
 {
     match ms(by) {
         Some(by) => of_entry(world.tick(ModuleId(at), by)),
@@ -105,9 +95,7 @@ fn are_waiting(world: &World, entries: &[usize]) -> Answer {
 }
 
 fn now(world: &World, at: usize) -> Answer
-    requires stand { Stand world.now.ledger
-        (map (λ b. config_of (b.vtable, b.value)) world.now.modules.items)
-        (map (λ b. state_of (b.vtable, b.value)) world.now.modules.items) }
+    requires stand { ⟦<World as Shown>⟧.stands world.now }
 {
     match world.tables(ModuleId(at)) {
         Ok(tables) => Answer::Count(tables.now),
@@ -116,9 +104,7 @@ fn now(world: &World, at: usize) -> Answer
 }
 
 fn pendings(world: &World, at: usize) -> Answer
-    requires stand { Stand world.now.ledger
-        (map (λ b. config_of (b.vtable, b.value)) world.now.modules.items)
-        (map (λ b. state_of (b.vtable, b.value)) world.now.modules.items) }
+    requires stand { ⟦<World as Shown>⟧.stands world.now }
 {
     match world.tables(ModuleId(at)) {
         Ok(tables) => Answer::Count(tables.pendings.as_slice().len() as u64),
@@ -127,12 +113,8 @@ fn pendings(world: &World, at: usize) -> Answer
 }
 
 fn ask(alloc: Global, world: &mut World, call: Call) -> Answer
-    requires stand { Stand world.old.ledger
-        (map (λ b. config_of (b.vtable, b.value)) world.old.modules.items)
-        (map (λ b. state_of (b.vtable, b.value)) world.old.modules.items) }
-    ensures stand { Stand world.new.ledger
-        (map (λ b. config_of (b.vtable, b.value)) world.new.modules.items)
-        (map (λ b. state_of (b.vtable, b.value)) world.new.modules.items) }
+    requires stand { ⟦<World as Shown>⟧.stands world.old }
+    ensures stand { ⟦<World as Shown>⟧.stands world.new }
 {
     match call {
         Call::Send(at, op, path) => feed(alloc, world, at, op, path),
@@ -154,12 +136,8 @@ pub fn first_other(
     world: &mut World,
     calls: &[(Call, Answer)],
 ) -> Option<(usize, Answer)>
-    requires stand { Stand world.old.ledger
-        (map (λ b. config_of (b.vtable, b.value)) world.old.modules.items)
-        (map (λ b. state_of (b.vtable, b.value)) world.old.modules.items) }
-    ensures stand { Stand world.new.ledger
-        (map (λ b. config_of (b.vtable, b.value)) world.new.modules.items)
-        (map (λ b. state_of (b.vtable, b.value)) world.new.modules.items) }
+    requires stand { ⟦<World as Shown>⟧.stands world.old }
+    ensures stand { ⟦<World as Shown>⟧.stands world.new }
 {
     for i in 0..calls.len() {
         let (call, want) = &calls[i];

@@ -1,6 +1,5 @@
 //! A module of the tests' own, which counts its steps: the world steps the box that it was given.
-ghost use Rattle.std.specs.Prelude.{IfSome, map};
-ghost use Rattle.cip_world.specs.Worlds.{Stand};
+ghost use Rattle.std.specs.Prelude.{IfSome};
 
 use crate::boxes::{chassis, put_boxes};
 use crate::calls::{Answer, Call, first_other};
@@ -9,7 +8,7 @@ use cip_base::{Address, NoMemory, PortNumber};
 use cip_hops::Hop;
 use cip_module::{Event, Module, ModuleConfig, ModuleKind, Output, PlainModule, StepFault, Tables};
 use cip_topology::Topology;
-use cip_world::{End, World};
+use cip_world::{End, Shown, World};
 use std::alloc::Global;
 use std::sync::Arc;
 use std::sync::atomic::{AtomicU64, Ordering};
@@ -90,9 +89,7 @@ fn first_counted(
 
 // A world of the chassis, whose scanner counts its steps.
 fn counted_world(alloc: Global, steps: &Arc<AtomicU64, Global>) -> Option<World>
-    ensures stand { IfSome result (λ w. Stand w.ledger
-        (map (λ b. config_of (b.vtable, b.value)) w.modules.items)
-        (map (λ b. state_of (b.vtable, b.value)) w.modules.items)) }
+    ensures stand { IfSome result (λ w. ⟦<World as Shown>⟧.stands w) }
 {
     let topology = chassis(alloc)?;
     let modules = first_counted(alloc, &topology, steps)?;
