@@ -10,21 +10,21 @@ use Rattle.cip_topology.specs.Plan.{Plan, IsTopology}
 use Rattle.cip_world.specs.Chains.{Member, IsChain, last_of, AreDeliveries, AreKept, IsTakenBy}
 use Rattle.cip_world.specs.Entering.{before_entry, IsEntered}
 use Rattle.cip_world.specs.Journals.{Journal}
-use Rattle.cip_world.specs.Mirrors.{IsMirrored}
+use Rattle.cip_world.specs.Mirrors.{IsOlder, IsMirrored}
 use Rattle.cip_world.specs.Runs.{IsModule, IsRun, state_in}
 use Rattle.cip_world.proofs.Carried.{carried}
 use Rattle.cip_world.proofs.Chassis.{chassis}
 use Rattle.cip_world.proofs.Mirrored.{mirrored}
-use Rattle.cip_world.proofs.Moments.{itself}
 use Rattle.cip_chain.specs.Found.{IsNotOpen}
 use Rattle.cip_chain.proofs.Opened.{no_module}
 
-pub all_mirrored : (t there : Plan) (j : Journal) → there ≡ t → IsTopology there → IsRun t j → (m : ℕ) (config : ModuleSettings) → IsModule t m config
-    → (q : Triad) (h : Hop) (port : ℕ) (address : List ℕ) → finite.get (state_in config m j).hops.held q ≡ Some (Open h)
+pub all_mirrored : (t there : Plan) (j : Journal) → there ≡ t → IsTopology there → IsRun t j → (k : Journal) → IsOlder k j
+    → (m : ℕ) (config : ModuleSettings) → IsModule t m config
+    → (q : Triad) (h : Hop) (port : ℕ) (address : List ℕ) → finite.get (state_in config m k).hops.held q ≡ Some (Open h)
     → h.opening.down ≡ DownLink port address
     → IsMirrored t j (record { at = m; port = port; address = address }) h
-all_mirrored t there j same topology run m config is q h port address at down =
-    mirrored (chassis t (subst IsTopology same topology)) j j m config run is (itself j) q h port address at down
+all_mirrored t there j same topology run k older m config is q h port address at down =
+    mirrored (chassis t (subst IsTopology same topology)) j k m config run is older q h port address at down
 
 pub all_carried : (t there : Plan) (j : Journal) → there ≡ t → IsTopology there → IsRun t j → (entry m own : ℕ) (bytes : List ℕ) → IsEntered j entry m own bytes
     → (first : Member) (rest : List Member) → first.at ≡ m → IsChain t (before_entry j entry) own first rest → (ks : List ℕ) → AreDeliveries j entry ks

@@ -10,7 +10,8 @@ ghost use Rattle.cip_topology.specs.Plan.{IsTopology};
 ghost use Rattle.cip_topology.specs.Nodes.{Way};
 ghost use Rattle.cip_world.specs.Chains.{Member, IsChain, last_of, AreDeliveries, AreKept, IsTakenBy};
 ghost use Rattle.cip_world.specs.Entering.{before_entry, IsEntered};
-ghost use Rattle.cip_world.specs.Mirrors.{IsMirrored};
+ghost use Rattle.cip_world.specs.Journals.{Journal};
+ghost use Rattle.cip_world.specs.Mirrors.{IsOlder, IsMirrored};
 ghost use Rattle.cip_world.specs.Runs.{IsModule, IsRun, state_in};
 ghost use Rattle.cip_chain.specs.Answers.{IsView, IsChainFault};
 ghost use Rattle.cip_chain.specs.declared.chains.ChainFault.TheVariants.{NoMemory as NoChainMemory};
@@ -118,17 +119,18 @@ fn follow(alloc: Global, world: &World, at: ModuleId, op: u32) -> Result<ChainVi
 /// The modules through which the connection goes that a command of this op opened at this module,
 /// and the instances of the assemblies at its end. NotOpen where no connection of that op is open
 /// there; Broken with the module that lacks the next connection; NoMemory. Whatever it answers, on
-/// the world's run connections are mirrored below, and a datum that is entered on a chain of which
-/// nothing is removed comes to its end.
+/// the world's run connections are mirrored below, also those that are gone, and a datum that is
+/// entered on a chain of which nothing is removed comes to its end.
 pub fn chain(alloc: Global, world: &World, at: ModuleId, op: u32) -> Result<ChainView, ChainFault>
     requires stand { ⟦<World as Shown>⟧.stands world.now }
     ensures ok { IfOk result
         (IsView world.now.ledger.plan world.now.ledger.journal at.0 op) }
     ensures fault { IfErr result
         (IsChainFault world.now.ledger.plan world.now.ledger.journal at.0 op) }
-    ensures mirrored { (m : ℕ) (config : Settings) → IsModule world.now.ledger.plan m config
+    ensures mirrored { (k : Journal) → IsOlder k world.now.ledger.journal → (m : ℕ)
+        (config : Settings) → IsModule world.now.ledger.plan m config
         → (q : Triad) (h : Hop) (port : ℕ) (address : List ℕ)
-        → finite.get (state_in config m world.now.ledger.journal).hops.held q ≡ Some (Open h)
+        → finite.get (state_in config m k).hops.held q ≡ Some (Open h)
         → h.opening.down ≡ DownLink port address
         → IsMirrored world.now.ledger.plan world.now.ledger.journal
         (record { at = m; port = port; address = address }) h }

@@ -27,11 +27,11 @@ use Rattle.cip_world.specs.Journals.{Journal, entry_at, part}
 use Rattle.cip_world.specs.Runs.{IsRun}
 use Rattle.cip_world.specs.StepsIn.{StepIn, state_before}
 use Rattle.cip_world.specs.Trails.{is_refusal, trail_of}
-use Rattle.cip_world.specs.TrailTells.{event_in, WordsFall, OpenedIn, SentIn, TellsWhere, EndsThere, AnsweredThere, TrailTells}
+use Rattle.cip_world.specs.TrailTells.{event_in, WordsFall, OpenedIn, OpenDone, SentIn, TellsWhere, EndsThere, AnsweredThere, TrailTells}
 use Rattle.cip_world.proofs.Chassis.{Chassis}
 use Rattle.cip_world.proofs.Entries.{TurnIn, turn_in}
 use Rattle.cip_world.proofs.OpensGo.{AsksThat, Spelled, open_goes}
-use Rattle.cip_world.proofs.OpenTrails.{event_there, words_there, Outcome, Failed, Ended, open_outcome}
+use Rattle.cip_world.proofs.OpenTrails.{event_there, words_there, ReadAs, Outcome, Failed, Ended, open_outcome}
 use Rattle.cip_world.proofs.OpsOnce.{CommandIn, one_command, unrefused_in}
 use Rattle.cip_world.proofs.SendsGo.{Spelled as SendSpelled}
 use Rattle.cip_world.proofs.SendTrails.{none_sent, SendOutcome, Failed as SendFailed, Answered, send_outcome}
@@ -59,7 +59,7 @@ local_asked (events.Frame port from (bodies.Reply n bytes)) op e = absurd (cc)
 local_asked (events.Frame port from (bodies.Data n bytes)) op e = absurd (cc)
 
 -- two steps of one number have one event
-same_event : (t : Plan) (j : Journal) (k l : ℕ) → k ≡ l → (s : StepIn t j k) (r : StepIn t j l) → s.taken.event ≡ r.taken.event
+pub same_event : (t : Plan) (j : Journal) (k l : ℕ) → k ≡ l → (s : StepIn t j k) (r : StepIn t j l) → s.taken.event ≡ r.taken.event
 same_event t j k l same s r =
     some_same s.taken.event r.taken.event (sym (event_there t j k s) ∙ ap (λ (n : ℕ). option_and_then (event_in j) (entry_at j n)) same ∙ event_there t j l r)
 
@@ -133,64 +133,63 @@ module _ (t : Chassis) (j : Journal) (run : IsRun t.plan j) (m op : ℕ) where
     unrefused = unrefused bytes r;
   }
 
-  outcome : (k : ℕ) (path bytes : List ℕ) → OpenedIn t.plan j m op k path → (reply : Reply) → Gave (part m j) (outputs.Done op bytes)
-      → reply_at bytes ≡ Ok reply
-      → Outcome t.plan j m op m path reply
-  outcome k path bytes c reply gave read =
+  outcome : (k : ℕ) (path bytes : List ℕ) → OpenedIn t.plan j m op k path → Gave (part m j) (outputs.Done op bytes)
+      → ReadAs (Outcome t.plan j m op m path) bytes
+  outcome k path bytes c gave =
       let r = done_by bytes gave in
       let own = again k path bytes c r in
-      subst (λ (n : ℕ). Outcome t.plan j m op n path reply) r.here
+      subst (λ (n : ℕ). ReadAs (Outcome t.plan j m op n path) bytes) r.here
       (open_outcome t.plan j run m op r.number r.step bytes r.replied (opened r.number path own) (opened_asks r.number path own)
-      (opened_begins r.number path own).to reply read)
+      (opened_begins r.number path own).to)
 
-  no_general : (reply : Reply) → reply.general ≢ 0 → reply.general ≡ 0 → ⊥
-  no_general reply other is = other is
-
-  pub fails : (k : ℕ) (path : List ℕ) → OpenedIn t.plan j m op k path → (bytes : List ℕ) (reply : Reply) → Gave (part m j) (outputs.Done op bytes)
-      → reply_at bytes ≡ Ok reply
+  fails : (k : ℕ) (path : List ℕ) → OpenedIn t.plan j m op k path → (reply : Reply) → Outcome t.plan j m op m path reply
       → reply.general ≢ 0 → TellsWhere t.plan j (trail_of j m op) reply
-  fails k path c bytes reply gave read other = by_outcome (outcome k path bytes c reply gave read)
-    where
-      by_outcome : Outcome t.plan j m op m path reply → TellsWhere t.plan j (trail_of j m op) reply
-      by_outcome (Failed place step o trail asks status failure r_is words_is triad_there failed why) = record {
-        status = status;
-        general_is = ap (λ (x : Reply). x.general) r_is;
-        extra_is = ap (λ (x : Reply). x.extra) r_is;
-        failure = failure;
-        read = ap (λ (x : Reply). failure_at x.data_) r_is ∙ failure_back failure triad_there;
-        words = words_of o.path;
-        words_is = words_is;
-        place = place;
-        on = is_on t.plan j m op place step trail;
-        received = words_there t.plan j place step o asks;
-        only = λ l on words. only_one j (trail_of j m op) l place (words_of o.path) (falls k path c) on (is_on t.plan j m op place step trail) words
-            (words_there t.plan j place step o asks);
-        step = step;
-        why = why;
-      }
-      by_outcome (Ended place step o came trail asks accepted general there) = absurd (other general)
+  fails k path c reply (Failed place step o trail asks status failure r_is words_is triad_there failed why) other = record {
+    status = status;
+    general_is = ap (λ (x : Reply). x.general) r_is;
+    extra_is = ap (λ (x : Reply). x.extra) r_is;
+    failure = failure;
+    read = ap (λ (x : Reply). failure_at x.data_) r_is ∙ failure_back failure triad_there;
+    words = words_of o.path;
+    words_is = words_is;
+    place = place;
+    on = is_on t.plan j m op place step trail;
+    received = words_there t.plan j place step o asks;
+    only = λ l on words. only_one j (trail_of j m op) l place (words_of o.path) (falls k path c) on (is_on t.plan j m op place step trail) words
+        (words_there t.plan j place step o asks);
+    step = step;
+    why = why;
+  }
+  fails k path c reply (Ended place step o came trail asks accepted general there) other = absurd (other general)
 
-  pub succeeds : (k : ℕ) (path : List ℕ) → OpenedIn t.plan j m op k path → (bytes : List ℕ) (reply : Reply) → Gave (part m j) (outputs.Done op bytes)
-      → reply_at bytes ≡ Ok reply
+  succeeds : (k : ℕ) (path : List ℕ) → OpenedIn t.plan j m op k path → (reply : Reply) → Outcome t.plan j m op m path reply
       → reply.general ≡ 0 → EndsThere t.plan j (trail_of j m op) m path
-  succeeds k path c bytes reply gave read general = by_outcome (outcome k path bytes c reply gave read)
-    where
-      by_outcome : Outcome t.plan j m op m path reply → EndsThere t.plan j (trail_of j m op) m path
-      by_outcome (Failed place step o trail asks status failure r_is words_is triad_there failed why) =
-          absurd (failed (ap (λ (x : Reply). x.general) (sym r_is) ∙ general))
-      by_outcome (Ended place step o came trail asks accepted was there) = record {
-        place = place;
-        last = is_last t.plan j m op place step trail
-            (none_sent t.plan j place run step (λ sending kind why.
-            let g = open_goes step.taken.config (state_before step) step.taken.event o asks sending kind why in
-            let no : Some g.leads.hop ≡ None = sym g.leads.first ∙ accepted.ends in cc));
-        step = step;
-        up = accepted.up;
-        o = o;
-        link = accepted.link;
-        asks = accepted.asks;
-        meets = accepted.meets;
-        walks = there ∙ walk_ends t.plan step.at.0 o.path accepted.ends;
+  succeeds k path c reply (Failed place step o trail asks status failure r_is words_is triad_there failed why) general =
+      absurd (failed (ap (λ (x : Reply). x.general) (sym r_is) ∙ general))
+  succeeds k path c reply (Ended place step o came trail asks accepted was there) general = record {
+    place = place;
+    last = is_last t.plan j m op place step trail
+        (none_sent t.plan j place run step (λ sending kind why.
+        let g = open_goes step.taken.config (state_before step) step.taken.event o asks sending kind why in
+        let no : Some g.leads.hop ≡ None = sym g.leads.first ∙ accepted.ends in cc));
+    step = step;
+    up = accepted.up;
+    o = o;
+    link = accepted.link;
+    asks = accepted.asks;
+    meets = accepted.meets;
+    walks = there ∙ walk_ends t.plan step.at.0 o.path accepted.ends;
+  }
+
+  pub opens : (k : ℕ) (path : List ℕ) → OpenedIn t.plan j m op k path → (bytes : List ℕ) → Gave (part m j) (outputs.Done op bytes)
+      → OpenDone t.plan j (trail_of j m op) m path bytes
+  opens k path c bytes gave =
+      let x = outcome k path bytes c gave in
+      record {
+        reply = x.reply;
+        read = x.read;
+        fails = fails k path c x.reply x.has;
+        succeeds = succeeds k path c x.reply x.has;
       }
 
   -- ---- a Send
@@ -250,4 +249,4 @@ module _ (t : Chassis) (j : Journal) (run : IsRun t.plan j) (m op : ℕ) where
   -- ---- all of it
 
   pub tells : TrailTells t.plan j m op (trail_of j m op)
-  tells = record { falls = falls; fails = fails; succeeds = succeeds; answers = answers }
+  tells = record { falls = falls; opens = opens; answers = answers }

@@ -25,6 +25,7 @@ pub mod Carried
 pub mod OneChain
 pub mod Answered
 pub mod Named
+pub mod Lost
 pub mod Spotted
 pub mod StepAt
 pub mod Waits
@@ -51,4 +52,5 @@ pub mod WordsFall
 pub mod SendsGo
 pub mod SendTrails
 pub mod DonesTell
+pub mod CloseTrails
 pub mod RepliesTell

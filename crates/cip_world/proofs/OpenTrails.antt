@@ -1,16 +1,17 @@
 -- The trail of an Open: its path shortens from entry to entry, and the Done tells where it failed or that it was accepted at the end.
-use Rattle.std.proofs.Common.{◌≡◌, ℕ, ◌/◌, ◌<◌, List, [], Ok, Option, Some, None, refl, sym, ap, subst, ◌∙◌, ◌⊎◌, inl, inr, arith, length}
+use Rattle.std.proofs.Common.{◌≡◌, ℕ, ◌/◌, ◌<◌, ◌≤◌, List, [], Ok, Option, Some, None, refl, sym, ap, subst, ◌∙◌, ◌⊎◌, inl, inr, arith, length}
 use Rattle.std.specs.Prelude.{option_map, option_and_then}
 use Rattle.std.specs.FinMap as map
 use Rattle.std.specs.Option.{option_map_or}
 use Rattle.cip_base.specs.declared.timing.Status.{Status}
 use Rattle.cip_segment.specs.Reading.{HopAt, hop_of}
 use Rattle.cip_message.specs.Failure.{failure_data, HasTriadForWords}
-use Rattle.cip_message.specs.Reply.{Reply, reply_with, done_with}
+use Rattle.cip_message.specs.Reply.{Reply, reply_bytes, reply_with, done_with}
 use Rattle.cip_message.specs.ReplyAt.{reply_at}
 use Rattle.cip_message.specs.declared.failure.ConnectionFailure.{ConnectionFailure}
 use Rattle.cip_message.proofs.Managers.{manager_is_read}
-use Rattle.cip_message.proofs.ReadAgain.{ok_reply, reply_is}
+use Rattle.cip_message.proofs.ReadAgain.{ok_reply}
+use Rattle.cip_message.proofs.Replies.{reply_back}
 use Rattle.cip_open.specs.Open.{Open, open_data}
 use Rattle.cip_open.specs.GoesOn.{lowered, with_ids}
 use Rattle.cip_open.specs.Success.{OpenSuccess, open_reply_data, open_reply_bytes}
@@ -132,25 +133,36 @@ next_open t j a b n s r o sending kind there g leads here event_is = record {
 
 -- ---- how an open ended
 
-success_general : (x : OpenSuccess) (r : Reply) (bytes : List ℕ) → bytes ≡ open_reply_bytes x → reply_at bytes ≡ Ok r → r.general ≡ 0
-success_general x r bytes is read = ap (λ (y : Reply). y.general) (reply_is (done_with 0xD4 (open_reply_data x)) r bytes (omega arith) is read)
+-- the bytes are a reply that can be read, and this holds of it
+pub record ReadAs (P : Reply → Type 0) (bytes : List ℕ) : Type 0 where
+  pub reply : Reply
+  pub read : reply_at bytes ≡ Ok reply
+  pub has : P reply
 
-accepted_general : (o : Open) (id : ℕ) (r : Reply) (bytes : List ℕ) → bytes ≡ accepted_bytes o id → reply_at bytes ≡ Ok r → r.general ≡ 0
-accepted_general o id r bytes is read =
-    success_general
-    (record { ot_id = id; to_id = o.fields.to_id; triad = o.fields.triad; ot_api = o.fields.ot_rpi; to_api = o.fields.to_rpi; reply = [] }) r bytes is read
+-- it holds of whatever is read
+pub of_read : (P : Reply → Type 0) (bytes : List ℕ) (r : Reply) → reply_at bytes ≡ Ok r → ReadAs P bytes → P r
+of_read P bytes r read x = subst P (ok_reply x.reply r (sym x.read ∙ read)) x.has
+
+written : (P : Reply → Type 0) (r : Reply) (bytes : List ℕ) → 128 ≤ r.service → bytes ≡ reply_bytes r → P r → ReadAs P bytes
+written P r bytes big is has = record { reply = r; read = ap reply_at is ∙ reply_back r big; has = has }
+
+success_read : (x : OpenSuccess) (bytes : List ℕ) → bytes ≡ open_reply_bytes x → ReadAs (λ r. r.general ≡ 0) bytes
+success_read x bytes is = written (λ r. r.general ≡ 0) (done_with 0xD4 (open_reply_data x)) bytes (omega arith) is refl
+
+accepted_read : (o : Open) (id : ℕ) (bytes : List ℕ) → bytes ≡ accepted_bytes o id → ReadAs (λ r. r.general ≡ 0) bytes
+accepted_read o id bytes is =
+    success_read
+    (record { ot_id = id; to_id = o.fields.to_id; triad = o.fields.triad; ot_api = o.fields.ot_rpi; to_api = o.fields.to_rpi; reply = [] }) bytes is
 
 -- a success that is passed on stays one
-passed_general : (held : Option Held) (came : List ℕ) (success : OpenSuccess) (bytes : List ℕ) (reply r : Reply) → bytes ≡ succeeded held came success
-    → reply_at came ≡ Ok reply
-    → reply.general ≡ 0 → reply_at bytes ≡ Ok r → r.general ≡ 0
-passed_general None came success bytes reply r is read general read_too =
-    ap (λ (y : Reply). y.general) (ok_reply r reply (sym read_too ∙ ap reply_at is ∙ read)) ∙ general
-passed_general (Some x) came success bytes reply r is read general read_too = by_up (opening_of x).up is
+passed_read : (held : Option Held) (came : List ℕ) (success : OpenSuccess) (bytes : List ℕ) (reply : Reply) → bytes ≡ succeeded held came success
+    → reply_at came ≡ Ok reply → reply.general ≡ 0 → ReadAs (λ r. r.general ≡ 0) bytes
+passed_read None came success bytes reply is read general = record { reply = reply; read = ap reply_at is ∙ read; has = general }
+passed_read (Some x) came success bytes reply is read general = by_up (opening_of x).up is
   where
-    by_up : (up : HopUp) → bytes ≡ success_up up (ids_of x) came success → r.general ≡ 0
-    by_up (UpLink port address id) e = success_general (with_ids success (option_map_or (λ own. own) (ids_of x).up 0) id) r bytes e read_too
-    by_up (UpLocal op) e = ap (λ (y : Reply). y.general) (ok_reply r reply (sym read_too ∙ ap reply_at e ∙ read)) ∙ general
+    by_up : (up : HopUp) → bytes ≡ success_up up (ids_of x) came success → ReadAs (λ r. r.general ≡ 0) bytes
+    by_up (UpLink port address id) e = success_read (with_ids success (option_map_or (λ own. own) (ids_of x).up 0) id) bytes e
+    by_up (UpLocal op) e = record { reply = reply; read = ap reply_at e ∙ read; has = general }
 
 -- the reply to an open whose trail came to entry k
 pub data Outcome (t : Plan) (j : Journal) (m op at : ℕ) (path : List ℕ) (r : Reply) : Type 0 where
@@ -177,27 +189,32 @@ renamed t j m op at path reply r general too (Failed place step o trail asks sta
 renamed t j m op at path reply r general too (Ended place step o bytes trail asks accepted was there) = Ended place step o bytes trail asks accepted too there
 
 module _ (t : Plan) (j : Journal) (run : IsRun t j) (m op : ℕ) where
-  by_row : (k : ℕ) (s : StepIn t j k) (bytes : List ℕ) (o : Open) → AsksThat s.taken.config s.taken.event o → TrailTo t j m op k s → (r : Reply)
-      → reply_at bytes ≡ Ok r
+  -- what was told of an open at an entry, of a reply that can be read
+  abbrev Told : ℕ → List ℕ → List ℕ → Type 0
+  Told at path bytes = ReadAs (Outcome t j m op at path) bytes
+
+  by_row : (k : ℕ) (s : StepIn t j k) (bytes : List ℕ) (o : Open) → AsksThat s.taken.config s.taken.event o → TrailTo t j m op k s
       → OpenRefused s.taken.config (state_before s) s.taken.event o bytes ⊎ OpenAccepted s.taken.config (state_before s) s.taken.event o bytes
-      → Outcome t j m op s.at.0 o.path r
-  by_row k s bytes o asks to r read (inl refused) =
-      Failed k s o to asks (open_status refused.refusal) refused.failure
-      (reply_is (reply_with 0xD4 (open_status refused.refusal) (failure_data refused.failure)) r bytes (omega arith) refused.bytes_are read)
-      refused.words_is refused.triad_there (open_fails refused.refusal) (FailedByRow refused.refusal refused.why refl)
-  by_row k s bytes o asks to r read (inr accepted) =
-      Ended k s o bytes to asks accepted (accepted_general o (state_before s).hops.next r bytes accepted.bytes_are read) refl
+      → Told s.at.0 o.path bytes
+  by_row k s bytes o asks to (inl refused) =
+      let r = reply_with 0xD4 (open_status refused.refusal) (failure_data refused.failure) in
+      written (Outcome t j m op s.at.0 o.path) r bytes (omega arith) refused.bytes_are
+      (Failed k s o to asks (open_status refused.refusal) refused.failure refl refused.words_is refused.triad_there (open_fails refused.refusal)
+      (FailedByRow refused.refusal refused.why refl))
+  by_row k s bytes o asks to (inr accepted) =
+      let success = accepted_read o (state_before s).hops.next bytes accepted.bytes_are in
+      record { reply = success.reply; read = success.read; has = Ended k s o bytes to asks accepted success.has refl }
 
   by_tick : (k : ℕ) (s : StepIn t j k) (n : ℕ) (p : entries.Entry) (put : PutAt s n p) (l : ℕ) (tick : StepIn t j l) → tick.at.0 ≡ s.at.0
       → PendingTimesOutAs (state_before tick) tick.taken.event n → map.get (state_before tick).pendings.entries n ≡ Some p → k < l → (bytes : List ℕ)
       → bytes ≡ timed_out_bytes p.kind p.words
-      → (o : Open) → AsksThat s.taken.config s.taken.event o → TrailTo t j m op k s → (r : Reply) → reply_at bytes ≡ Ok r
-      → OpenGoes s.taken.config (state_before s) s.taken.event o put.sending p.kind → Outcome t j m op s.at.0 o.path r
-  by_tick k s n p put l tick here ends waits later bytes bytes_are o asks to r read g =
+      → (o : Open) → AsksThat s.taken.config s.taken.event o → TrailTo t j m op k s
+      → OpenGoes s.taken.config (state_before s) s.taken.event o put.sending p.kind → Told s.at.0 o.path bytes
+  by_tick k s n p put l tick here ends waits later bytes bytes_are o asks to g =
       let words_is : p.words ≡ words_of o.path = put.words_is ∙ g.words_are in
-      Failed k s o to asks (link_status TicksSpent) (failed_at g.triad p.words)
-      (reply_is (reply_with 0xD4 (link_status TicksSpent) (failure_data (failed_at g.triad p.words))) r bytes (omega arith)
-      (bytes_are ∙ ap (λ (x : Kind). timed_out_bytes x p.words) g.kind_is) read)
+      let r = reply_with 0xD4 (link_status TicksSpent) (failure_data (failed_at g.triad p.words)) in
+      written (Outcome t j m op s.at.0 o.path) r bytes (omega arith) (bytes_are ∙ ap (λ (x : Kind). timed_out_bytes x p.words) g.kind_is)
+      (Failed k s o to asks (link_status TicksSpent) (failed_at g.triad p.words) refl
       (ap (λ (w : ℕ). Some w) words_is) (λ none. absurd (cc)) (link_fails TicksSpent)
       (FailedByTick (record {
         number = n;
@@ -212,7 +229,7 @@ module _ (t : Plan) (j : Journal) (run : IsRun t j) (m op : ℕ) where
         later = later;
         waits = waits;
         ends = ends;
-      }) refl)
+      }) refl))
 
   goes_there : (k : ℕ) (s : StepIn t j k) (n : ℕ) (p : entries.Entry) (put : PutAt s n p) (o : Open) → AsksThat s.taken.config s.taken.event o
       → OpenGoes s.taken.config (state_before s) s.taken.event o put.sending p.kind
@@ -224,21 +241,35 @@ module _ (t : Plan) (j : Journal) (run : IsRun t j) (m op : ℕ) where
   there k s n p put l next arrives o asks =
       next_open t j k l n s next o put.sending p.kind arrives.there (goes_there k s n p put o asks) arrives.leads arrives.here arrives.event_is
 
+  -- what was told below is told here
+  passed_on : (at to : ℕ) (path rest bytes : List ℕ) → walk t at path ≡ walk t to rest → Told to rest bytes → Told at path bytes
+  passed_on at to path rest bytes walks x = record { reply = x.reply; read = x.read; has = further t j m op at to path rest x.reply walks x.has }
+
+  succeeded_on : (at to : ℕ) (path rest bytes came : List ℕ) (reply : Reply) → walk t at path ≡ walk t to rest → reply_at came ≡ Ok reply
+      → reply.general ≡ 0
+      → ReadAs (λ r. r.general ≡ 0) bytes → Told to rest came → Told at path bytes
+  succeeded_on at to path rest bytes came reply walks read general x below = record {
+    reply = x.reply;
+    read = x.read;
+    has = further t j m op at to path rest x.reply walks
+        (renamed t j m op to rest reply x.reply general x.has (of_read (Outcome t j m op to rest) came reply read below));
+  }
+
+  -- each reply to an open can be read, and tells how it ended
   pub open_outcome : (k : ℕ) (s : StepIn t j k) (bytes : List ℕ) → Replied t j k s bytes → (o : Open) → AsksThat s.taken.config s.taken.event o
-      → TrailTo t j m op k s → (r : Reply)
-      → reply_at bytes ≡ Ok r → Outcome t j m op s.at.0 o.path r
-  open_outcome k s bytes (ByRow _ _ up _ told) o asks to r read =
-      by_row k s bytes o asks to r read (open_replied s.taken.config (state_before s) s.taken.event o asks up bytes told)
-  open_outcome k s bytes (ByTarget _ _ up asked _ told bytes_are) o asks to r read =
+      → TrailTo t j m op k s → ReadAs (Outcome t j m op s.at.0 o.path) bytes
+  open_outcome k s bytes (ByRow _ _ up _ told) o asks to =
+      by_row k s bytes o asks to (open_replied s.taken.config (state_before s) s.taken.event o asks up bytes told)
+  open_outcome k s bytes (ByTarget _ _ up asked _ told bytes_are) o asks to =
       absurd (no_answer s.taken.config (state_before s) s.taken.event o asks up asked told)
-  open_outcome k s bytes (ByTick _ _ n p put l tick here ends waits later _ bytes_are) o asks to r read =
-      by_tick k s n p put l tick here ends waits later bytes bytes_are o asks to r read (goes_there k s n p put o asks)
-  open_outcome k s bytes (AsItCame _ _ n p put l next arrives _ below) o asks to r read =
+  open_outcome k s bytes (ByTick _ _ n p put l tick here ends waits later _ bytes_are) o asks to =
+      by_tick k s n p put l tick here ends waits later bytes bytes_are o asks to (goes_there k s n p put o asks)
+  open_outcome k s bytes (AsItCame _ _ n p put l next arrives _ below) o asks to =
       let on = there k s n p put l next arrives o asks in
-      further t j m op s.at.0 next.at.0 o.path on.next.path r on.walks
-      (open_outcome l next bytes below on.next on.asks (trail_on t j run m op k l s next n put.sending arrives to) r read)
-  open_outcome k s bytes (AsSuccess _ _ n p put l next arrives triad kind_is came reply read_below general held success _ bytes_are below) o asks to r read =
+      passed_on s.at.0 next.at.0 o.path on.next.path bytes on.walks
+      (open_outcome l next bytes below on.next on.asks (trail_on t j run m op k l s next n put.sending arrives to))
+  open_outcome k s bytes (AsSuccess _ _ n p put l next arrives triad kind_is came reply read_below general held success _ bytes_are below) o asks to =
       let on = there k s n p put l next arrives o asks in
-      further t j m op s.at.0 next.at.0 o.path on.next.path r on.walks
-      (renamed t j m op next.at.0 on.next.path reply r general (passed_general held came success bytes reply r bytes_are read_below general read)
-      (open_outcome l next came below on.next on.asks (trail_on t j run m op k l s next n put.sending arrives to) reply read_below))
+      succeeded_on s.at.0 next.at.0 o.path on.next.path bytes came reply on.walks read_below general
+      (passed_read held came success bytes reply bytes_are read_below general)
+      (open_outcome l next came below on.next on.asks (trail_on t j run m op k l s next n put.sending arrives to))

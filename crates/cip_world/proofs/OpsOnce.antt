@@ -230,20 +230,23 @@ asks_so op (commands.Enter of bytes) e = absurd (cc)
 asks_so op (commands.Set instance bytes) e = absurd (cc)
 asks_so op (commands.Produce instance) e = absurd (cc)
 
--- the entry of a command is such a step
-pub command_in : (t : Plan) (j : Journal) (m op k : ℕ) (s : StepIn t j k) → is_command m op (Step s.at s.input s.outputs) ≡ true → CommandIn t j m op k
+-- the entry of a command is such a step, an Open or a Send
+pub command_in : (t : Plan) (j : Journal) (m op k : ℕ) (s : StepIn t j k) → is_command m op (Step s.at s.input s.outputs) ≡ true
+    → (c : CommandIn t j m op k) × (opens_or_sends op c.command ≡ true)
 command_in t j m op k s h =
     let all = and_parts (eqb s.at.0 m && asks_for op s.input) (not (list_any is_refusal s.outputs)) h in
     let both = and_parts (eqb s.at.0 m) (asks_for op s.input) all.0 in
-    let c = asked_command t s.before s.at.0 op s.input s.taken.event s.taken.given both.1 in
-    record {
-      step = s;
-      here = eqb-true s.at.0 m both.0;
-      command = c.0;
-      event_is = c.1;
-      asks = asks_so op c.0 c.2;
-      unrefused = true_not (list_any is_refusal s.outputs) all.1;
-    }
+    let c = asked_command t s.before s.at.0 op s.input s.taken.event s.taken.given both.1 in (
+      record {
+        step = s;
+        here = eqb-true s.at.0 m both.0;
+        command = c.0;
+        event_is = c.1;
+        asks = asks_so op c.0 c.2;
+        unrefused = true_not (list_any is_refusal s.outputs) all.1;
+      },
+      c.2,
+    )
 
 -- the op is unused before the entry, and used after it
 module _ (t : Plan) (j : Journal) (m op k : ℕ) (run : IsRun t j) (c : CommandIn t j m op k) where

@@ -139,7 +139,7 @@ is_last t j m op k s to none = record { front = to.front; is = still_end t j m o
 
 -- ---- where it begins
 
-command_older : (t : Plan) (x j : Journal) (m op k : ℕ) → IsOlder x j → CommandIn t x m op k → CommandIn t j m op k
+abbrev command_older : (t : Plan) (x j : Journal) (m op k : ℕ) → IsOlder x j → CommandIn t x m op k → CommandIn t j m op k
 command_older t x j m op k older c = record {
   step = step_older t x j k older c.step;
   here = c.here;
@@ -149,22 +149,24 @@ command_older t x j m op k older c = record {
   unrefused = c.unrefused;
 }
 
-no_command : (t : Plan) (e : Entry) (j : Journal) (m op : ℕ) → IsRun t (e ∷ j) → ((k : ℕ) → CommandIn t (e ∷ j) m op k → ⊥) → is_command m op e ≡ true → ⊥
+no_command : (t : Plan) (e : Entry) (j : Journal) (m op : ℕ) → IsRun t (e ∷ j)
+    → ((k : ℕ) (c : CommandIn t (e ∷ j) m op k) → opens_or_sends op c.command ≡ true → ⊥) → is_command m op e ≡ true → ⊥
 no_command t (Step n input outs) j m op run none h =
-    none (length j)
-    (command_in t (Step n input outs ∷ j) m op (length j)
-    (record { at = n; input = input; outputs = outs; before = j; is = inl refl; number = refl; taken = run.1 }) h)
+    let c = command_in t (Step n input outs ∷ j) m op (length j)
+    (record { at = n; input = input; outputs = outs; before = j; is = inl refl; number = refl; taken = run.1 }) h in
+    none (length j) c.0 c.1
 no_command t (Lost frame) j m op run none h = cc
 
 by_test : (b : Bool) → (b ≡ true → ⊥) → b ≡ false
 by_test true h = absurd (h refl)
 by_test false h = refl
 
--- without a command there is no trail
-trail_none : (t : Plan) (j : Journal) (m op : ℕ) → IsRun t j → ((k : ℕ) → CommandIn t j m op k → ⊥) → trail_of j m op ≡ []
+-- without an Open or a Send there is no trail
+pub trail_none : (t : Plan) (j : Journal) (m op : ℕ) → IsRun t j → ((k : ℕ) (c : CommandIn t j m op k) → opens_or_sends op c.command ≡ true → ⊥)
+    → trail_of j m op ≡ []
 trail_none t [] m op run none = no_trail m op
 trail_none t (e ∷ j) m op run none =
-    let old = trail_none t j m op run.0 (λ k c. none k (command_older t j (e ∷ j) m op k (inr (itself j)) c)) in
+    let old = trail_none t j m op run.0 (λ k c asks. none k (command_older t j (e ∷ j) m op k (inr (itself j)) c) asks) in
     grows e j m op ∙ ap (λ (xs : List ℕ). xs ++ if_so (goes_on j m op (tip xs) e) (length j)) old
     ∙ ap (λ b. if_so b (length j)) (by_test (is_command m op e) (no_command t e j m op run none))
 
@@ -181,7 +183,7 @@ trail_begins t j m op k run c asks =
     let older = before_that (Step s.at s.input s.outputs) s.before j s.is in
     let before : trail_of s.before m op ≡ [] =
     trail_none t s.before m op (run_older t (with_entry s) j s.is run).0
-    (λ l d.
+    (λ l d asks_.
     let same = one_command t j m op k l run c (command_older t s.before j m op l older d) in
     let less = older_length (with_entry d.step) s.before d.step.is in
     let is_ = d.step.number in let at_ = s.number in

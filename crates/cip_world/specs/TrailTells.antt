@@ -170,6 +170,15 @@ pub record EndsThere (t : Plan) (j : Journal) (ks : List ℕ) (m : ℕ) (path : 
       ≡ Accepted link
   pub walks : walk t m path ≡ Some (record { at = step.at.0; path = o.path })
 
+-- What the Done of an Open tells: it can be read as a reply, which is a failure that tells where,
+-- or a success at the end of the path.
+pub record OpenDone (t : Plan) (j : Journal) (ks : List ℕ) (m : ℕ) (path bytes : Octets) : Type 0
+  where
+    pub reply : Reply
+    pub read : reply_at bytes ≡ Ok reply
+    pub fails : reply.general ≢ 0 → TellsWhere t j ks reply
+    pub succeeds : reply.general ≡ 0 → EndsThere t j ks m path
+
 -- module m has the Open of this op in entry k, which is not refused
 pub record OpenedIn (t : Plan) (j : Journal) (m : ℕ) (op : OpNumber) (k : ℕ) (path : Octets) :
     Type 0 where
@@ -208,12 +217,8 @@ pub record AnsweredThere (t : Plan) (j : Journal) (ks : List ℕ) (m : ℕ)
 -- what the Dones of an op tell of its trail
 pub record TrailTells (t : Plan) (j : Journal) (m : ℕ) (op : OpNumber) (ks : List ℕ) : Type 0 where
   pub falls : (k : ℕ) (path : Octets) → OpenedIn t j m op k path → WordsFall j ks
-  pub fails : (k : ℕ) (path : Octets) → OpenedIn t j m op k path
-      → (bytes : Octets) (reply : Reply) → Gave (part m j) (outputs.Done op bytes)
-      → reply_at bytes ≡ Ok reply → reply.general ≢ 0 → TellsWhere t j ks reply
-  pub succeeds : (k : ℕ) (path : Octets) → OpenedIn t j m op k path
-      → (bytes : Octets) (reply : Reply) → Gave (part m j) (outputs.Done op bytes)
-      → reply_at bytes ≡ Ok reply → reply.general ≡ 0 → EndsThere t j ks m path
+  pub opens : (k : ℕ) (path : Octets) → OpenedIn t j m op k path
+      → (bytes : Octets) → Gave (part m j) (outputs.Done op bytes) → OpenDone t j ks m path bytes
   pub answers : (k : ℕ) (path request : Octets) → SentIn t j m op k path request
       → (bytes : Octets) → Gave (part m j) (outputs.Done op bytes)
       → slice_index bytes 0 ≢ 0xD2 → AnsweredThere t j ks m path request bytes

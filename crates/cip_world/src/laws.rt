@@ -1,7 +1,9 @@
 //! What holds of every run.
-ghost use Rattle.std.specs.Prelude.{◌≡◌, ℕ, ◌≤◌, true, List, ◌∷◌, length, Some};
+ghost use Rattle.std.specs.Prelude.{◌≡◌, ℕ, ◌≤◌, true, List, [], ◌∷◌, length, Some, None};
 ghost use Rattle.std.specs.FinMap as map;
 ghost use Rattle.std.specs.List.{list_any};
+ghost use Rattle.cip_base.specs.declared.numbers.ModuleId.{ModuleId as Id};
+ghost use Rattle.cip_base.specs.declared.timing.Timing.{Timing};
 ghost use Rattle.cip_base.specs.declared.triad.Triad.{Triad};
 ghost use Rattle.cip_hops.specs.declared.hop.Held.TheVariants.{Open};
 ghost use Rattle.cip_hops.specs.declared.hop.Hop.{Hop};
@@ -11,21 +13,27 @@ ghost use Rattle.cip_pending.specs.declared.entry.Entry.{Entry as Pending};
 ghost use Rattle.cip_pending.specs.declared.entry.UpSide.TheVariants.{Link};
 ghost use Rattle.cip_module.specs.declared.config.ModuleSettings.{ModuleSettings as Settings};
 ghost use Rattle.cip_module.specs.declared.event.Body.TheVariants.{Reply};
+ghost use Rattle.cip_module.specs.declared.event.Command.TheVariants.{Close};
 ghost use Rattle.cip_module.specs.declared.event.Event.TheVariants as events;
+ghost use Rattle.cip_module.specs.declared.event.Output.{Output as Sent};
 ghost use Rattle.cip_module.specs.declared.event.Output.TheVariants.{Arrived, Consumed};
 ghost use Rattle.cip_laws.specs.Histories.{IsHistory};
 ghost use Rattle.cip_laws.specs.Weights.{same_up, is_reply, is_asked_by, weight, came};
 ghost use Rattle.cip_topology.specs.Plan.{Plan, IsTopology};
 ghost use Rattle.cip_topology.specs.Nodes.{Way};
 ghost use Rattle.cip_world.specs.declared.journal.FrameName.{FrameName as Name};
-ghost use Rattle.cip_world.specs.Journals.{Journal, same_name, part};
+ghost use Rattle.cip_world.specs.declared.journal.Entry.TheVariants.{Step, Lost};
+ghost use Rattle.cip_world.specs.declared.journal.Input.TheVariants as inputs;
+ghost use Rattle.cip_world.specs.Journals.{Journal, entry_at, same_name, part};
 ghost use Rattle.cip_world.specs.Names.{AreRising};
 ghost use Rattle.cip_world.specs.Runs.{IsArrival, IsModule, IsRun, IsWaiting, state_in};
 ghost use Rattle.cip_world.specs.Waiting.{waiting};
 ghost use Rattle.cip_world.specs.Answers.{Answered};
-ghost use Rattle.cip_world.specs.Mirrors.{IsMirrored};
+ghost use Rattle.cip_world.specs.Mirrors.{IsOlder, IsMirrored};
 ghost use Rattle.cip_world.specs.Chains.{Member, IsChain, last_of, AreDeliveries, AreKept, IsTakenBy};
-ghost use Rattle.cip_world.specs.Entering.{HasOutput, before_entry, IsEntered, IsOpened, ConsumedOf, ArrivedOf};
+ghost use Rattle.cip_world.specs.Entering.{HasOutput, before_entry, IsTaken, IsEntered, IsOpened, ConsumedOf, ArrivedOf};
+ghost use Rattle.cip_world.specs.Roots.{root_of};
+ghost use Rattle.cip_world.specs.Trails.{trail_of};
 
 /// A frame is in the list of those that wait exactly where it waits, and the list rises.
 pub fn what_waits_is_listed()
@@ -73,12 +81,13 @@ pub fn replies_answer_their_requests()
         → Answered t j f m port n from }
 {}
 
-/// Each connection that goes on by a link is mirrored below: at no moment of the run does the
-/// neighbour have a connection under the id that is named that does not mirror it.
+/// Each connection that goes on by a link, at whatever moment it stands, is mirrored below: at no
+/// moment of the run, earlier or later, does the neighbour have a connection under the id that is
+/// named that does not mirror it.
 pub fn hops_are_mirrored()
-    ensures { (t : Plan) → IsTopology t → (j : Journal) (m : ℕ) (config : Settings) → IsRun t j
-        → IsModule t m config → (q : Triad) (h : Hop) (port : ℕ) (address : List ℕ)
-        → map.get (state_in config m j).hops.held q ≡ Some (Open h)
+    ensures { (t : Plan) → IsTopology t → (j k : Journal) (m : ℕ) (config : Settings) → IsRun t j
+        → IsOlder k j → IsModule t m config → (q : Triad) (h : Hop) (port : ℕ) (address : List ℕ)
+        → map.get (state_in config m k).hops.held q ≡ Some (Open h)
         → h.opening.down ≡ DownLink port address
         → IsMirrored t j (record { at = m; port = port; address = address }) h }
 {}
@@ -98,6 +107,31 @@ pub fn what_is_consumed_was_entered()
 pub fn what_arrives_was_produced()
     ensures { (t : Plan) → IsTopology t → (j : Journal) (k m op : ℕ) (bytes : List ℕ) → IsRun t j
         → HasOutput j k m (Arrived op bytes) → ArrivedOf t j k m op bytes }
+{}
+
+/// A frame that was lost never arrives, never waits again, and is not lost once more.
+pub fn what_is_lost_is_gone()
+    ensures arrives { (t : Plan) (j : Journal) (k i : ℕ) (f : Name) (at : Id) (port : ℕ)
+        (from : List ℕ) (outs : List Sent) → IsRun t j → entry_at j k ≡ Some (Lost f)
+        → entry_at j i ≡ Some (Step at (inputs.Frame port from f) outs) → ⊥ }
+    ensures waits { (t : Plan) (j : Journal) (k : ℕ) (f : Name) → IsRun t j
+        → entry_at j k ≡ Some (Lost f) → IsWaiting t j f → ⊥ }
+    ensures once { (t : Plan) (j : Journal) (k i : ℕ) (f : Name) → IsRun t j
+        → entry_at j k ≡ Some (Lost f) → entry_at j i ≡ Some (Lost f) → k ≡ i }
+{}
+
+/// A loss has no root.
+pub fn a_loss_has_no_root()
+    ensures { (j : Journal) (k : ℕ) (f : Name) → entry_at j k ≡ Some (Lost f)
+        → root_of j k ≡ None }
+{}
+
+/// A Close that is taken has no trail: its op is used up, and no Open and no Send has it.
+pub fn a_close_has_no_trail()
+    ensures { (t : Plan) (j : Journal) (k op of : ℕ) (at : Id) (timing : Timing)
+        (outs : List Sent) → IsRun t j
+        → entry_at j k ≡ Some (Step at (inputs.Command (Close op of timing)) outs) → IsTaken outs
+        → trail_of j at.0 op ≡ [] }
 {}
 
 /// Of the Opens of one op at one module one at most is taken: what an op opens is one open.
