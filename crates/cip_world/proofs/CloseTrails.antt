@@ -1,5 +1,5 @@
 -- A Close that is taken has no trail: it used its op up.
-use Rattle.std.proofs.Common.{◌≡◌, ℕ, true, false, List, [], ◌∷◌, Some, refl, sym, ap, subst, ◌∙◌, inl, inr}
+use Rattle.std.proofs.Common.{◌≡◌, ℕ, true, false, List, [], ◌∷◌, Some, refl, sym, ap, ◌∙◌, inl, inr}
 use Rattle.std.specs.List.{list_any}
 use Rattle.cip_base.specs.declared.numbers.ModuleId.{ModuleId}
 use Rattle.cip_base.specs.declared.timing.Timing.{Timing}

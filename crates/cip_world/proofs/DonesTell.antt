@@ -1,12 +1,11 @@
 -- What the Dones of an op tell of the trail of its command.
-use Rattle.std.proofs.Common.{◌≡◌, ℕ, false, List, [], ◌∷◌, Ok, Some, None, refl, sym, ap, subst, ◌∙◌, inl, inr}
+use Rattle.std.proofs.Common.{◌≡◌, ℕ, false, List, [], ◌∷◌, Some, None, refl, sym, ap, subst, ◌∙◌, inl, inr}
 use Rattle.std.specs.List.{list_any}
 use Rattle.std.specs.Prelude.{slice_index, option_and_then, ◌≢◌}
 use Rattle.std.proofs.lemmas.Bool.{eq-eqb}
 use Rattle.cip_base.proofs.MapCases.{some_same}
 use Rattle.cip_message.specs.Failure.{failure_at}
 use Rattle.cip_message.specs.Reply.{Reply}
-use Rattle.cip_message.specs.ReplyAt.{reply_at}
 use Rattle.cip_message.proofs.Failures.{failure_back}
 use Rattle.cip_open.specs.Open.{Open}
 use Rattle.cip_pending.specs.declared.entry.UpSide.TheVariants.{Local}

@@ -127,7 +127,7 @@ run_answers = (
   },
 )
 
-run_times_out : IsRun plant times_out
+pub run_times_out : IsRun plant times_out
 run_times_out = (
   run_answers,
   record {

@@ -8,5 +8,7 @@ pub mod LateReply
 pub mod ChainedRun
 pub mod LateClose
 pub mod OneAfterTheOther
+pub mod LapsedRun
 pub mod CarriedOnce
+pub mod DonesTold
 pub mod Told

@@ -206,7 +206,7 @@ run_accepted = (
   },
 )
 
-run_stands : IsRun cell stands
+pub run_stands : IsRun cell stands
 run_stands = (
   run_accepted,
   record {

@@ -7,3 +7,5 @@ pub mod LateReply
 pub mod ChainedRun
 pub mod LateClose
 pub mod OneAfterTheOther
+pub mod LapsedRun
+pub mod Told

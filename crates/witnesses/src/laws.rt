@@ -1,12 +1,25 @@
 //! Which plans are topologies, which journals are runs over them, and what holds of a run.
-ghost use Rattle.std.specs.Prelude.{[], ◌∷◌};
+ghost use Rattle.std.specs.Prelude.{◌≡◌, [], ◌∷◌, Some, None};
+ghost use Rattle.std.specs.FinMap as map;
+ghost use Rattle.cip_pending.specs.declared.entry.UpSide.TheVariants.{Link};
+ghost use Rattle.cip_module.specs.declared.event.Body.TheVariants.{Request};
+ghost use Rattle.cip_module.specs.declared.event.Command.TheVariants.{Close};
+ghost use Rattle.cip_module.specs.declared.event.Output.TheVariants.{Arrived, Consumed, Done, Send};
+ghost use Rattle.cip_laws.specs.Turns.{Gave};
+ghost use Rattle.cip_laws.specs.Weights.{is_reply, weight};
 ghost use Rattle.cip_topology.specs.Plan.{IsTopology};
-ghost use Rattle.cip_world.specs.Chains.{IsChain, AreDeliveries, AreKept, IsTakenBy};
-ghost use Rattle.cip_world.specs.Entering.{before_entry, IsEntered, ConsumedOf, ArrivedOf};
+ghost use Rattle.cip_world.specs.declared.journal.Entry.TheVariants.{Step, Lost};
+ghost use Rattle.cip_world.specs.declared.journal.Input.TheVariants.{Command};
 ghost use Rattle.cip_world.specs.Answers.{Answered};
-ghost use Rattle.cip_world.specs.Mirrors.{IsMirrored};
-ghost use Rattle.cip_world.specs.Runs.{IsRun};
-ghost use Rattle.witnesses.specs.Plans.{plant, cell, row, triad, frame};
+ghost use Rattle.cip_world.specs.Chains.{HasHop, IsChain, AreDeliveries, AreKept, IsTakenBy};
+ghost use Rattle.cip_world.specs.Entering.{HasOutput, before_entry, IsTaken, IsEntered};
+ghost use Rattle.cip_world.specs.Journals.{entry_at, part};
+ghost use Rattle.cip_world.specs.Mirrors.{IsOlder, Mirrors, IsMirrored};
+ghost use Rattle.cip_world.specs.Roots.{root_of};
+ghost use Rattle.cip_world.specs.Runs.{IsRun, IsWaiting, state_in};
+ghost use Rattle.cip_world.specs.Trails.{trail_of};
+ghost use Rattle.cip_world.specs.TrailTells.{OpenedIn, SentIn};
+ghost use Rattle.witnesses.specs.Plans.{plant, cell, row, scanner, triad, frame};
 ghost use Rattle.witnesses.specs.StoredRun as stored;
 ghost use Rattle.witnesses.specs.ConnectedRun as connected;
 ghost use Rattle.witnesses.specs.FailedOpen as failed;
@@ -15,6 +28,8 @@ ghost use Rattle.witnesses.specs.LateReply as late;
 ghost use Rattle.witnesses.specs.ChainedRun as chained;
 ghost use Rattle.witnesses.specs.LateClose as closing;
 ghost use Rattle.witnesses.specs.OneAfterTheOther as twice;
+ghost use Rattle.witnesses.specs.LapsedRun as lapsed;
+ghost use Rattle.witnesses.specs.Told.{ConsumedFrom, ArrivedFrom, FailsAt, SucceedsAt, AnsweredAt, ComesLate};
 
 /// The plans are topologies.
 pub fn plans_are_topologies()
@@ -79,15 +94,95 @@ pub fn a_datum_is_carried()
     ensures taken { IsTakenBy chained.arrived 10 chained.end_member chained.datum }
 {}
 
-/// And what is taken is told of where it was entered.
+/// What is taken in the chained run was entered in entry 7, by the scanner on op 1.
 pub fn a_datum_is_told_of()
-    ensures { ConsumedOf row chained.arrived 10 3 triad 101 chained.datum }
+    ensures taken { HasOutput chained.arrived 10 3 (Consumed triad 101 chained.datum) }
+    ensures entered { ConsumedFrom row chained.arrived 10 3 triad 101 chained.datum 7 0 1 }
 {}
 
-/// A datum that arrives is told of, a connection is mirrored, and a reply answers its request.
+/// What arrives in the chained run was produced in entry 12, by the adapter.
+pub fn a_produced_datum_is_told_of()
+    ensures arrives { HasOutput chained.arrived 15 0 (Arrived 1 (1 ∷ 0 ∷ 17 ∷ 34 ∷ [])) }
+    ensures produced { ArrivedFrom row chained.arrived 15 0 1 (1 ∷ 0 ∷ 17 ∷ 34 ∷ []) 12 3 }
+{}
+
+/// In the chained run a connection is mirrored, and a reply answers its request.
 pub fn the_run_is_told_of()
-    ensures arrives { ArrivedOf row chained.arrived 15 0 1 (1 ∷ 0 ∷ 17 ∷ 34 ∷ []) }
     ensures mirrored { IsMirrored row chained.arrived
         (record { at = 0; port = 2; address = 5 ∷ [] }) chained.of_scanner }
     ensures answered { Answered row chained.ends_there (frame 3) 2 2 1 (7 ∷ []) }
+{}
+
+/// The scanner's connection lapses, since it hears nothing. The adapter still has one under the id
+/// that it named, and that one mirrors it: a law of connections speaks also of those that are gone.
+pub fn a_lapsed_connection_is_mirrored()
+    ensures run { IsRun cell lapsed.lapses }
+    ensures older { IsOlder twice.stands lapsed.lapses }
+    ensures stood { HasHop cell twice.stands lapsed.upper }
+    ensures gone { map.get (state_in scanner 0 lapsed.lapses).hops.held triad ≡ None }
+    ensures stands { HasHop cell lapsed.lapses lapsed.lower }
+    ensures mirrored { IsMirrored cell lapsed.lapses lapsed.out lapsed.of_scanner }
+    ensures mirrors { Mirrors lapsed.there lapsed.of_scanner lapsed.of_adapter }
+{}
+
+/// The Done of the open that fails tells three words, which its path had at the second bridge, in
+/// entry 2 of the trail 0, 1, 2.
+pub fn a_failure_tells_where()
+    ensures opened { OpenedIn plant failed.ends 0 1 0 failed.path }
+    ensures done { Gave (part 0 failed.ends) (Done 1 failed.failure) }
+    ensures trail { trail_of failed.ends 0 1 ≡ 0 ∷ 1 ∷ 2 ∷ [] }
+    ensures tells { FailsAt plant failed.ends (0 ∷ 1 ∷ 2 ∷ []) 0 failed.path failed.failure 2 3 }
+{}
+
+/// So does the Done of the open that times out there.
+pub fn a_time_out_tells_where()
+    ensures opened { OpenedIn plant timed_out.ends 0 1 0 timed_out.path }
+    ensures done { Gave (part 0 timed_out.ends) (Done 1 timed_out.failure) }
+    ensures trail { trail_of timed_out.ends 0 1 ≡ 0 ∷ 1 ∷ 2 ∷ [] }
+    ensures tells { FailsAt plant timed_out.ends (0 ∷ 1 ∷ 2 ∷ []) 0 timed_out.path
+        timed_out.failure 2 3 }
+{}
+
+/// The open of the chained run succeeds: it was accepted in entry 3, the last of its trail, at the
+/// adapter.
+pub fn a_success_tells_where()
+    ensures opened { OpenedIn row chained.arrived 0 1 0 chained.path }
+    ensures done { Gave (part 0 chained.arrived) (Done 1 chained.third_success) }
+    ensures trail { trail_of chained.arrived 0 1 ≡ 0 ∷ 1 ∷ 2 ∷ 3 ∷ [] }
+    ensures tells { SucceedsAt row chained.arrived (0 ∷ 1 ∷ 2 ∷ 3 ∷ []) 0 chained.path
+        chained.third_success 3 3 }
+{}
+
+/// The Done of the Send is what the second bridge answers, in entry 2, the last of its trail.
+pub fn an_answer_is_the_targets()
+    ensures sent { SentIn plant stored.ends 0 1 0 stored.path stored.asked }
+    ensures done { Gave (part 0 stored.ends) (Done 1 stored.answer) }
+    ensures trail { trail_of stored.ends 0 1 ≡ 0 ∷ 1 ∷ 2 ∷ [] }
+    ensures tells { AnsweredAt plant stored.ends (0 ∷ 1 ∷ 2 ∷ []) 0 stored.path stored.asked
+        stored.answer 2 2 }
+{}
+
+/// The reply that comes late changes no state and answers nothing: whoever asked for it was
+/// answered once, before it came, and is answered no second time.
+pub fn a_late_reply_changes_nothing()
+    ensures late { ComesLate plant late.comes_late 4 1 (3 ∷ []) 1 late.answer }
+    ensures answered { Answered plant late.times_out (frame 2) 1 1 1 (3 ∷ []) }
+    ensures before { weight (is_reply (Link 2 (1 ∷ []) 1)) (part 1 late.times_out) ≡ 1 }
+    ensures after { weight (is_reply (Link 2 (1 ∷ []) 1)) (part 1 late.comes_late) ≡ 1 }
+{}
+
+/// The datum that is lost does not wait, and its loss has no root.
+pub fn a_loss_is_told_of()
+    ensures lost { entry_at connected.taken 5 ≡ Some (Lost (frame 4)) }
+    ensures waits { IsWaiting cell connected.taken (frame 4) → ⊥ }
+    ensures root { root_of connected.taken 5 ≡ None }
+{}
+
+/// The Close that is taken has no trail.
+pub fn a_close_is_told_of()
+    ensures closes { entry_at twice.taken 4 ≡ Some (Step (record { 0 = 0 })
+        (Command (Close 2 1 (record { tick = 7; ticks = 250 })))
+        (Send 2 (7 ∷ []) (Request 2 twice.close_request) ∷ [])) }
+    ensures taken { IsTaken (Send 2 (7 ∷ []) (Request 2 twice.close_request) ∷ []) }
+    ensures trail { trail_of twice.taken 0 2 ≡ [] }
 {}
