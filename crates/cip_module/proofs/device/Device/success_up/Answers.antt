@@ -1,4 +1,4 @@
-use Rattle.std.proofs.Common.{rules, sym, ap, ◌∙◌}
+use Rattle.std.proofs.Common.{rules}
 use Rattle.std.specs.FinMap as map
 use Rattle.cip_open.specs.Reading.{success_of}
 use Rattle.cip_module.proofs.InPlace.{success_made}
