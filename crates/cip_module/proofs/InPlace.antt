@@ -209,8 +209,8 @@ module _ (old new : Device) where
       subst (λ (row : OpenRow). Reacted m (OpenCame q) old new (with_spending up (open_effects s up q row)) r) e
       (goes_on m (OpenCame q) o (beginning up q port address) (open_on q s.hops.next rest) (OpenedOn s.hops.next) made r
       (is ∙ ap (λ (x : ℕ). outgoing_of m (open_on q x rest) (OpenedOn x)) next)
-      (λ came c. open_becomes came c.0 old.config s (up_side_of up q.fields.to_id) q port s.hops.next address rest c.1 c.2 (sym e)) (begun_same up q port address)
-      (begun_out up q port address) done puts)
+      (λ came c. open_becomes came c.0 old.config s (up_side_of up q.fields.to_id) q port s.hops.next address rest c.1 c.2 (sym e))
+      (begun_same up q port address) (begun_out up q port address) done puts)
 
   abbrev closing : UpSide → Close → ℕ → List ℕ → List ℕ → List Effect
   closing up c port address b =

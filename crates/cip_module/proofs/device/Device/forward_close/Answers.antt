@@ -22,7 +22,8 @@ returns-in-Ok c =
     let d = c.args.data_.now in
     let q = close_of c.in-Ok.view in
     let P : List Effect → Type 0 = λ es. Reacts c.args.making (CloseCame q) m new es c.close.result in
-    subst (λ (r : Result Close DataFault). Reacts c.args.making (IsReceived FORWARD_CLOSE d) m new (close_data_effects (state_of_device m) up d r) c.close.result)
+    subst (λ (r : Result Close DataFault). Reacts c.args.making (IsReceived FORWARD_CLOSE d) m new (close_data_effects (state_of_device m) up d r)
+    c.close.result)
     (sym c.in-Ok.ensures.gives)
     (narrowed m new c.args.making (CloseCame q) (IsReceived FORWARD_CLOSE d) (close_effects up q (close_row (state_of_device m) up q)) c.close.result
     (λ came received. (d, received, c.in-Ok.ensures.gives))

@@ -13,8 +13,9 @@ returns-in-Some-finishes-clause-reacts c =
     let fits : is_malformed m.config c.args.port b ≡ false =
     ap (λ (config : ModuleSettings). is_malformed config c.args.port b) (sym c.settings.ensures.value) ∙ sym c.is_malformed.ensures
     ∙ c.if-is_malformed.false in
-    finished_up m c.finishes.new.self c.args.making c.args.port c.args.number c.args.from.now b c.in-Some.entry.now c.in-Some-finishes.up c.in_ok-made-in-OpenSucceeded.made
-    c.reply_to.result c.with.result c.in-Some.ensures c.in-Some-finishes.ensures.value c.reply_to.ensures c.with.ensures c.in-Some-finishes.ensures.config
+    finished_up m c.finishes.new.self c.args.making c.args.port c.args.number c.args.from.now b c.in-Some.entry.now c.in-Some-finishes.up
+    c.in_ok-made-in-OpenSucceeded.made c.reply_to.result c.with.result c.in-Some.ensures c.in-Some-finishes.ensures.value c.reply_to.ensures c.with.ensures
+    c.in-Some-finishes.ensures.config
     c.in-OpenSucceeded.triad (success_of c.in-OpenSucceeded.success)
     (c.in-OpenSucceeded.ensures.row
     ∙ row_is m.config (state_of_device m) c.args.port c.args.from.now c.args.number b c.in-Some.entry.now fits c.in-Some.ensures)
@@ -28,7 +29,8 @@ returns-in-Some-takes-clause-reacts c =
     ap (λ (config : ModuleSettings). is_malformed config c.args.port b) (sym c.settings.ensures.value) ∙ sym c.is_malformed.ensures
     ∙ c.if-is_malformed.false in
     passed_up m c.takes.new.self c.args.making c.args.port c.args.number c.args.from.now b c.in-Some.entry.now c.in-Some-takes.up c.in_ok-made-in-PassedUp.made
-    c.reply_to-in-PassedUp.result c.with-in-PassedUp.result c.in-Some.ensures c.in-Some-takes.ensures.value c.reply_to-in-PassedUp.ensures c.with-in-PassedUp.ensures c.in-Some-takes.ensures.config
+    c.reply_to-in-PassedUp.result c.with-in-PassedUp.result c.in-Some.ensures c.in-Some-takes.ensures.value
+    c.reply_to-in-PassedUp.ensures c.with-in-PassedUp.ensures c.in-Some-takes.ensures.config
     (c.in-PassedUp.ensures.row
     ∙ row_is m.config (state_of_device m) c.args.port c.args.from.now c.args.number b c.in-Some.entry.now fits c.in-Some.ensures)
     c.in_ok-made-in-PassedUp.ensures.made c.in-Some-takes.ensures.after

@@ -1,4 +1,4 @@
-use Rattle.std.proofs.Common.{rules, sym, ap, ◌∙◌}
+use Rattle.std.proofs.Common.{rules}
 use Rattle.std.specs.FinMap as map
 use Rattle.cip_open.specs.Reading.{success_of}
 use Rattle.cip_module.proofs.InPlace.{success_made}
@@ -7,4 +7,5 @@ use Rattle.cip_module.proofs.device.Device.success_up.Goals as goal
 pub returns-in-Link-clause-made : goal.returns-in-Link-clause-made
 returns-in-Link-clause-made c =
     success_made c.args.making (map.get c.args.self.now.hops.held c.args.triad.now) c.in-Some.held.now c.in-Link.port c.in-Link.address c.in-Link.their_id
-    c.unwrap_or-up_id.result c.args.bytes.now (success_of c.args.success) c.success_with.result (search rules) (search rules) (search rules) c.success_with.ensures.made
+    c.unwrap_or-up_id.result c.args.bytes.now (success_of c.args.success) c.success_with.result
+    (search rules) (search rules) (search rules) c.success_with.ensures.made
