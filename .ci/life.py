@@ -4,8 +4,7 @@ by themselves. What comes of an event is said by the oracle alone."""
 import re
 
 from oracle import CHASSIS, COUNT, HEADER, frames_of, is_path, put
-
-TIMING, PATH, IDENTITY = (0x07, 0xFA), bytes.fromhex("020501030207200424642C652C66"), bytes.fromhex("010220012401")
+from worked import IDENTITY, PATH, TIMING
 
 
 class Life:

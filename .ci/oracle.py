@@ -174,6 +174,11 @@ def failure(service, status, data=b""):
     return bytes([service | 0x80, 0]) + extra + data
 
 
+def line_of(name, words):
+    """An event as a line for the driver."""
+    return " ".join([name, *(pairs(it) if isinstance(it, bytes) else str(it) for it in words)])
+
+
 def carried(name, port, to):
     """Which module a frame comes to, by which port and from which address: None where no module has the address."""
     own = bytes([CHASSIS[name][5][port][1]])
