@@ -50,7 +50,8 @@ class Life:
     def path(self, hops=3):
         path = b"".join(self.one(b"", b"", b"", b"", self.key()) + self.hop() for _ in range(self.draw.randrange(hops + 1)))
         path += self.one(b"", self.key(), self.end(), self.end(), self.end())
-        return self.one(PATH, PATH[2:], PATH[4:], PATH[6:], path)
+        path = self.one(PATH, PATH[2:], PATH[4:], PATH[6:], path)
+        return path + self.one(b"", b"", b"", b"\x80\x02abc\x00", b"\x80\x02abcd")
 
     def object(self):
         """A path to an object, or nearly one."""
@@ -206,7 +207,7 @@ def rooms(draw):
         if draw.random() < 0.3:
             key, low, high = draw.choice(SETTINGS)
             made[name] = {key: draw.randrange(low, high + 1)}
-    made["E"] = {**made.get("E", {}), "kind": draw.choice((0, 1, 2, 2))}
+    made["E"] = {**made.get("E", {}), "kind": draw.choice((0, 1, 2, 2)), "sizes": draw.choice((0, 0, 1))}
     return made
 
 

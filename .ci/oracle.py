@@ -17,6 +17,7 @@ CHASSIS = {
     "B": (12, 2, 0x00000B0B, "BR", 0x31, {1: (0x10, 0x03), 2: (0x3F, 0x01)}, {}),
     "E": (12, 3, 0x00000E0E, "EA", 0x41, {2: (0x3F, 0x07)}, {100: 0, 101: 4, 102: 2, 103: 4}),
 }
+ODD_SIZES = {100: 3, 101: 4, 102: 2, 103: 5}
 # on which link a module's port stands
 LINKS = {("S", 2): "LAN", ("A", 2): "LAN", ("A", 1): "RACK", ("B", 1): "RACK", ("B", 2): "SUB", ("E", 2): "SUB"}
 STATUS = {
@@ -198,13 +199,14 @@ def frames_of(name, lines):
 
 
 class Module:
-    """A module of the chassis. `settings` are clock, first_id, first_number, pending_room, hop_room, and kind: 2, an adapter."""
+    """A module of the chassis. `settings` are those that the driver knows: kind 2 is an adapter, sizes 1 are odd ones."""
 
     hits = Counter()
 
     def __init__(self, name, **settings):
         self.name, self.is_adapter = name, settings.get("kind", 2 if name == "E" else 0) == 2
         self.type, self.product, self.serial, self.product_name, first_id, self.ports, self.sizes = CHASSIS[name]
+        self.sizes = ODD_SIZES if settings.get("sizes") else self.sizes
         self.now, self.id = settings.get("clock", 0), settings.get("first_id", first_id) - 1
         self.number = settings.get("first_number", 1) - 1
         self.pending_room, self.hop_room = settings.get("pending_room", ROOM), settings.get("hop_room", ROOM)
