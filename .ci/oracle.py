@@ -1,8 +1,8 @@
 """What a module does at each event, reckoned from docs/ROUTING_TABLE.md and docs/FORMATS.md, and never from the program.
 
-Module(name) is a module of the chassis of docs/CONSOLE.md, fresh. Its `step` takes the words of an event, as lines for the
-driver have them, and gives the lines that come of it; `tables` gives the lines of its state. `hits` counts the rows, under the
-names that they have in the document, each with its group. Python 3.8 is enough.
+Module(name) is a module of the chassis of docs/CONSOLE.md, fresh. Its `step` takes the words of an event, as lines for
+the driver have them, and gives the lines that come of it; `tables` gives the lines of its state. `hits` counts the rows,
+under the names that they have in the document, each with its group.
 """
 
 from collections import Counter
@@ -17,6 +17,9 @@ CHASSIS = {
     "B": (12, 2, 0x00000B0B, "BR", 0x31, {1: (0x10, 0x03), 2: (0x3F, 0x01)}, {}),
     "E": (12, 3, 0x00000E0E, "EA", 0x41, {2: (0x3F, 0x07)}, {100: 0, 101: 4, 102: 2, 103: 4}),
 }
+ODD_SIZES = {100: 3, 101: 4, 102: 2, 103: 5}
+# on which link a module's port stands
+LINKS = {("S", 2): "LAN", ("A", 2): "LAN", ("A", 1): "RACK", ("B", 1): "RACK", ("B", 2): "SUB", ("E", 2): "SUB"}
 STATUS = {
     "request": {"path past the end": "26", "path unreadable": "04", "path form not supported": "05",
                 "no such Connection Manager instance": "16", "service not supported": "08"},
@@ -172,14 +175,38 @@ def failure(service, status, data=b""):
     return bytes([service | 0x80, 0]) + extra + data
 
 
+def line_of(name, words):
+    """An event as a line for the driver."""
+    return " ".join([name, *(pairs(it) if isinstance(it, bytes) else str(it) for it in words)])
+
+
+def carried(name, port, to):
+    """Which module a frame comes to, by which port and from which address: None where no module has the address."""
+    own = bytes([CHASSIS[name][5][port][1]])
+    for other, number in LINKS:
+        if LINKS[other, number] == LINKS[name, port] and to == bytes([CHASSIS[other][5][number][1]]):
+            return other, number, own
+    return None
+
+
+def frames_of(name, lines):
+    """The frames that a module sent and that come to a module, as events."""
+    for line in lines:
+        words = line.split()
+        if words[0] == "send":
+            came = carried(name, int(words[1]), bytes.fromhex(words[2]))
+            yield came and (came[0], (words[3], *came[1:], int(words[4]), bytes.fromhex(words[5].replace("-", ""))))
+
+
 class Module:
-    """A module of the chassis. `settings` are clock, first_id, first_number, pending_room, hop_room and kind, 2 for an adapter."""
+    """A module of the chassis. `settings` are those that the driver knows: kind 2 is an adapter, sizes 1 are odd ones."""
 
     hits = Counter()
 
     def __init__(self, name, **settings):
         self.name, self.is_adapter = name, settings.get("kind", 2 if name == "E" else 0) == 2
         self.type, self.product, self.serial, self.product_name, first_id, self.ports, self.sizes = CHASSIS[name]
+        self.sizes = ODD_SIZES if settings.get("sizes") else self.sizes
         self.now, self.id = settings.get("clock", 0), settings.get("first_id", first_id) - 1
         self.number = settings.get("first_number", 1) - 1
         self.pending_room, self.hop_room = settings.get("pending_room", ROOM), settings.get("hop_room", ROOM)
@@ -293,7 +320,8 @@ class Module:
             self.assemblies[instance] = data
             return bytes([0x90, 0, 0, 0])
         name = self.product_name.encode()
-        fields = [put(0x0101), put(self.type), put(self.product), b"\x01\x03", put(0), put(self.serial, 4), bytes([len(name)]) + name]
+        fields = [put(0x0101), put(self.type), put(self.product), b"\x01\x03", put(0), put(self.serial, 4)]
+        fields.append(bytes([len(name)]) + name)
         read = self.assemblies[instance] if of_class == 4 else b"".join(fields) if service == 1 else fields[attribute - 1]
         return bytes([service | 0x80, 0, 0, 0]) + read
 
@@ -353,8 +381,8 @@ class Module:
             return no("key mismatch", self.key_fault(key))
         is_full, left = len(self.hops) + len(self.openings) >= self.hop_room, COUNT - self.id
         sizes = [it & 0x1FF for it in params]
-        made = {"up": up, "path": path, "sizes": sizes, "class": transport & 15, "their_up": num(data, 6, 4), "consumed": None,
-                "produced": 0, "watch": [(rpi << data[18] + 2) for rpi in rpis], "link": hop and hop[:2]}  # fmt: skip
+        made = {"up": up, "path": path, "sizes": sizes, "class": transport & 15, "their_up": num(data, 6, 4)}
+        made.update(consumed=None, produced=0, watch=[rpi << data[18] + 2 for rpi in rpis], link=hop and hop[:2])
         if hop:
             row = self.link_row(hop) or self.wait_row(data[1])
             if row is None and (is_full or left < (1 if up[0] == "op" else 2)):
@@ -517,7 +545,8 @@ class Module:
             triad = put(kind[1][0]) + put(kind[1][1]) + put(kind[1][2], 4) if kind else b""
             service = 0x52 if kind is None else 0x54 if kind[0] == "opening" else 0x4E
             outputs.append(self.replied(up, failure(service, "0204", triad + bytes([words]) + (b"\0" if kind else b""))))
-        for triad in sorted(triad for triad, it in self.hops.items() if any(due is not None and due <= self.now for due in it["due"])):
+        lapsed = [triad for triad, it in self.hops.items() if any(due is not None and due <= self.now for due in it["due"])]
+        for triad in sorted(lapsed):
             self.hit("tick", "hop due")
             del self.hops[triad]
             outputs.append(f"expired {' '.join(map(str, triad))}")
@@ -536,7 +565,8 @@ class Module:
             return self.no("op used", "OpUsed")
         if request[:1] == b"\x52":
             return self.no("reserved service", "ReservedService")
-        data = bytes([tick, ticks]) + put(len(request)) + request + bytes(len(request) % 2) + bytes([len(path) // 2, 0]) + path
+        data = bytes([tick, ticks]) + put(len(request)) + request + bytes(len(request) % 2)
+        data += bytes([len(path) // 2, 0]) + path
         if len(data) + 6 > MESSAGE:
             return self.no("wrong size", "WrongSize")
         self.hit("command", "taken")
@@ -605,7 +635,8 @@ class Module:
         for triad, hop in sorted(self.hops.items()):
             up, link, due = hop["up"], hop["link"], " ".join("-" if it is None else str(it) for it in hop["due"])
             above = f"op {up[1]}" if up[0] == "op" else f"{up[1]} {pairs(up[2])} own {hop['own']} their {hop['their_up']}"
-            below = f"{link[0]} {pairs(link[1])} their {hop['their_down']} own {hop['down']}" if link else f"end {hop['end'][0]} {hop['end'][1]} {hop['end'][2]}"
+            below = "end " + " ".join(map(str, hop["end"])) if link is None else f"{link[0]} {pairs(link[1])}"
+            below += "" if link is None else f" their {hop['their_down']} own {hop['down']}"
             sizes = f"path {pairs(hop['path'])} sizes {hop['sizes'][0]} {hop['sizes'][1]}"
             lines.append(f"hop {' '.join(map(str, triad))} up {above} down {below} watch {due} {sizes}")
         lines += [f"assembly {instance} {pairs(data)}" for instance, data in sorted(self.assemblies.items())]

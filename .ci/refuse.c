@@ -4,6 +4,7 @@
 //   REFUSE_ALLOC=N  the Nth allocation is refused         REFUSE_READ=N   the Nth read of input or a file fails
 //   REFUSE_WRITE=N  the Nth write of standard output fails REFUSE_TAKE=N  the Nth write of standard output takes no byte
 //   ONE_BYTE=1      each read and write moves one byte     REFUSE_TELL=FD  a byte goes to this file where one was refused
+//   REFUSE_STEP=N   behind each mark '>' that is written to standard output alone, up to a mark '<', the Nth allocation is refused
 #define _GNU_SOURCE
 #include <dlfcn.h>
 #include <errno.h>
@@ -14,7 +15,8 @@
 
 extern void *__libc_malloc(size_t), *__libc_calloc(size_t, size_t), *__libc_realloc(void *, size_t);
 
-static unsigned long allocations, reads, writes;
+static unsigned long allocations, reads, writes, steps;
+static int is_marked;
 
 static unsigned long word(const char *name) { return getenv(name) ? strtoul(getenv(name), 0, 10) : 0; }
 
@@ -28,7 +30,10 @@ static int is_refused(unsigned long count, const char *name) {
 static int is_no_memory(void *caller) {
   Dl_info from, program;
   if (!dladdr(caller, &from) || !dladdr((void *)getauxval(AT_ENTRY), &program)) return 0;
-  if (from.dli_fbase != program.dli_fbase || !is_refused(++allocations, "REFUSE_ALLOC")) return 0;
+  if (from.dli_fbase != program.dli_fbase) return 0;
+  int in_step = __atomic_load_n(&is_marked, __ATOMIC_SEQ_CST);
+  int of_step = in_step && is_refused(__atomic_add_fetch(&steps, 1, __ATOMIC_SEQ_CST), "REFUSE_STEP");
+  if (!is_refused(__atomic_add_fetch(&allocations, 1, __ATOMIC_SEQ_CST), "REFUSE_ALLOC") && !of_step) return 0;
   errno = ENOMEM;
   return 1;
 }
@@ -43,7 +48,15 @@ ssize_t read(int file, void *to, size_t size) {
   return syscall(SYS_read, file, to, is_input && word("ONE_BYTE") && size ? 1 : size);
 }
 
+// A mark begins or ends what REFUSE_STEP counts.
+static void look_for_mark(int file, const void *from, size_t size) {
+  char mark = file == 1 && size == 1 ? *(const char *)from : 0;
+  if (mark == '>') steps = 0;
+  if (mark == '>' || mark == '<') __atomic_store_n(&is_marked, mark == '>', __ATOMIC_SEQ_CST);
+}
+
 ssize_t write(int file, const void *from, size_t size) {
+  look_for_mark(file, from, size);
   if (file == 1 && is_refused(++writes, "REFUSE_WRITE")) return errno = EIO, -1;
   if (file == 1 && is_refused(writes, "REFUSE_TAKE")) return 0;
   return syscall(SYS_write, file, from, file == 1 && word("ONE_BYTE") && size ? 1 : size);

@@ -29,6 +29,8 @@ pub fn guarded(out: &mut Out, harness: &mut Harness, line: &str) -> Result<(), F
     out.mark(">")?;
     let stepped = harness.step(place, event);
     out.mark("<")?;
+    // the marks stand on a line of their own
+    harness.tell_line("").ok_or(Fault::NoMemory)?;
     let stepped = match stepped.ok_or(Fault::Line)? {
         Err(StepFault::NoMemory(event)) => {
             let after = noted(alloc, harness, place, &event)?;

@@ -121,6 +121,26 @@ const ADAPTER: Device = Device {
     ..SCANNER
 };
 
+/// Assemblies of which some have an odd size.
+const ODD_SIZES: [AssemblyConfig; 4] = [
+    AssemblyConfig {
+        instance: 100,
+        size: 3,
+    },
+    AssemblyConfig {
+        instance: 101,
+        size: 4,
+    },
+    AssemblyConfig {
+        instance: 102,
+        size: 2,
+    },
+    AssemblyConfig {
+        instance: 103,
+        size: 5,
+    },
+];
+
 /// Of which kind the scanner and the bridges are. The adapter is one whatever they are.
 #[derive(Clone, Copy, Debug)]
 pub enum Kinds {
@@ -172,6 +192,15 @@ fn kind_of(number: u64) -> Option<ModuleKind> {
     }
 }
 
+// The assemblies of a module, by a number: 0 those of the adapter, 1 those of odd sizes.
+fn sizes_of(number: u64) -> Option<&'static [AssemblyConfig]> {
+    match number {
+        0 => Some(ADAPTER.assemblies),
+        1 => Some(&ODD_SIZES),
+        _ => None,
+    }
+}
+
 impl Device {
     /// Its name.
     pub(crate) fn name(&self) -> &'static str {
@@ -182,6 +211,7 @@ impl Device {
     pub(crate) fn with(mut self, key: &str, value: u64) -> Option<Device> {
         match key {
             "kind" => self.kind = kind_of(value)?,
+            "sizes" => self.assemblies = sizes_of(value)?,
             "clock" => self.clock = value,
             "first_id" => self.first_id = u32::try_from(value).ok()?,
             "first_number" => self.first_number = u32::try_from(value).ok()?,

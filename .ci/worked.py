@@ -1,0 +1,30 @@
+"""The worked runs over the chassis: a request from S to B and back; a connection from S to E that is opened, carries data both ways
+and is closed."""
+
+from oracle import CHASSIS, Module, frames_of
+
+TIMING, PATH, IDENTITY = (0x07, 0xFA), bytes.fromhex("020501030207200424642C652C66"), bytes.fromhex("010220012401")
+OPEN = (0, 1, 10_000, 0x4806, 10_000, 0x4804)
+DATUM, SECOND = bytes.fromhex("0100AABBCCDD"), bytes.fromhex("010011223344")
+ASKED = [("S", ("send", 1, *TIMING, PATH[:4], IDENTITY))]
+CONNECTED = [
+    ("S", ("open", 1, *TIMING, PATH, 0x42, *OPEN)),
+    ("S", ("enter", 1, DATUM)),
+    ("E", ("produce", 102)),
+    ("S", ("enter", 1, SECOND)),
+    ("S", ("close", 2, 1, *TIMING)),
+]
+
+
+def events(commands):
+    """All events of a run: these commands, each followed by the frames that come of it, as they are carried."""
+    modules, found = {name: Module(name) for name in CHASSIS}, []
+
+    def run(name, words):
+        found.append((name, words))
+        for frame in frames_of(name, modules[name].step(words)):
+            run(*frame)
+
+    for name, words in commands:
+        run(name, words)
+    return found
