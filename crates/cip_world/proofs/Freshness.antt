@@ -9,7 +9,11 @@ use Rattle.cip_module.specs.Rooms.{HasRooms}
 use Rattle.cip_module.specs.State.{State, initial_state}
 use Rattle.cip_module.specs.Views.{ShowsState}
 use Rattle.cip_laws.proofs.Shown.{fresh}
-use Rattle.cip_world.specs.Fresh.{DifferFirst}
+use Rattle.cip_topology.specs.Plan.{Plan}
+use Rattle.cip_world.specs.Fresh.{AreFresh, DifferFirst}
+use Rattle.cip_world.specs.Journals.{Journal}
+use Rattle.cip_world.specs.Ledgers.{Told}
+use Rattle.cip_world.specs.Worlds.{AreStates, Stand}
 use Rattle.cip_world.proofs.Delivered.{got_within, some_same}
 use Rattle.cip_world.proofs.StepAt.{slice_get-map}
 
@@ -63,3 +67,14 @@ pub fresh_just : {E : Type 0} (config : ModuleSettings) (s : State) (tables : Ta
 fresh_just config s tables (Ok b) shows rooms paired h =
     ((λ t. fresh config s tables paired shows (h.0 t) rooms), λ e. h.1 (subst (λ (x : State). ShowsState x tables) e shows))
 fresh_just config s tables (Err e) shows rooms paired h = tt
+
+-- modules that are fresh stand where nothing happened yet
+pub fresh_stand : (told : Told) (t : Plan) (configs : List ModuleSettings) (states : List State) → AreFresh t configs states
+    → told.plan ≡ t → told.journal ≡ [] → Stand told configs states
+fresh_stand told t configs states f plan journal = record {
+  same = f.configs_are ∙ ap (λ (p : Plan). p.modules) (sym plan);
+  stand = subst (λ (j : Journal). AreStates told.plan j states) (sym journal) (subst (λ (p : Plan). AreStates p [] states) (sym plan) (record {
+    count = ap (λ (s : List State). length s) f.states_are ∙ length-map t.modules initial_state;
+    each = λ m config is. ap (λ (s : List State). slice_get s m) f.states_are ∙ slice_get-map initial_state t.modules m config is;
+  }));
+}
