@@ -111,9 +111,9 @@ module _ (t : Plan) (j : Journal) (run : IsRun t j) (x : Member) (has : HasHop t
       (id_has op (op_of x.hop.opening.up) (ap op_of up)) only)
 
 pub viewed : (t : Plan) (j : Journal) (m op : ℕ) (here : Here) (modules : List ModuleId) (view : ChainView) → IsRun t j → (r : IsReached t j m op here modules)
-    → (e : GoesToEnd here.hop.now) × (e.consume ≡ view.consume) × (e.produce ≡ view.produce) → view.modules ≡ modules → IsView t j m op view
+    → (e : GoesToEnd here.hop.now) × (e.consume ≡ view.end.consume) × (e.produce ≡ view.end.produce) → view.modules ≡ modules → IsView t j m op view
 viewed t j m op here modules view run r at_end is =
-    let ends = subst (λ (x : Member). (e : GoesToEnd x.hop) × (e.consume ≡ view.consume) × (e.produce ≡ view.produce)) (sym r.last_is) at_end in
+    let ends = subst (λ (x : Member). (e : GoesToEnd x.hop) × (e.consume ≡ view.end.consume) × (e.produce ≡ view.end.produce)) (sym r.last_is) at_end in
     record {
       first = r.first;
       rest = r.rest;

@@ -30,8 +30,8 @@ pub record IsView (t : Plan) (j : Journal) (m : ℕ) (op : OpNumber) (view : Cha
   pub chain : IsChain t j op first rest
   pub modules : AreModules first rest view.modules
   pub end : GoesToEnd (last_of first rest).hop
-  pub consume_is : end.consume ≡ view.consume
-  pub produce_is : end.produce ≡ view.produce
+  pub consume_is : end.consume ≡ view.end.consume
+  pub produce_is : end.produce ≡ view.end.produce
 
 -- from the connection that the op opened at module m these lead to module b, which has none under
 -- the id that the last of them names

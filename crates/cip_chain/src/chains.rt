@@ -47,12 +47,19 @@ impl Modules {
     }
 }
 
-/// A chain: its modules, and the instances of the assemblies at its end, O to T and T to O.
+/// The end of a chain: the instances of its assemblies, that to which it consumes (O to T) and that
+/// from which it produces (T to O).
+#[derive(Clone, Copy, Debug, PartialEq, Eq)]
+pub struct ChainEnd {
+    pub consume: u32,
+    pub produce: u32,
+}
+
+/// A chain: its modules, and its end.
 #[derive(Drop)]
 pub struct ChainView {
     pub modules: Modules,
-    pub consume: u32,
-    pub produce: u32,
+    pub end: ChainEnd,
 }
 
 /// Why there is no chain.
@@ -107,8 +114,7 @@ fn follow(alloc: Global, world: &World, at: ModuleId, op: u32) -> Result<ChainVi
             Ok(Next::End { consume, produce }) => {
                 return Ok(ChainView {
                     modules: Modules { modules },
-                    consume,
-                    produce,
+                    end: ChainEnd { consume, produce },
                 });
             }
             Err(fault) => return Err(fault),

@@ -8,7 +8,7 @@ mod roots;
 mod seeking;
 mod trails;
 
-pub use chains::{ChainFault, ChainView, Modules, chain};
+pub use chains::{ChainEnd, ChainFault, ChainView, Modules, chain};
 pub use laws::answers_exclude_one_another;
 pub use roots::root;
 pub use trails::trail;

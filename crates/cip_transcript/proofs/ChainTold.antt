@@ -119,7 +119,7 @@ module _ (t : Plan) (j : Journal) where
       ∙ ap (λ (o : Option Hop). behind x.at (at_next b o (chain_from t j n))) (is_lacked t j run x b l)
 
   to_end : (n : ℕ) (x : Member) → (e : GoesToEnd x.hop)
-      → chain_from t j (suc n) x.at x.hop ≡ Ok (record { modules = place x.at ∷ []; consume = e.consume; produce = e.produce })
+      → chain_from t j (suc n) x.at x.hop ≡ Ok (record { modules = place x.at ∷ []; end = record { consume = e.consume; produce = e.produce } })
   to_end n x e =
       one_more n x.at x.hop ∙ ap (λ (d : HopDown). below t j x.at x.hop d (chain_from t j n)) e.down_is
 
@@ -133,7 +133,7 @@ module _ (t : Plan) (j : Journal) where
       omega (arith, less, path, most)
 
   goes_told : (n : ℕ) (x : Member) (ys : List Member) → GoesOnBy t j x ys → length x.hop.opening.path < n → (e : GoesToEnd (last_of x ys).hop)
-      → chain_from t j n x.at x.hop ≡ Ok (record { modules = places x ys; consume = e.consume; produce = e.produce })
+      → chain_from t j n x.at x.hop ≡ Ok (record { modules = places x ys; end = record { consume = e.consume; produce = e.produce } })
   goes_told zero x ys on most e = absurd (omega (arith, most))
   goes_told (suc n) x [] on most e = to_end n x e
   goes_told (suc n) x (y ∷ ys) on most e =
@@ -170,7 +170,7 @@ view_told t j m op view run v =
     let modules = same_places (v.first ∷ v.rest) view.modules v.modules in
     opened_told t j m op v.first v.at_is v.chain.has v.chain.opened
     ∙ goes_told t j (suc (length v.first.hop.opening.path)) v.first v.rest v.chain.goes_on (omega arith) v.end
-    ∙ (λ i. Ok (record { modules = modules i; consume = v.consume_is i; produce = v.produce_is i }))
+    ∙ (λ i. Ok (record { modules = modules i; end = record { consume = v.consume_is i; produce = v.produce_is i } }))
 
 pub broken_told : (t : Plan) (j : Journal) (m op b : ℕ) → IsRun t j → IsBroken t j m op b → chain_of t j m op ≡ Err (faults.Broken (place b))
 broken_told t j m op b run broken =

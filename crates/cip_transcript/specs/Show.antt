@@ -133,8 +133,8 @@ names_text names (m ∷ more) = codes " " ++ name_of names m.0 ++ names_text nam
 -- `chain`, its modules, and the instances at its end; or why there is none
 abbrev pub chain_text : List (List ℕ) → Chained → List ℕ
 chain_text names (Ok view) =
-    codes "chain" ++ names_text names view.modules ++ codes " " ++ decimal view.consume
-    ++ codes " " ++ decimal view.produce ++ codes "\n"
+    codes "chain" ++ names_text names view.modules ++ codes " " ++ decimal view.end.consume
+    ++ codes " " ++ decimal view.end.produce ++ codes "\n"
 chain_text names (Err chains.NotOpen) = codes "not open\n"
 chain_text names (Err (chains.Broken m)) =
     codes "broken " ++ name_of names m.0 ++ codes "\n"

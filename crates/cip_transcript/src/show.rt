@@ -317,9 +317,9 @@ pub(crate) fn put_chain(
     put(text, b"chain")?;
     put_names(text, names, view.modules.as_slice())?;
     put(text, b" ")?;
-    put_number(text, u64::from(view.consume))?;
+    put_number(text, u64::from(view.end.consume))?;
     put(text, b" ")?;
-    put_number(text, u64::from(view.produce))?;
+    put_number(text, u64::from(view.end.produce))?;
     put(text, b"\n")
 }
 
