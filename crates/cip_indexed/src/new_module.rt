@@ -8,8 +8,8 @@ use cip_base::NoMemory;
 use cip_module::{AdapterModule, ModuleConfig, ModuleKind, PlainModule};
 use std::alloc::Global;
 
-/// A new module in its box, of one of the three kinds. It becomes a box of any module where such boxes
-/// are handed on: a function that made it so and handed it out could not say what is in it.
+/// A new module in its box, of one of the three kinds. It becomes a box of any module where such
+/// boxes are handed on: a function that made it so and handed it out could not say what is in it.
 #[derive(Drop)]
 pub enum NewModule {
     Plain(Box<PlainModule>),

@@ -129,7 +129,8 @@ ports_are place links taken ports (p ∷ ps) (item d ds) apart w good =
     let number : eqb q.one.number p.number ≡ true = eq-eqb q.one.number p.number (ap (λ (x : PortConfig). x.number) same) in
     let no : true ≡ false = sym (any_at (has_number p.number) ports q.place q.one q.at number) ∙ new in cc) in
     then_ok (port_of here links taken ports d) (λ x. ports_after place links taken (ports ++ x ∷ []) ds) p (Ok (ports ++ p ∷ ps))
-    (ap (port_of here links taken ports) w.0.is ∙ port_is here links taken ports p w.0.members w.0.written apart (good.on 0 p refl) (good.range 0 p refl) (good.fine 0 p refl) new (good.free 0 p refl) alone)
+    (ap (port_of here links taken ports) w.0.is ∙ port_is here links taken ports p w.0.members w.0.written apart
+    (good.on 0 p refl) (good.range 0 p refl) (good.fine 0 p refl) new (good.free 0 p refl) alone)
     (ports_are place links taken (ports ++ p ∷ []) ps ds apart w.1 (record {
       range = λ i q at. good.range (suc i) q at;
       fine = λ i q at. good.fine (suc i) q at;
@@ -196,7 +197,8 @@ assemblies_are place assemblies (a ∷ as') (item d ds) w good =
     let here = assembly_in place (length assemblies + 1) in
     let whole : (assemblies ++ a ∷ []) ++ as' ≡ assemblies ++ a ∷ as' = append_assoc assemblies (a ∷ []) as' in
     then_ok (assembly_of here assemblies d) (λ x. assemblies_after place (assemblies ++ x ∷ []) ds) a (Ok (assemblies ++ a ∷ as'))
-    (ap (assembly_of here assemblies) w.0.is ∙ assembly_is here assemblies a w.0.members w.0.written (good.least 0 a refl) (good.most 0 a refl) (good.size 0 a refl)
+    (ap (assembly_of here assemblies) w.0.is ∙ assembly_is here assemblies a w.0.members w.0.written
+    (good.least 0 a refl) (good.most 0 a refl) (good.size 0 a refl)
     (differ_before (λ (x : AssemblyConfig). x.instance) assemblies as' a good.instances))
     (assemblies_are place (assemblies ++ a ∷ []) as' ds w.1 (record {
       least = λ i b at. good.least (suc i) b at;

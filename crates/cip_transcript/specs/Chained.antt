@@ -61,7 +61,10 @@ abbrev pub below : Plan → Journal → ℕ → Hop → HopDown → (ℕ → Hop
 below t j m hop (Link port address) rest =
     behind m (at_node t j hop (node t m port address) rest)
 below t j m hop (End config consume produce) rest =
-    Ok (record { modules = record { 0 = m } ∷ []; end = record { consume = consume; produce = produce } })
+    Ok (record {
+      modules = record { 0 = m } ∷ [];
+      end = record { consume = consume; produce = produce };
+    })
 
 -- from this connection of module m on, over at most so many
 unfoldable pub chain_from : Plan → Journal → ℕ → ℕ → Hop → Chained

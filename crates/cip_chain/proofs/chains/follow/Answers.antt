@@ -21,7 +21,8 @@ returns-in-Ok-End-clause-ok g c =
     let t = c.args.world.now.ledger.plan in
     let j = c.args.world.now.ledger.journal in
     viewed t j c.args.at.0 c.args.op c.loop-next.here c.loop-next.modules.items
-    (record { modules = c.loop-next.modules.items; end = record { consume = c.in-Ok-End.consume; produce = c.in-Ok-End.produce } }) c.requires.run c.loop-next.invariant
+    (record { modules = c.loop-next.modules.items; end = record { consume = c.in-Ok-End.consume; produce = c.in-Ok-End.produce } })
+    c.requires.run c.loop-next.invariant
     (subst (IsNext t j (member c.loop-next.here)) c.in-Ok-End.field-0-is c.in-Ok-End.ensures.ok) refl
 
 pub returns-in-Err-clause-fault : goal.returns-in-Err-clause-fault
