@@ -5,6 +5,8 @@
 //   REFUSE_WRITE=N  the Nth write of standard output fails REFUSE_TAKE=N  the Nth write of standard output takes no byte
 //   ONE_BYTE=1      each read and write moves one byte     REFUSE_TELL=FD  a byte goes to this file where one was refused
 //   REFUSE_STEP=N   behind each mark '>' that is written to standard output alone, up to a mark '<', the Nth allocation is refused
+// Compiled with -DNEXT it hands on to whatever malloc is behind it, so that valgrind sees the memory (with
+// --soname-synonyms=somalloc=nouserintercepts); else to that of the C library.
 #define _GNU_SOURCE
 #include <dlfcn.h>
 #include <errno.h>
@@ -13,7 +15,12 @@
 #include <sys/syscall.h>
 #include <unistd.h>
 
+#ifdef NEXT
+#define HAND_ON(name, ...) ((__typeof__(&name))dlsym(RTLD_NEXT, #name))(__VA_ARGS__)
+#else
 extern void *__libc_malloc(size_t), *__libc_calloc(size_t, size_t), *__libc_realloc(void *, size_t);
+#define HAND_ON(name, ...) __libc_##name(__VA_ARGS__)
+#endif
 
 static unsigned long allocations, reads, writes, steps;
 static int is_marked;
@@ -38,9 +45,9 @@ static int is_no_memory(void *caller) {
   return 1;
 }
 
-void *malloc(size_t size) { return is_no_memory(__builtin_return_address(0)) ? 0 : __libc_malloc(size); }
-void *calloc(size_t n, size_t size) { return is_no_memory(__builtin_return_address(0)) ? 0 : __libc_calloc(n, size); }
-void *realloc(void *old, size_t size) { return is_no_memory(__builtin_return_address(0)) ? 0 : __libc_realloc(old, size); }
+void *malloc(size_t size) { return is_no_memory(__builtin_return_address(0)) ? 0 : HAND_ON(malloc, size); }
+void *calloc(size_t n, size_t size) { return is_no_memory(__builtin_return_address(0)) ? 0 : HAND_ON(calloc, n, size); }
+void *realloc(void *old, size_t size) { return is_no_memory(__builtin_return_address(0)) ? 0 : HAND_ON(realloc, old, size); }
 
 ssize_t read(int file, void *to, size_t size) {
   int is_input = file == 0 || file > 2;

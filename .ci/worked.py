@@ -1,6 +1,7 @@
 """The worked runs over the chassis: a request from S to B and back; a connection from S to E that is opened, carries data both ways
 and is closed."""
 
+from driver import Script
 from oracle import CHASSIS, Module, frames_of
 
 TIMING, PATH, IDENTITY = (0x07, 0xFA), bytes.fromhex("020501030207200424642C652C66"), bytes.fromhex("010220012401")
@@ -28,3 +29,18 @@ def events(commands):
     for name, words in commands:
         run(name, words)
     return found
+
+
+def guarded(kind):
+    """The worked runs on modules of a kind, each event guarded, so that its step alone is refused memory."""
+    script = Script("plain" if kind == "adapter" else kind)
+    settings = {} if kind == "adapter" else {"E": {"kind": ["plain", "indexed"].index(kind)}}
+    for commands in (ASKED, CONNECTED):
+        script.fresh(**settings)
+        # the run, its beginning once more under other names, and a time at which all of that is due
+        again = [("S", ("send", 8, *TIMING, PATH[:4], IDENTITY)), ("S", ("open", 9, *TIMING, PATH, 0x43, *OPEN))]
+        ticks = [(name, ("tick", 65_535)) for name in CHASSIS]
+        for name, words in [*events(commands), *again, *ticks]:
+            script.event(name, words, guard="! ")
+            script.tables(name)
+    return script
