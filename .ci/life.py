@@ -10,8 +10,8 @@ from worked import IDENTITY, PATH, TIMING
 class Life:
     """Draws events for modules, from what they sent before and from the rules' own words."""
 
-    def __init__(self, draw, script):
-        self.draw, self.script, self.pool, self.past, self.op = draw, script, [], [], 0
+    def __init__(self, draw, script, guard=""):
+        self.draw, self.script, self.guard, self.pool, self.past, self.op = draw, script, guard, [], [], 0
 
     def one(self, *of):
         return self.draw.choice(of)
@@ -188,7 +188,7 @@ class Life:
 
     def step(self):
         name, words = self.drawn()
-        lines = self.script.event(name, words)
+        lines = self.script.event(name, words, guard=self.guard)
         if words[0] in ("request", "reply", "data"):
             self.past.append((name, words))
         self.pool += [frame for frame in frames_of(name, lines) if frame]
@@ -196,6 +196,8 @@ class Life:
         self.script.tables(name)
 
 
+# how many events modules live
+ROUND = 250
 # which numbers few are left of, and how many
 SETTINGS = [("pending_room", 1, 3), ("hop_room", 1, 3), ("first_id", COUNT - 5, COUNT), ("first_number", COUNT - 3, COUNT)]
 
@@ -209,6 +211,16 @@ def rooms(draw):
             made[name] = {key: draw.randrange(low, high + 1)}
     made["E"] = {**made.get("E", {}), "kind": draw.choice((0, 1, 2, 2)), "sizes": draw.choice((0, 0, 1))}
     return made
+
+
+def lived(script, draw, count, guard=""):
+    """Adds so many events of a life to a script, with modules that are made anew now and then."""
+    for number in range(0, count, ROUND):
+        script.fresh(**rooms(draw))
+        life = Life(draw, script, guard)
+        for _ in range(min(ROUND, count - number)):
+            life.step()
+    return script
 
 
 def broken(name, lines, seen):
