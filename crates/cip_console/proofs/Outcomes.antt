@@ -1,5 +1,5 @@
 -- What was written of a script, by the answer.
-use Rattle.std.proofs.Common.{◌≡◌, ℕ, List, [], Option, Some, None, Ok, Err, refl}
+use Rattle.std.proofs.Common.{◌≡◌, ℕ, List, [], Option, Some, None, Ok, Err, refl, sym, subst}
 use Rattle.std.specs.Prelude.{IfSome}
 use Rattle.std.proofs.KnownBytes.{Keeps-refl}
 use Rattle.cip_topology.specs.Plan.{Plan}
@@ -24,6 +24,10 @@ left_of (Some bytes) = bytes
 pub is_left : (left : Option (List ℕ)) → IfSome left (λ bytes. left_of left ≡ bytes)
 is_left None = tt
 is_left (Some bytes) = refl
+
+-- what a reader lends is all that it has left
+pub all_lent : (left : Option (List ℕ)) (script : List ℕ) → left ≡ Some script → IfSome left (λ bytes. script ≡ bytes)
+all_lent left script lends = subst (λ (o : Option (List ℕ)). IfSome o (λ bytes. script ≡ bytes)) (sym lends) refl
 
 pub none_read : (t : Plan) (left old : Option (List ℕ)) → WroteOf t left old old (Err Read)
 none_read t left old = record { script = left_of left; read = is_left left; wrote = Keeps-refl old }
