@@ -124,7 +124,11 @@ fn changed(
         Change::OneLess => {
             let _ = modules.pop();
         }
-        Change::Exchanged => modules.swap(0, 1),
+        Change::Exchanged => {
+            if modules.len() > 1 {
+                modules.swap(0, 1);
+            }
+        }
         Change::Ticked => {
             let by = Ms::new(1).ok_or("no time")?;
             let bridge = modules.get_mut(1).ok_or("no bridge")?;
