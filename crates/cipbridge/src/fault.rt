@@ -13,12 +13,9 @@ pub enum Fault {
     /// A word of the command line, from 1, is no text.
     #[error("argument {0}: not UTF-8")]
     Argument(usize),
-    /// The topology file breaks a rule.
+    /// The topology file, or the chassis that stands where none is given, breaks a rule.
     #[error("{0}: {1}")]
     Topology(String, LoadFault),
-    /// The chassis that stands where no topology file is given breaks a rule.
-    #[error("the chassis: {0}")]
-    Chassis(LoadFault),
     /// The topology file is no text.
     #[error("{0}: not UTF-8")]
     NotText(String),
@@ -71,7 +68,6 @@ impl Fault {
             Fault::Argument(_) => 2,
             Fault::Topology(_, LoadFault::NoMemory) => 5,
             Fault::Topology(..) => 3,
-            Fault::Chassis(_) => 3,
             Fault::NotText(_) => 3,
             Fault::Read(_) => 4,
             Fault::Script(..) => 1,

@@ -142,7 +142,7 @@ fn topology(rt: &HostRuntime, alloc: Global, options: &Options) -> Result<Topolo
         None => match load(alloc, CHASSIS) {
             Ok(topology) => Ok(topology),
             Err(LoadFault::NoMemory) => Err(Fault::NoMemory),
-            Err(fault) => Err(Fault::Chassis(fault)),
+            Err(fault) => Err(Fault::Topology(named(alloc, "the chassis")?, fault)),
         },
     }
 }
