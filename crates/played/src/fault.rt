@@ -10,7 +10,8 @@ use thiserror::Error;
 /// Why the program ends before its work is done.
 #[derive(Clone, Copy, Debug, PartialEq, Eq, Error)]
 pub enum Fault {
-    #[error("usage: played plain|indexed|mixed, played times [send|open|datum|send-full|open-full|datum-full TIMES [indexed]]")]
+    #[error("usage: played plain|indexed|mixed, \
+        played times [send|open|datum|send-full|open-full|datum-full TIMES [indexed]]")]
     Usage,
     #[error("a line cannot be played")]
     Line,

@@ -18,7 +18,7 @@ fn noted(alloc: Global, harness: &Harness, place: usize, event: &Event) -> Resul
     Ok(Kept { tables, event })
 }
 
-/// Takes an event between the marks `>` and `<`. Where its memory is refused, the lines tell so, and
+/// Takes an event between the marks `>` and `<`. Where memory is refused, the lines tell so, and
 /// whether the module's tables and the event that came back are the `same` as before; then that
 /// event is taken, without marks.
 pub fn guarded(out: &mut Out, harness: &mut Harness, line: &str) -> Result<(), Fault> {

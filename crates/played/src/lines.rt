@@ -1,6 +1,6 @@
 //! The lines of the standard input.
 //!
-//! - `fresh` makes the modules anew; `opened` does so too, and then the scanner opens a connection to
+//! - `fresh` makes the modules anew; `opened` too, and then the scanner opens a connection to
 //!   the adapter.
 //! - `M EVENT ..`, `M tables` and `M with SETTING NUMBER ..` are those of the harness.
 //! - `! M EVENT ..` is an event that is guarded (`guarded.rt`).

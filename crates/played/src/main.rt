@@ -1,10 +1,10 @@
 //! Plays the events that its standard input has on the modules of a chassis, and writes what comes
 //! of each.
 //!
-//! `played plain`, `played indexed` or `played mixed` says of which kind the scanner and the bridges
+//! `played plain`, `played indexed` or `played mixed` says of which kind scanner and bridges
 //! are; where they are mixed, one bridge is indexed. The events are those of `lines.rt`.
 //!
-//! `played times STEP TIMES` takes steps of a plain bridge many times over, so that they can be timed
+//! `played times STEP TIMES` takes steps of a plain bridge many times over, to be timed
 //! from outside. The steps are `send`, `open`, `datum`, `send-full`, `open-full` and `datum-full`;
 //! `played times STEP TIMES indexed` takes them of an indexed one, `played times` each step of both
 //! 1,000 times.

@@ -18,7 +18,7 @@ struct Named {
     module_: AnyModule,
 }
 
-/// The modules, of which the last of a name is played on, and the lines that came of what was asked.
+/// The modules, of which the last of a name is played on, and the lines that came of what is asked.
 #[derive(Drop)]
 pub struct Harness {
     alloc: Global,

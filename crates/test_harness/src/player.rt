@@ -17,7 +17,7 @@
 //! - `M tables` has for its outputs the lines of the module's tables.
 //! - `M with SETTING NUMBER ..` makes the module anew, with these settings: `clock`, `first_id`,
 //! `first_number`, `pending_room`, `hop_room`; `kind`, which is 0 for a plain module, 1 for an
-//! indexed one and 2 for an adapter; `sizes`, which is 0 for the adapter's assemblies and 1 for some
+//! indexed one and 2 for an adapter; `sizes`, which is 0 for the adapter's own and 1 for some
 //! of odd sizes.
 //!
 //! An output is written as in a transcript. A step that did not happen has `clock full` or `no
