@@ -14,6 +14,8 @@ use Rattle.cip_open.specs.Open.{Open as OpenRequest}
 use Rattle.cip_hops.specs.declared.hop.Held.{Held}
 use Rattle.cip_hops.specs.declared.hop.Held.TheVariants.{Opening as IsOpening, Open}
 use Rattle.cip_hops.specs.declared.opening.HopUp.TheVariants.{Local as UpLocal}
+use Rattle.cip_hops.specs.declared.hop.Hop.{Hop}
+use Rattle.cip_module.specs.declared.tables.HopRow.{HopRow}
 use Rattle.cip_hops.specs.Hops.{Hops, as_hop, is_hop, is_hop_by_op, hop_by_op}
 use Rattle.cip_hops.specs.Sides.{op_of}
 use Rattle.cip_hops.proofs.Steps.{triads_apart}
@@ -30,8 +32,9 @@ use Rattle.cip_chain.specs.declared.chains.ChainView.{ChainView}
 use Rattle.cip_chain.specs.declared.chains.ChainFault.{ChainFault}
 use Rattle.cip_chain.specs.declared.chains.ChainFault.TheVariants as faults
 use Rattle.cip_chain.specs.declared.seeking.Here.{Here}
+use Rattle.cip_chain.specs.declared.seeking.Next.TheVariants as nexts
 use Rattle.cip_chain.specs.Answers.{IsChainFault, IsPath, IsView, IsBroken, IsReached, left}
-use Rattle.cip_chain.specs.Found.{member, IsNextFault, IsNotOpen, LeadsNowhere, IsOpened}
+use Rattle.cip_chain.specs.Found.{member, IsSeen, IsNext, IsNextFault, IsNotOpen, LeadsNowhere, IsOpened}
 use Rattle.cip_chain.proofs.Opened.{has_id, id_has, local_op, look_at}
 
 -- ---- one more
@@ -52,37 +55,44 @@ map_more f (y ∷ xs) x = ap (λ ys. f y ∷ ys) (map_more f xs x)
 pub reached_first : (t : Plan) (j : Journal) (m op : ℕ) (here : Here) (modules : List ModuleId) → IsOpened t j m op here → modules ≡ here.at ∷ []
     → IsReached t j m op here modules
 reached_first t j m op here modules o is = record {
-  first = member here;
+  first = member here o.hop;
   rest = [];
   at_is = o.at_is;
-  has = o.has;
+  has = o.seen.has;
   up_is = o.up_is;
   path = tt;
   modules_are = ap (λ (ms : List ModuleId). map (λ (i : ModuleId). i.0) ms) (sym is);
+  hop = o.hop;
+  seen = o.seen;
   last_is = refl;
-  has_last = o.has;
 }
 
 pub reached_next : (t : Plan) (j : Journal) (m op : ℕ) (here next : Here) (modules more : List ModuleId) → (r : IsReached t j m op here modules)
-    → IsNextTo t j (member here) (member next) → more ≡ modules ++ next.at ∷ [] → IsReached t j m op next more
-reached_next t j m op here next modules more r step is = record {
-  first = r.first;
-  rest = r.rest ++ member next ∷ [];
-  at_is = r.at_is;
-  has = r.has;
-  up_is = r.up_is;
-  path = path_more t j r.first r.rest (member next) r.path (subst (λ (x : Member). IsNextTo t j x (member next)) (sym r.last_is) step);
-  modules_are = map_more (λ (x : Member). x.at) (r.first ∷ r.rest) (member next) ∙ (λ i. r.modules_are i ++ next.at.0 ∷ [])
-      ∙ sym (map_more (λ (n : ModuleId). n.0) modules next.at) ∙ ap (λ (ms : List ModuleId). map (λ (n : ModuleId). n.0) ms) (sym is);
-  last_is = last_more r.first r.rest (member next);
-  has_last = step.has;
-}
+    → IsNext t j (member here r.hop) (nexts.Hop next) → more ≡ modules ++ next.at ∷ [] → IsReached t j m op next more
+reached_next t j m op here next modules more r step is =
+    let y : Member = member next step.0 in
+    record {
+      first = r.first;
+      rest = r.rest ++ y ∷ [];
+      at_is = r.at_is;
+      has = r.has;
+      up_is = r.up_is;
+      path = path_more t j r.first r.rest y r.path (subst (λ (x : Member). IsNextTo t j x y) (sym r.last_is) step.2);
+      modules_are = map_more (λ (x : Member). x.at) (r.first ∷ r.rest) y ∙ (λ i. r.modules_are i ++ next.at.0 ∷ [])
+          ∙ sym (map_more (λ (n : ModuleId). n.0) modules next.at) ∙ ap (λ (ms : List ModuleId). map (λ (n : ModuleId). n.0) ms) (sym is);
+      hop = step.0;
+      seen = step.1;
+      last_is = last_more r.first r.rest y;
+    }
 
-pub shorter : (t : Plan) (j : Journal) (here next : Here) → IsNextTo t j (member here) (member next) → left next < left here
-shorter t j here next step =
-    let less = hop_shortens here.hop.now.opening.path step.mirrors.first step.mirrors.first_is in
-    let path = ap (λ (p : List ℕ). length p) step.mirrors.path_is in
-    omega (arith, less, path)
+pub shorter : (t : Plan) (j : Journal) (here next : Here) (hop : Hop) → IsSeen t j here hop → IsNext t j (member here hop) (nexts.Hop next)
+    → left next < left here
+shorter t j here next hop seen step =
+    let less = hop_shortens hop.opening.path step.2.mirrors.first step.2.mirrors.first_is in
+    let path = ap (λ (p : List ℕ). length p) step.2.mirrors.path_is in
+    let ours = ap (λ (r : HopRow). length r.path) seen.row_is in
+    let theirs = ap (λ (r : HopRow). length r.path) step.1.row_is in
+    omega (arith, less, path, ours, theirs)
 
 -- ---- at the end
 
@@ -111,7 +121,7 @@ module _ (t : Plan) (j : Journal) (run : IsRun t j) (x : Member) (has : HasHop t
       (id_has op (op_of x.hop.opening.up) (ap op_of up)) only)
 
 pub viewed : (t : Plan) (j : Journal) (m op : ℕ) (here : Here) (modules : List ModuleId) (view : ChainView) → IsRun t j → (r : IsReached t j m op here modules)
-    → (e : GoesToEnd here.hop.now) × (e.consume ≡ view.end.consume) × (e.produce ≡ view.end.produce) → view.modules ≡ modules → IsView t j m op view
+    → (e : GoesToEnd r.hop) × (e.consume ≡ view.end.consume) × (e.produce ≡ view.end.produce) → view.modules ≡ modules → IsView t j m op view
 viewed t j m op here modules view run r at_end is =
     let ends = subst (λ (x : Member). (e : GoesToEnd x.hop) × (e.consume ≡ view.end.consume) × (e.produce ≡ view.end.produce)) (sym r.last_is) at_end in
     record {
@@ -126,7 +136,7 @@ viewed t j m op here modules view run r at_end is =
     }
 
 pub broken : (t : Plan) (j : Journal) (m op : ℕ) (here : Here) (modules : List ModuleId) (b : ℕ) → (r : IsReached t j m op here modules)
-    → LeadsNowhere t j (member here) b → IsBroken t j m op b
+    → LeadsNowhere t j (member here r.hop) b → IsBroken t j m op b
 broken t j m op here modules b r nowhere = record {
   first = r.first;
   rest = r.rest;
@@ -155,7 +165,7 @@ nothing_open t j m op empty x has same up =
 
 -- why the next one is not found is why there is no chain
 pub fault_of : (t : Plan) (j : Journal) (m op : ℕ) (here : Here) (modules : List ModuleId) (f : ChainFault) → (r : IsReached t j m op here modules)
-    → IsNextFault t j (member here) f → IsChainFault t j m op f
+    → IsNextFault t j (member here r.hop) f → IsChainFault t j m op f
 fault_of t j m op here modules faults.NotOpen r told = absurd told
 fault_of t j m op here modules (faults.Broken b) r told = broken t j m op here modules b.0 r told
 fault_of t j m op here modules faults.NoMemory r told = tt

@@ -1,7 +1,7 @@
 -- The connection of an op, found by a look at the connections of its module.
 use Rattle.std.proofs.Common.{◌≡◌, ℕ, Bool, true, Option, Some, None, refl, sym, ap, ◌∙◌, length, ◌≤◌, arith}
 use Rattle.std.specs.Prelude.{slice_get}
-use Rattle.std.specs.Option.{option_and_then}
+use Rattle.std.specs.Option.{option_and_then, option_map}
 use Rattle.std.specs.FinMap as finite
 use Rattle.std.proofs.lemmas.Bool.{eqb-true, eq-eqb}
 use Rattle.std.proofs.lemmas.Option.{slice_get_within}
@@ -12,7 +12,9 @@ use Rattle.cip_hops.specs.declared.opening.HopUp.{HopUp}
 use Rattle.cip_hops.specs.declared.opening.HopUp.TheVariants.{Link as UpLink, Local as UpLocal}
 use Rattle.cip_hops.specs.Hops.{Hops, as_hop, first_hop, hop_by_op, is_hop_by_op, is_id}
 use Rattle.cip_hops.specs.Sides.{op_of}
-use Rattle.cip_module.specs.declared.config.ModuleSettings.{ModuleSettings}
+use Rattle.cip_config.specs.declared.config.ModuleSettings.{ModuleSettings}
+use Rattle.cip_module.specs.declared.tables.HopRow.{HopRow}
+use Rattle.cip_module.specs.Views.{hop_row_of}
 use Rattle.cip_module.proofs.Found.{found_own}
 use Rattle.cip_laws.proofs.Triads.{own_triads}
 use Rattle.cip_topology.specs.Plan.{Plan}
@@ -62,11 +64,31 @@ looked t j m test hop run e = by (slice_get t.modules m) refl e
         let stands = is_open (finite.get (state_in config m j).hops.held hop.opening.triad) hop found.0 in
         record { has = record { config = config; is_module = is; stands = stands }; passes = found.1 }
 
+some_row : (a b : HopRow) → Some a ≡ Some b → a ≡ b
+some_row a b e = cc
+
+-- the connection of a row that was found
+pub row_of : (row : HopRow) (o : Option Hop) → Some row ≡ option_map hop_row_of o → (hop : Hop) × (Some hop ≡ o) × (row ≡ hop_row_of hop)
+row_of row None e = absurd (cc)
+row_of row (Some hop) e = (hop, refl, some_row row (hop_row_of hop) e)
+
+-- no row, no connection
+pub no_row : (o : Option Hop) → None ≡ option_map hop_row_of o → None ≡ o
+no_row None e = refl
+no_row (Some hop) e = absurd (cc)
+
 pub opened_at : (t : Plan) (j : Journal) (op : ℕ) (here : Here) → IsRun t j
-    → Some here.hop.now ≡ looked_up t j here.at.0 (λ (hs : Hops). hop_by_op hs op) → IsOpened t j here.at.0 op here
+    → Some here.row ≡ option_map hop_row_of (looked_up t j here.at.0 (λ (hs : Hops). hop_by_op hs op)) → IsOpened t j here.at.0 op here
 opened_at t j op here run e =
-    let l = looked t j here.at.0 (is_hop_by_op op) here.hop.now run e in
-    record { has = l.has; at_is = refl; up_is = local_op op here.hop.now.opening.up (has_id op (op_of here.hop.now.opening.up) l.passes) }
+    let found = row_of here.row (looked_up t j here.at.0 (λ (hs : Hops). hop_by_op hs op)) e in
+    let hop : Hop = found.0 in
+    let l = looked t j here.at.0 (is_hop_by_op op) hop run found.1 in
+    record {
+      hop = hop;
+      seen = record { has = l.has; row_is = found.2 };
+      at_is = refl;
+      up_is = local_op op hop.opening.up (has_id op (op_of hop.opening.up) l.passes);
+    }
 
 -- where there is no module, no connection is
 pub no_module : (t : Plan) (j : Journal) (m op : ℕ) → length t.modules ≤ m → IsNotOpen t j m op

@@ -3,6 +3,7 @@ use Rattle.std.specs.Prelude.{◌≡◌, ℕ, List, [], ◌∷◌, map, length}
 use Rattle.cip_base.specs.Words.{OpNumber}
 use Rattle.cip_base.specs.declared.numbers.ModuleId.{ModuleId}
 use Rattle.cip_hops.specs.declared.opening.HopUp.TheVariants.{Local as UpLocal}
+use Rattle.cip_hops.specs.declared.hop.Hop.{Hop}
 use Rattle.cip_topology.specs.Plan.{Plan}
 use Rattle.cip_world.specs.Chains.{Member, HasHop, IsNextTo, GoesToEnd, IsChain, last_of}
 use Rattle.cip_world.specs.Journals.{Journal}
@@ -10,7 +11,7 @@ use Rattle.cip_chain.specs.declared.chains.ChainView.{ChainView}
 use Rattle.cip_chain.specs.declared.chains.ChainFault.{ChainFault}
 use Rattle.cip_chain.specs.declared.chains.ChainFault.TheVariants as faults
 use Rattle.cip_chain.specs.declared.seeking.Here.{Here}
-use Rattle.cip_chain.specs.Found.{member, IsNotOpen, LeadsNowhere}
+use Rattle.cip_chain.specs.Found.{member, IsSeen, IsNotOpen, LeadsNowhere}
 
 -- each stands next to the one before it, from x on
 abbrev pub IsPath : Plan → Journal → Member → List Member → Type 0
@@ -59,9 +60,10 @@ pub record IsReached (t : Plan) (j : Journal) (m : ℕ) (op : OpNumber) (here : 
   pub up_is : first.hop.opening.up ≡ UpLocal op
   pub path : IsPath t j first rest
   pub modules_are : AreModules first rest modules
-  pub last_is : last_of first rest ≡ member here
-  pub has_last : HasHop t j (member here)
+  pub hop : Hop
+  pub seen : IsSeen t j here hop
+  pub last_is : last_of first rest ≡ member here hop
 
 -- the length of the path that is left
 abbrev pub left : Here → ℕ
-left here = length here.hop.now.opening.path
+left here = length here.row.path

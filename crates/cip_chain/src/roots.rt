@@ -1,7 +1,7 @@
 //! From an entry back to the command or the tick that it came from.
 ghost use Rattle.std.specs.Prelude.{◌≡◌, ℕ, List, reverse};
 ghost use Rattle.cip_base.specs.declared.triad.Triad.{Triad};
-ghost use Rattle.cip_module.specs.declared.event.Output.TheVariants.{Consumed, Arrived};
+ghost use Rattle.cip_event.specs.declared.event.Output.TheVariants.{Consumed, Arrived};
 ghost use Rattle.cip_topology.specs.Plan.{Plan, IsTopology};
 ghost use Rattle.cip_world.specs.Entering.{HasOutput, ConsumedOf, ArrivedOf};
 ghost use Rattle.cip_world.specs.Journals.{brought_by};

@@ -2,6 +2,7 @@
 #![tactic(auto)]
 
 mod console;
+mod laws;
 mod live;
 mod options;
 mod playing;
@@ -10,6 +11,7 @@ mod source;
 
 pub use cip_script::{Explained, Numbered, ScriptFault, Step, WordFault, explain};
 pub use console::{ConsoleFault, run};
+pub use laws::runs_are_printed_alike;
 pub use live::run_live;
 pub use options::{HELP, Options, OptionsFault, Usage, VERSION, read_options};
 pub use progress::{Line, Screen, Watched};

@@ -1,9 +1,10 @@
 -- What a reaction puts out is an output of the routing table.
 use Rattle.std.proofs.Common.{◌≡◌, List, ℕ, refl, sym, subst}
-use Rattle.cip_module.specs.declared.event.Output.{Output}
+use Rattle.cip_event.specs.declared.event.Output.{Output}
 use Rattle.cip_module.specs.declared.reaction.Reaction.{Reaction}
 use Rattle.cip_module.specs.declared.reaction.Reaction.TheVariants.{Whole, Edited}
-use Rattle.cip_module.specs.Reactions.{PutsOut, filled}
+use Rattle.cip_event.specs.Filled.{filled}
+use Rattle.cip_module.specs.Reactions.{PutsOut}
 use Rattle.cip_indexed.specs.PutOut.{IsPutOut}
 
 pub put : (came : List ℕ) (reaction : Reaction) (P : Output → Type 0) (out : Output) → PutsOut came reaction P

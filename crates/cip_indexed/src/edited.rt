@@ -1,9 +1,9 @@
 //! What goes on or goes up of a message, in the buffer in which it came.
 ghost use Rattle.std.specs.Prelude.{◌≡◌};
 ghost use Rattle.cip_base.specs.Words.{Octets};
-ghost use Rattle.cip_module.specs.declared.event.Body.TheVariants as bodies;
-ghost use Rattle.cip_module.specs.declared.event.Output.{Output as Outputs};
-ghost use Rattle.cip_module.specs.declared.event.Output.TheVariants as outputs;
+ghost use Rattle.cip_event.specs.declared.event.Body.TheVariants as bodies;
+ghost use Rattle.cip_event.specs.declared.event.Output.{Output as Outputs};
+ghost use Rattle.cip_event.specs.declared.event.Output.TheVariants as outputs;
 ghost use Rattle.cip_module.specs.Reactions.{Becomes};
 ghost use Rattle.cip_indexed.specs.PutOut.{CanPutOut, IsPutOut};
 

@@ -2,19 +2,20 @@
 //! the buffer in which it came.
 ghost use Rattle.std.specs.Prelude.{◌≡◌, ◌<◌, [], IfOk};
 ghost use Rattle.std.specs.Vec.{vec_capacity};
-ghost use Rattle.cip_module.specs.declared.config.ModuleKind.{ModuleKind as Kind};
-ghost use Rattle.cip_module.specs.declared.event.Body.TheVariants as bodies;
-ghost use Rattle.cip_module.specs.declared.event.Event.TheVariants as events;
-ghost use Rattle.cip_module.specs.declared.event.Command.TheVariants.{Enter};
+ghost use Rattle.cip_config.specs.declared.config.ModuleKind.{ModuleKind as Kind};
+ghost use Rattle.cip_event.specs.declared.event.Body.TheVariants as bodies;
+ghost use Rattle.cip_event.specs.declared.event.Event.TheVariants as events;
+ghost use Rattle.cip_event.specs.declared.event.Command.TheVariants.{Enter};
 ghost use Rattle.cip_module.specs.State.{initial_state};
 ghost use Rattle.cip_module.specs.Steps.{IsStep, IsStepFault};
 ghost use Rattle.cip_indexed.specs.Indexed.{config_of_indexed, state_of_indexed};
 
 use crate::edited::{put_out, sent};
 use cip_base::{Address, Bytes, NoMemory, PortNumber};
-use cip_hops::{Hop, Side};
+use cip_hops::Side;
 use cip_module::{
-    Body, Command, Device, Event, Module, ModuleConfig, ModuleKind, Output, StepFault, Tables,
+    Body, Command, Device, Event, HopRow, Module, ModuleConfig, ModuleKind, Output, StepFault,
+    Tables,
 };
 use std::alloc::Global;
 
@@ -228,11 +229,16 @@ impl Module for IndexedModule {
         self.device.tables()
     }
 
-    fn hop_by_op(&self, op: u32) -> Option<&Hop> {
-        self.device.hop_by_op(op)
+    fn row_by_op(&self, op: u32) -> Result<Option<HopRow>, NoMemory> {
+        self.device.row_by_op(op)
     }
 
-    fn hop_by_up(&self, id: u32, port: PortNumber, address: &Address) -> Option<&Hop> {
-        self.device.hop_by_up(id, port, address)
+    fn row_by_up(
+        &self,
+        id: u32,
+        port: PortNumber,
+        address: &Address,
+    ) -> Result<Option<HopRow>, NoMemory> {
+        self.device.row_by_up(id, port, address)
     }
 }

@@ -14,13 +14,13 @@ use Rattle.cip_hops.specs.declared.hop.Side.{Side}
 use Rattle.cip_hops.specs.declared.hop.Side.TheVariants.{Up, Down}
 use Rattle.cip_hops.specs.Hops.{hop_at, hop_by_op}
 use Rattle.cip_target.specs.Objects.{target_answer}
-use Rattle.cip_module.specs.declared.config.ModuleSettings.{ModuleSettings}
-use Rattle.cip_module.specs.declared.command.rows.CommandRow.{CommandRow}
-use Rattle.cip_module.specs.declared.command.rows.CommandRow.TheVariants as command
-use Rattle.cip_module.specs.declared.event.Body.TheVariants as bodies
-use Rattle.cip_module.specs.declared.event.Command.TheVariants as commands
-use Rattle.cip_module.specs.declared.event.Event.TheVariants as events
-use Rattle.cip_module.specs.declared.event.Output.{Output}
+use Rattle.cip_config.specs.declared.config.ModuleSettings.{ModuleSettings}
+use Rattle.cip_module.specs.CommandRows.{CommandRow}
+use Rattle.cip_module.specs.CommandRows as command
+use Rattle.cip_event.specs.declared.event.Body.TheVariants as bodies
+use Rattle.cip_event.specs.declared.event.Command.TheVariants as commands
+use Rattle.cip_event.specs.declared.event.Event.TheVariants as events
+use Rattle.cip_event.specs.declared.event.Output.{Output}
 use Rattle.cip_module.specs.CommandRows.{enter_row}
 use Rattle.cip_module.specs.DataRows.{DataRow, data_row}
 use Rattle.cip_module.specs.DataRows as datum

@@ -6,13 +6,13 @@ use Rattle.cip_hops.specs.Hops.{hop_by_op}
 use Rattle.cip_base.specs.declared.timing.Timing.{Timing}
 use Rattle.cip_pending.specs.declared.entry.UpSide.TheVariants.{Local}
 use Rattle.cip_laws.specs.EffectLists.{gain, takes_up}
-use Rattle.cip_module.specs.declared.config.ModuleSettings.{ModuleSettings}
-use Rattle.cip_module.specs.declared.event.Body.TheVariants as bodies
-use Rattle.cip_module.specs.declared.event.Command.TheVariants as commands
-use Rattle.cip_module.specs.declared.event.Event.{Event}
-use Rattle.cip_module.specs.declared.event.Event.TheVariants as events
-use Rattle.cip_module.specs.declared.command.rows.CommandRow.{CommandRow}
-use Rattle.cip_module.specs.declared.command.rows.CommandRow.TheVariants as command
+use Rattle.cip_config.specs.declared.config.ModuleSettings.{ModuleSettings}
+use Rattle.cip_event.specs.declared.event.Body.TheVariants as bodies
+use Rattle.cip_event.specs.declared.event.Command.TheVariants as commands
+use Rattle.cip_event.specs.declared.event.Event.{Event}
+use Rattle.cip_event.specs.declared.event.Event.TheVariants as events
+use Rattle.cip_module.specs.CommandRows.{CommandRow}
+use Rattle.cip_module.specs.CommandRows as command
 use Rattle.cip_module.specs.CommandRows.{op_row, close_command_row, send_row}
 use Rattle.cip_module.specs.Effects.{Effect, Spends, apply, applied, outputs_of}
 use Rattle.cip_module.specs.State.{State, is_spent, spent_with, initial_state}

@@ -12,9 +12,9 @@ use Rattle.cip_unconnected.specs.Unconnected.{Unconnected, unconnected_bytes, un
 use Rattle.cip_close.specs.Close.{Close, close_data, close_bytes}
 use Rattle.cip_pending.specs.Pendings.{Pendings}
 use Rattle.cip_target.specs.Object.{attribute_in, with_attribute, instance_in, object_of}
-use Rattle.cip_module.specs.declared.config.ModuleSettings.{ModuleSettings}
+use Rattle.cip_config.specs.declared.config.ModuleSettings.{ModuleSettings}
 use Rattle.cip_module.specs.declared.refusals.UnconnectedRefusal.TheVariants.{EmbeddedRequestNotAllowed}
-use Rattle.cip_module.specs.declared.command.rows.CommandRow.TheVariants as command
+use Rattle.cip_module.specs.CommandRows as command
 use Rattle.cip_module.specs.CommandRows.{send_row}
 use Rattle.cip_module.specs.Object.{begins_with_manager}
 use Rattle.cip_module.specs.RequestRows.{UnknownPortOrTooLong, ForwardOpen, Target, is_malformed, read_row, manager_row, object_row, request_row}

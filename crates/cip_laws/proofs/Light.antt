@@ -22,15 +22,15 @@ use Rattle.cip_hops.specs.declared.opening.HopDown.TheVariants.{Link as DownLink
 use Rattle.cip_hops.specs.Hops.{hop_by_op}
 use Rattle.cip_target.specs.declared.link.EndLink.{EndLink}
 use Rattle.cip_laws.specs.EffectLists.{gain, IsLight, IsBounded}
-use Rattle.cip_module.specs.declared.config.ModuleSettings.{ModuleSettings}
-use Rattle.cip_module.specs.declared.event.Body.TheVariants as bodies
-use Rattle.cip_module.specs.declared.event.Command.TheVariants as commands
-use Rattle.cip_module.specs.declared.event.Event.{Event}
-use Rattle.cip_module.specs.declared.event.Event.TheVariants as events
-use Rattle.cip_module.specs.declared.event.Dropped.{Dropped}
-use Rattle.cip_module.specs.declared.event.Refused.{Refused}
-use Rattle.cip_module.specs.declared.command.rows.CommandRow.{CommandRow}
-use Rattle.cip_module.specs.declared.command.rows.CommandRow.TheVariants as command
+use Rattle.cip_config.specs.declared.config.ModuleSettings.{ModuleSettings}
+use Rattle.cip_event.specs.declared.event.Body.TheVariants as bodies
+use Rattle.cip_event.specs.declared.event.Command.TheVariants as commands
+use Rattle.cip_event.specs.declared.event.Event.{Event}
+use Rattle.cip_event.specs.declared.event.Event.TheVariants as events
+use Rattle.cip_event.specs.declared.event.Dropped.{Dropped}
+use Rattle.cip_event.specs.declared.event.Refused.{Refused}
+use Rattle.cip_module.specs.CommandRows.{CommandRow}
+use Rattle.cip_module.specs.CommandRows as command
 use Rattle.cip_module.specs.Effects.{Sending, Effect, Replies, Answers, Forwards, Begins, Accepts, Removes, RefusesCommand, Drops}
 use Rattle.cip_module.specs.CloseRows.{CloseRow, close_row}
 use Rattle.cip_module.specs.CloseRows as closes

@@ -8,7 +8,7 @@ use Rattle.cip_pending.specs.declared.entry.UpSide.{UpSide}
 use Rattle.cip_base.proofs.Lengths.{one_if}
 use Rattle.cip_hops.proofs.Counts.{tally-le, tally-remove}
 use Rattle.cip_laws.specs.EffectLists.{takes_up}
-use Rattle.cip_module.specs.declared.config.ModuleSettings.{ModuleSettings}
+use Rattle.cip_config.specs.declared.config.ModuleSettings.{ModuleSettings}
 use Rattle.cip_module.specs.State.{State, initial_state}
 use Rattle.cip_module.proofs.Fits.{numbers_apart}
 use Rattle.cip_laws.specs.Histories.{Turn, state_after, IsHistory}

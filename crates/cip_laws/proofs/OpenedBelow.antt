@@ -13,10 +13,10 @@ use Rattle.cip_hops.specs.Sides.{down_is_link, own_ids}
 use Rattle.cip_hops.specs.Hops.{opened}
 use Rattle.cip_open.specs.Open.{Open as OpenRequest}
 use Rattle.cip_target.specs.declared.link.EndLink.{EndLink}
-use Rattle.cip_module.specs.declared.config.ModuleSettings.{ModuleSettings}
-use Rattle.cip_module.specs.declared.event.Body.TheVariants as bodies
-use Rattle.cip_module.specs.declared.event.Event.{Event}
-use Rattle.cip_module.specs.declared.event.Event.TheVariants as events
+use Rattle.cip_config.specs.declared.config.ModuleSettings.{ModuleSettings}
+use Rattle.cip_event.specs.declared.event.Body.TheVariants as bodies
+use Rattle.cip_event.specs.declared.event.Event.{Event}
+use Rattle.cip_event.specs.declared.event.Event.TheVariants as events
 use Rattle.cip_module.specs.Effects.{Effect, Accepts, apply, applied}
 use Rattle.cip_module.specs.State.{State}
 use Rattle.cip_laws.specs.Tells.{Tells, FinishesAs}

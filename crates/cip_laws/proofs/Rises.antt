@@ -1,7 +1,7 @@
 -- What is held has a number or an id below the next, and the next never falls.
 use Rattle.std.proofs.Common.{◌≡◌, ◌+◌, ◌≤◌, List, [], ◌∷◌, ap, arith}
 use Rattle.cip_laws.specs.EffectLists.{gain}
-use Rattle.cip_module.specs.declared.config.ModuleSettings.{ModuleSettings}
+use Rattle.cip_config.specs.declared.config.ModuleSettings.{ModuleSettings}
 use Rattle.cip_module.specs.Effects.{Effect, apply, applied}
 use Rattle.cip_module.specs.State.{State}
 use Rattle.cip_laws.specs.Histories.{Turn, state_after, IsHistory}

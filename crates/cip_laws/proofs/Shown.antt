@@ -17,7 +17,7 @@ use Rattle.cip_hops.specs.declared.opening.Opening.{Opening}
 use Rattle.cip_hops.specs.declared.opening.OwnIds.{OwnIds}
 use Rattle.cip_hops.specs.Hops.{as_hop, as_opening, opening_at}
 use Rattle.cip_pending.specs.declared.entry.Entry.{Entry}
-use Rattle.cip_module.specs.declared.config.ModuleSettings.{ModuleSettings}
+use Rattle.cip_config.specs.declared.config.ModuleSettings.{ModuleSettings}
 use Rattle.cip_module.specs.declared.tables.HopRow.{HopRow}
 use Rattle.cip_module.specs.declared.tables.Tables.{Tables}
 use Rattle.cip_laws.specs.OwnTriads.{HasOwnTriads}

@@ -3,8 +3,8 @@ use Rattle.std.proofs.Common.{◌≡◌, ℕ, ◌≤◌, List, [], ◌∷◌, �
 use Rattle.cip_base.specs.declared.triad.Triad.{Triad}
 use Rattle.cip_pending.specs.declared.entry.UpSide.{UpSide}
 use Rattle.cip_hops.specs.declared.hop.Side.TheVariants.{Up, Down}
-use Rattle.cip_module.specs.declared.config.ModuleSettings.{ModuleSettings}
-use Rattle.cip_module.specs.declared.event.Event.{Event}
+use Rattle.cip_config.specs.declared.config.ModuleSettings.{ModuleSettings}
+use Rattle.cip_event.specs.declared.event.Event.{Event}
 use Rattle.cip_laws.specs.EffectLists.{gain, IsLight, IsBounded, HasStood, Stands, AllStand}
 use Rattle.cip_module.specs.Effects.{Effect, Spends, Replies, Answers, Forwards, Begins, Accepts, Finishes, Takes, PendingTimesOut, Removes, HopTimesOut, Renews, Passes, Counts, Writes, RefusesCommand, Drops, Advances, apply, applied}
 use Rattle.cip_module.specs.State.{State}

@@ -22,7 +22,7 @@ use Rattle.cip_hops.specs.Hops.{Hops, opening_at, hop_at, opening_of, ids_of, op
 use Rattle.cip_open.specs.Open.{Open as OpenRequest}
 use Rattle.cip_open.specs.Success.{OpenSuccess}
 use Rattle.cip_target.specs.declared.link.EndLink.{EndLink}
-use Rattle.cip_module.specs.declared.config.ModuleSettings.{ModuleSettings}
+use Rattle.cip_config.specs.declared.config.ModuleSettings.{ModuleSettings}
 use Rattle.cip_module.specs.Effects.{Effect, Begins, Accepts, Finishes, Takes, PendingTimesOut, Removes, HopTimesOut, Renews, Counts, abandoned, removed, given_up, given_up_of, renewed, recounted, ends_here, apply}
 use Rattle.cip_module.specs.State.{State}
 use Rattle.cip_base.proofs.Points.{put_here}

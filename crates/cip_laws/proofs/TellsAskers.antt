@@ -8,8 +8,8 @@ use Rattle.cip_pending.specs.declared.entry.UpSide.{UpSide}
 use Rattle.cip_pending.specs.declared.entry.Kind.{Kind}
 use Rattle.cip_pending.specs.declared.entry.Kind.TheVariants.{Unconnected as UnconnectedKind, Opening as OpeningKind, Closing as ClosingKind}
 use Rattle.cip_hops.specs.declared.opening.Opening.{Opening}
-use Rattle.cip_module.specs.declared.config.ModuleSettings.{ModuleSettings}
-use Rattle.cip_module.specs.declared.event.Event.{Event}
+use Rattle.cip_config.specs.declared.config.ModuleSettings.{ModuleSettings}
+use Rattle.cip_event.specs.declared.event.Event.{Event}
 use Rattle.cip_module.specs.RequestRows.{RequestRow}
 use Rattle.cip_module.specs.Effects.{Sending}
 use Rattle.cip_module.specs.State.{State}

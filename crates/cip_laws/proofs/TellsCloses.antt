@@ -4,8 +4,8 @@ use Rattle.cip_message.specs.declared.fault.DataFault.{DataFault}
 use Rattle.cip_close.specs.Close.{Close}
 use Rattle.cip_close.specs.CloseAt.{close_at}
 use Rattle.cip_pending.specs.declared.entry.UpSide.{UpSide}
-use Rattle.cip_module.specs.declared.config.ModuleSettings.{ModuleSettings}
-use Rattle.cip_module.specs.declared.event.Event.{Event}
+use Rattle.cip_config.specs.declared.config.ModuleSettings.{ModuleSettings}
+use Rattle.cip_event.specs.declared.event.Event.{Event}
 use Rattle.cip_module.specs.CloseRows.{CloseRow, Refuses, Forwarded, ClosedAtTheEnd, close_row}
 use Rattle.cip_module.specs.RequestRows.{ForwardClose}
 use Rattle.cip_module.specs.State.{State}

@@ -20,16 +20,16 @@ use Rattle.cip_hops.specs.Hops.{Hops, as_hop, hop_by_op}
 use Rattle.cip_hops.proofs.Steps.{triads_apart}
 use Rattle.cip_base.proofs.Views.{get-at}
 use Rattle.cip_target.specs.Assemblies.{size_in}
-use Rattle.cip_module.specs.declared.config.ModuleSettings.{ModuleSettings}
-use Rattle.cip_module.specs.declared.event.OpenParams.{OpenParams}
-use Rattle.cip_module.specs.declared.event.Event.{Event}
-use Rattle.cip_module.specs.declared.event.Event.TheVariants as events
-use Rattle.cip_module.specs.declared.event.Command.{Command}
-use Rattle.cip_module.specs.declared.event.Command.TheVariants as commands
-use Rattle.cip_module.specs.declared.event.Refused.{Refused}
-use Rattle.cip_module.specs.declared.event.Refused.TheVariants as refused
-use Rattle.cip_module.specs.declared.command.rows.CommandRow.{CommandRow}
-use Rattle.cip_module.specs.declared.command.rows.CommandRow.TheVariants as rows
+use Rattle.cip_config.specs.declared.config.ModuleSettings.{ModuleSettings}
+use Rattle.cip_event.specs.declared.event.OpenParams.{OpenParams}
+use Rattle.cip_event.specs.declared.event.Event.{Event}
+use Rattle.cip_event.specs.declared.event.Event.TheVariants as events
+use Rattle.cip_event.specs.declared.event.Command.{Command}
+use Rattle.cip_event.specs.declared.event.Command.TheVariants as commands
+use Rattle.cip_event.specs.declared.event.Refused.{Refused}
+use Rattle.cip_event.specs.declared.event.Refused.TheVariants as refused
+use Rattle.cip_module.specs.CommandRows.{CommandRow}
+use Rattle.cip_module.specs.CommandRows as rows
 use Rattle.cip_module.specs.CommandRows.{op_row, close_command_row, send_row, enter_row, set_row, produce_row}
 use Rattle.cip_module.specs.Effects.{Effect, Counts, Passes, Writes}
 use Rattle.cip_module.specs.Produced.{reads_from, made_effects, held_effects, each_effects, next_count}

@@ -10,13 +10,13 @@ use Rattle.cip_hops.specs.declared.hop.Hop.{Hop}
 use Rattle.cip_hops.specs.declared.hop.Side.{Side}
 use Rattle.cip_hops.specs.declared.hop.Side.TheVariants.{Up, Down}
 use Rattle.cip_hops.specs.Hops.{hop_by_up, hop_by_down}
-use Rattle.cip_module.specs.declared.config.ModuleSettings.{ModuleSettings}
-use Rattle.cip_module.specs.declared.event.Event.{Event}
-use Rattle.cip_module.specs.declared.event.Event.TheVariants.{Frame}
-use Rattle.cip_module.specs.declared.event.Body.TheVariants.{Data}
-use Rattle.cip_module.specs.declared.event.Dropped.{Dropped}
-use Rattle.cip_module.specs.declared.event.Dropped.TheVariants as dropped
-use Rattle.cip_module.specs.Config.{port_of}
+use Rattle.cip_config.specs.declared.config.ModuleSettings.{ModuleSettings}
+use Rattle.cip_event.specs.declared.event.Event.{Event}
+use Rattle.cip_event.specs.declared.event.Event.TheVariants.{Frame}
+use Rattle.cip_event.specs.declared.event.Body.TheVariants.{Data}
+use Rattle.cip_event.specs.declared.event.Dropped.{Dropped}
+use Rattle.cip_event.specs.declared.event.Dropped.TheVariants as dropped
+use Rattle.cip_config.specs.Config.{port_of}
 use Rattle.cip_module.specs.DataRows.{DataRow, UnknownId, WrongSize, Repeated, Consumed, is_last, below_row, above_row, id_row, data_row}
 use Rattle.cip_module.specs.State.{State}
 use Rattle.cip_module.specs.Table.{datum_effects}

@@ -1,7 +1,7 @@
 -- What lists of effects tell together.
 use Rattle.std.proofs.Common.{List, [], ◌∷◌, ◌++◌}
-use Rattle.cip_module.specs.declared.config.ModuleSettings.{ModuleSettings}
-use Rattle.cip_module.specs.declared.event.Event.{Event}
+use Rattle.cip_config.specs.declared.config.ModuleSettings.{ModuleSettings}
+use Rattle.cip_event.specs.declared.event.Event.{Event}
 use Rattle.cip_module.specs.Effects.{Effect}
 use Rattle.cip_module.specs.State.{State}
 use Rattle.cip_laws.specs.Tells.{AllTell}

@@ -15,11 +15,11 @@ use Rattle.cip_pending.specs.declared.entry.Kind.{Kind}
 use Rattle.cip_pending.specs.declared.entry.Kind.TheVariants.{Opening}
 use Rattle.cip_pending.specs.declared.entry.Entry.{Entry}
 use Rattle.cip_pending.specs.Pendings.{waiting_at}
-use Rattle.cip_module.specs.declared.config.ModuleSettings.{ModuleSettings}
-use Rattle.cip_module.specs.declared.event.Event.TheVariants.{Frame}
-use Rattle.cip_module.specs.declared.event.Body.TheVariants as bodies
-use Rattle.cip_module.specs.declared.event.Dropped.{Dropped}
-use Rattle.cip_module.specs.declared.event.Dropped.TheVariants as dropped
+use Rattle.cip_config.specs.declared.config.ModuleSettings.{ModuleSettings}
+use Rattle.cip_event.specs.declared.event.Event.TheVariants.{Frame}
+use Rattle.cip_event.specs.declared.event.Body.TheVariants as bodies
+use Rattle.cip_event.specs.declared.event.Dropped.{Dropped}
+use Rattle.cip_event.specs.declared.event.Dropped.TheVariants as dropped
 use Rattle.cip_module.specs.RequestRows.{is_malformed}
 use Rattle.cip_module.specs.ReplyRows.{ReplyRow, UnknownPortOrTooLong, Late, MalformedForItsKind, OpenSucceeded, PassedUp, triad_eq, is_own, opened_row, opening_row, failure_row, kind_row, read_row, waiting_row, reply_row}
 use Rattle.cip_module.specs.State.{State}

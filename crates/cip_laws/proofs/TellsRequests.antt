@@ -2,12 +2,12 @@
 use Rattle.std.proofs.Common.{◌≡◌, ◌∙◌, ℕ, List, Some, refl, ap}
 use Rattle.cip_pending.specs.declared.entry.UpSide.{UpSide}
 use Rattle.cip_pending.specs.declared.entry.UpSide.TheVariants.{Link}
-use Rattle.cip_module.specs.declared.config.ModuleSettings.{ModuleSettings}
-use Rattle.cip_module.specs.declared.event.Event.{Event}
-use Rattle.cip_module.specs.declared.event.Event.TheVariants.{Frame}
-use Rattle.cip_module.specs.declared.event.Body.TheVariants.{Request}
-use Rattle.cip_module.specs.declared.event.Dropped.{Dropped}
-use Rattle.cip_module.specs.declared.event.Dropped.TheVariants.{Malformed}
+use Rattle.cip_config.specs.declared.config.ModuleSettings.{ModuleSettings}
+use Rattle.cip_event.specs.declared.event.Event.{Event}
+use Rattle.cip_event.specs.declared.event.Event.TheVariants.{Frame}
+use Rattle.cip_event.specs.declared.event.Body.TheVariants.{Request}
+use Rattle.cip_event.specs.declared.event.Dropped.{Dropped}
+use Rattle.cip_event.specs.declared.event.Dropped.TheVariants.{Malformed}
 use Rattle.cip_module.specs.RequestRows.{RequestRow, UnknownPortOrTooLong, NotARequest, Refuses, UnconnectedSend, ForwardOpen, ForwardClose, Target, request_row}
 use Rattle.cip_module.specs.State.{State}
 use Rattle.cip_module.specs.Table.{request_effects}

@@ -9,7 +9,7 @@ use Rattle.cip_hops.specs.declared.hop.Side.{Side}
 use Rattle.cip_hops.specs.declared.hop.Side.TheVariants.{Up, Down}
 use Rattle.cip_hops.specs.Hops.{Hops, as_hop, hop_at, triad_of, is_hop_by_up, is_hop_by_down, is_hop_by_op}
 use Rattle.cip_hops.proofs.Named.{is_open}
-use Rattle.cip_module.specs.declared.event.Event.{Event}
+use Rattle.cip_event.specs.declared.event.Event.{Event}
 use Rattle.cip_hops.specs.Hops.{AreOwnTriads}
 use Rattle.cip_laws.specs.OwnTriads.{HasOwnTriads}
 use Rattle.cip_module.specs.State.{State}

@@ -7,7 +7,7 @@ use Rattle.cip_hops.specs.declared.opening.Opening.{Opening}
 use Rattle.cip_hops.specs.declared.hop.Held.{Held}
 use Rattle.cip_hops.specs.declared.hop.Held.TheVariants.{Opening as IsOpening}
 use Rattle.cip_hops.specs.Hops.{triad_of}
-use Rattle.cip_module.specs.declared.config.ModuleSettings.{ModuleSettings}
+use Rattle.cip_config.specs.declared.config.ModuleSettings.{ModuleSettings}
 use Rattle.cip_module.specs.Effects.{Effect}
 use Rattle.cip_module.specs.State.{State}
 use Rattle.cip_laws.specs.Histories.{Turn, state_after, IsHistory}

@@ -39,20 +39,20 @@ use Rattle.cip_hops.specs.Hops.{Hops, refusal, hop_at, hop_by_up, hop_by_down, h
 use Rattle.cip_target.specs.declared.link.EndLink.{EndLink}
 use Rattle.cip_target.specs.Assemblies.{size_in}
 use Rattle.cip_target.specs.Ends.{end_row}
-use Rattle.cip_module.specs.declared.config.ModuleSettings.{ModuleSettings}
-use Rattle.cip_module.specs.declared.event.OpenParams.{OpenParams}
-use Rattle.cip_module.specs.declared.event.Event.{Event}
-use Rattle.cip_module.specs.declared.event.Event.TheVariants as events
-use Rattle.cip_module.specs.declared.event.Command.{Command}
-use Rattle.cip_module.specs.declared.event.Command.TheVariants as commands
-use Rattle.cip_module.specs.declared.event.Body.{Body}
-use Rattle.cip_module.specs.declared.event.Body.TheVariants as bodies
-use Rattle.cip_module.specs.declared.event.Dropped.{Dropped}
-use Rattle.cip_module.specs.declared.event.Dropped.TheVariants as dropped
-use Rattle.cip_module.specs.declared.event.Refused.{Refused}
-use Rattle.cip_module.specs.declared.event.Refused.TheVariants as refused
-use Rattle.cip_module.specs.declared.command.rows.CommandRow.{CommandRow}
-use Rattle.cip_module.specs.declared.command.rows.CommandRow.TheVariants as command_rows
+use Rattle.cip_config.specs.declared.config.ModuleSettings.{ModuleSettings}
+use Rattle.cip_event.specs.declared.event.OpenParams.{OpenParams}
+use Rattle.cip_event.specs.declared.event.Event.{Event}
+use Rattle.cip_event.specs.declared.event.Event.TheVariants as events
+use Rattle.cip_event.specs.declared.event.Command.{Command}
+use Rattle.cip_event.specs.declared.event.Command.TheVariants as commands
+use Rattle.cip_event.specs.declared.event.Body.{Body}
+use Rattle.cip_event.specs.declared.event.Body.TheVariants as bodies
+use Rattle.cip_event.specs.declared.event.Dropped.{Dropped}
+use Rattle.cip_event.specs.declared.event.Dropped.TheVariants as dropped
+use Rattle.cip_event.specs.declared.event.Refused.{Refused}
+use Rattle.cip_event.specs.declared.event.Refused.TheVariants as refused
+use Rattle.cip_module.specs.CommandRows.{CommandRow}
+use Rattle.cip_module.specs.CommandRows as command_rows
 use Rattle.cip_module.specs.declared.refusals.RequestRefusal.{RequestRefusal}
 use Rattle.cip_module.specs.declared.refusals.UnconnectedRefusal.{UnconnectedRefusal}
 use Rattle.cip_module.specs.declared.refusals.OpenRefusal.{OpenRefusal}

@@ -2,11 +2,11 @@
 -- of the kind, else 0.
 use Rattle.std.specs.Prelude.{ℕ, List, [], ◌∷◌, Option, Some, None, Bool, true, false, ◌&&◌, ◌+◌, ◌==◌}
 use Rattle.std.specs.Str.{bytes_eq}
-use Rattle.cip_module.specs.declared.event.Body.{Body}
-use Rattle.cip_module.specs.declared.event.Body.TheVariants as bodies
-use Rattle.cip_module.specs.declared.event.Event.{Event}
-use Rattle.cip_module.specs.declared.event.Output.{Output}
-use Rattle.cip_module.specs.declared.event.Output.TheVariants as outputs
+use Rattle.cip_event.specs.declared.event.Body.{Body}
+use Rattle.cip_event.specs.declared.event.Body.TheVariants as bodies
+use Rattle.cip_event.specs.declared.event.Event.{Event}
+use Rattle.cip_event.specs.declared.event.Output.{Output}
+use Rattle.cip_event.specs.declared.event.Output.TheVariants as outputs
 use Rattle.cip_pending.specs.declared.entry.UpSide.{UpSide}
 use Rattle.cip_pending.specs.declared.entry.UpSide.TheVariants.{Link, Local}
 use Rattle.cip_laws.specs.Tells.{asker}

@@ -12,7 +12,7 @@ ghost use Rattle.cip_hops.specs.declared.hop.Held.TheVariants.{Open as IsOpen};
 ghost use Rattle.cip_hops.specs.declared.hop.Hop.{Hop};
 ghost use Rattle.cip_hops.specs.Sides.{down_is_link};
 ghost use Rattle.cip_hops.specs.Hops.{opening_of, ids_of};
-ghost use Rattle.cip_module.specs.declared.config.ModuleSettings.{ModuleSettings as Settings};
+ghost use Rattle.cip_config.specs.declared.config.ModuleSettings.{ModuleSettings as Settings};
 ghost use Rattle.cip_laws.specs.Births.{Past, IsBirth, HasId};
 ghost use Rattle.cip_laws.specs.Histories.{Turn, state_after, IsHistory};
 ghost use Rattle.cip_laws.specs.Openings.{SentIn, Joined, HopOpened};

@@ -1,6 +1,6 @@
 //! What the tables that a module shows tell of its state.
 ghost use Rattle.std.specs.Prelude.{◌≡◌};
-ghost use Rattle.cip_module.specs.declared.config.ModuleSettings.{ModuleSettings as Settings};
+ghost use Rattle.cip_config.specs.declared.config.ModuleSettings.{ModuleSettings as Settings};
 ghost use Rattle.cip_module.specs.declared.tables.Tables.{Tables as Shown};
 ghost use Rattle.cip_laws.specs.OwnTriads.{HasOwnTriads};
 ghost use Rattle.cip_module.specs.Paired.{IsPaired};

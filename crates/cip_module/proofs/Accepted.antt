@@ -23,7 +23,7 @@ use Rattle.cip_target.specs.declared.ends.EndRefusal.TheVariants.{NotAnApplicati
 use Rattle.cip_target.specs.Ends.{Ends, sized_row, application_row, end_row, row_at, is_configuration, are_sizes, class_of, link_of, configuration_of, configured, accepted}
 use Rattle.cip_target.specs.declared.link.EndLink.{EndLink}
 use Rattle.cip_target.proofs.Fitting.{FitsWith, fitting}
-use Rattle.cip_module.specs.declared.config.ModuleSettings.{ModuleSettings}
+use Rattle.cip_config.specs.declared.config.ModuleSettings.{ModuleSettings}
 use Rattle.cip_module.specs.OpenRows.{writes_to, end_down}
 use Rattle.cip_module.specs.Code.Fit.{Fit, AreOwned, writes_of}
 use Rattle.cip_module.specs.State.{is_spent}

@@ -7,7 +7,7 @@ use Rattle.cip_base.specs.Triads.{triad_cmp}
 use Rattle.cip_pending.specs.declared.entry.Entry.{Entry}
 use Rattle.cip_hops.specs.declared.hop.Held.{Held}
 use Rattle.cip_hops.specs.Hops.{as_hop}
-use Rattle.cip_module.specs.declared.config.ModuleSettings.{ModuleSettings}
+use Rattle.cip_config.specs.declared.config.ModuleSettings.{ModuleSettings}
 use Rattle.cip_module.specs.declared.tables.Tables.{Tables}
 use Rattle.cip_module.specs.Rising.{IsRising}
 use Rattle.cip_module.specs.State.{initial_state}

@@ -35,7 +35,7 @@ use Rattle.cip_pending.specs.Pendings.{waiting_at}
 use Rattle.cip_module.specs.State.{State}
 use Rattle.cip_module.specs.ReplyRows.{ReplyRow, OpenSucceeded, triad_eq, is_own, failure_row, opened_row, closed_row, opening_row, kind_row, waiting_row, reply_row}
 use Rattle.cip_module.specs.ReplyRows as replies
-use Rattle.cip_module.specs.declared.config.ModuleSettings.{ModuleSettings}
+use Rattle.cip_config.specs.declared.config.ModuleSettings.{ModuleSettings}
 use Rattle.cip_module.specs.RequestRows.{RequestRow, UnconnectedSend, ForwardOpen, ForwardClose, is_malformed, read_row, object_row, manager_row, request_row}
 
 -- what a row of the Connection Manager says of the bytes

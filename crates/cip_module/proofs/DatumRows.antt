@@ -14,8 +14,8 @@ use Rattle.cip_hops.specs.declared.hop.Held.TheVariants.{Open}
 use Rattle.cip_hops.specs.Hops.{Hops, hop_at, hop_by_up, hop_by_down, is_hop_by_up, is_hop_by_down, up_id_of, down_id_of, HasId, IsWithin, changed, touched, is_link}
 use Rattle.cip_hops.proofs.Named.{and_first, is_id_true}
 use Rattle.cip_hops.proofs.Touching.{held_open}
-use Rattle.cip_module.specs.declared.config.ModuleSettings.{ModuleSettings}
-use Rattle.cip_module.specs.declared.event.Output.{Output}
+use Rattle.cip_config.specs.declared.config.ModuleSettings.{ModuleSettings}
+use Rattle.cip_event.specs.declared.event.Output.{Output}
 use Rattle.cip_module.specs.declared.data.outputs.Writing.{Writing}
 use Rattle.cip_module.specs.DataRows.{DataRow, WrongSize, id_row, below_row, above_row, from_down_row}
 use Rattle.cip_module.specs.Effects.{Effect, Passes, Renews, applied, outputs_of, passed, datum_by, renewed}

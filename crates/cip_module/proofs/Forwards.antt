@@ -14,12 +14,12 @@ use Rattle.cip_hops.specs.declared.hop.Held.TheVariants.{Open}
 use Rattle.cip_hops.specs.Hops.{Hops, hop_at, hop_by_up, hop_by_down, is_hop_by_up, is_hop_by_down, HasId, IsWithin, changed, touched}
 use Rattle.cip_hops.specs.Onwards.{onward_up, onward_down, onward_of, hop_by, after_onward}
 use Rattle.cip_hops.proofs.Touching.{held_open}
-use Rattle.cip_module.specs.declared.config.ModuleSettings.{ModuleSettings}
-use Rattle.cip_module.specs.declared.event.Output.{Output}
-use Rattle.cip_module.specs.declared.event.Output.TheVariants as outputs
-use Rattle.cip_module.specs.declared.event.Body.TheVariants as bodies
+use Rattle.cip_config.specs.declared.config.ModuleSettings.{ModuleSettings}
+use Rattle.cip_event.specs.declared.event.Output.{Output}
+use Rattle.cip_event.specs.declared.event.Output.TheVariants as outputs
+use Rattle.cip_event.specs.declared.event.Body.TheVariants as bodies
 use Rattle.cip_module.specs.DataRows.{DataRow, UnknownId, below_row, id_row, data_row}
-use Rattle.cip_module.specs.Config.{port_of}
+use Rattle.cip_config.specs.Config.{port_of}
 use Rattle.cip_module.specs.Effects.{Passes, Renews, datum_by, datum_up, datum_down}
 use Rattle.cip_pending.specs.Pendings.{Pendings}
 use Rattle.cip_target.specs.Ends.{Ends}

@@ -29,9 +29,9 @@ use Rattle.cip_hops.specs.declared.opening.HopDown.TheVariants.{Link as DownLink
 use Rattle.cip_hops.specs.declared.opening.HopUp.TheVariants.{Link as UpLink}
 use Rattle.cip_hops.specs.declared.hop.Held.{Held}
 use Rattle.cip_hops.specs.Hops.{finished, opening_of, ids_of}
-use Rattle.cip_module.specs.declared.config.ModuleSettings.{ModuleSettings}
-use Rattle.cip_module.specs.declared.event.Event.{Event}
-use Rattle.cip_module.specs.declared.event.Output.{Output}
+use Rattle.cip_config.specs.declared.config.ModuleSettings.{ModuleSettings}
+use Rattle.cip_event.specs.declared.event.Event.{Event}
+use Rattle.cip_event.specs.declared.event.Output.{Output}
 use Rattle.cip_module.specs.declared.making.Making.{Making}
 use Rattle.cip_module.specs.declared.making.Making.TheVariants.{Anew, Edited}
 use Rattle.cip_module.specs.declared.making.Outgoing.{Outgoing}
@@ -48,7 +48,8 @@ use Rattle.cip_module.specs.UnconnectedRows as unconnected
 use Rattle.cip_module.specs.UnconnectedRows.{UnconnectedRow, unconnected_row}
 use Rattle.cip_module.specs.RequestRows.{is_malformed}
 use Rattle.cip_module.specs.ReplyRows.{ReplyRow, UnknownPortOrTooLong, OpenSucceeded, PassedUp, read_row, waiting_row, reply_row}
-use Rattle.cip_module.specs.Reactions.{Becomes, PutsOut, filled}
+use Rattle.cip_event.specs.Filled.{filled}
+use Rattle.cip_module.specs.Reactions.{Becomes, PutsOut}
 use Rattle.cip_module.specs.Steps.{IsStep}
 use Rattle.cip_module.specs.State.{State}
 use Rattle.cip_module.specs.Table.{up_side_of, send_below, open_below, close_below, unconnected_effects, open_effects, close_effects, reply_effects, with_spending, decide, after_effects, Stepped}

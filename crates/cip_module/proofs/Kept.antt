@@ -25,7 +25,7 @@ use Rattle.cip_hops.specs.Hops.{Hops, begun, finished, opened, with_hop, refusal
 use Rattle.cip_hops.specs.Hops as hops
 use Rattle.cip_hops.proofs.Changes.{finished_is}
 use Rattle.cip_target.specs.Ends.{Ends}
-use Rattle.cip_module.specs.declared.config.ModuleSettings.{ModuleSettings}
+use Rattle.cip_config.specs.declared.config.ModuleSettings.{ModuleSettings}
 use Rattle.cip_module.specs.Code.Fit.{Fit, writes_of}
 use Rattle.cip_module.specs.Effects.{abandoned, given_up_of}
 use Rattle.cip_module.specs.OpenRows.{writes_to}

@@ -7,7 +7,7 @@ use Rattle.cip_segment.specs.declared.segment.Segment.TheVariants.{Port, Class, 
 use Rattle.cip_segment.specs.Spelling.{Spells, IsReadable}
 use Rattle.cip_segment.specs.Reading.{segments_of}
 use Rattle.cip_segment.proofs.PathsRead.{segments_of-Spells}
-use Rattle.cip_module.specs.declared.config.ModuleSettings.{ModuleSettings}
+use Rattle.cip_config.specs.declared.config.ModuleSettings.{ModuleSettings}
 use Rattle.cip_module.specs.declared.refusals.KeyPart.{KeyPart}
 use Rattle.cip_module.specs.Keys.{leading_mismatch}
 

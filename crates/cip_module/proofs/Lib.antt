@@ -2,7 +2,6 @@ pub mod CameIn
 pub mod OpsLemmas
 pub mod Walks
 pub mod TimeOuts
-pub mod SettingsLemmas
 pub mod Forwards
 pub mod Found
 pub mod Outputs
@@ -25,3 +24,4 @@ pub mod OpensForwarded
 pub mod ClosesForwarded
 pub mod InPlace
 pub mod AtFirst
+pub mod RowsFound

@@ -24,8 +24,8 @@ use Rattle.cip_base.proofs.Views.{get-at}
 use Rattle.cip_hops.proofs.Named.{is_open}
 use Rattle.cip_target.specs.declared.config.AssemblyConfig.{AssemblyConfig}
 use Rattle.cip_target.specs.Assemblies.{config_with}
-use Rattle.cip_module.specs.declared.config.ModuleSettings.{ModuleSettings}
-use Rattle.cip_module.specs.declared.event.Output.{Output}
+use Rattle.cip_config.specs.declared.config.ModuleSettings.{ModuleSettings}
+use Rattle.cip_event.specs.declared.event.Output.{Output}
 use Rattle.cip_module.specs.Code.Does.{Does}
 use Rattle.cip_module.specs.Effects.{Effect, Counts, Passes, recounted, ends_here, passed, datum_up, applied, outputs_of}
 use Rattle.cip_module.specs.Produced.{reads_from, next_count, made_effects, held_effects, each_effects}

@@ -15,7 +15,7 @@ use Rattle.cip_hops.specs.Hops.{Hops, as_opening, as_hop, hop_at, without}
 use Rattle.cip_hops.proofs.Named.{is_open}
 use Rattle.cip_target.specs.Assemblies.{AssemblyMap, Owners, size_in}
 use Rattle.cip_target.specs.Ends.{Ends, released}
-use Rattle.cip_module.specs.declared.config.ModuleSettings.{ModuleSettings}
+use Rattle.cip_config.specs.declared.config.ModuleSettings.{ModuleSettings}
 use Rattle.cip_module.specs.OpenRows.{writes_to}
 use Rattle.cip_module.specs.Code.Fit.{Fit, AreOwned, writes_of, given_back}
 use Rattle.cip_base.proofs.Points.{one_or_apart, gone_here, gone_apart}

@@ -9,12 +9,12 @@ use Rattle.cip_hops.specs.declared.opening.HopDown.TheVariants.{Link as DownLink
 use Rattle.cip_hops.specs.declared.hop.Side.TheVariants.{Down}
 use Rattle.cip_hops.specs.declared.hop.Hop.{Hop}
 use Rattle.cip_hops.specs.Hops.{hop_at}
-use Rattle.cip_module.specs.declared.config.ModuleSettings.{ModuleSettings}
-use Rattle.cip_module.specs.declared.event.Output.{Output}
-use Rattle.cip_module.specs.declared.command.rows.CommandRow.TheVariants.{OpUsed, WrongSize, Taken}
+use Rattle.cip_config.specs.declared.config.ModuleSettings.{ModuleSettings}
+use Rattle.cip_event.specs.declared.event.Output.{Output}
+use Rattle.cip_module.specs.CommandRows.{OpUsed, WrongSize, Taken}
 use Rattle.cip_module.specs.OpenRows.{open_row}
 use Rattle.cip_module.specs.Effects.{Effect, Passes, datum_by, datum_down, passed}
-use Rattle.cip_module.specs.Reactions.{filled}
+use Rattle.cip_event.specs.Filled.{filled}
 use Rattle.cip_module.specs.Table.{with_spending, refused_effects, open_effects, open_command_effects, enter_effects}
 use Rattle.cip_module.specs.Code.Does.{Does, DoesOrNot, one_output}
 use Rattle.cip_module.specs.State.{State, is_spent}

@@ -8,13 +8,13 @@ use Rattle.cip_message.specs.RequestAt.{request_at}
 use Rattle.cip_message.specs.declared.fault.RequestFault.{RequestFault}
 use Rattle.cip_unconnected.specs.Unconnected.{Unconnected}
 use Rattle.cip_pending.specs.Pendings.{Pendings, refusal}
-use Rattle.cip_module.specs.declared.config.PortConfig.{PortConfig}
-use Rattle.cip_module.specs.declared.config.ModuleSettings.{ModuleSettings}
+use Rattle.cip_config.specs.declared.config.PortConfig.{PortConfig}
+use Rattle.cip_config.specs.declared.config.ModuleSettings.{ModuleSettings}
 use Rattle.cip_module.specs.declared.refusals.KeyPart.{KeyPart}
 use Rattle.cip_module.specs.declared.refusals.LinkRefusal.{LinkRefusal}
 use Rattle.cip_module.specs.declared.refusals.LinkRefusal.TheVariants.{NoSuchPort, LinkAddressNotLegal, TicksSpent, NoPendingLeft}
 use Rattle.cip_module.specs.declared.refusals.UnconnectedRefusal.TheVariants.{EmbeddedRequestNotAllowed, NotSentOn}
-use Rattle.cip_module.specs.Config.{port_of, is_adapter, is_legal}
+use Rattle.cip_config.specs.Config.{port_of, is_adapter, is_legal}
 use Rattle.cip_module.specs.Keys.{leading_mismatch}
 use Rattle.cip_module.specs.Object.{begins_with_manager}
 use Rattle.cip_module.specs.Links.{link_refusal, port_refusal, wait_refusal, LeadsOn}

@@ -24,8 +24,8 @@ use Rattle.cip_hops.specs.Hops.{Hops, as_hop, as_opening, hop_at, is_timed_out, 
 use Rattle.cip_hops.specs.Hops as hops
 use Rattle.cip_hops.proofs.Steps.{triads_apart}
 use Rattle.cip_base.proofs.Views.{found-gives, find-only, tied_name}
-use Rattle.cip_module.specs.declared.config.ModuleSettings.{ModuleSettings}
-use Rattle.cip_module.specs.declared.event.Output.{Output}
+use Rattle.cip_config.specs.declared.config.ModuleSettings.{ModuleSettings}
+use Rattle.cip_event.specs.declared.event.Output.{Output}
 use Rattle.cip_module.specs.Effects.{Effect, PendingTimesOut, HopTimesOut, apply, applied, output_of, outputs_of, timed_out_reply, given_up, given_up_of}
 use Rattle.cip_module.specs.Code.Does.{Does}
 use Rattle.cip_module.specs.Table.{pending_times_out, pending_time_outs, hop_times_out, hop_time_outs, tick_effects}

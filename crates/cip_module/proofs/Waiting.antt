@@ -10,7 +10,7 @@ use Rattle.cip_hops.specs.declared.hop.Held.{Held}
 use Rattle.cip_hops.specs.declared.hop.Held.TheVariants.{Opening as IsOpening, Open}
 use Rattle.cip_hops.specs.Hops.{Hops, as_opening, finished}
 use Rattle.cip_target.specs.Ends.{Ends}
-use Rattle.cip_module.specs.declared.config.ModuleSettings.{ModuleSettings}
+use Rattle.cip_config.specs.declared.config.ModuleSettings.{ModuleSettings}
 use Rattle.cip_module.specs.Code.Fit.{Fit}
 use Rattle.cip_module.specs.Paired.{IsAwaited}
 use Rattle.cip_module.proofs.Kept.{fit_finishes}

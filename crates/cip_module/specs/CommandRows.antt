@@ -14,9 +14,16 @@ use Rattle.cip_unconnected.specs.declared.unconnected.TheConstants.{UNCONNECTED_
 use Rattle.cip_unconnected.specs.Unconnected.{Unconnected, unconnected_bytes}
 use Rattle.cip_hops.specs.declared.hop.Hop.{Hop}
 use Rattle.cip_hops.specs.Hops.{hop_by_op}
-use Rattle.cip_module.specs.declared.command.rows.CommandRow.{CommandRow}
-use Rattle.cip_module.specs.declared.command.rows.CommandRow.TheVariants.{OpUsed, NotOpen, ReservedService, WrongSize, NoInstance, Taken}
 use Rattle.cip_module.specs.State.{State, is_spent}
+
+-- all but `Taken` refuse the command
+pub data CommandRow : Type 0 where
+  OpUsed : CommandRow
+  NotOpen : CommandRow
+  ReservedService : CommandRow
+  WrongSize : CommandRow
+  NoInstance : CommandRow
+  Taken : CommandRow
 
 -- the row of an Open
 abbrev pub op_row : State → OpNumber → CommandRow
@@ -36,16 +43,6 @@ send_row s op u =
     else if slice_index u.request 0 == UNCONNECTED_SEND then ReservedService
     else if nat_lt MAX_MESSAGE (length (unconnected_bytes u)) then WrongSize
     else Taken
-
--- what a Send that is taken may rely on: its op is new, and its message is no longer than a message
--- may be
-abbrev pub CanSend : State → OpNumber → Unconnected → CommandRow → Type 0
-CanSend s op u OpUsed = Unit {0}
-CanSend s op u NotOpen = Unit {0}
-CanSend s op u ReservedService = Unit {0}
-CanSend s op u WrongSize = Unit {0}
-CanSend s op u NoInstance = Unit {0}
-CanSend s op u Taken = (is_spent op s.ops ≡ false) × (length (unconnected_bytes u) ≤ MAX_MESSAGE)
 
 -- the row of an Enter by the connection that the op opened
 abbrev pub enter_row : Octets → Option Hop → CommandRow

@@ -33,12 +33,12 @@ use Rattle.cip_target.specs.declared.link.EndLink.{EndLink}
 use Rattle.cip_target.specs.Assemblies.{AssemblyMap, size_in}
 use Rattle.cip_target.specs.Objects.{Objects, target_answer, target_after}
 use Rattle.cip_target.specs.Ends.{configured}
-use Rattle.cip_module.specs.declared.config.ModuleSettings.{ModuleSettings}
-use Rattle.cip_module.specs.declared.event.Body.TheVariants as bodies
-use Rattle.cip_module.specs.declared.event.Output.{Output}
-use Rattle.cip_module.specs.declared.event.Output.TheVariants as outputs
-use Rattle.cip_module.specs.declared.event.Refused.{Refused}
-use Rattle.cip_module.specs.declared.event.Dropped.{Dropped}
+use Rattle.cip_config.specs.declared.config.ModuleSettings.{ModuleSettings}
+use Rattle.cip_event.specs.declared.event.Body.TheVariants as bodies
+use Rattle.cip_event.specs.declared.event.Output.{Output}
+use Rattle.cip_event.specs.declared.event.Output.TheVariants as outputs
+use Rattle.cip_event.specs.declared.event.Refused.{Refused}
+use Rattle.cip_event.specs.declared.event.Dropped.{Dropped}
 use Rattle.cip_module.specs.declared.refusals.LinkRefusal.TheVariants.{TicksSpent}
 use Rattle.cip_module.specs.Statuses.{link_status}
 use Rattle.cip_module.specs.Answers.{unconnected_failed, open_failed, close_failed}

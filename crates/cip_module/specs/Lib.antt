@@ -1,4 +1,3 @@
-pub mod Config
 pub mod Statuses
 pub mod Keys
 pub mod Object

@@ -4,11 +4,11 @@ use Rattle.cip_base.specs.Words.{LinkAddress, Octets, PortIdentifier}
 use Rattle.cip_base.specs.declared.timing.Timing.{Timing}
 use Rattle.cip_segment.specs.Reading.{HopAt, hop_of}
 use Rattle.cip_pending.specs.Pendings.{Pendings, refusal}
-use Rattle.cip_module.specs.declared.config.PortConfig.{PortConfig}
-use Rattle.cip_module.specs.declared.config.ModuleSettings.{ModuleSettings}
+use Rattle.cip_config.specs.declared.config.PortConfig.{PortConfig}
+use Rattle.cip_config.specs.declared.config.ModuleSettings.{ModuleSettings}
 use Rattle.cip_module.specs.declared.refusals.LinkRefusal.{LinkRefusal}
 use Rattle.cip_module.specs.declared.refusals.LinkRefusal.TheVariants.{NoSuchPort, LinkAddressNotLegal, TicksSpent, NoPendingLeft}
-use Rattle.cip_module.specs.Config.{port_of, is_adapter, is_legal}
+use Rattle.cip_config.specs.Config.{port_of, is_adapter, is_legal}
 use Rattle.cip_module.specs.State.{State}
 
 -- ticks for it and for the module below, and a place among the requests that wait

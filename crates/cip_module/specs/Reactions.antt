@@ -9,30 +9,12 @@ use Rattle.cip_open.specs.Success.{OpenSuccess}
 use Rattle.cip_open.specs.GoesOn.{open_on, IsOpenGoingOn, success_with, IsOpenSuccess}
 use Rattle.cip_close.specs.Close.{Close}
 use Rattle.cip_close.specs.GoesOn.{close_on, IsCloseGoingOn}
-use Rattle.cip_module.specs.declared.event.Body.{Body}
-use Rattle.cip_module.specs.declared.event.Body.TheVariants as bodies
-use Rattle.cip_module.specs.declared.event.Output.{Output}
-use Rattle.cip_module.specs.declared.event.Output.TheVariants as outputs
+use Rattle.cip_event.specs.declared.event.Output.{Output}
+use Rattle.cip_event.specs.Filled.{filled}
 use Rattle.cip_module.specs.declared.reaction.Edit.{Edit}
 use Rattle.cip_module.specs.declared.reaction.Edit.TheVariants as edits
 use Rattle.cip_module.specs.declared.reaction.Reaction.{Reaction}
 use Rattle.cip_module.specs.declared.reaction.Reaction.TheVariants as reactions
-
--- ---- an output with these bytes, where it has bytes
-
-abbrev pub filled_body : Body → Octets → Body
-filled_body (bodies.Request number old) bytes = bodies.Request number bytes
-filled_body (bodies.Reply number old) bytes = bodies.Reply number bytes
-filled_body (bodies.Data id old) bytes = bodies.Data id bytes
-
-abbrev pub filled : Output → Octets → Output
-filled (outputs.Send port to body) bytes = outputs.Send port to (filled_body body bytes)
-filled (outputs.Done op old) bytes = outputs.Done op bytes
-filled (outputs.Consumed triad instance old) bytes = outputs.Consumed triad instance bytes
-filled (outputs.Arrived op old) bytes = outputs.Arrived op bytes
-filled (outputs.Refused fault) bytes = outputs.Refused fault
-filled (outputs.Expired triad) bytes = outputs.Expired triad
-filled (outputs.Dropped reason) bytes = outputs.Dropped reason
 
 -- ---- what an edit makes of the bytes that came
 
@@ -58,9 +40,3 @@ abbrev pub PutsOut : Octets → Reaction → (Output → Type 0) → Type 0
 PutsOut came (reactions.Whole output) P = P output
 PutsOut came (reactions.Edited output edit) P =
     (b : Octets) × Becomes came edit b × P (filled output b)
-
--- the bytes of a body
-abbrev pub bytes_in : Body → Octets
-bytes_in (bodies.Request number bytes) = bytes
-bytes_in (bodies.Reply number bytes) = bytes
-bytes_in (bodies.Data id bytes) = bytes

@@ -23,11 +23,11 @@ use Rattle.cip_message.specs.Request.{Request}
 use Rattle.cip_message.specs.RequestAt.{request_at}
 use Rattle.cip_message.specs.declared.fault.RequestFault.{RequestFault}
 use Rattle.cip_message.specs.declared.fault.RequestFault.TheVariants.{TooShort, PathSize, Path, NotRequest}
-use Rattle.cip_module.specs.declared.config.ModuleSettings.{ModuleSettings}
+use Rattle.cip_config.specs.declared.config.ModuleSettings.{ModuleSettings}
 use Rattle.cip_target.specs.declared.object.ObjectPath.{ObjectPath}
 use Rattle.cip_module.specs.declared.refusals.RequestRefusal.{RequestRefusal}
 use Rattle.cip_module.specs.declared.refusals.RequestRefusal.TheVariants.{PathPastTheEnd, PathUnreadable, PathFormNotSupported, NoSuchManagerInstance, ServiceNotSupported}
-use Rattle.cip_module.specs.Config.{port_of}
+use Rattle.cip_config.specs.Config.{port_of}
 use Rattle.cip_target.specs.Object.{object_of}
 
 pub data RequestRow : Type 0 where

@@ -6,7 +6,7 @@ use Rattle.cip_base.specs.Words.{Microseconds, OpNumber}
 use Rattle.cip_pending.specs.Pendings.{Pendings}
 use Rattle.cip_hops.specs.Hops.{Hops}
 use Rattle.cip_target.specs.Assemblies.{AssemblyMap, zeroed}
-use Rattle.cip_module.specs.declared.config.ModuleSettings.{ModuleSettings}
+use Rattle.cip_config.specs.declared.config.ModuleSettings.{ModuleSettings}
 
 pub record State : Type 0 where
   -- microseconds

@@ -1,8 +1,8 @@
 -- What a call of `step` may do.
 use Rattle.std.specs.Prelude.{◌≡◌, List, Result, Ok, Err, Some, None, IsSome}
-use Rattle.cip_module.specs.declared.config.ModuleSettings.{ModuleSettings}
-use Rattle.cip_module.specs.declared.event.Event.{Event}
-use Rattle.cip_module.specs.declared.event.Output.{Output}
+use Rattle.cip_config.specs.declared.config.ModuleSettings.{ModuleSettings}
+use Rattle.cip_event.specs.declared.event.Event.{Event}
+use Rattle.cip_event.specs.declared.event.Output.{Output}
 use Rattle.cip_module.specs.declared.contract.StepFault.{StepFault}
 use Rattle.cip_module.specs.declared.contract.StepFault.TheVariants.{NoMemory, ClockFull}
 use Rattle.cip_module.specs.State.{State}

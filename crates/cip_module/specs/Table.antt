@@ -38,19 +38,19 @@ use Rattle.cip_hops.specs.Hops.{Hops, hop_by_op}
 use Rattle.cip_hops.specs.Hops as hops
 use Rattle.cip_target.specs.declared.identity.IdentityFields.{IdentityFields}
 use Rattle.cip_target.specs.Assemblies.{size_in}
-use Rattle.cip_module.specs.declared.config.ModuleSettings.{ModuleSettings}
-use Rattle.cip_module.specs.declared.event.OpenParams.{OpenParams}
-use Rattle.cip_module.specs.declared.event.Event.{Event}
-use Rattle.cip_module.specs.declared.event.Event.TheVariants as events
-use Rattle.cip_module.specs.declared.event.Command.{Command}
-use Rattle.cip_module.specs.declared.event.Command.TheVariants as commands
-use Rattle.cip_module.specs.declared.event.Body.{Body}
-use Rattle.cip_module.specs.declared.event.Body.TheVariants as bodies
-use Rattle.cip_module.specs.declared.event.Output.{Output}
-use Rattle.cip_module.specs.declared.event.Refused.TheVariants as refused
-use Rattle.cip_module.specs.declared.event.Dropped.TheVariants as dropped
-use Rattle.cip_module.specs.declared.command.rows.CommandRow.{CommandRow}
-use Rattle.cip_module.specs.declared.command.rows.CommandRow.TheVariants as command
+use Rattle.cip_config.specs.declared.config.ModuleSettings.{ModuleSettings}
+use Rattle.cip_event.specs.declared.event.OpenParams.{OpenParams}
+use Rattle.cip_event.specs.declared.event.Event.{Event}
+use Rattle.cip_event.specs.declared.event.Event.TheVariants as events
+use Rattle.cip_event.specs.declared.event.Command.{Command}
+use Rattle.cip_event.specs.declared.event.Command.TheVariants as commands
+use Rattle.cip_event.specs.declared.event.Body.{Body}
+use Rattle.cip_event.specs.declared.event.Body.TheVariants as bodies
+use Rattle.cip_event.specs.declared.event.Output.{Output}
+use Rattle.cip_event.specs.declared.event.Refused.TheVariants as refused
+use Rattle.cip_event.specs.declared.event.Dropped.TheVariants as dropped
+use Rattle.cip_module.specs.CommandRows.{CommandRow}
+use Rattle.cip_module.specs.CommandRows as command
 use Rattle.cip_module.specs.Answers.{failure_bytes, unconnected_failure, failed_unread, open_failed, close_failed}
 use Rattle.cip_module.specs.Statuses.{request_status, open_status, close_status}
 use Rattle.cip_module.specs.RequestRows.{RequestRow, request_row}

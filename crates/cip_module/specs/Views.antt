@@ -1,13 +1,15 @@
 -- How a state is shown.
-use Rattle.std.specs.Prelude.{◌≡◌, ℕ, ◌+◌, List, [], Option, Some, None, map, filter_map}
+use Rattle.std.specs.Prelude.{◌≡◌, ℕ, ◌+◌, Bool, ◌&&◌, List, [], Option, Some, None, map, filter_map}
 use Rattle.std.specs.FinMap as finite
+use Rattle.cip_base.specs.Words.{ConnectionId, LinkAddress, OpNumber, PortIdentifier}
 use Rattle.cip_base.specs.declared.triad.Triad.{Triad}
 use Rattle.cip_pending.specs.declared.entry.Entry.{Entry}
 use Rattle.cip_hops.specs.declared.hop.Hop.{Hop}
 use Rattle.cip_hops.specs.declared.hop.Held.{Held}
 use Rattle.cip_hops.specs.declared.hop.Held.TheVariants.{Opening as IsOpening, Open}
-use Rattle.cip_hops.specs.Hops.{as_hop}
-use Rattle.cip_module.specs.declared.config.ModuleSettings.{ModuleSettings}
+use Rattle.cip_hops.specs.Hops.{as_hop, is_id}
+use Rattle.cip_hops.specs.Sides.{op_of, up_is}
+use Rattle.cip_config.specs.declared.config.ModuleSettings.{ModuleSettings}
 use Rattle.cip_module.specs.declared.tables.PendingRow.{PendingRow}
 use Rattle.cip_module.specs.declared.tables.HopRow.{HopRow}
 use Rattle.cip_module.specs.declared.tables.AssemblyRow.{AssemblyRow}
@@ -32,6 +34,15 @@ hop_row_of hop = record {
   up_deadline = hop.up_deadline;
   down_deadline = hop.down_deadline;
 }
+
+-- the row is that of the connection that a command of this op opened
+abbrev pub is_row_by_op : OpNumber → HopRow → Bool
+is_row_by_op op row = is_id op (op_of row.up)
+
+-- the row is that of the connection of which this is the own id towards the originator, on the link
+-- by this port to this address
+abbrev pub is_row_by_up : ConnectionId → PortIdentifier → LinkAddress → HopRow → Bool
+is_row_by_up id port address row = is_id id row.ids.up && up_is port address row.up
 
 abbrev pub assembly_row_of : ℕ × List ℕ → AssemblyRow
 assembly_row_of held = record { instance = held.0; bytes = held.1 }

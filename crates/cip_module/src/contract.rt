@@ -1,19 +1,18 @@
 //! What the layers above know of a module.
 ghost use Rattle.std.specs.Prelude.{◌≡◌, IfOk};
-ghost use Rattle.std.specs.Option.{option_copied};
+ghost use Rattle.std.specs.Option.{option_map};
 ghost use Rattle.cip_hops.specs.Hops.{hop_by_op, hop_by_up};
-ghost use Rattle.cip_module.specs.declared.config.ModuleSettings.{ModuleSettings as Settings};
+ghost use Rattle.cip_config.specs.declared.config.ModuleSettings.{ModuleSettings as Settings};
 ghost use Rattle.cip_module.specs.State.{State};
 ghost use Rattle.cip_module.specs.Steps.{IsStep, IsStepFault};
-ghost use Rattle.cip_module.specs.Views.{ShowsState};
+ghost use Rattle.cip_module.specs.Views.{ShowsState, hop_row_of};
 ghost use Rattle.cip_module.specs.Paired.{IsPaired};
 ghost use Rattle.cip_module.specs.Rooms.{HasRooms};
 
-use crate::config::ModuleConfig;
-use crate::event::{Event, Output};
-use crate::tables::Tables;
+use crate::tables::{HopRow, Tables};
 use cip_base::{Address, NoMemory, PortNumber};
-use cip_hops::Hop;
+use cip_config::ModuleConfig;
+use cip_event::{Event, Output};
 use thiserror::Error;
 
 /// A step that did not happen: the module is as it was, and the event comes back whole.
@@ -58,14 +57,29 @@ pub trait Module: Drop {
     fn tables(&self) -> Result<Tables, NoMemory>
         ensures { IfOk result (ShowsState (state_of self.now)) };
 
-    /// The connection that a command of this op opened. There is at most one.
-    fn hop_by_op(&self, op: u32) -> Option<&Hop>
-        ensures { option_copied result ≡ hop_by_op (state_of self.now).hops op };
+    /// The row of the connection that a command of this op opened, of which there is at most one;
+    /// NoMemory where an allocation is refused. It is looked up in `tables`; a module that finds
+    /// its connections faster says so.
+    fn row_by_op(&self, op: u32) -> Result<Option<HopRow>, NoMemory>
+        ensures { IfOk result (λ row. row
+            ≡ option_map hop_row_of (hop_by_op (state_of self.now).hops op)) }
+    {
+        Ok(self.tables()?.hops.by_op(op))
+    }
 
-    /// The connection of which this is the own id towards the originator, on the link by this port
-    /// to this address. There is at most one.
-    fn hop_by_up(&self, id: u32, port: PortNumber, address: &Address) -> Option<&Hop>
-        ensures { option_copied result ≡ hop_by_up (state_of self.now).hops id port address.now };
+    /// The row of the connection of which this is the own id towards the originator, on the link by
+    /// this port to this address, in the same way. There is at most one.
+    fn row_by_up(
+        &self,
+        id: u32,
+        port: PortNumber,
+        address: &Address,
+    ) -> Result<Option<HopRow>, NoMemory>
+        ensures { IfOk result (λ row. row ≡ option_map hop_row_of
+            (hop_by_up (state_of self.now).hops id port address.now)) }
+    {
+        Ok(self.tables()?.hops.by_up(id, port, address))
+    }
 }
 
 impl Module for Box<dyn Module + Send> {
@@ -92,13 +106,18 @@ impl Module for Box<dyn Module + Send> {
         inner.tables()
     }
 
-    fn hop_by_op(&self, op: u32) -> Option<&Hop> {
+    fn row_by_op(&self, op: u32) -> Result<Option<HopRow>, NoMemory> {
         let inner = self.as_ref();
-        inner.hop_by_op(op)
+        inner.row_by_op(op)
     }
 
-    fn hop_by_up(&self, id: u32, port: PortNumber, address: &Address) -> Option<&Hop> {
+    fn row_by_up(
+        &self,
+        id: u32,
+        port: PortNumber,
+        address: &Address,
+    ) -> Result<Option<HopRow>, NoMemory> {
         let inner = self.as_ref();
-        inner.hop_by_up(id, port, address)
+        inner.row_by_up(id, port, address)
     }
 }

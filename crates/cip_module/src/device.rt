@@ -1,15 +1,18 @@
 //! What the modules of each kind share: their tables, which fit one another.
 ghost use Rattle.std.specs.Prelude.{◌≡◌, IfOk};
-ghost use Rattle.std.specs.Option.{option_copied};
+ghost use Rattle.std.specs.Option.{option_map};
 ghost use Rattle.cip_hops.specs.Hops.{hop_by_op, hop_by_up};
 ghost use Rattle.cip_target.specs.Ends.{fresh};
-ghost use Rattle.cip_module.specs.declared.config.ModuleSettings.{ModuleSettings as Settings};
+ghost use Rattle.cip_config.specs.declared.config.ModuleSettings.{ModuleSettings as Settings};
+ghost use Rattle.cip_module.specs.Views.{hop_row_of};
 ghost use Rattle.cip_module.specs.Code.Fit.{Fit};
 
-use crate::config::ModuleConfig;
+use crate::show::hop_row;
 use crate::spent::SpentOps;
+use crate::tables::HopRow;
 use cip_base::{Address, NoMemory, PortNumber};
 use cip_clock::Clock;
+use cip_config::ModuleConfig;
 use cip_hops::{Hop, HopTable};
 use cip_pending::PendingTable;
 use cip_target::Target;
@@ -70,18 +73,31 @@ impl Device {
         &self.config
     }
 
-    /// The connection that a command of this op opened.
-    pub fn hop_by_op(&self, op: u32) -> Option<&Hop>
-        ensures { option_copied result ≡ hop_by_op self.now.hops op }
+    /// The row of the connection that a command of this op opened; NoMemory where an allocation is
+    /// refused.
+    pub fn row_by_op(&self, op: u32) -> Result<Option<HopRow>, NoMemory>
+        ensures { IfOk result (λ row. row ≡ option_map hop_row_of (hop_by_op self.now.hops op)) }
     {
-        self.hops.by_op(op)
+        match self.hops.by_op(op) {
+            Some(hop) => Ok(Some(hop_row(self.alloc, hop)?)),
+            None => Ok(None),
+        }
     }
 
-    /// The connection of which this is the own id towards the originator, on the link by this port
-    /// to this address.
-    pub fn hop_by_up(&self, id: u32, port: PortNumber, address: &Address) -> Option<&Hop>
-        ensures { option_copied result ≡ hop_by_up self.now.hops id port address.now }
+    /// The row of the connection of which this is the own id towards the originator, on the link by
+    /// this port to this address; NoMemory where an allocation is refused.
+    pub fn row_by_up(
+        &self,
+        id: u32,
+        port: PortNumber,
+        address: &Address,
+    ) -> Result<Option<HopRow>, NoMemory>
+        ensures { IfOk result (λ row. row
+            ≡ option_map hop_row_of (hop_by_up self.now.hops id port address.now)) }
     {
-        self.hops.by_up(id, port, address)
+        match self.hops.by_up(id, port, address) {
+            Some(hop) => Ok(Some(hop_row(self.alloc, hop)?)),
+            None => Ok(None),
+        }
     }
 }

@@ -3,10 +3,10 @@ ghost use Rattle.std.specs.Prelude.{◌≡◌, ◌<◌, ◌↔◌, IfOk, IsTrue}
 ghost use Rattle.cip_module.specs.State.{initial_state};
 ghost use Rattle.cip_module.specs.Views.{ShowsState, HasFirstCounts, HoldsNothing, assemblies_of};
 
-use crate::config::{ModuleConfig, ModuleSettings};
 use crate::show::assembly_rows;
 use crate::tables::{AssemblyRow, Tables};
 use cip_base::NoMemory;
+use cip_config::{ModuleConfig, ModuleSettings};
 use cip_target::Target;
 use std::alloc::Global;
 

@@ -3,9 +3,9 @@ ghost use Rattle.std.specs.Prelude.{◌≡◌};
 ghost use Rattle.cip_segment.specs.Reading.{segments_of};
 ghost use Rattle.cip_module.specs.Keys.{fits, minor_fits, key_mismatch, leading_mismatch};
 
-use crate::config::ModuleSettings;
 use crate::refusals::KeyPart;
 use cip_base::KeyFields;
+use cip_config::ModuleSettings;
 use cip_segment::{PathView, SegmentView, split_first};
 use cip_target::IdentityFields;
 

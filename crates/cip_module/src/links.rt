@@ -3,11 +3,9 @@ ghost use Rattle.std.specs.Prelude.{◌≡◌, ◌≤◌, None};
 ghost use Rattle.cip_pending.specs.Pendings.{refusal};
 ghost use Rattle.cip_module.specs.Links.{wait_refusal, link_refusal, CanWait};
 
-use crate::config::{ModuleKind, ModuleSettings};
-use crate::legal::is_legal;
-use crate::ports::port_of;
 use crate::refusals::LinkRefusal;
 use cip_base::{Address, PortNumber, Timing};
+use cip_config::{ModuleKind, ModuleSettings, is_legal, port_of};
 use cip_pending::PendingTable;
 
 /// Ticks for it and for the module below, and a place among the requests that wait.

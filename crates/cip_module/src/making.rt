@@ -3,9 +3,9 @@
 ghost use Rattle.std.specs.Prelude.{◌≡◌, [], None, Some};
 ghost use Rattle.cip_module.specs.Code.Reacts.{reaction_of};
 
-use crate::event::Output;
 use crate::reaction::{Edit, Reaction};
 use cip_base::Bytes;
+use cip_event::Output;
 use std::alloc::Global;
 
 /// How they are made.

@@ -5,8 +5,8 @@ ghost use Rattle.cip_unconnected.specs.Unconnected.{unconnected_bytes};
 ghost use Rattle.cip_module.specs.Effects.{reply_up};
 ghost use Rattle.cip_module.specs.Table.{message_on};
 
-use crate::event::{Body, Output};
 use cip_base::{Bytes, NoMemory, Timing};
+use cip_event::{Body, Output};
 use cip_message::WriteFault;
 use cip_pending::UpSide;
 use cip_segment::PathView;

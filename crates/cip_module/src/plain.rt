@@ -1,17 +1,16 @@
 //! A module that originates, routes and answers. It decodes each message and writes what goes on
 //! anew.
 ghost use Rattle.std.specs.Prelude.{◌≡◌, IfOk};
-ghost use Rattle.cip_module.specs.declared.config.ModuleKind.{ModuleKind as Kind};
+ghost use Rattle.cip_config.specs.declared.config.ModuleKind.{ModuleKind as Kind};
 ghost use Rattle.cip_module.specs.State.{initial_state};
 ghost use Rattle.cip_module.specs.Code.Device.{config_of_plain, state_of_plain};
 
-use crate::config::{ModuleConfig, ModuleKind};
 use crate::contract::{Module, StepFault};
 use crate::device::Device;
-use crate::event::{Event, Output};
-use crate::tables::Tables;
+use crate::tables::{HopRow, Tables};
 use cip_base::{Address, NoMemory, PortNumber};
-use cip_hops::Hop;
+use cip_config::{ModuleConfig, ModuleKind};
+use cip_event::{Event, Output};
 use std::alloc::Global;
 
 /// A module that originates, routes and answers. It decodes each message and writes what goes on
@@ -57,11 +56,16 @@ impl Module for PlainModule {
         self.device.tables()
     }
 
-    fn hop_by_op(&self, op: u32) -> Option<&Hop> {
-        self.device.hop_by_op(op)
+    fn row_by_op(&self, op: u32) -> Result<Option<HopRow>, NoMemory> {
+        self.device.row_by_op(op)
     }
 
-    fn hop_by_up(&self, id: u32, port: PortNumber, address: &Address) -> Option<&Hop> {
-        self.device.hop_by_up(id, port, address)
+    fn row_by_up(
+        &self,
+        id: u32,
+        port: PortNumber,
+        address: &Address,
+    ) -> Result<Option<HopRow>, NoMemory> {
+        self.device.row_by_up(id, port, address)
     }
 }

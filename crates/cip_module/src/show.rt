@@ -31,8 +31,8 @@ fn pending_rows(alloc: Global, pendings: &PendingTable) -> Result<Vec<PendingRow
     Ok(rows)
 }
 
-// A connection, as it is shown.
-fn hop_row(alloc: Global, hop: &Hop) -> Result<HopRow, NoMemory>
+/// A connection, as it is shown.
+pub(crate) fn hop_row(alloc: Global, hop: &Hop) -> Result<HopRow, NoMemory>
     ensures { IfOk result (λ row. row ≡ hop_row_of hop.now) }
 {
     let path = hop.opening.path.copy(alloc)?;

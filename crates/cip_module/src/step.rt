@@ -7,19 +7,20 @@ ghost use Rattle.cip_module.specs.Table.{command_effects, frame_effects};
 ghost use Rattle.cip_module.specs.Code.Device.{state_of_device};
 ghost use Rattle.cip_module.specs.Code.Does.{Handles, HandlesAs};
 ghost use Rattle.cip_module.specs.Code.Reacts.{Reacts};
-ghost use Rattle.cip_module.specs.Reactions.{bytes_in, PutsOut};
-ghost use Rattle.cip_module.specs.declared.event.Body.TheVariants as bodies;
-ghost use Rattle.cip_module.specs.declared.event.Event.TheVariants as events;
-ghost use Rattle.cip_module.specs.declared.event.Output.TheVariants as outputs;
-ghost use Rattle.cip_module.specs.declared.event.Command.TheVariants.{Enter};
+ghost use Rattle.cip_event.specs.Filled.{bytes_in};
+ghost use Rattle.cip_module.specs.Reactions.{PutsOut};
+ghost use Rattle.cip_event.specs.declared.event.Body.TheVariants as bodies;
+ghost use Rattle.cip_event.specs.declared.event.Event.TheVariants as events;
+ghost use Rattle.cip_event.specs.declared.event.Output.TheVariants as outputs;
+ghost use Rattle.cip_event.specs.declared.event.Command.TheVariants.{Enter};
 
 use crate::contract::StepFault;
 use crate::device::Device;
-use crate::event::{Body, Command, Event, Output};
 use crate::making::Making;
 use crate::reaction::{Edit, Reaction};
 use crate::tick::steps::TickFault;
 use cip_base::{Address, Bytes, NoMemory, PortNumber};
+use cip_event::{Body, Command, Event, Output};
 use cip_unconnected::UnconnectedView;
 
 impl Device {

@@ -1,7 +1,8 @@
 //! The state of a module as it is shown.
-ghost use Rattle.std.specs.Prelude.{◌≡◌};
+ghost use Rattle.std.specs.Prelude.{◌≡◌, find};
+ghost use Rattle.cip_module.specs.Views.{is_row_by_op, is_row_by_up};
 
-use cip_base::{Bytes, Triad};
+use cip_base::{Address, Bytes, PortNumber, Triad};
 use cip_hops::{HopDown, HopUp, OwnIds};
 use cip_pending::Entry;
 use cip_segment::Path;
@@ -110,6 +111,31 @@ impl Model for HopRows {
     ghost view = { λ p. p.rows.items };
 }
 
+// Whether a command of this op opened the connection.
+fn is_by_op(row: &HopRow, op: u32) -> bool
+    ensures { result ≡ is_row_by_op op row.now }
+{
+    match &row.up {
+        HopUp::Local { op: own } => *own == op,
+        HopUp::Link { .. } => false,
+    }
+}
+
+// Whether this is the connection's own id towards the originator, on the link by this port to this
+// address.
+fn is_by_up(row: &HopRow, id: u32, port: PortNumber, address: &Address) -> bool
+    ensures { result ≡ is_row_by_up id port address.now row.now }
+{
+    match &row.up {
+        HopUp::Local { .. } => false,
+        HopUp::Link {
+            port: own,
+            address: to,
+            ..
+        } => row.ids.up == Some(id) && *own == port && to == address,
+    }
+}
+
 impl HopRows {
     /// The rows of the vector.
     pub fn of(rows: Vec<HopRow>) -> HopRows
@@ -123,6 +149,23 @@ impl HopRows {
         ensures { result.now ≡ self.now }
     {
         self.rows.as_slice()
+    }
+
+    /// The row of the connection that a command of this op opened.
+    pub fn by_op(self, op: u32) -> Option<HopRow>
+        ensures { result ≡ find (is_row_by_op op) self }
+    {
+        self.rows.into_iter().find(|row| is_by_op(row, op))
+    }
+
+    /// The row of the connection of which this is the own id towards the originator, on the link by
+    /// this port to this address.
+    pub fn by_up(self, id: u32, port: PortNumber, address: &Address) -> Option<HopRow>
+        ensures { result ≡ find (is_row_by_up id port address.now) self }
+    {
+        self.rows
+            .into_iter()
+            .find(|row| is_by_up(row, id, port, address))
     }
 }
 

@@ -5,9 +5,9 @@ ghost use Rattle.cip_module.specs.Code.Does.{Handles};
 ghost use Rattle.cip_module.specs.Effects.{Answers};
 
 use crate::device::Device;
-use crate::event::Output;
 use crate::messages::reply_to;
 use cip_base::NoMemory;
+use cip_event::Output;
 use cip_message::RequestView;
 use cip_pending::UpSide;
 

@@ -6,9 +6,9 @@ use Rattle.std.specs.List.{AllByRecursion}
 use Rattle.std.proofs.lemmas.Bool.{eq-eqb}
 use Rattle.std.proofs.lemmas.List.Elements.{filter-append}
 use Rattle.cip_base.specs.declared.numbers.ModuleId.{ModuleId}
-use Rattle.cip_module.specs.declared.config.ModuleSettings.{ModuleSettings}
-use Rattle.cip_module.specs.declared.event.Event.{Event}
-use Rattle.cip_module.specs.declared.event.Output.{Output}
+use Rattle.cip_config.specs.declared.config.ModuleSettings.{ModuleSettings}
+use Rattle.cip_event.specs.declared.event.Event.{Event}
+use Rattle.cip_event.specs.declared.event.Output.{Output}
 use Rattle.cip_laws.specs.Histories.{Turn, IsHistory, state_after, next_state}
 use Rattle.cip_module.specs.Table.{table_step}
 use Rattle.cip_topology.specs.Plan.{Plan}

@@ -2,9 +2,9 @@
 -- command, a tick or a frame that waited, whatever it did.
 use Rattle.std.specs.Prelude.{◌≡◌, ℕ, ◌<◌, ◌+◌, List, [], ◌∷◌, Some, None, Option, Bool, false, ◌==◌, length}
 use Rattle.cip_base.specs.declared.numbers.ModuleId.{ModuleId}
-use Rattle.cip_module.specs.declared.event.Event.{Event}
-use Rattle.cip_module.specs.declared.event.Event.TheVariants as events
-use Rattle.cip_module.specs.declared.event.Output.{Output}
+use Rattle.cip_event.specs.declared.event.Event.{Event}
+use Rattle.cip_event.specs.declared.event.Event.TheVariants as events
+use Rattle.cip_event.specs.declared.event.Output.{Output}
 use Rattle.cip_topology.specs.Plan.{Plan}
 use Rattle.cip_topology.specs.Nodes.{Way, across}
 use Rattle.cip_world.specs.declared.journal.FrameName.{FrameName}

@@ -1,6 +1,6 @@
 -- What a worker's message says.
 use Rattle.std.specs.Prelude.{◌≡◌, List, map}
-use Rattle.cip_module.specs.declared.config.ModuleSettings.{ModuleSettings}
+use Rattle.cip_config.specs.declared.config.ModuleSettings.{ModuleSettings}
 use Rattle.cip_laws.specs.Histories.{Turn, IsHistory, state_after}
 use Rattle.cip_module.specs.State.{State}
 use Rattle.cip_module.specs.Views.{ShowsState}

@@ -1,12 +1,14 @@
 //! What holds of the journal of modules on threads: all that holds of every run.
-ghost use Rattle.std.specs.Prelude.{◌≡◌, ℕ, List, ◌∷◌, length, Some};
+ghost use Rattle.std.specs.Prelude.{◌≡◌, ◌<◌, ◌+◌, ℕ, List, [], ◌∷◌, length, Some};
 ghost use Rattle.std.specs.FinMap as map;
+ghost use Rattle.cip_base.specs.declared.numbers.ModuleId.{ModuleId as Id};
 ghost use Rattle.cip_base.specs.declared.triad.Triad.{Triad};
 ghost use Rattle.cip_hops.specs.declared.hop.Held.TheVariants.{Open};
 ghost use Rattle.cip_hops.specs.declared.hop.Hop.{Hop};
 ghost use Rattle.cip_hops.specs.declared.opening.HopDown.TheVariants.{Link as DownLink};
-ghost use Rattle.cip_module.specs.declared.config.ModuleSettings.{ModuleSettings as Settings};
-ghost use Rattle.cip_module.specs.declared.event.Output.TheVariants.{Arrived, Consumed};
+ghost use Rattle.cip_config.specs.declared.config.ModuleSettings.{ModuleSettings as Settings};
+ghost use Rattle.cip_event.specs.declared.event.Output.TheVariants.{Arrived, Consumed};
+ghost use Rattle.cip_module.specs.declared.tables.Tables.{Tables};
 ghost use Rattle.cip_topology.specs.Plan.{Plan, IsTopology};
 ghost use Rattle.cip_world.specs.Chains.{Member, IsChain, last_of, AreDeliveries, AreKept, IsTakenBy};
 ghost use Rattle.cip_world.specs.Entering.{HasOutput, before_entry, IsEntered, ConsumedOf, ArrivedOf};
@@ -16,7 +18,12 @@ ghost use Rattle.cip_world.specs.RepliesTell.{RepliesTell};
 ghost use Rattle.cip_world.specs.Runs.{IsModule, IsRun, state_in};
 ghost use Rattle.cip_world.specs.TrailTells.{TrailTells};
 ghost use Rattle.cip_world.specs.Trails.{trail_of};
-ghost use Rattle.cip_threads.specs.Reports.{IsReported};
+ghost use Rattle.cip_world.specs.Waiting.{waiting};
+ghost use Rattle.cip_world.specs.declared.journal.FrameName.{FrameName};
+ghost use Rattle.cip_world.specs.declared.world.End.TheVariants.{Quiet, Limit};
+ghost use Rattle.cip_threads.specs.declared.feed.Feed.{Feed};
+ghost use Rattle.cip_threads.specs.Feeds.{feeds_of, fed};
+ghost use Rattle.cip_threads.specs.Reports.{IsReport, IsReported};
 
 /// The journal that `run_threads` reports is a run of its topology. So of what an end took, of what
 /// arrived at an op, of the Dones of an op and of all replies, of mirrored connections and of
@@ -45,4 +52,23 @@ pub fn a_report_tells_what_a_run_tells()
         → (ks : List ℕ) → AreDeliveries j entry ks → length ks ≡ length rest
         → AreKept t j entry (last_of entry ks) (first ∷ rest)
         → IsTakenBy j (last_of entry ks) (last_of first rest) bytes }
+{}
+
+/// After a run that ends quiet no frame waits, and each feed of a module stands in the journal, in
+/// its order. One that ends at its limit has an entry for each turn, and a feed or a frame is left.
+pub fn the_end_of_a_report_is_true()
+    ensures frames { (t : Plan) (given : List (Id × Feed)) (turns : ℕ) (j : Journal)
+        (tables : List Tables) (feeds : List (Id × Feed)) (frames : List FrameName)
+        → IsReport t given turns j tables feeds frames Quiet → waiting t j ≡ [] }
+    ensures feeds { (t : Plan) (given : List (Id × Feed)) (turns : ℕ) (j : Journal)
+        (tables : List Tables) (feeds : List (Id × Feed)) (frames : List FrameName)
+        → IsReport t given turns j tables feeds frames Quiet
+        → (m : ℕ) → feeds_of m given ≡ fed m j }
+    ensures turns { (t : Plan) (given : List (Id × Feed)) (turns : ℕ) (j : Journal)
+        (tables : List Tables) (feeds : List (Id × Feed)) (frames : List FrameName)
+        → IsReport t given turns j tables feeds frames Limit → length j ≡ turns }
+    ensures left { (t : Plan) (given : List (Id × Feed)) (turns : ℕ) (j : Journal)
+        (tables : List Tables) (feeds : List (Id × Feed)) (frames : List FrameName)
+        → IsReport t given turns j tables feeds frames Limit
+        → 0 < length feeds + length (waiting t j) }
 {}

@@ -19,7 +19,7 @@ mod worker;
 pub use book::{Book, Taken};
 pub use feed::Feed;
 pub use gate::{Gate, OpenGate};
-pub use laws::a_report_tells_what_a_run_tells;
+pub use laws::{a_report_tells_what_a_run_tells, the_end_of_a_report_is_true};
 pub use lists::Items;
 pub use report::{Report, RunFault, Waiting};
 pub use run::run_threads;

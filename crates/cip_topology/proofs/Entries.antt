@@ -4,7 +4,7 @@ use Rattle.toml.specs.declared.value.Value.{Value}
 use Rattle.toml.specs.Data.{item}
 use Rattle.toml.specs.View.{view, items_view}
 use Rattle.toml.proofs.Views.{items_view-drop}
-use Rattle.cip_module.specs.declared.config.ModuleSettings.{ModuleSettings}
+use Rattle.cip_config.specs.declared.config.ModuleSettings.{ModuleSettings}
 use Rattle.cip_topology.specs.declared.links.Link.{Link}
 use Rattle.cip_topology.specs.Keys.{Read, ◌>>=◌, item_count}
 use Rattle.cip_topology.specs.ModuleTables.{settings_of, modules_after}

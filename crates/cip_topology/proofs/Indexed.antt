@@ -8,8 +8,8 @@ use Rattle.std.specs.FinMap.Entries as entries
 use Rattle.std.specs.declared.cmp.Ordering.{Ordering}
 use Rattle.std.specs.declared.cmp.Ordering.TheVariants.{Less, Equal, Greater}
 use Rattle.toml.specs.Data.{Data}
-use Rattle.cip_module.specs.declared.config.ModuleSettings.{ModuleSettings}
-use Rattle.cip_module.specs.declared.config.PortConfig.{PortConfig}
+use Rattle.cip_config.specs.declared.config.ModuleSettings.{ModuleSettings}
+use Rattle.cip_config.specs.declared.config.PortConfig.{PortConfig}
 use Rattle.cip_topology.specs.declared.links.Link.{Link}
 use Rattle.cip_topology.specs.declared.seats.Spot.{Spot}
 use Rattle.cip_topology.specs.declared.seats.Seat.{Seat}

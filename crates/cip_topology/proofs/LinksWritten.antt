@@ -6,9 +6,9 @@ use Rattle.std.specs.Str.{bytes_eq}
 use Rattle.std.proofs.lemmas.Bool.{and_parts}
 use Rattle.std.proofs.lemmas.Slice.Eq.{bytes_eq-Decides}
 use Rattle.toml.specs.Data.{Items, no_items, item, Members, string, table, as_str}
-use Rattle.cip_module.specs.declared.config.LegalAddresses.{LegalAddresses}
-use Rattle.cip_module.specs.declared.config.LegalAddresses.TheVariants.{Byte, Text}
-use Rattle.cip_module.specs.Config.{is_name, is_range}
+use Rattle.cip_config.specs.declared.config.LegalAddresses.{LegalAddresses}
+use Rattle.cip_config.specs.declared.config.LegalAddresses.TheVariants.{Byte, Text}
+use Rattle.cip_config.specs.Config.{is_name, is_range}
 use Rattle.cip_topology.specs.declared.links.Link.{Link}
 use Rattle.cip_topology.specs.declared.key.Key.TheVariants as key
 use Rattle.cip_topology.specs.declared.place.Place.{Place}

@@ -8,11 +8,11 @@ use Rattle.std.proofs.lemmas.Bool.{and_parts, eqb-true}
 use Rattle.std.proofs.lemmas.Bool.Decides.{nat_tests}
 use Rattle.std.proofs.lemmas.Slice.Eq.{bytes_eq-Decides}
 use Rattle.toml.specs.Data.{Items, no_items, item, Members, string, array, table, as_str, get_member}
-use Rattle.cip_module.specs.declared.config.ModuleKind.{ModuleKind}
-use Rattle.cip_module.specs.declared.config.ModuleKind.TheVariants.{Plain, Adapter, Indexed}
-use Rattle.cip_module.specs.declared.config.ModuleSettings.{ModuleSettings}
-use Rattle.cip_module.specs.declared.config.PortConfig.{PortConfig}
-use Rattle.cip_module.specs.Config.{is_name, is_settings, are_counts, is_room, are_ports, are_assemblies, is_port, numbers_differ, instances_differ, most_ports}
+use Rattle.cip_config.specs.declared.config.ModuleKind.{ModuleKind}
+use Rattle.cip_config.specs.declared.config.ModuleKind.TheVariants.{Plain, Adapter, Indexed}
+use Rattle.cip_config.specs.declared.config.ModuleSettings.{ModuleSettings}
+use Rattle.cip_config.specs.declared.config.PortConfig.{PortConfig}
+use Rattle.cip_config.specs.Config.{is_name, is_settings, are_counts, is_room, are_ports, are_assemblies, is_port, numbers_differ, instances_differ, most_ports}
 use Rattle.cip_target.specs.Assemblies.{is_assembly}
 use Rattle.cip_target.specs.Identity.{is_product_name}
 use Rattle.cip_target.specs.declared.config.AssemblyConfig.{AssemblyConfig}

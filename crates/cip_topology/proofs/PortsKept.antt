@@ -7,11 +7,11 @@ use Rattle.std.specs.Str.{bytes_eq}
 use Rattle.std.proofs.lemmas.Bool.{and_from}
 use Rattle.std.proofs.lemmas.Bool.Decides.{nat_tests}
 use Rattle.toml.specs.Data.{Data, Items, no_items, item, Members}
-use Rattle.cip_module.specs.declared.config.PortConfig.{PortConfig}
-use Rattle.cip_module.specs.declared.config.ModuleKind.{ModuleKind}
-use Rattle.cip_module.specs.declared.config.ModuleKind.TheVariants.{Plain, Adapter, Indexed}
-use Rattle.cip_module.specs.Config.{is_range, is_legal, is_port, has_number, numbers_differ, has_instance}
-use Rattle.cip_module.specs.Config.{instances_differ, are_ports, are_assemblies, most_ports, is_adapter}
+use Rattle.cip_config.specs.declared.config.PortConfig.{PortConfig}
+use Rattle.cip_config.specs.declared.config.ModuleKind.{ModuleKind}
+use Rattle.cip_config.specs.declared.config.ModuleKind.TheVariants.{Plain, Adapter, Indexed}
+use Rattle.cip_config.specs.Config.{is_range, is_legal, is_port, has_number, numbers_differ, has_instance}
+use Rattle.cip_config.specs.Config.{instances_differ, are_ports, are_assemblies, most_ports, is_adapter}
 use Rattle.cip_target.specs.declared.config.AssemblyConfig.{AssemblyConfig}
 use Rattle.cip_target.specs.Assemblies.{is_assembly}
 use Rattle.cip_topology.specs.declared.links.Link.{Link}

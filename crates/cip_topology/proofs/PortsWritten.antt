@@ -8,12 +8,12 @@ use Rattle.std.proofs.lemmas.Bool.{and_parts, eq-eqb}
 use Rattle.std.proofs.lemmas.Bool.Decides.{nat_tests}
 use Rattle.std.proofs.lemmas.Slice.Eq.{bytes_eq-Decides}
 use Rattle.toml.specs.Data.{Items, no_items, item, Members, get_member, array, table}
-use Rattle.cip_module.specs.declared.config.LegalAddresses.{LegalAddresses}
-use Rattle.cip_module.specs.declared.config.LegalAddresses.TheVariants.{Byte, Text}
-use Rattle.cip_module.specs.declared.config.PortConfig.{PortConfig}
-use Rattle.cip_module.specs.declared.config.ModuleKind.{ModuleKind}
-use Rattle.cip_module.specs.declared.config.ModuleKind.TheVariants.{Plain, Adapter, Indexed}
-use Rattle.cip_module.specs.Config.{is_range, is_legal, is_port, is_text_byte, has_number, has_instance, most_ports, is_adapter}
+use Rattle.cip_config.specs.declared.config.LegalAddresses.{LegalAddresses}
+use Rattle.cip_config.specs.declared.config.LegalAddresses.TheVariants.{Byte, Text}
+use Rattle.cip_config.specs.declared.config.PortConfig.{PortConfig}
+use Rattle.cip_config.specs.declared.config.ModuleKind.{ModuleKind}
+use Rattle.cip_config.specs.declared.config.ModuleKind.TheVariants.{Plain, Adapter, Indexed}
+use Rattle.cip_config.specs.Config.{is_range, is_legal, is_port, is_text_byte, has_number, has_instance, most_ports, is_adapter}
 use Rattle.cip_target.specs.declared.config.AssemblyConfig.{AssemblyConfig}
 use Rattle.cip_topology.specs.declared.links.Link.{Link}
 use Rattle.cip_topology.specs.declared.key.Key.TheVariants as key

@@ -1,7 +1,7 @@
 -- What is read is a topology.
 use Rattle.std.proofs.Common.{◌≡◌, ◌≤◌, List, [], Ok, arith}
 use Rattle.toml.specs.Data.{Items}
-use Rattle.cip_module.specs.declared.config.ModuleSettings.{ModuleSettings}
+use Rattle.cip_config.specs.declared.config.ModuleSettings.{ModuleSettings}
 use Rattle.cip_topology.specs.declared.links.Link.{Link}
 use Rattle.cip_topology.specs.Plan.{AreLinks, IsTopology}
 use Rattle.cip_topology.specs.Keys.{item_count}

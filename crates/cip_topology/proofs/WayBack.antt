@@ -4,9 +4,9 @@ use Rattle.std.specs.Prelude.{slice_get, find, option_and_then}
 use Rattle.std.specs.Str.{bytes_eq}
 use Rattle.std.proofs.lemmas.Bool.{and_parts, and_from, eqb-true, eq-eqb}
 use Rattle.std.proofs.lemmas.Slice.Eq.{bytes_eq-Decides}
-use Rattle.cip_module.specs.declared.config.ModuleSettings.{ModuleSettings}
-use Rattle.cip_module.specs.declared.config.PortConfig.{PortConfig}
-use Rattle.cip_module.specs.Config.{has_number, port_of}
+use Rattle.cip_config.specs.declared.config.ModuleSettings.{ModuleSettings}
+use Rattle.cip_config.specs.declared.config.PortConfig.{PortConfig}
+use Rattle.cip_config.specs.Config.{has_number, port_of}
 use Rattle.cip_topology.specs.Plan.{Plan, HasPort, IsTopology}
 use Rattle.cip_topology.specs.Nodes.{is_at, Node, or_later, node_from, Way, own_port, comes_in, leaves_by, across}
 use Rattle.cip_topology.proofs.Ports.{some_same, Found, found, finds, numbered, settings_differ}

@@ -4,12 +4,12 @@ use Rattle.std.specs.Prelude.{slice_get}
 use Rattle.hex.specs.Hex.{decode_of}
 use Rattle.toml.specs.Data.{Data, Items, no_items, item, Members, get_member, string, integer, array, table}
 use Rattle.cip_base.specs.Words.{Octets, LinkAddress}
-use Rattle.cip_module.specs.declared.config.LegalAddresses.{LegalAddresses}
-use Rattle.cip_module.specs.declared.config.LegalAddresses.TheVariants.{Byte, Text}
-use Rattle.cip_module.specs.declared.config.ModuleKind.{ModuleKind}
-use Rattle.cip_module.specs.declared.config.ModuleKind.TheVariants.{Plain, Adapter, Indexed}
-use Rattle.cip_module.specs.declared.config.ModuleSettings.{ModuleSettings}
-use Rattle.cip_module.specs.declared.config.PortConfig.{PortConfig}
+use Rattle.cip_config.specs.declared.config.LegalAddresses.{LegalAddresses}
+use Rattle.cip_config.specs.declared.config.LegalAddresses.TheVariants.{Byte, Text}
+use Rattle.cip_config.specs.declared.config.ModuleKind.{ModuleKind}
+use Rattle.cip_config.specs.declared.config.ModuleKind.TheVariants.{Plain, Adapter, Indexed}
+use Rattle.cip_config.specs.declared.config.ModuleSettings.{ModuleSettings}
+use Rattle.cip_config.specs.declared.config.PortConfig.{PortConfig}
 use Rattle.cip_target.specs.Identity.{is_identity}
 use Rattle.cip_target.specs.declared.config.AssemblyConfig.{AssemblyConfig}
 use Rattle.cip_target.specs.declared.identity.IdentityFields.{IdentityFields}

@@ -4,7 +4,7 @@ use Rattle.toml.specs.Data.{Data, Items, no_items, item, Members, get_member, as
 use Rattle.hex.specs.Hex.{decode_of}
 use Rattle.std.specs.Result.{result_ok}
 use Rattle.cip_base.specs.Words.{Octets, LinkAddress}
-use Rattle.cip_module.specs.Config.{is_name}
+use Rattle.cip_config.specs.Config.{is_name}
 use Rattle.cip_topology.specs.declared.key.Key.{Key}
 use Rattle.cip_topology.specs.declared.key.Key.TheVariants as key
 use Rattle.cip_topology.specs.declared.place.Place.{Place}

@@ -4,8 +4,8 @@ use Rattle.std.specs.List.{list_any}
 use Rattle.std.specs.Str.{bytes_eq}
 use Rattle.toml.specs.Data.{Data, Items, no_items, item, Members, as_str}
 use Rattle.cip_base.specs.Words.{Octets}
-use Rattle.cip_module.specs.declared.config.LegalAddresses.{LegalAddresses}
-use Rattle.cip_module.specs.declared.config.LegalAddresses.TheVariants.{Byte, Text}
+use Rattle.cip_config.specs.declared.config.LegalAddresses.{LegalAddresses}
+use Rattle.cip_config.specs.declared.config.LegalAddresses.TheVariants.{Byte, Text}
 use Rattle.cip_topology.specs.declared.links.Link.{Link}
 use Rattle.cip_topology.specs.declared.key.Key.TheVariants as key
 use Rattle.cip_topology.specs.declared.place.Place.{Place}

@@ -1,8 +1,8 @@
 -- What a topology is, its links and its modules, and the rules that it keeps.
 use Rattle.std.specs.Prelude.{◌≡◌, ℕ, ◌≤◌, IsTrue, List, length, Some, slice_get}
-use Rattle.cip_module.specs.declared.config.ModuleSettings.{ModuleSettings}
-use Rattle.cip_module.specs.declared.config.PortConfig.{PortConfig}
-use Rattle.cip_module.specs.Config.{is_name, is_range, is_settings}
+use Rattle.cip_config.specs.declared.config.ModuleSettings.{ModuleSettings}
+use Rattle.cip_config.specs.declared.config.PortConfig.{PortConfig}
+use Rattle.cip_config.specs.Config.{is_name, is_range, is_settings}
 use Rattle.cip_topology.specs.declared.links.Link.{Link}
 
 -- the links and the modules, each list in the order of the file

@@ -4,9 +4,9 @@ use Rattle.std.specs.List.{list_any}
 use Rattle.std.specs.Str.{bytes_eq}
 use Rattle.toml.specs.Data.{Data, Items, no_items, item, Members}
 use Rattle.cip_base.specs.Words.{Octets, LinkAddress}
-use Rattle.cip_module.specs.declared.config.PortConfig.{PortConfig}
-use Rattle.cip_module.specs.declared.config.ModuleKind.{ModuleKind}
-use Rattle.cip_module.specs.Config.{has_number, has_instance, is_legal, is_adapter}
+use Rattle.cip_config.specs.declared.config.PortConfig.{PortConfig}
+use Rattle.cip_config.specs.declared.config.ModuleKind.{ModuleKind}
+use Rattle.cip_config.specs.Config.{has_number, has_instance, is_legal, is_adapter}
 use Rattle.cip_target.specs.declared.config.AssemblyConfig.{AssemblyConfig}
 use Rattle.cip_topology.specs.declared.links.Link.{Link}
 use Rattle.cip_topology.specs.declared.key.Key.{Key}

@@ -8,7 +8,7 @@ use crate::limits::{MAX_LINKS, MAX_MODULES};
 use crate::name::Name;
 use crate::place::Place;
 use cip_base::{Address, MAX_ASSEMBLIES, MAX_PORTS};
-use cip_module::LegalAddresses;
+use cip_config::LegalAddresses;
 use std::alloc::{AllocError, AllocFailed};
 use std::fmt;
 use thiserror::Error;

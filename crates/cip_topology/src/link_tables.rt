@@ -11,7 +11,7 @@ use crate::links::Link;
 use crate::name::Name;
 use crate::place::Place;
 use crate::values::{name, number, out_of_range, table_of, value};
-use cip_module::LegalAddresses;
+use cip_config::LegalAddresses;
 use std::alloc::Global;
 use toml::{Table, Value};
 

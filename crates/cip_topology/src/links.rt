@@ -2,7 +2,7 @@
 ghost use Rattle.std.specs.Prelude.{◌≡◌};
 
 use crate::name::Name;
-use cip_module::LegalAddresses;
+use cip_config::LegalAddresses;
 
 /// A link: its name, and the addresses that are legal on it.
 #[derive(Debug, Drop)]

@@ -19,7 +19,7 @@ use crate::port_tables::{assemblies, ports};
 use crate::seats::{Seat, Seats, Spot};
 use crate::values::{clock, name, number, number_or, out_of_range, product_name, table_of, value};
 use cip_base::Bytes;
-use cip_module::{Assemblies, ModuleConfig, ModuleKind, ModuleSettings, PortConfig, Ports};
+use cip_config::{Assemblies, ModuleConfig, ModuleKind, ModuleSettings, PortConfig, Ports};
 use cip_target::{Identity, IdentityFields};
 use std::alloc::Global;
 use toml::{Table, Value};

@@ -3,10 +3,10 @@ ghost use Rattle.std.specs.Prelude.{◌≡◌, ◌↔◌, IfSome, IsSome, IsTrue
 ghost use Rattle.std.specs.Str.{bytes_eq};
 ghost use Rattle.std.specs.Cmp.{partial_equiv_from_equiv};
 ghost use Rattle.std.specs.Cmp.Lexicographic.{nat_list_eq_equiv};
-ghost use Rattle.cip_module.specs.Config.{is_name};
+ghost use Rattle.cip_config.specs.Config.{is_name};
 
 use cip_base::NoHeap;
-use cip_module::is_name;
+use cip_config::is_name;
 use smallvec::SmallVec;
 use std::fmt;
 use std::marker::Model;
@@ -20,7 +20,7 @@ pub struct Name {
 
 impl Model for Name {
     ghost use Rattle.std.specs.Prelude.{List, ℕ, IsTrue};
-    ghost use Rattle.cip_module.specs.Config.{is_name};
+    ghost use Rattle.cip_config.specs.Config.{is_name};
 
     ghost Value = { List ℕ };
 

@@ -2,7 +2,7 @@
 ghost use Rattle.std.specs.Prelude.{◌≡◌, ◌<◌, ◌≤◌, length, [], option_map, IfOk};
 ghost use Rattle.std.specs.List.{list_any};
 ghost use Rattle.toml.specs.View.{view, items_view, table_view};
-ghost use Rattle.cip_module.specs.Config.{has_number, has_instance};
+ghost use Rattle.cip_config.specs.Config.{has_number, has_instance};
 ghost use Rattle.cip_topology.specs.Nodes.{is_at};
 ghost use Rattle.cip_topology.specs.Seats.{is_seated};
 ghost use Rattle.cip_topology.specs.PortTables.{new_number, link_from, link_named, port_on, port_of_table, port_of, ports_after, right_ports, ports_at, new_instance, assembly_of_table, assembly_of, assemblies_after, at_most, assemblies_at};
@@ -16,7 +16,7 @@ use crate::place::Place;
 use crate::seats::Seats;
 use crate::values::{address, items, number, table_of, text};
 use cip_base::{Address, MAX_ASSEMBLIES, MAX_PORTS, PortNumber};
-use cip_module::{ModuleKind, PortConfig, is_legal};
+use cip_config::{ModuleKind, PortConfig, is_legal};
 use cip_target::AssemblyConfig;
 use std::alloc::Global;
 use toml::{Table, Value};

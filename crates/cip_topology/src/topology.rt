@@ -2,7 +2,7 @@
 ghost use Rattle.std.specs.Prelude.{◌≡◌, ◌↔◌, IfOk, IsTrue, option_map, slice_get, position, find};
 ghost use Rattle.std.specs.Option.{option_copied};
 ghost use Rattle.std.specs.Str.{bytes_eq};
-ghost use Rattle.cip_module.specs.Config.{has_number};
+ghost use Rattle.cip_config.specs.Config.{has_number};
 ghost use Rattle.cip_topology.specs.Plan.{IsTopology};
 ghost use Rattle.cip_topology.specs.Nodes.{own_port, node, across};
 ghost use Rattle.cip_topology.specs.Seats.{IsIndexOf};
@@ -11,7 +11,7 @@ ghost use Rattle.cip_topology.specs.Ways.{way_of};
 use crate::links::Link;
 use crate::seats::Seats;
 use cip_base::{Address, ModuleId, NoMemory, PortNumber};
-use cip_module::{LegalAddresses, ModuleConfig, PortConfig};
+use cip_config::{LegalAddresses, ModuleConfig, PortConfig};
 use std::alloc::Global;
 use std::marker::Model;
 

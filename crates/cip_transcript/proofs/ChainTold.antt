@@ -12,7 +12,7 @@ use Rattle.cip_hops.specs.declared.hop.Hop.{Hop}
 use Rattle.cip_hops.specs.declared.opening.HopDown.{HopDown}
 use Rattle.cip_hops.specs.declared.opening.HopDown.TheVariants.{Link as DownLink, End}
 use Rattle.cip_hops.specs.Hops.{as_hop, hop_at, hop_by_op, is_hop_by_op}
-use Rattle.cip_module.specs.declared.config.ModuleSettings.{ModuleSettings}
+use Rattle.cip_config.specs.declared.config.ModuleSettings.{ModuleSettings}
 use Rattle.cip_module.specs.State.{State}
 use Rattle.cip_module.proofs.Found.{found_own}
 use Rattle.cip_laws.proofs.Triads.{own_triads}

@@ -5,19 +5,19 @@ use Rattle.hex.specs.Hex.{encode_upper}
 use Rattle.cip_base.specs.declared.numbers.ModuleId.{ModuleId}
 use Rattle.cip_base.specs.declared.triad.Triad.{Triad}
 use Rattle.cip_chain.specs.declared.chains.ChainFault.TheVariants as chains
-use Rattle.cip_module.specs.declared.event.Body.{Body}
-use Rattle.cip_module.specs.declared.event.Body.TheVariants.{Request, Reply, Data}
-use Rattle.cip_module.specs.declared.event.Command.{Command}
-use Rattle.cip_module.specs.declared.event.Command.TheVariants as commands
-use Rattle.cip_module.specs.declared.event.Output.{Output}
-use Rattle.cip_module.specs.declared.event.Output.TheVariants.{Send, Done, Refused, Consumed}
-use Rattle.cip_module.specs.declared.event.Output.TheVariants.{Arrived, Expired, Dropped}
-use Rattle.cip_module.specs.declared.event.Refused.{Refused as Refusal}
-use Rattle.cip_module.specs.declared.event.Refused.TheVariants.{OpUsed, NotOpen, WrongSize}
-use Rattle.cip_module.specs.declared.event.Refused.TheVariants.{ReservedService, NoInstance}
-use Rattle.cip_module.specs.declared.event.Dropped.{Dropped as Drop}
-use Rattle.cip_module.specs.declared.event.Dropped.TheVariants.{Malformed, Late, UnknownId}
-use Rattle.cip_module.specs.declared.event.Dropped.TheVariants as dropped
+use Rattle.cip_event.specs.declared.event.Body.{Body}
+use Rattle.cip_event.specs.declared.event.Body.TheVariants.{Request, Reply, Data}
+use Rattle.cip_event.specs.declared.event.Command.{Command}
+use Rattle.cip_event.specs.declared.event.Command.TheVariants as commands
+use Rattle.cip_event.specs.declared.event.Output.{Output}
+use Rattle.cip_event.specs.declared.event.Output.TheVariants.{Send, Done, Refused, Consumed}
+use Rattle.cip_event.specs.declared.event.Output.TheVariants.{Arrived, Expired, Dropped}
+use Rattle.cip_event.specs.declared.event.Refused.{Refused as Refusal}
+use Rattle.cip_event.specs.declared.event.Refused.TheVariants.{OpUsed, NotOpen, WrongSize}
+use Rattle.cip_event.specs.declared.event.Refused.TheVariants.{ReservedService, NoInstance}
+use Rattle.cip_event.specs.declared.event.Dropped.{Dropped as Drop}
+use Rattle.cip_event.specs.declared.event.Dropped.TheVariants.{Malformed, Late, UnknownId}
+use Rattle.cip_event.specs.declared.event.Dropped.TheVariants as dropped
 use Rattle.cip_topology.specs.Plan.{Plan}
 use Rattle.cip_world.specs.declared.journal.FrameName.{FrameName}
 use Rattle.cip_world.specs.declared.journal.Input.{Input}

@@ -9,8 +9,8 @@ use Rattle.cip_hops.specs.declared.opening.OwnIds.{OwnIds}
 use Rattle.cip_hops.specs.declared.hop.Held.{Held}
 use Rattle.cip_hops.specs.Hops.{opening_of, ids_of}
 use Rattle.cip_target.specs.declared.link.EndLink.{EndLink}
-use Rattle.cip_module.specs.declared.config.ModuleSettings.{ModuleSettings}
-use Rattle.cip_module.specs.declared.event.Event.{Event}
+use Rattle.cip_config.specs.declared.config.ModuleSettings.{ModuleSettings}
+use Rattle.cip_event.specs.declared.event.Event.{Event}
 use Rattle.cip_laws.specs.Births.{opened_by, or_else, first_opened, Past, IsBirth}
 use Rattle.cip_module.specs.Effects.{Effect, Sending, Begins, Accepts}
 use Rattle.cip_laws.specs.Histories.{Turn, state_after, IsHistory}

@@ -23,17 +23,17 @@ use Rattle.cip_hops.specs.declared.hop.Side.TheVariants.{Down}
 use Rattle.cip_hops.specs.Sides.{up_is}
 use Rattle.cip_hops.specs.Hops.{as_hop, is_hop, is_id, is_hop_by_up, hop_by_up, hop_by_op}
 use Rattle.cip_hops.proofs.Steps.{triads_apart}
-use Rattle.cip_module.specs.declared.config.ModuleSettings.{ModuleSettings}
-use Rattle.cip_module.specs.declared.command.rows.CommandRow.TheVariants as rows
-use Rattle.cip_module.specs.declared.event.Body.{Body}
-use Rattle.cip_module.specs.declared.event.Body.TheVariants as bodies
-use Rattle.cip_module.specs.declared.event.Command.TheVariants as commands
-use Rattle.cip_module.specs.declared.event.Event.TheVariants as events
-use Rattle.cip_module.specs.declared.event.Output.{Output}
-use Rattle.cip_module.specs.declared.event.Output.TheVariants as outputs
-use Rattle.cip_module.specs.declared.event.Refused.TheVariants as refused
+use Rattle.cip_config.specs.declared.config.ModuleSettings.{ModuleSettings}
+use Rattle.cip_module.specs.CommandRows as rows
+use Rattle.cip_event.specs.declared.event.Body.{Body}
+use Rattle.cip_event.specs.declared.event.Body.TheVariants as bodies
+use Rattle.cip_event.specs.declared.event.Command.TheVariants as commands
+use Rattle.cip_event.specs.declared.event.Event.TheVariants as events
+use Rattle.cip_event.specs.declared.event.Output.{Output}
+use Rattle.cip_event.specs.declared.event.Output.TheVariants as outputs
+use Rattle.cip_event.specs.declared.event.Refused.TheVariants as refused
 use Rattle.cip_laws.specs.Changes.{SameCore}
-use Rattle.cip_module.specs.Config.{port_of}
+use Rattle.cip_config.specs.Config.{port_of}
 use Rattle.cip_module.specs.Effects.{outputs_of, datum_down, datum_by}
 use Rattle.cip_module.specs.State.{State}
 use Rattle.cip_module.specs.Table.{refused_effects, entered_effects, enter_effects, table_step}

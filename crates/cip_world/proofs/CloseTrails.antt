@@ -3,11 +3,11 @@ use Rattle.std.proofs.Common.{◌≡◌, ℕ, true, false, List, [], ◌∷◌, 
 use Rattle.std.specs.List.{list_any}
 use Rattle.cip_base.specs.declared.numbers.ModuleId.{ModuleId}
 use Rattle.cip_base.specs.declared.timing.Timing.{Timing}
-use Rattle.cip_module.specs.declared.event.Command.{Command}
-use Rattle.cip_module.specs.declared.event.Command.TheVariants as commands
-use Rattle.cip_module.specs.declared.event.Event.TheVariants as events
-use Rattle.cip_module.specs.declared.event.Output.{Output}
-use Rattle.cip_module.specs.declared.event.Output.TheVariants as outputs
+use Rattle.cip_event.specs.declared.event.Command.{Command}
+use Rattle.cip_event.specs.declared.event.Command.TheVariants as commands
+use Rattle.cip_event.specs.declared.event.Event.TheVariants as events
+use Rattle.cip_event.specs.declared.event.Output.{Output}
+use Rattle.cip_event.specs.declared.event.Output.TheVariants as outputs
 use Rattle.cip_topology.specs.Plan.{Plan}
 use Rattle.cip_world.specs.declared.journal.Entry.TheVariants.{Step}
 use Rattle.cip_world.specs.declared.journal.Input.TheVariants as inputs

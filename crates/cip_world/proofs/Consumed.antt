@@ -16,9 +16,9 @@ use Rattle.cip_hops.specs.Sides.{up_is_link}
 use Rattle.cip_hops.specs.Hops.{is_hop_by_op}
 use Rattle.cip_target.specs.ApplicationPath.{application_of}
 use Rattle.cip_target.specs.declared.link.EndLink.{EndLink}
-use Rattle.cip_module.specs.declared.event.Command.TheVariants as commands
-use Rattle.cip_module.specs.declared.event.Output.{Output}
-use Rattle.cip_module.specs.declared.event.Output.TheVariants as outputs
+use Rattle.cip_event.specs.declared.event.Command.TheVariants as commands
+use Rattle.cip_event.specs.declared.event.Output.{Output}
+use Rattle.cip_event.specs.declared.event.Output.TheVariants as outputs
 use Rattle.cip_laws.specs.Outputs.{is_datum, DatumOf, GoesUp, Arrives, GoesDown, IsConsumed}
 use Rattle.cip_laws.specs.Histories.{IsHistory}
 use Rattle.cip_module.specs.State.{State}

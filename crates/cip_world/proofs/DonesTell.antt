@@ -9,12 +9,12 @@ use Rattle.cip_message.specs.Reply.{Reply}
 use Rattle.cip_message.proofs.Failures.{failure_back}
 use Rattle.cip_open.specs.Open.{Open}
 use Rattle.cip_pending.specs.declared.entry.UpSide.TheVariants.{Local}
-use Rattle.cip_module.specs.declared.event.Body.TheVariants as bodies
-use Rattle.cip_module.specs.declared.event.Command.{Command}
-use Rattle.cip_module.specs.declared.event.Command.TheVariants as commands
-use Rattle.cip_module.specs.declared.event.Event.{Event}
-use Rattle.cip_module.specs.declared.event.Event.TheVariants as events
-use Rattle.cip_module.specs.declared.event.Output.TheVariants as outputs
+use Rattle.cip_event.specs.declared.event.Body.TheVariants as bodies
+use Rattle.cip_event.specs.declared.event.Command.{Command}
+use Rattle.cip_event.specs.declared.event.Command.TheVariants as commands
+use Rattle.cip_event.specs.declared.event.Event.{Event}
+use Rattle.cip_event.specs.declared.event.Event.TheVariants as events
+use Rattle.cip_event.specs.declared.event.Output.TheVariants as outputs
 use Rattle.cip_laws.specs.Births.{Past}
 use Rattle.cip_laws.specs.Histories.{Turn}
 use Rattle.cip_module.specs.Table.{open_of, sent, words_of}

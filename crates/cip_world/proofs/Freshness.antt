@@ -2,7 +2,7 @@
 use Rattle.std.proofs.Common.{◌≡◌, ℕ, zero, suc, ◌≤◌, Bool, List, [], ◌∷◌, length, map, take, Result, Ok, Err, Some, refl, sym, ap, subst, ◌∙◌, arith}
 use Rattle.std.specs.Prelude.{slice_get, IfOk, ◌↔◌, IsTrue}
 use Rattle.std.proofs.lemmas.List.{length-map}
-use Rattle.cip_module.specs.declared.config.ModuleSettings.{ModuleSettings}
+use Rattle.cip_config.specs.declared.config.ModuleSettings.{ModuleSettings}
 use Rattle.cip_module.specs.declared.tables.Tables.{Tables}
 use Rattle.cip_module.specs.Paired.{IsPaired}
 use Rattle.cip_module.specs.Rooms.{HasRooms}

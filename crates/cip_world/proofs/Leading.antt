@@ -13,10 +13,10 @@ use Rattle.cip_hops.specs.Hops.{opening_of, ids_of}
 use Rattle.cip_target.specs.declared.link.EndLink.{EndLink}
 use Rattle.cip_target.specs.Ends.{HasPoints}
 use Rattle.cip_target.proofs.EndPoints.{end_points}
-use Rattle.cip_module.specs.declared.config.ModuleSettings.{ModuleSettings}
-use Rattle.cip_module.specs.declared.config.PortConfig.{PortConfig}
-use Rattle.cip_module.specs.declared.event.Event.{Event}
-use Rattle.cip_module.specs.Config.{port_of}
+use Rattle.cip_config.specs.declared.config.ModuleSettings.{ModuleSettings}
+use Rattle.cip_config.specs.declared.config.PortConfig.{PortConfig}
+use Rattle.cip_event.specs.declared.event.Event.{Event}
+use Rattle.cip_config.specs.Config.{port_of}
 use Rattle.cip_laws.specs.Histories.{Turn, state_after, IsHistory}
 use Rattle.cip_module.specs.OpenRows.{is_consumed}
 use Rattle.cip_module.specs.State.{State}

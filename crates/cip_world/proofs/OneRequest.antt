@@ -15,9 +15,9 @@ use Rattle.cip_hops.specs.declared.opening.HopDown.{HopDown}
 use Rattle.cip_hops.specs.declared.opening.HopDown.TheVariants.{Link as DownLink, End}
 use Rattle.cip_hops.specs.Hops.{hop_at}
 use Rattle.cip_target.specs.Objects.{target_answer}
-use Rattle.cip_module.specs.declared.config.ModuleSettings.{ModuleSettings}
-use Rattle.cip_module.specs.declared.event.Event.{Event}
-use Rattle.cip_module.specs.declared.event.Output.{Output}
+use Rattle.cip_config.specs.declared.config.ModuleSettings.{ModuleSettings}
+use Rattle.cip_event.specs.declared.event.Event.{Event}
+use Rattle.cip_event.specs.declared.event.Output.{Output}
 use Rattle.cip_laws.specs.EffectLists.{gain, IsLight, IsBounded}
 use Rattle.cip_module.specs.Effects.{Effect, Replies, Answers, Forwards, Begins, Finishes, Takes, PendingTimesOut, Passes, objects_of, reply_up, replied, timed_out_reply, timed_out_bytes, succeeded, datum_up, datum_down, passed, apply, output_of, outputs_of}
 use Rattle.cip_module.specs.State.{State}

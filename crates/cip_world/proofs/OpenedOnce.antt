@@ -5,14 +5,14 @@ use Rattle.cip_base.specs.declared.timing.Timing.{Timing}
 use Rattle.cip_hops.specs.declared.opening.HopUp.TheVariants.{Local as UpLocal}
 use Rattle.cip_pending.specs.declared.entry.UpSide.TheVariants.{Local}
 use Rattle.cip_open.specs.Open.{Open as OpenRequest}
-use Rattle.cip_module.specs.declared.config.ModuleSettings.{ModuleSettings}
-use Rattle.cip_module.specs.declared.command.rows.CommandRow.TheVariants as rows
-use Rattle.cip_module.specs.declared.event.Command.TheVariants as commands
-use Rattle.cip_module.specs.declared.event.Event.TheVariants as events
-use Rattle.cip_module.specs.declared.event.OpenParams.{OpenParams}
-use Rattle.cip_module.specs.declared.event.Output.{Output}
-use Rattle.cip_module.specs.declared.event.Output.TheVariants as outputs
-use Rattle.cip_module.specs.declared.event.Refused.TheVariants as refused
+use Rattle.cip_config.specs.declared.config.ModuleSettings.{ModuleSettings}
+use Rattle.cip_module.specs.CommandRows as rows
+use Rattle.cip_event.specs.declared.event.Command.TheVariants as commands
+use Rattle.cip_event.specs.declared.event.Event.TheVariants as events
+use Rattle.cip_event.specs.declared.event.OpenParams.{OpenParams}
+use Rattle.cip_event.specs.declared.event.Output.{Output}
+use Rattle.cip_event.specs.declared.event.Output.TheVariants as outputs
+use Rattle.cip_event.specs.declared.event.Refused.TheVariants as refused
 use Rattle.cip_module.specs.Effects.{Effect, Spends, apply, applied, outputs_of}
 use Rattle.cip_laws.specs.Histories.{Turn, state_after, IsHistory}
 use Rattle.cip_module.specs.OpenRows.{open_row}

@@ -24,12 +24,12 @@ use Rattle.cip_pending.specs.declared.entry.Kind.TheVariants.{Unconnected as Unc
 use Rattle.cip_hops.specs.declared.opening.HopUp.{HopUp}
 use Rattle.cip_hops.specs.Hops.{refusal}
 use Rattle.cip_target.specs.declared.link.EndLink.{EndLink}
-use Rattle.cip_module.specs.declared.config.ModuleSettings.{ModuleSettings}
-use Rattle.cip_module.specs.declared.event.Body.TheVariants as bodies
-use Rattle.cip_module.specs.declared.event.Command.TheVariants as commands
-use Rattle.cip_module.specs.declared.event.Event.{Event}
-use Rattle.cip_module.specs.declared.event.Event.TheVariants as events
-use Rattle.cip_module.specs.declared.event.OpenParams.{OpenParams}
+use Rattle.cip_config.specs.declared.config.ModuleSettings.{ModuleSettings}
+use Rattle.cip_event.specs.declared.event.Body.TheVariants as bodies
+use Rattle.cip_event.specs.declared.event.Command.TheVariants as commands
+use Rattle.cip_event.specs.declared.event.Event.{Event}
+use Rattle.cip_event.specs.declared.event.Event.TheVariants as events
+use Rattle.cip_event.specs.declared.event.OpenParams.{OpenParams}
 use Rattle.cip_module.specs.declared.refusals.KeyPart.{KeyPart}
 use Rattle.cip_module.specs.declared.refusals.LinkRefusal.{LinkRefusal}
 use Rattle.cip_module.specs.declared.refusals.OpenRefusal.{OpenRefusal}

@@ -21,13 +21,13 @@ use Rattle.cip_hops.specs.declared.hop.Held.TheVariants.{Opening as IsOpening, O
 use Rattle.cip_hops.specs.declared.hop.Side.TheVariants.{Up, Down}
 use Rattle.cip_hops.specs.Hops.{opening_of, hop_at, triad_of}
 use Rattle.cip_hops.proofs.Steps.{triads_apart}
-use Rattle.cip_module.specs.declared.config.ModuleSettings.{ModuleSettings}
-use Rattle.cip_module.specs.declared.event.Body.{Body}
-use Rattle.cip_module.specs.declared.event.Body.TheVariants as bodies
-use Rattle.cip_module.specs.declared.event.Command.TheVariants as commands
-use Rattle.cip_module.specs.declared.event.Event.TheVariants as events
-use Rattle.cip_module.specs.declared.event.Output.{Output}
-use Rattle.cip_module.specs.declared.event.Output.TheVariants as outputs
+use Rattle.cip_config.specs.declared.config.ModuleSettings.{ModuleSettings}
+use Rattle.cip_event.specs.declared.event.Body.{Body}
+use Rattle.cip_event.specs.declared.event.Body.TheVariants as bodies
+use Rattle.cip_event.specs.declared.event.Command.TheVariants as commands
+use Rattle.cip_event.specs.declared.event.Event.TheVariants as events
+use Rattle.cip_event.specs.declared.event.Output.{Output}
+use Rattle.cip_event.specs.declared.event.Output.TheVariants as outputs
 use Rattle.cip_laws.specs.EffectLists.{HasStood}
 use Rattle.cip_module.specs.Effects.{Effect, Passes, Counts, datum_up, passed, apply, applied, outputs_of}
 use Rattle.cip_module.specs.Produced.{reads_from, next_count, made_effects, held_effects, each_effects}

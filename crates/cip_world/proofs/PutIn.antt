@@ -6,11 +6,11 @@ use Rattle.cip_pending.specs.declared.entry.Entry.{Entry}
 use Rattle.cip_pending.specs.declared.entry.Kind.{Kind}
 use Rattle.cip_pending.specs.declared.entry.Kind.TheVariants.{Opening as OpeningKind}
 use Rattle.cip_hops.specs.declared.opening.Opening.{Opening}
-use Rattle.cip_module.specs.declared.config.ModuleSettings.{ModuleSettings}
-use Rattle.cip_module.specs.declared.event.Body.TheVariants as bodies
-use Rattle.cip_module.specs.declared.event.Event.{Event}
-use Rattle.cip_module.specs.declared.event.Output.{Output}
-use Rattle.cip_module.specs.declared.event.Output.TheVariants as outputs
+use Rattle.cip_config.specs.declared.config.ModuleSettings.{ModuleSettings}
+use Rattle.cip_event.specs.declared.event.Body.TheVariants as bodies
+use Rattle.cip_event.specs.declared.event.Event.{Event}
+use Rattle.cip_event.specs.declared.event.Output.{Output}
+use Rattle.cip_event.specs.declared.event.Output.TheVariants as outputs
 use Rattle.cip_laws.specs.Births.{Past}
 use Rattle.cip_module.specs.Effects.{Sending, Effect, Forwards, Begins, entry_for, apply, output_of, request_below}
 use Rattle.cip_laws.specs.Histories.{Turn, state_after, IsHistory}

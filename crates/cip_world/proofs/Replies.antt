@@ -3,7 +3,7 @@ use Rattle.std.proofs.Common.{◌≡◌, ℕ, ◌+◌, ◌≤◌, true, List, So
 use Rattle.std.specs.FinMap as map
 use Rattle.cip_pending.specs.declared.entry.Entry as entries
 use Rattle.cip_pending.specs.declared.entry.UpSide.TheVariants.{Link}
-use Rattle.cip_module.specs.declared.config.ModuleSettings.{ModuleSettings}
+use Rattle.cip_config.specs.declared.config.ModuleSettings.{ModuleSettings}
 use Rattle.cip_laws.specs.Weights.{same_up, is_reply, is_asked_by, weight, came}
 use Rattle.cip_laws.proofs.Claims.{waits_for}
 use Rattle.cip_laws.proofs.OneReply.{claims, waits_counted}

@@ -28,11 +28,11 @@ use Rattle.cip_target.specs.Object.{attribute_in, with_attribute, instance_in, o
 use Rattle.cip_target.specs.Objects.{Objects, answer_bytes}
 use Rattle.cip_target.specs.Rows.{target_row, path_row, answer_of, reply_service}
 use Rattle.cip_message.specs.Reply.{reply_bytes}
-use Rattle.cip_module.specs.declared.config.ModuleSettings.{ModuleSettings}
-use Rattle.cip_module.specs.declared.event.Body.TheVariants as bodies
-use Rattle.cip_module.specs.declared.event.Command.TheVariants as commands
-use Rattle.cip_module.specs.declared.event.Event.{Event}
-use Rattle.cip_module.specs.declared.event.Event.TheVariants as events
+use Rattle.cip_config.specs.declared.config.ModuleSettings.{ModuleSettings}
+use Rattle.cip_event.specs.declared.event.Body.TheVariants as bodies
+use Rattle.cip_event.specs.declared.event.Command.TheVariants as commands
+use Rattle.cip_event.specs.declared.event.Event.{Event}
+use Rattle.cip_event.specs.declared.event.Event.TheVariants as events
 use Rattle.cip_module.specs.declared.refusals.RequestRefusal.{RequestRefusal}
 use Rattle.cip_module.specs.declared.refusals.RequestRefusal.TheVariants.{PathFormNotSupported}
 use Rattle.cip_module.specs.Answers.{failure_bytes, unconnected_failed}

@@ -2,9 +2,9 @@
 use Rattle.std.proofs.Common.{◌≡◌, ◌≢◌, ℕ, zero, suc, true, false, cond, List, [], ◌∷◌, length, Option, Some, refl, sym, ap, subst, ◌∙◌, eqb, slice_get, slice_set}
 use Rattle.std.proofs.lemmas.Bool.{eqb-true, eq-eqb, ne_eqb}
 use Rattle.cip_base.specs.declared.numbers.ModuleId.{ModuleId}
-use Rattle.cip_module.specs.declared.config.ModuleSettings.{ModuleSettings}
-use Rattle.cip_module.specs.declared.event.Event.{Event}
-use Rattle.cip_module.specs.declared.event.Output.{Output}
+use Rattle.cip_config.specs.declared.config.ModuleSettings.{ModuleSettings}
+use Rattle.cip_event.specs.declared.event.Event.{Event}
+use Rattle.cip_event.specs.declared.event.Output.{Output}
 use Rattle.cip_laws.specs.Histories.{Turn, stepped, state_after}
 use Rattle.cip_module.specs.State.{State}
 use Rattle.cip_module.specs.Table.{Stepped, table_step}

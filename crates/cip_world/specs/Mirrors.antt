@@ -6,7 +6,7 @@ use Rattle.cip_segment.specs.Reading.{HopAt, hop_of}
 use Rattle.cip_hops.specs.declared.hop.Hop.{Hop}
 use Rattle.cip_hops.specs.declared.hop.Held.TheVariants.{Open}
 use Rattle.cip_hops.specs.declared.opening.HopUp.TheVariants.{Link as UpLink}
-use Rattle.cip_module.specs.declared.config.ModuleSettings.{ModuleSettings}
+use Rattle.cip_config.specs.declared.config.ModuleSettings.{ModuleSettings}
 use Rattle.cip_topology.specs.Plan.{Plan}
 use Rattle.cip_topology.specs.Nodes.{Way, across}
 use Rattle.cip_world.specs.Journals.{Journal}

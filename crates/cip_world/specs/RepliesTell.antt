@@ -2,11 +2,11 @@
 use Rattle.std.specs.Prelude.{◌≡◌, ℕ, ◌≤◌}
 use Rattle.cip_base.specs.Words.{LinkAddress, Octets, OpNumber, PortIdentifier, RequestNumber}
 use Rattle.cip_pending.specs.declared.entry.UpSide.TheVariants.{Link, Local}
-use Rattle.cip_module.specs.declared.config.ModuleSettings.{ModuleSettings}
-use Rattle.cip_module.specs.declared.event.Body.TheVariants as bodies
-use Rattle.cip_module.specs.declared.event.Dropped.TheVariants as dropped
-use Rattle.cip_module.specs.declared.event.Event.TheVariants as events
-use Rattle.cip_module.specs.declared.event.Output.TheVariants as outputs
+use Rattle.cip_config.specs.declared.config.ModuleSettings.{ModuleSettings}
+use Rattle.cip_event.specs.declared.event.Body.TheVariants as bodies
+use Rattle.cip_event.specs.declared.event.Dropped.TheVariants as dropped
+use Rattle.cip_event.specs.declared.event.Event.TheVariants as events
+use Rattle.cip_event.specs.declared.event.Output.TheVariants as outputs
 use Rattle.cip_laws.specs.Weights.{is_reply, is_asked_by, weight, came}
 use Rattle.cip_laws.specs.Turns.{Has}
 use Rattle.cip_topology.specs.Plan.{Plan}

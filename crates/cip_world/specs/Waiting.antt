@@ -1,6 +1,6 @@
 -- The frames that wait, as a list in rising name.
 use Rattle.std.specs.Prelude.{ℕ, List, [], ◌∷◌, Option, Some, None, Bool, true, false, not, ◌+◌, ◌++◌, filter, length, is_some}
-use Rattle.cip_module.specs.declared.event.Output.{Output}
+use Rattle.cip_event.specs.declared.event.Output.{Output}
 use Rattle.cip_topology.specs.Plan.{Plan}
 use Rattle.cip_topology.specs.Nodes.{across}
 use Rattle.cip_world.specs.declared.journal.FrameName.{FrameName}

@@ -21,7 +21,7 @@ pub struct Outputs {
 
 impl Model for Outputs {
     ghost use Rattle.std.specs.Prelude.{List};
-    ghost use Rattle.cip_module.specs.declared.event.Output.{Output};
+    ghost use Rattle.cip_event.specs.declared.event.Output.{Output};
 
     ghost Value = { List Output };
 

@@ -11,12 +11,12 @@ ghost use Rattle.cip_hops.specs.declared.opening.HopDown.TheVariants.{Link as Do
 ghost use Rattle.cip_open.specs.Open.{Open as OpenRequest};
 ghost use Rattle.cip_pending.specs.declared.entry.Entry.{Entry as Pending};
 ghost use Rattle.cip_pending.specs.declared.entry.UpSide.TheVariants.{Link};
-ghost use Rattle.cip_module.specs.declared.config.ModuleSettings.{ModuleSettings as Settings};
-ghost use Rattle.cip_module.specs.declared.event.Body.TheVariants.{Reply};
-ghost use Rattle.cip_module.specs.declared.event.Command.TheVariants.{Close};
-ghost use Rattle.cip_module.specs.declared.event.Event.TheVariants as events;
-ghost use Rattle.cip_module.specs.declared.event.Output.{Output as Sent};
-ghost use Rattle.cip_module.specs.declared.event.Output.TheVariants.{Arrived, Consumed};
+ghost use Rattle.cip_config.specs.declared.config.ModuleSettings.{ModuleSettings as Settings};
+ghost use Rattle.cip_event.specs.declared.event.Body.TheVariants.{Reply};
+ghost use Rattle.cip_event.specs.declared.event.Command.TheVariants.{Close};
+ghost use Rattle.cip_event.specs.declared.event.Event.TheVariants as events;
+ghost use Rattle.cip_event.specs.declared.event.Output.{Output as Sent};
+ghost use Rattle.cip_event.specs.declared.event.Output.TheVariants.{Arrived, Consumed};
 ghost use Rattle.cip_laws.specs.Histories.{IsHistory};
 ghost use Rattle.cip_laws.specs.Weights.{same_up, is_reply, is_asked_by, weight, came};
 ghost use Rattle.cip_topology.specs.Plan.{Plan, IsTopology};

@@ -1,9 +1,9 @@
 //! The world: modules in boxes, and the journal of what they did.
 ghost use Rattle.std.specs.Prelude.{◌≡◌, ◌∷◌, ◌↔◌, ◌⊎◌, ◌≤◌, ◌<◌, [], true, Err, length, map, reverse, vec_len, IfOk, IfErr, IsTrue, OnOk, OnErr};
-ghost use Rattle.cip_module.specs.declared.event.Event.TheVariants as events;
-ghost use Rattle.std.specs.Option.{option_copied};
+ghost use Rattle.cip_event.specs.declared.event.Event.TheVariants as events;
+ghost use Rattle.std.specs.Option.{option_map};
 ghost use Rattle.cip_hops.specs.Hops.{hop_by_op, hop_by_up};
-ghost use Rattle.cip_module.specs.Views.{ShowsState};
+ghost use Rattle.cip_module.specs.Views.{ShowsState, hop_row_of};
 ghost use Rattle.cip_world.specs.declared.journal.Input.TheVariants as inputs;
 ghost use Rattle.cip_world.specs.Runs.{IsGiven, IsRun, IsWaiting, state_in};
 ghost use Rattle.cip_world.specs.Waiting.{waiting};
@@ -17,8 +17,7 @@ use crate::ledger::Ledger;
 use crate::step::step_at;
 use cip_base::{Address, ModuleId, Ms, NoMemory, PortNumber};
 use cip_clock::ClockFull;
-use cip_hops::Hop;
-use cip_module::{Command, Event, Module, StepFault, Tables};
+use cip_module::{Command, Event, HopRow, Module, StepFault, Tables};
 use cip_topology::Topology;
 use std::alloc::Global;
 
@@ -347,36 +346,38 @@ impl World {
         Ok(boxed.tables()?)
     }
 
-    /// The connection at a module that a command of this op opened, of which there is at most one;
-    /// None also where the topology has no such module.
-    pub fn hop_by_op(&self, at: ModuleId, op: u32) -> Option<&Hop>
+    /// The row of the connection at a module that a command of this op opened, of which there is at
+    /// most one; None also where the topology has no such module. NoMemory where an allocation is
+    /// refused.
+    pub fn row_by_op(&self, at: ModuleId, op: u32) -> Result<Option<HopRow>, NoMemory>
         requires stand { ⟦<World as Shown>⟧.stands self.now }
-        ensures { option_copied result ≡ looked_up self.now.ledger.plan self.now.ledger.journal
-            at.0 (λ hops. hop_by_op hops op) }
+        ensures { IfOk result (λ row. row ≡ option_map hop_row_of
+            (looked_up self.now.ledger.plan self.now.ledger.journal at.0
+            (λ hops. hop_by_op hops op))) }
     {
         match self.modules.get(at.0) {
-            Some(boxed) => boxed.hop_by_op(op),
-            None => None,
+            Some(boxed) => boxed.row_by_op(op),
+            None => Ok(None),
         }
     }
 
-    /// The connection at a module of which this is the own id towards the originator, on the link
-    /// by this port to this address, of which there is at most one; None also where the topology
-    /// has no such module.
-    pub fn hop_by_up(
+    /// The row of the connection at a module of which this is the own id towards the originator, on
+    /// the link by this port to this address, in the same way.
+    pub fn row_by_up(
         &self,
         at: ModuleId,
         id: u32,
         port: PortNumber,
         address: &Address,
-    ) -> Option<&Hop>
+    ) -> Result<Option<HopRow>, NoMemory>
         requires stand { ⟦<World as Shown>⟧.stands self.now }
-        ensures { option_copied result ≡ looked_up self.now.ledger.plan self.now.ledger.journal
-            at.0 (λ hops. hop_by_up hops id port address.now) }
+        ensures { IfOk result (λ row. row ≡ option_map hop_row_of
+            (looked_up self.now.ledger.plan self.now.ledger.journal at.0
+            (λ hops. hop_by_up hops id port address.now))) }
     {
         match self.modules.get(at.0) {
-            Some(boxed) => boxed.hop_by_up(id, port, address),
-            None => None,
+            Some(boxed) => boxed.row_by_up(id, port, address),
+            None => Ok(None),
         }
     }
 }

@@ -40,20 +40,6 @@ pub fn boxed(alloc: Global, config: &ModuleConfig) -> Option<Box<dyn Module + Se
     }
 }
 
-/// New modules of the topology, in this order.
-pub fn boxes_of(
-    alloc: Global,
-    topology: &Topology,
-    places: &[usize],
-) -> Result<Vec<Box<dyn Module + Send>>, Fail> {
-    let mut modules = Vec::new(alloc);
-    for place in places {
-        let config = topology.configs().get(*place).ok_or("no such module")?;
-        modules.push(boxed(alloc, config).ok_or("no memory")?)?;
-    }
-    Ok(modules)
-}
-
 /// New modules of the topology, in its order.
 pub fn boxes(alloc: Global, topology: &Topology) -> Result<Vec<Box<dyn Module + Send>>, Fail> {
     let mut modules = Vec::new(alloc);

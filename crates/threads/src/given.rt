@@ -57,13 +57,6 @@ pub fn two_scanners(alloc: Global) -> Result<Topology, Fail> {
     topology(alloc, text.as_str())
 }
 
-/// The chassis, in which the scanner's clock has come to its end.
-pub fn late_chassis(alloc: Global) -> Result<Topology, Fail> {
-    let (before, after) = CHASSIS.split_once("first_id = 0x11\n").ok_or("no scanner")?;
-    let text = format!(in alloc; "{before}first_id = 0x11\nclock = 9223372036854775807\n{after}")?;
-    topology(alloc, text.as_str())
-}
-
 /// Sends the request ASKED unconnected through the first bridge to the second.
 pub fn send(alloc: Global) -> Result<Feed, Fail> {
     let path = read_path(alloc, &THROUGH_A_TO_B)?;

@@ -1,7 +1,6 @@
 //! Modules of the tests' own that hold their first step, and hand their calls on.
 use crate::holds::Hold;
-use cip_base::{Address, NoMemory, PortNumber};
-use cip_hops::Hop;
+use cip_base::NoMemory;
 use cip_module::{
     AdapterModule, Event, Module, ModuleConfig, ModuleKind, Output, PlainModule, StepFault, Tables,
 };
@@ -44,14 +43,6 @@ impl Module for HeldPlain {
     fn tables(&self) -> Result<Tables, NoMemory> {
         self.inner.tables()
     }
-
-    fn hop_by_op(&self, op: u32) -> Option<&Hop> {
-        self.inner.hop_by_op(op)
-    }
-
-    fn hop_by_up(&self, id: u32, port: PortNumber, address: &Address) -> Option<&Hop> {
-        self.inner.hop_by_up(id, port, address)
-    }
 }
 
 #[derive(Drop)]
@@ -87,14 +78,6 @@ impl Module for HeldAdapter {
 
     fn tables(&self) -> Result<Tables, NoMemory> {
         self.inner.tables()
-    }
-
-    fn hop_by_op(&self, op: u32) -> Option<&Hop> {
-        self.inner.hop_by_op(op)
-    }
-
-    fn hop_by_up(&self, id: u32, port: PortNumber, address: &Address) -> Option<&Hop> {
-        self.inner.hop_by_up(id, port, address)
     }
 }
 

@@ -1,11 +1,11 @@
 -- It is a run.
 use Rattle.std.proofs.Common.{[], ◌∷◌, refl}
-use Rattle.cip_module.specs.declared.event.Command.TheVariants as commands
-use Rattle.cip_module.specs.declared.event.Event.TheVariants as events
-use Rattle.cip_module.specs.declared.event.Body.TheVariants as bodies
-use Rattle.cip_module.specs.declared.event.Output.TheVariants as outputs
+use Rattle.cip_event.specs.declared.event.Command.TheVariants as commands
+use Rattle.cip_event.specs.declared.event.Event.TheVariants as events
+use Rattle.cip_event.specs.declared.event.Body.TheVariants as bodies
+use Rattle.cip_event.specs.declared.event.Output.TheVariants as outputs
 use Rattle.cip_module.specs.State.{initial_state}
-use Rattle.cip_module.specs.declared.event.Event.{Event}
+use Rattle.cip_event.specs.declared.event.Event.{Event}
 use Rattle.witnesses.specs.Plans.{scanner, adapter, cell, triad, params}
 use Rattle.witnesses.proofs.Maps.{none_waits, none_held, held_get, held_first, held_entries, held_none, pendings_none, bytes_get, entry_get, Gives}
 use Rattle.cip_world.specs.Runs.{IsRun, state_in}

@@ -12,10 +12,10 @@ use Rattle.cip_message.specs.RequestAt.{request_at}
 use Rattle.cip_message.specs.declared.failure.ConnectionFailure.{ConnectionFailure}
 use Rattle.cip_message.specs.declared.fault.DataFault.{DataFault}
 use Rattle.cip_message.proofs.ReadAgain.{ok_reply}
-use Rattle.cip_module.specs.declared.event.Command.TheVariants as commands
-use Rattle.cip_module.specs.declared.event.OpenParams.{OpenParams}
-use Rattle.cip_module.specs.declared.event.Output.{Output}
-use Rattle.cip_module.specs.declared.event.Output.TheVariants as outputs
+use Rattle.cip_event.specs.declared.event.Command.TheVariants as commands
+use Rattle.cip_event.specs.declared.event.OpenParams.{OpenParams}
+use Rattle.cip_event.specs.declared.event.Output.{Output}
+use Rattle.cip_event.specs.declared.event.Output.TheVariants as outputs
 use Rattle.cip_laws.specs.Turns.{Gave}
 use Rattle.cip_open.specs.OpenAt.{open_at}
 use Rattle.cip_segment.specs.Reading.{segments_within, path_at, segments_of, behind, hop_of}

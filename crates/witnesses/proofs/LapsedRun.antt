@@ -4,9 +4,9 @@ use Rattle.std.specs.FinMap as map
 use Rattle.std.specs.Prelude.{slice_get}
 use Rattle.cip_base.proofs.MapCases.{some_same}
 use Rattle.cip_hops.specs.declared.hop.Held.TheVariants.{Open}
-use Rattle.cip_module.specs.declared.config.ModuleSettings.{ModuleSettings}
-use Rattle.cip_module.specs.declared.event.Event.TheVariants as events
-use Rattle.cip_module.specs.declared.event.Output.TheVariants as outputs
+use Rattle.cip_config.specs.declared.config.ModuleSettings.{ModuleSettings}
+use Rattle.cip_event.specs.declared.event.Event.TheVariants as events
+use Rattle.cip_event.specs.declared.event.Output.TheVariants as outputs
 use Rattle.cip_topology.specs.Nodes.{Way, across}
 use Rattle.cip_world.specs.Chains.{HasHop}
 use Rattle.cip_world.specs.Mirrors.{IsOlder, Mirrors, IsMirrored}

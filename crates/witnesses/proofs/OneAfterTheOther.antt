@@ -5,11 +5,11 @@ use Rattle.cip_hops.specs.declared.hop.Held.TheVariants.{Open}
 use Rattle.cip_hops.specs.declared.opening.HopUp.TheVariants.{Link as UpLink}
 use Rattle.cip_hops.specs.declared.opening.HopDown.TheVariants.{End}
 use Rattle.cip_target.specs.Assemblies.{AssemblyMap}
-use Rattle.cip_module.specs.declared.event.Command.TheVariants as commands
-use Rattle.cip_module.specs.declared.event.Event.TheVariants as events
-use Rattle.cip_module.specs.declared.event.Body.TheVariants as bodies
-use Rattle.cip_module.specs.declared.event.Output.TheVariants as outputs
-use Rattle.cip_module.specs.declared.event.Dropped.TheVariants.{UnknownId}
+use Rattle.cip_event.specs.declared.event.Command.TheVariants as commands
+use Rattle.cip_event.specs.declared.event.Event.TheVariants as events
+use Rattle.cip_event.specs.declared.event.Body.TheVariants as bodies
+use Rattle.cip_event.specs.declared.event.Output.TheVariants as outputs
+use Rattle.cip_event.specs.declared.event.Dropped.TheVariants.{UnknownId}
 use Rattle.cip_module.specs.State.{State, initial_state}
 use Rattle.cip_world.specs.Runs.{IsRun, state_in}
 use Rattle.witnesses.specs.Plans.{scanner, adapter, cell, triad, params}

@@ -1,10 +1,10 @@
 -- Two connections of one triad, one after the other: the datum of the first, which comes late, is
 -- no datum of the second.
 use Rattle.std.specs.Prelude.{ℕ, List, [], ◌∷◌}
-use Rattle.cip_module.specs.declared.event.Command.TheVariants as commands
-use Rattle.cip_module.specs.declared.event.Body.TheVariants as bodies
-use Rattle.cip_module.specs.declared.event.Output.TheVariants as outputs
-use Rattle.cip_module.specs.declared.event.Dropped.TheVariants.{UnknownId}
+use Rattle.cip_event.specs.declared.event.Command.TheVariants as commands
+use Rattle.cip_event.specs.declared.event.Body.TheVariants as bodies
+use Rattle.cip_event.specs.declared.event.Output.TheVariants as outputs
+use Rattle.cip_event.specs.declared.event.Dropped.TheVariants.{UnknownId}
 use Rattle.cip_world.specs.declared.journal.Input.TheVariants.{Command, Frame}
 use Rattle.cip_world.specs.declared.journal.Entry.TheVariants.{Step}
 use Rattle.cip_world.specs.Journals.{Journal}

@@ -2,12 +2,12 @@
 use Rattle.std.specs.Prelude.{ℕ, zero, suc, List, [], ◌∷◌}
 use Rattle.cip_base.specs.declared.triad.Triad.{Triad}
 use Rattle.cip_target.specs.declared.identity.IdentityFields.{IdentityFields}
-use Rattle.cip_module.specs.declared.config.ModuleSettings.{ModuleSettings}
-use Rattle.cip_module.specs.declared.config.ModuleKind.TheVariants.{Plain, Adapter}
-use Rattle.cip_module.specs.declared.config.PortConfig.{PortConfig}
-use Rattle.cip_module.specs.declared.config.LegalAddresses.{LegalAddresses}
-use Rattle.cip_module.specs.declared.config.LegalAddresses.TheVariants.{Byte}
-use Rattle.cip_module.specs.declared.event.OpenParams.{OpenParams}
+use Rattle.cip_config.specs.declared.config.ModuleSettings.{ModuleSettings}
+use Rattle.cip_config.specs.declared.config.ModuleKind.TheVariants.{Plain, Adapter}
+use Rattle.cip_config.specs.declared.config.PortConfig.{PortConfig}
+use Rattle.cip_config.specs.declared.config.LegalAddresses.{LegalAddresses}
+use Rattle.cip_config.specs.declared.config.LegalAddresses.TheVariants.{Byte}
+use Rattle.cip_event.specs.declared.event.OpenParams.{OpenParams}
 use Rattle.cip_topology.specs.Plan.{Plan}
 use Rattle.cip_topology.specs.declared.links.Link.{Link}
 use Rattle.cip_world.specs.declared.journal.FrameName.{FrameName}

@@ -2,10 +2,10 @@
 use Rattle.std.specs.Prelude.{◌≡◌, ℕ, List}
 use Rattle.cip_base.specs.Words.{InstanceNumber, LinkAddress, Octets, OpNumber, PortIdentifier, RequestNumber}
 use Rattle.cip_base.specs.declared.triad.Triad.{Triad}
-use Rattle.cip_module.specs.declared.event.Body.TheVariants as bodies
-use Rattle.cip_module.specs.declared.event.Dropped.TheVariants.{Late}
-use Rattle.cip_module.specs.declared.event.Event.TheVariants as events
-use Rattle.cip_module.specs.declared.event.Output.TheVariants as outputs
+use Rattle.cip_event.specs.declared.event.Body.TheVariants as bodies
+use Rattle.cip_event.specs.declared.event.Dropped.TheVariants.{Late}
+use Rattle.cip_event.specs.declared.event.Event.TheVariants as events
+use Rattle.cip_event.specs.declared.event.Output.TheVariants as outputs
 use Rattle.cip_laws.specs.Turns.{Has}
 use Rattle.cip_topology.specs.Plan.{Plan}
 use Rattle.cip_world.specs.Entering.{ArrivedOf, ConsumedOf}

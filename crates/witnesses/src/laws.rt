@@ -2,9 +2,9 @@
 ghost use Rattle.std.specs.Prelude.{◌≡◌, [], ◌∷◌, Some, None};
 ghost use Rattle.std.specs.FinMap as map;
 ghost use Rattle.cip_pending.specs.declared.entry.UpSide.TheVariants.{Link};
-ghost use Rattle.cip_module.specs.declared.event.Body.TheVariants.{Request};
-ghost use Rattle.cip_module.specs.declared.event.Command.TheVariants.{Close};
-ghost use Rattle.cip_module.specs.declared.event.Output.TheVariants.{Arrived, Consumed, Done, Send};
+ghost use Rattle.cip_event.specs.declared.event.Body.TheVariants.{Request};
+ghost use Rattle.cip_event.specs.declared.event.Command.TheVariants.{Close};
+ghost use Rattle.cip_event.specs.declared.event.Output.TheVariants.{Arrived, Consumed, Done, Send};
 ghost use Rattle.cip_laws.specs.Turns.{Gave};
 ghost use Rattle.cip_laws.specs.Weights.{is_reply, weight};
 ghost use Rattle.cip_topology.specs.Plan.{IsTopology};

@@ -6,7 +6,6 @@ use cip_module::Module;
 use cip_topology::{CHASSIS, Topology, load};
 use cip_world::{Shown, World};
 use std::alloc::Global;
-use test_harness::modules_at;
 
 /// The topology of a text.
 pub fn topology(alloc: Global, text: &str) -> Option<Topology> {
@@ -31,18 +30,6 @@ pub fn put_boxes(modules: &mut Vec<Box<dyn Module + Send>>, made: Vec<NewModule>
         }
     }
     Some(())
-}
-
-/// New modules of the topology, in this order.
-pub fn boxes_at(
-    alloc: Global,
-    topology: &Topology,
-    places: &[usize],
-) -> Option<Vec<Box<dyn Module + Send>>> {
-    let made = modules_at(alloc, topology.configs(), places)?;
-    let mut modules = Vec::new(alloc);
-    put_boxes(&mut modules, made)?;
-    Some(modules)
 }
 
 /// New modules of the topology, in its order.

@@ -3,9 +3,9 @@ ghost use Rattle.std.specs.Prelude.{IfSome};
 
 use crate::boxes::{chassis, put_boxes};
 use crate::calls::{Answer, Call, first_other};
-use crate::given::THROUGH_A_TO_B;
-use cip_base::{Address, NoMemory, PortNumber};
-use cip_hops::Hop;
+use crate::given::{THROUGH_A_TO_B, open};
+use cip_base::{ModuleId, NoMemory};
+use cip_chain::{ChainEnd, chain};
 use cip_module::{Event, Module, ModuleConfig, ModuleKind, Output, PlainModule, StepFault, Tables};
 use cip_topology::Topology;
 use cip_world::{End, Shown, World};
@@ -45,14 +45,6 @@ impl Module for CountedModule {
 
     fn tables(&self) -> Result<Tables, NoMemory> {
         self.inner.tables()
-    }
-
-    fn hop_by_op(&self, op: u32) -> Option<&Hop> {
-        self.inner.hop_by_op(op)
-    }
-
-    fn hop_by_up(&self, id: u32, port: PortNumber, address: &Address) -> Option<&Hop> {
-        self.inner.hop_by_up(id, port, address)
     }
 }
 
@@ -116,5 +108,27 @@ fn the_box_itself_is_stepped(rt: HostRuntime) -> Result<(), Fail> {
     assert_eq!(&rt; steps.load(Ordering::SeqCst), 1);
     assert_eq!(&rt; first_other(alloc, &mut world, RAN), None);
     assert_eq!(&rt; steps.load(Ordering::SeqCst), 2);
+    Ok(())
+}
+
+const SCANNER: ModuleId = ModuleId(0);
+
+// The box has no call of its own that finds a connection: its tables tell which one the op opened.
+#[test]
+fn a_chain_begins_at_the_box(rt: HostRuntime) -> Result<(), Fail> {
+    let alloc = rt.alloc();
+    let steps = Arc::new(alloc, AtomicU64::new(0))?;
+    let mut world = counted_world(alloc, &steps).ok_or("no world")?;
+    world.feed(SCANNER, open(alloc, 1).ok_or("no command")?)?;
+    world.run(100)?;
+    let view = chain(alloc, &world, SCANNER, 1)?;
+    let modules = view.modules.as_slice();
+    assert_eq!(&rt; modules.len(), 4);
+    assert_eq!(&rt; modules.last(), Some(&ModuleId(3)));
+    let end = ChainEnd {
+        consume: 101,
+        produce: 102,
+    };
+    assert_eq!(&rt; view.end, end);
     Ok(())
 }

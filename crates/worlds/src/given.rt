@@ -1,6 +1,6 @@
 //! What modules are given.
 use cip_base::{Bytes, Ms, Timing};
-use cip_module::Command;
+use cip_module::{Command, OpenParams};
 use cip_segment::read_path;
 use std::alloc::Global;
 
@@ -27,5 +27,33 @@ pub fn send(alloc: Global, op: u32, path: &[u8]) -> Option<Command> {
         },
         path,
         request,
+    })
+}
+
+/// From the scanner through both bridges to the adapter: its configuration 100, consumed by 101,
+/// produced from 102.
+const THROUGH_TO_E: [u8; 14] = [
+    0x02, 0x05, 0x01, 0x03, 0x02, 0x07, 0x20, 0x04, 0x24, 0x64, 0x2C, 0x65, 0x2C, 0x66,
+];
+
+/// Opens a connection to the adapter: class 1, 4 bytes down and 2 up.
+pub fn open(alloc: Global, op: u32) -> Option<Command> {
+    let path = read_path(alloc, &THROUGH_TO_E).ok()?;
+    Some(Command::Open {
+        op,
+        timing: Timing {
+            tick: 0x07,
+            ticks: 0xFA,
+        },
+        path,
+        params: OpenParams {
+            serial: 0x0042,
+            multiplier: 0,
+            transport: 0x01,
+            ot_rpi: 10_000,
+            ot_params: 0x4806,
+            to_rpi: 10_000,
+            to_params: 0x4804,
+        },
     })
 }

@@ -12,8 +12,6 @@ mod given;
 #[cfg(test)]
 mod journals;
 #[cfg(test)]
-mod refusals;
-#[cfg(test)]
 mod runs;
 #[cfg(test)]
 mod ways;

@@ -1,5 +1,5 @@
 -- What a module keeps, as the routing table sees it.
-use Rattle.cip_module.specs.declared.config.ModuleSettings.{ModuleSettings}
+use Rattle.cip_config.specs.declared.config.ModuleSettings.{ModuleSettings}
 use Rattle.cip_module.specs.declared.device.Device.{Device}
 use Rattle.cip_module.specs.declared.plain.PlainModule.{PlainModule}
 use Rattle.cip_module.specs.declared.adapter.AdapterModule.{AdapterModule}

@@ -1,8 +1,8 @@
 -- Effects carried out: the state after them, and their outputs; and what a function that carries
 -- them out promises.
 use Rattle.std.specs.Prelude.{◌≡◌, List, [], ◌∷◌, Result, Ok, Err}
-use Rattle.cip_module.specs.declared.config.ModuleSettings.{ModuleSettings}
-use Rattle.cip_module.specs.declared.event.Output.{Output}
+use Rattle.cip_config.specs.declared.config.ModuleSettings.{ModuleSettings}
+use Rattle.cip_event.specs.declared.event.Output.{Output}
 use Rattle.cip_module.specs.declared.device.Device.{Device}
 use Rattle.cip_module.specs.Code.Device.{state_of_device}
 use Rattle.cip_module.specs.Effects.{Effect, applied, outputs_of}

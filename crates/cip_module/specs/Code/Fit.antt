@@ -13,7 +13,7 @@ use Rattle.cip_hops.specs.Sides.{down_is_link}
 use Rattle.cip_hops.specs.Hops.{Hops, opening_at, as_hop, held_op_of}
 use Rattle.cip_target.specs.Ends.{Ends, released}
 use Rattle.cip_target.specs.Assemblies.{AssemblyMap, Owners, size_in}
-use Rattle.cip_module.specs.declared.config.ModuleSettings.{ModuleSettings}
+use Rattle.cip_config.specs.declared.config.ModuleSettings.{ModuleSettings}
 use Rattle.cip_module.specs.OpenRows.{writes_to}
 use Rattle.cip_module.specs.Paired.{IsPaired}
 use Rattle.cip_module.specs.State.{is_spent}

@@ -6,7 +6,7 @@ use Rattle.cip_base.specs.declared.triad.Triad.{Triad}
 use Rattle.cip_hops.specs.declared.hop.Hop.{Hop}
 use Rattle.cip_hops.specs.declared.hop.Side.TheVariants.{Down}
 use Rattle.cip_hops.specs.Hops.{Hops, as_hop}
-use Rattle.cip_module.specs.declared.event.Output.{Output}
+use Rattle.cip_event.specs.declared.event.Output.{Output}
 use Rattle.cip_module.specs.Effects.{datum_up, recounted}
 use Rattle.cip_module.specs.Produced.{reads_from, next_count, datum_bytes}
 

@@ -12,9 +12,9 @@ use Rattle.cip_open.specs.OpenAt.{open_at}
 use Rattle.cip_close.specs.declared.request.TheConstants.{FORWARD_CLOSE}
 use Rattle.cip_close.specs.Close.{Close}
 use Rattle.cip_close.specs.CloseAt.{close_at}
-use Rattle.cip_module.specs.declared.event.Output.{Output}
-use Rattle.cip_module.specs.declared.event.Output.TheVariants as outputs
-use Rattle.cip_module.specs.declared.event.Refused.{Refused}
+use Rattle.cip_event.specs.declared.event.Output.{Output}
+use Rattle.cip_event.specs.declared.event.Output.TheVariants as outputs
+use Rattle.cip_event.specs.declared.event.Refused.{Refused}
 use Rattle.cip_module.specs.declared.device.Device.{Device}
 use Rattle.cip_module.specs.declared.making.Making.{Making}
 use Rattle.cip_module.specs.declared.making.Making.TheVariants as makings
@@ -26,7 +26,8 @@ use Rattle.cip_module.specs.declared.reaction.Reaction.TheVariants as reactions
 use Rattle.cip_module.specs.Code.Device.{state_of_device}
 use Rattle.cip_module.specs.Code.Does.{Handled, IsUnchanged}
 use Rattle.cip_module.specs.Effects.{Effect, Sending}
-use Rattle.cip_module.specs.Reactions.{Becomes, filled}
+use Rattle.cip_event.specs.Filled.{filled}
+use Rattle.cip_module.specs.Reactions.{Becomes}
 
 -- ---- what is made for what goes on or goes up: these bytes, or this edit of those that came
 

@@ -7,13 +7,13 @@ use Rattle.cip_pending.specs.Pendings.{due, Pendings}
 use Rattle.cip_hops.specs.declared.hop.Hop.{Hop}
 use Rattle.cip_hops.specs.Hops.{Hops}
 use Rattle.cip_hops.specs.Hops as hops
-use Rattle.cip_module.specs.declared.event.Event.{Event}
-use Rattle.cip_module.specs.declared.event.Event.TheVariants as events
-use Rattle.cip_module.specs.declared.event.Command.{Command}
-use Rattle.cip_module.specs.declared.event.Command.TheVariants as commands
-use Rattle.cip_module.specs.declared.event.Output.{Output}
-use Rattle.cip_module.specs.declared.event.Output.TheVariants as outputs
-use Rattle.cip_module.specs.declared.config.ModuleSettings.{ModuleSettings}
+use Rattle.cip_event.specs.declared.event.Event.{Event}
+use Rattle.cip_event.specs.declared.event.Event.TheVariants as events
+use Rattle.cip_event.specs.declared.event.Command.{Command}
+use Rattle.cip_event.specs.declared.event.Command.TheVariants as commands
+use Rattle.cip_event.specs.declared.event.Output.{Output}
+use Rattle.cip_event.specs.declared.event.Output.TheVariants as outputs
+use Rattle.cip_config.specs.declared.config.ModuleSettings.{ModuleSettings}
 use Rattle.cip_module.specs.declared.tick.steps.TickFault.{TickFault}
 use Rattle.cip_module.specs.declared.tick.steps.TickFault.TheVariants.{OutOfMemory, Full}
 use Rattle.cip_module.specs.Code.Does.{Does}

@@ -10,8 +10,8 @@ ghost use Rattle.cip_module.specs.Table.{produce_effects};
 
 use crate::data::outputs::datum_up;
 use crate::device::Device;
-use crate::event::{Output, Refused};
 use cip_base::{Bytes, NoMemory};
+use cip_event::Output;
 use cip_hops::{Hop, HopDown, Side};
 use std::alloc::Global;
 
@@ -105,13 +105,16 @@ impl Device {
             (produce_effects (state_of_device self.old) instance
             (map.get self.old.target.objects.assemblies instance)) result }
     {
-        let Some(assembly) = self.target.assembly(instance) else {
-            let mut outputs = Vec::with_capacity(self.alloc, 1)?;
-            outputs.push_reserved(Output::Refused(Refused::NoInstance));
-            return Ok(outputs);
+        let held = match self.produce_row(instance) {
+            Ok(held) => held,
+            Err(fault) => {
+                let mut outputs = Vec::with_capacity(self.alloc, 1)?;
+                outputs.push_reserved(Output::Refused(fault));
+                return Ok(outputs);
+            }
         };
         self.hops.is_within();
-        let outputs = self.data_of(instance, self.target.produce(assembly.instance))?;
+        let outputs = self.data_of(instance, held)?;
         self.count_data(instance);
         Ok(outputs)
     }

@@ -1,11 +1,11 @@
 //! The command group: what a module's own application asks for.
-ghost use Rattle.std.specs.Prelude.{◌≡◌, ◌∷◌, [], ℕ, ◌≤◌, List, false, length};
+ghost use Rattle.std.specs.Prelude.{◌≡◌, ◌∷◌, [], ℕ, ◌≤◌, List, length};
 ghost use Rattle.std.specs.Option.{option_to_list};
 ghost use Rattle.cip_unconnected.specs.Unconnected.{unconnected_bytes};
 ghost use Rattle.cip_unconnected.specs.Reading.{unconnected_of};
 ghost use Rattle.cip_pending.specs.declared.entry.UpSide.TheVariants.{Local};
 ghost use Rattle.cip_hops.specs.Hops.{hop_by_op};
-ghost use Rattle.cip_module.specs.State.{is_spent};
+ghost use Rattle.cip_module.specs.Code.Commands.{IsNew};
 ghost use Rattle.cip_module.specs.CommandRows.{send_row};
 ghost use Rattle.cip_module.specs.UnconnectedRows.{unconnected_row};
 ghost use Rattle.cip_module.specs.Table.{open_of, send_effects, open_command_effects, close_command_effects, enter_effects, set_effects, unconnected_effects, with_spending};
@@ -13,15 +13,14 @@ ghost use Rattle.cip_module.specs.Code.Device.{state_of_device};
 ghost use Rattle.cip_module.specs.Code.Does.{Handled, Handles};
 ghost use Rattle.cip_module.specs.Code.Reacts.{entered_output};
 
-use crate::command::rows::CommandRow;
 use crate::data::outputs::datum_down;
 use crate::device::Device;
-use crate::event::{OpenParams, Output, Refused};
 use crate::making::Making;
 use crate::messages::no_bytes;
 use crate::reaction::Reaction;
 use cip_base::{Bytes, NoMemory, Timing, Triad};
 use cip_close::{CloseFields, CloseView};
+use cip_event::{OpenParams, Output, Refused};
 use cip_open::{OpenFields, OpenView};
 use cip_pending::UpSide;
 use cip_segment::Path;
@@ -30,7 +29,7 @@ use cip_unconnected::UnconnectedView;
 impl Device {
     // A Send that is taken.
     fn take(&mut self, op: u32, view: UnconnectedView<'_>) -> Result<Output, NoMemory>
-        requires absent { is_spent op self.old.ops.ops.items ≡ false }
+        requires absent { IsNew (state_of_device self.old) op }
         requires fits { length (unconnected_bytes (unconnected_of view)) ≤ 1400 }
         ensures { Handles self.old self.new (with_spending (Local op)
             (unconnected_effects (Local op) (unconnected_of view.entry)
@@ -54,12 +53,8 @@ impl Device {
             (unconnected_of view.entry))) result }
     {
         match self.send_row(op, view) {
-            CommandRow::OpUsed => Ok(Output::Refused(Refused::OpUsed)),
-            CommandRow::NotOpen => Ok(Output::Refused(Refused::NotOpen)),
-            CommandRow::ReservedService => Ok(Output::Refused(Refused::ReservedService)),
-            CommandRow::WrongSize => Ok(Output::Refused(Refused::WrongSize)),
-            CommandRow::NoInstance => Ok(Output::Refused(Refused::NoInstance)),
-            CommandRow::Taken => self.take(op, view),
+            Ok(()) => self.take(op, view),
+            Err(fault) => Ok(Output::Refused(fault)),
         }
     }
 
@@ -87,6 +82,31 @@ impl Device {
         }
     }
 
+    // An Open that is taken.
+    fn open_anew(
+        &mut self,
+        op: u32,
+        timing: Timing,
+        path: &Path,
+        params: &OpenParams,
+    ) -> Result<Output, NoMemory>
+        requires absent { IsNew (state_of_device self.old) op }
+        ensures { Handles self.old self.new
+            (open_command_effects self.old.config (state_of_device self.old)
+            op (open_of self.old.config.identity timing path.now params.now)) result }
+    {
+        let fields = self.open_fields(timing, params);
+        let view = OpenView {
+            fields,
+            path: path.view(),
+        };
+        self.ops.reserve()?;
+        match self.open(Making::Anew, UpSide::Local { op }, &view)? {
+            Reaction::Whole(output) => Ok(output),
+            Reaction::Edited { .. } => unreachable!(),
+        }
+    }
+
     /// An Open: handled as the Forward_Open that it spells, with its op as the up side.
     pub(crate) fn open_command(
         &mut self,
@@ -99,18 +119,9 @@ impl Device {
             (open_command_effects self.old.config (state_of_device self.old)
             op (open_of self.old.config.identity timing path.now params.now)) result }
     {
-        if self.ops.contains(op) {
-            return Ok(Output::Refused(Refused::OpUsed));
-        }
-        let fields = self.open_fields(timing, params);
-        let view = OpenView {
-            fields,
-            path: path.view(),
-        };
-        self.ops.reserve()?;
-        match self.open(Making::Anew, UpSide::Local { op }, &view)? {
-            Reaction::Whole(output) => Ok(output),
-            Reaction::Edited { .. } => unreachable!(),
+        match self.op_row(op) {
+            Ok(()) => self.open_anew(op, timing, path, params),
+            Err(fault) => Ok(Output::Refused(fault)),
         }
     }
 
@@ -126,11 +137,9 @@ impl Device {
             (close_command_effects (state_of_device self.old) op of timing)
             result }
     {
-        if self.ops.contains(op) {
-            return Ok(Output::Refused(Refused::OpUsed));
-        }
-        let Some(hop) = self.hops.by_op(of) else {
-            return Ok(Output::Refused(Refused::NotOpen));
+        let hop = match self.close_command_row(op, of) {
+            Ok(hop) => hop,
+            Err(fault) => return Ok(Output::Refused(fault)),
         };
         let path = hop.opening.path.copy(self.alloc)?;
         let fields = CloseFields {
@@ -156,12 +165,7 @@ impl Device {
             (entered_output bytes.now result ∷ []) }
     {
         self.hops.is_within();
-        let Some(hop) = self.hops.by_op(of) else {
-            return Err(Refused::NotOpen);
-        };
-        if bytes.len() != usize::from(hop.opening.ot_size) {
-            return Err(Refused::WrongSize);
-        }
+        let hop = self.enter_row(of, bytes)?;
         Ok(datum_down(hop, no_bytes(self.alloc)))
     }
 
@@ -185,11 +189,8 @@ impl Device {
             (set_effects (state_of_device self.old) instance bytes.now)
             (option_to_list result) }
     {
-        let Some(assembly) = self.target.assembly(instance) else {
-            return Some(Output::Refused(Refused::NoInstance));
-        };
-        if bytes.as_slice().len() != usize::from(assembly.size) {
-            return Some(Output::Refused(Refused::WrongSize));
+        if let Err(fault) = self.set_row(instance, bytes.as_slice()) {
+            return Some(Output::Refused(fault));
         }
         self.writes(instance, bytes.as_slice());
         None

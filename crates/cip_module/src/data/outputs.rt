@@ -5,8 +5,8 @@ ghost use Rattle.cip_module.specs.Effects.{datum_up, datum_down};
 ghost use Rattle.cip_module.specs.DataRows.{end_row};
 ghost use Rattle.cip_module.specs.Code.Plans.{writing_row};
 
-use crate::event::{Body, Output};
 use cip_base::Bytes;
+use cip_event::{Body, Output};
 use cip_hops::{Hop, HopDown, HopUp};
 
 /// A datum by the up side of a connection.

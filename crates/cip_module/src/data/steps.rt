@@ -1,9 +1,9 @@
 //! The data group: a datum of a connection on its way.
 ghost use Rattle.std.specs.Prelude.{◌≡◌, ◌∷◌, [], None, Some, IfSome};
 ghost use Rattle.cip_hops.specs.Hops.{hop_by_up, hop_by_down};
-ghost use Rattle.cip_module.specs.declared.event.Body.TheVariants as bodies;
-ghost use Rattle.cip_module.specs.declared.event.Event.TheVariants as events;
-ghost use Rattle.cip_module.specs.declared.event.Output.TheVariants as outputs;
+ghost use Rattle.cip_event.specs.declared.event.Body.TheVariants as bodies;
+ghost use Rattle.cip_event.specs.declared.event.Event.TheVariants as events;
+ghost use Rattle.cip_event.specs.declared.event.Output.TheVariants as outputs;
 ghost use Rattle.cip_module.specs.Effects.{applied};
 ghost use Rattle.cip_module.specs.DataRows.{id_row};
 ghost use Rattle.cip_module.specs.Steps.{IsStep};
@@ -14,9 +14,9 @@ ghost use Rattle.cip_module.specs.Code.Device.{state_of_device};
 
 use crate::data::outputs::{Writing, behind_count, datum_down, datum_up, written_of};
 use crate::device::Device;
-use crate::event::{Dropped, Output};
-use crate::ports::port_of;
 use cip_base::{Address, Bytes, PortNumber, Triad};
+use cip_config::port_of;
+use cip_event::{Dropped, Output};
 use cip_hops::{HopDown, Onward, Side};
 
 impl Device {

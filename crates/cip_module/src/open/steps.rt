@@ -20,12 +20,12 @@ ghost use Rattle.cip_module.specs.Code.Device.{state_of_device};
 
 use crate::answers::{open_failed, unread_open};
 use crate::device::Device;
-use crate::event::{Body, Output};
 use crate::making::{Making, Outgoing};
 use crate::messages::reply_to;
 use crate::open::rows::OpenDecision;
 use crate::reaction::{Edit, Reaction};
 use cip_base::{Address, Bytes, NoMemory, PortNumber, Timing};
+use cip_event::{Body, Output};
 use cip_hops::{HopDown, HopUp, Opening};
 use cip_open::{OpenFields, OpenReply, OpenView, params, read_open, write_open, write_open_reply};
 use cip_pending::{Entry, Kind, UpSide};

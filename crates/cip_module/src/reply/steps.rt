@@ -10,13 +10,13 @@ ghost use Rattle.cip_module.specs.Code.Reacts.{Reacts, IsMade, outgoing_of};
 ghost use Rattle.cip_module.specs.Table.{reply_effects};
 
 use crate::device::Device;
-use crate::event::{Dropped, Output};
 use crate::making::{Making, Outgoing};
 use crate::messages::reply_to;
 use crate::reaction::{Edit, Reaction};
 use crate::reply::rows::{ReplyDecision, reply_row};
 use crate::request::rows::is_malformed;
 use cip_base::{Address, Bytes, NoMemory, PortNumber, Triad};
+use cip_event::{Dropped, Output};
 use cip_hops::HopUp;
 use cip_open::{OpenReply, write_open_reply};
 use std::alloc::Global;

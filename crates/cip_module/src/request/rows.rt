@@ -7,11 +7,10 @@ ghost use Rattle.cip_module.specs.Object.{begins_with_manager};
 ghost use Rattle.cip_module.specs.RequestRows.{Refuses, is_malformed, manager_row, object_row, request_row};
 ghost use Rattle.cip_module.specs.Code.Decisions.{request_row_of, RequestLeads};
 
-use crate::config::ModuleSettings;
-use crate::ports::port_of;
 use crate::refusals::RequestRefusal;
 use cip_base::{MAX_MESSAGE, PortNumber};
 use cip_close::FORWARD_CLOSE;
+use cip_config::{ModuleSettings, port_of};
 use cip_message::{CONNECTION_MANAGER, RequestFault, RequestView, read_request};
 use cip_open::FORWARD_OPEN;
 use cip_segment::{PathView, SegmentView, split_first};

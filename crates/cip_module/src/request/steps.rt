@@ -9,12 +9,12 @@ ghost use Rattle.cip_module.specs.Table.{request_effects};
 
 use crate::answers::failure;
 use crate::device::Device;
-use crate::event::{Dropped, Output};
 use crate::making::Making;
 use crate::messages::reply_to;
 use crate::reaction::Reaction;
 use crate::request::rows::{RequestDecision, request_row};
 use cip_base::{Address, NoMemory, PortNumber};
+use cip_event::{Dropped, Output};
 use cip_pending::UpSide;
 
 impl Device {

@@ -7,9 +7,9 @@ ghost use Rattle.cip_module.specs.Code.Ticks.{TickGives};
 ghost use Rattle.cip_module.specs.Code.Device.{state_of_device};
 
 use crate::device::Device;
-use crate::event::Output;
 use crate::tick::rows::timed_out_all;
 use cip_base::Ms;
+use cip_event::Output;
 
 /// Why a tick does not happen.
 #[derive(Clone, Copy, Debug, PartialEq, Eq)]

@@ -8,12 +8,12 @@ ghost use Rattle.cip_module.specs.Keys.{leading_mismatch};
 ghost use Rattle.cip_module.specs.UnconnectedRows.{hop_row, key_row, unconnected_row, unread_row};
 ghost use Rattle.cip_module.specs.Code.Decisions.{unconnected_row_of, Leads};
 
-use crate::config::ModuleSettings;
 use crate::keys::leading_mismatch;
 use crate::links::link_refusal;
 use crate::refusals::UnconnectedRefusal;
 use crate::request::rows::begins_with_manager;
 use cip_base::{Address, PortNumber};
+use cip_config::ModuleSettings;
 use cip_message::{RequestView, read_request};
 use cip_pending::PendingTable;
 use cip_segment::{FirstHop, PathView, first_hop, rest};

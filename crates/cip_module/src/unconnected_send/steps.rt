@@ -12,12 +12,12 @@ ghost use Rattle.cip_module.specs.Code.Reacts.{Reacts, SendCame, outgoing_of, se
 
 use crate::answers::unconnected_failure;
 use crate::device::Device;
-use crate::event::{Body, Output};
 use crate::making::{Making, Outgoing};
 use crate::messages::{message_anew, reply_to};
 use crate::reaction::{Edit, Reaction};
 use crate::unconnected_send::rows::{UnconnectedDecision, unconnected_row, unread_row};
 use cip_base::{Address, Bytes, NoMemory, PortNumber};
+use cip_event::{Body, Output};
 use cip_pending::{Entry, Kind, UpSide};
 use cip_segment::PathView;
 use cip_unconnected::{UnconnectedView, read_unconnected, route_words};

@@ -1,5 +1,5 @@
 use Rattle.std.proofs.Common.{refl, subst}
-use Rattle.cip_module.specs.declared.event.Event.TheVariants as events
+use Rattle.cip_event.specs.declared.event.Event.TheVariants as events
 use Rattle.cip_world.specs.declared.fault.WorldFault.TheVariants.{NoModule}
 use Rattle.cip_world.specs.declared.journal.Input.TheVariants as inputs
 use Rattle.cip_world.specs.Worlds.{IsFeedFault}

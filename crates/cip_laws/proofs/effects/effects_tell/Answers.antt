@@ -1,7 +1,7 @@
 use Rattle.std.proofs.Common.{refl}
-use Rattle.cip_module.specs.declared.event.Body.TheVariants.{Data}
-use Rattle.cip_module.specs.declared.event.Command.TheVariants.{Enter}
-use Rattle.cip_module.specs.declared.event.Event.TheVariants.{Command, Frame}
+use Rattle.cip_event.specs.declared.event.Body.TheVariants.{Data}
+use Rattle.cip_event.specs.declared.event.Command.TheVariants.{Enter}
+use Rattle.cip_event.specs.declared.event.Event.TheVariants.{Command, Frame}
 use Rattle.cip_laws.proofs.Births.{born_once_a_turn}
 use Rattle.cip_laws.proofs.Light.{light_once}
 use Rattle.cip_laws.proofs.PassedBy.{frame_alone, enter_alone}

@@ -3,7 +3,7 @@ use Rattle.std.specs.Prelude.{IsTrue}
 use Rattle.std.specs.List.{list_all}
 use Rattle.cip_target.specs.declared.config.AssemblyConfig.{AssemblyConfig}
 use Rattle.cip_target.specs.Assemblies.{is_assembly}
-use Rattle.cip_module.proofs.SettingsLemmas.{assemblies_fit}
+use Rattle.cip_config.proofs.SettingsLemmas.{assemblies_fit}
 use Rattle.cip_module.proofs.device.target_of.Goals as goal
 
 pub new-requires : goal.new-requires

@@ -1,5 +1,5 @@
 use Rattle.std.proofs.Common.{◌∙◌, refl, sym, subst}
-use Rattle.cip_module.specs.declared.config.ModuleSettings.{ModuleSettings}
+use Rattle.cip_config.specs.declared.config.ModuleSettings.{ModuleSettings}
 use Rattle.cip_module.specs.Views.{HasFirstCounts}
 use Rattle.cip_module.proofs.AtFirst.{first_shown, shown_nothing}
 use Rattle.cip_module.proofs.first.look_first.Goals as goal

@@ -1,5 +1,5 @@
 use Rattle.std.proofs.Common.{◌∙◌, List, get_or, reverse, subst}
-use Rattle.cip_module.specs.declared.config.ModuleSettings.{ModuleSettings}
+use Rattle.cip_config.specs.declared.config.ModuleSettings.{ModuleSettings}
 use Rattle.cip_threads.specs.Reports.{Agrees}
 use Rattle.cip_threads.proofs.Reporting.{agree_more}
 use Rattle.cip_threads.proofs.run.compare.Goals as goal

@@ -1,6 +1,6 @@
 use Rattle.std.proofs.Common.{◌≡◌, ℕ, ◌+◌, drop, List, [], ◌∷◌, ◌++◌, length, vec_items, sym, ap, ◌∙◌, subst}
-use Rattle.cip_module.specs.declared.config.ModuleSettings.{ModuleSettings}
-use Rattle.cip_module.specs.declared.config.PortConfig.{PortConfig}
+use Rattle.cip_config.specs.declared.config.ModuleSettings.{ModuleSettings}
+use Rattle.cip_config.specs.declared.config.PortConfig.{PortConfig}
 use Rattle.cip_topology.specs.Seats.{IsIndexOf, AreFree, all_seated}
 use Rattle.toml.specs.View.{items_view}
 use Rattle.cip_topology.specs.ModuleTables.{modules_after}

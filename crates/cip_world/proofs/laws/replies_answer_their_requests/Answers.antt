@@ -1,6 +1,6 @@
 use Rattle.std.proofs.Common.{refl}
-use Rattle.cip_module.specs.declared.event.Body.TheVariants.{Reply}
-use Rattle.cip_module.specs.declared.event.Event.TheVariants.{Frame}
+use Rattle.cip_event.specs.declared.event.Body.TheVariants.{Reply}
+use Rattle.cip_event.specs.declared.event.Event.TheVariants.{Frame}
 use Rattle.cip_world.proofs.Answered.{answers}
 use Rattle.cip_world.proofs.Chassis.{chassis}
 use Rattle.cip_world.proofs.laws.replies_answer_their_requests.Goals as goal

@@ -1,6 +1,6 @@
 use Rattle.std.proofs.Common.{◌∙◌, sym, ap, subst, Some, length, reverse, ◌-◌, List}
 use Rattle.std.specs.Option.{option_copied}
-use Rattle.cip_module.specs.declared.event.Output.{Output}
+use Rattle.cip_event.specs.declared.event.Output.{Output}
 use Rattle.cip_world.specs.declared.journal.Entry.{Entry}
 use Rattle.cip_world.specs.Ledgers.{IsNewest}
 use Rattle.cip_world.proofs.Newest.{is_newest}

@@ -1,5 +1,5 @@
 use Rattle.std.proofs.Common.{sym, ap, subst, ◌∙◌, ◌∷◌, List}
-use Rattle.cip_module.specs.declared.event.Output.{Output}
+use Rattle.cip_event.specs.declared.event.Output.{Output}
 use Rattle.cip_world.specs.declared.journal.Entry.TheVariants.{Step}
 use Rattle.cip_world.specs.Runs.{IsStepAt}
 use Rattle.cip_world.proofs.Stepped.{is_step, still_stand}

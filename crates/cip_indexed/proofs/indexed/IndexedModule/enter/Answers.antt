@@ -1,7 +1,7 @@
 use Rattle.std.proofs.Common.{ℕ, List, [], ◌∷◌, ◌++◌, sym, ap, subst, ◌∙◌}
-use Rattle.cip_module.specs.declared.event.Command.TheVariants.{Enter}
-use Rattle.cip_module.specs.declared.event.Event.TheVariants as events
-use Rattle.cip_module.specs.declared.event.Output.{Output}
+use Rattle.cip_event.specs.declared.event.Command.TheVariants.{Enter}
+use Rattle.cip_event.specs.declared.event.Event.TheVariants as events
+use Rattle.cip_event.specs.declared.event.Output.{Output}
 use Rattle.cip_module.specs.Reactions.{PutsOut}
 use Rattle.cip_module.specs.Steps.{IsStep}
 use Rattle.cip_indexed.specs.Indexed.{config_of_indexed, state_of_indexed}

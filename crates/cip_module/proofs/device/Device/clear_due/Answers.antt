@@ -1,7 +1,7 @@
 use Rattle.std.proofs.Common.{List, sym, ap, ◌∙◌}
 use Rattle.std.specs.Prelude.{map}
 use Rattle.cip_hops.specs.declared.hop.Hop.{Hop}
-use Rattle.cip_module.specs.declared.config.ModuleSettings.{ModuleSettings}
+use Rattle.cip_config.specs.declared.config.ModuleSettings.{ModuleSettings}
 use Rattle.cip_module.specs.Effects.{applied}
 use Rattle.cip_module.specs.Code.Device.{state_of_device}
 use Rattle.cip_module.specs.State.{State}

@@ -1,7 +1,7 @@
 use Rattle.std.proofs.Common.{◌≡◌, ◌++◌, ◌∷◌, [], List, Vec, Global, ap, sym, ◌∙◌, Some, None}
 use Rattle.cip_hops.specs.declared.hop.Hop.{Hop}
 use Rattle.cip_hops.specs.Hops.{first_after}
-use Rattle.cip_module.specs.declared.event.Output.{Output}
+use Rattle.cip_event.specs.declared.event.Output.{Output}
 use Rattle.cip_module.specs.Effects.{datum_up}
 use Rattle.cip_module.specs.Code.Made.{made_all}
 use Rattle.cip_module.proofs.Walks.{opens_above, hop_walks, hop_walked, hop_fewer, opens_all}

@@ -2,7 +2,7 @@ use Rattle.std.proofs.Common.{ap, ◌∙◌}
 use Rattle.cip_pending.specs.Pendings.{Pendings}
 use Rattle.cip_hops.specs.Hops.{Hops}
 use Rattle.cip_target.specs.Ends.{Ends}
-use Rattle.cip_module.specs.declared.config.ModuleSettings.{ModuleSettings}
+use Rattle.cip_config.specs.declared.config.ModuleSettings.{ModuleSettings}
 use Rattle.cip_module.proofs.Kept.{fresh_fit}
 use Rattle.cip_module.proofs.device.Device.new.Goals as goal
 

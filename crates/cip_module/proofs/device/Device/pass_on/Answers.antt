@@ -1,8 +1,8 @@
 use Rattle.std.proofs.Common.{rules, Some, refl, sym, ap, ◌∙◌, ◌∷◌, []}
 use Rattle.cip_hops.specs.Hops.{Hops}
 use Rattle.cip_hops.specs.Onwards.{hop_by, after_onward}
-use Rattle.cip_module.specs.declared.event.Body.TheVariants.{Data}
-use Rattle.cip_module.specs.declared.event.Event.TheVariants.{Frame}
+use Rattle.cip_event.specs.declared.event.Body.TheVariants.{Data}
+use Rattle.cip_event.specs.declared.event.Event.TheVariants.{Frame}
 use Rattle.cip_module.specs.DataRows.{data_row}
 use Rattle.cip_module.specs.Code.Device.{state_of_device}
 use Rattle.cip_module.specs.Table.{datum_effects}

@@ -1,7 +1,7 @@
 use Rattle.std.proofs.Common.{refl, Result, Ok}
 use Rattle.cip_base.specs.declared.memory.NoMemory.{NoMemory}
-use Rattle.cip_module.specs.declared.event.Body.TheVariants.{Reply}
-use Rattle.cip_module.specs.declared.event.Event.TheVariants.{Frame}
+use Rattle.cip_event.specs.declared.event.Body.TheVariants.{Reply}
+use Rattle.cip_event.specs.declared.event.Event.TheVariants.{Frame}
 use Rattle.cip_module.specs.declared.reaction.Reaction.{Reaction}
 use Rattle.cip_module.specs.ReplyRows.{reply_row}
 use Rattle.cip_module.specs.Code.Device.{state_of_device}

@@ -1,7 +1,7 @@
 use Rattle.std.proofs.Common.{refl}
 use Rattle.cip_pending.specs.declared.entry.UpSide.TheVariants.{Link}
-use Rattle.cip_module.specs.declared.event.Body.TheVariants.{Request}
-use Rattle.cip_module.specs.declared.event.Event.TheVariants.{Frame}
+use Rattle.cip_event.specs.declared.event.Body.TheVariants.{Request}
+use Rattle.cip_event.specs.declared.event.Event.TheVariants.{Frame}
 use Rattle.cip_module.specs.RequestRows.{request_row}
 use Rattle.cip_module.specs.Code.Device.{state_of_device}
 use Rattle.cip_module.specs.Table.{request_effects}

@@ -4,7 +4,7 @@ use Rattle.cip_unconnected.specs.declared.unconnected.TheConstants.{UNCONNECTED_
 use Rattle.cip_open.specs.declared.request.TheConstants.{FORWARD_OPEN}
 use Rattle.cip_close.specs.declared.request.TheConstants.{FORWARD_CLOSE}
 use Rattle.cip_pending.specs.declared.entry.UpSide.TheVariants.{Link}
-use Rattle.cip_module.specs.declared.config.ModuleSettings.{ModuleSettings}
+use Rattle.cip_config.specs.declared.config.ModuleSettings.{ModuleSettings}
 use Rattle.cip_module.specs.RequestRows.{RequestRow, UnconnectedSend, ForwardOpen, ForwardClose, request_row}
 use Rattle.cip_module.specs.Code.Device.{state_of_device}
 use Rattle.cip_module.specs.Code.Reacts.{Reacts}

@@ -1,5 +1,5 @@
 use Rattle.std.proofs.Common.{rules, arith, refl, sym, subst, None, length, map, drop, ◌<◌, ◌≡◌, ◌∷◌, ◌∙◌, ap, inl, inr, reverse}
-use Rattle.cip_module.specs.declared.event.Event.{Event}
+use Rattle.cip_event.specs.declared.event.Event.{Event}
 use Rattle.cip_threads.specs.declared.feed.Feed.{Feed}
 use Rattle.cip_threads.specs.declared.frames.Found.{Found}
 use Rattle.cip_threads.specs.Books.{hand_at}

@@ -1,0 +1,255 @@
+"""Calls of a world, and runs of modules on threads, that are refused memory: the lines of the driver crates/played_worlds, what must come
+of each, and how it is played."""
+
+import os
+import re
+import subprocess
+import threading
+import time
+from collections import Counter
+
+from oracle import CHASSIS
+
+# how long a script may take, and how long a thread may take to be gone once it was joined
+SECONDS, GONE = 10, 1.0
+TIMING, REQUEST, ANSWER = "7 250", "010220012401", "8100000001010C000200010300000B0B0000024252"
+SEND = f"send S 1 {TIMING} 02050103 {REQUEST}"
+OPEN = f"open S 1 {TIMING} 020501030207200424642C652C66 0x42 0 1 10000 0x4806 10000 0x4804"
+NO_MODULE, NO_FRAME, FULL = ["no such module"], ["no such frame waits"], ["the clock is full"]
+COUNT = ["there are not as many modules as in the topology"]
+FRESH, QUIET, LIMIT = ["fresh"], ["quiet"], ["limit"]
+NOT_OPEN, BROKEN = ["no connection of that op is open"], ["the chain is broken"]
+SENT = ["0 S send 1", f"  0 send 2 05 request 1 52022006240107F90600{REQUEST}01000103"]
+HOPS = [
+    *("1 A frame 0.0", f"  0 send 1 03 request 1 {REQUEST}"),
+    *("2 B frame 1.0", f"  0 send 1 00 reply 1 {ANSWER}"),
+    *("3 A frame 2.0", f"  0 send 2 01 reply 1 {ANSWER}"),
+    *("4 S frame 3.0", f"  0 done 1 {ANSWER}"),
+]
+
+
+def other(place):
+    return [f"module {place} has another config than the topology says"]
+
+
+def stale(place):
+    return [f"module {place} is not as at the beginning"]
+
+
+def entry(number):
+    return [f"entry {number}"]
+
+
+def tables(name, now=0, last=0, rows=()):
+    """The tables of a module whose last number is this; E has its assemblies, of which nothing was consumed."""
+    first_id = {"S": 0x11, "A": 0x21, "B": 0x31, "E": 0x41, "S2": 0x51}[name]
+    zeros = [f"  assembly {instance} {'00' * size or '-'}" for instance, size in ((100, 0), (101, 4), (102, 2), (103, 4))]
+    return [f"tables {name} now {now} id {first_id - 1} number {last}", *rows, *(zeros if name == "E" else [])]
+
+
+# Worlds that are made, or not: there are too few modules, or others, or one took a step before.
+MADE = [
+    *(("new 0123", FRESH), ("new 012", COUNT), ("new 01233", COUNT), ("new 102", COUNT), ("new ", COUNT)),
+    *(("new 1023", other(0)), ("new 0132", other(2)), ("new 0123 1", stale(1)), ("new 0123 3", stale(3))),
+    *(("new 0132 1", other(2)), ("new 012 1", COUNT)),
+    *(("check 0123", FRESH), ("check 012", COUNT), ("check 1023", other(0)), ("check 0123 1", stale(1)), ("check 0123 3", stale(3))),
+]
+
+# A request and its reply, with frames that do not wait, and modules that are not there.
+ASKED = [
+    *((SEND.replace("S", "X"), NO_MODULE), ("tick X 1", NO_MODULE), ("tables X", NO_MODULE), ("journal", []), ("run 5", QUIET)),
+    *(("deliver 0.0", NO_FRAME), ("least", ["none"]), ("quiet", QUIET), ("waiting", ["waiting"]), ("trail S 1", ["trail"])),
+    *((SEND, entry(0)), ("waiting", ["waiting 0.0"]), ("quiet", LIMIT), ("run 0", LIMIT), ("run 2", LIMIT), ("waiting", ["waiting 2.0"])),
+    *(("deliver 0.0", NO_FRAME), ("lose 0.0", NO_FRAME), ("trail S 1", ["trail 0 1 2"])),
+    ("tables S", tables("S", last=1, rows=["  pending 1 2 05 due 32000000 words 2 unconnected"])),
+    *(("least", ["arrived"]), ("deliver 3.0", entry(4)), ("quiet", QUIET), ("run 10", QUIET), ("journal", SENT + HOPS)),
+    *(("tick A 7", entry(5)), ("tables A", tables("A", 7_000, 1)), ("tables E", tables("E")), ("chain S 1", NOT_OPEN)),
+    *((SEND.replace("S 1", "S 2"), entry(6)), ("lose 6.0", entry(7)), ("deliver 6.0", NO_FRAME), ("trail S 2", ["trail 6"])),
+    *((SEND.replace("S 1", "S 3"), entry(8)), (SEND.replace("S 1", "S 4"), entry(9)), ("waiting", ["waiting 8.0 9.0"])),
+    *(("deliver 9.0", entry(10)), ("deliver 9.0", NO_FRAME), ("lose 10.0", entry(11)), ("deliver 10.0", NO_FRAME)),
+    *(("run 20", QUIET), ("tick S 65535", entry(16)), ("waiting", ["waiting"])),
+]
+
+# A connection that is opened, carries data both ways, is closed and opened again, and lapses at its end.
+CONNECTED = [
+    *((OPEN, entry(0)), ("chain S 1", NOT_OPEN), ("run 3", LIMIT), ("run 20", QUIET), ("trail S 1", ["trail 0 1 2 3"])),
+    *(("chain S 1", ["chain S A B E end 101 102"]), ("enter S 1 0100AABBCCDD", entry(7)), ("run 20", QUIET)),
+    *(("produce E 102", entry(11)), ("deliver 11.0", entry(12)), ("least", ["arrived"]), ("run 20", QUIET)),
+    *((f"close S 2 1 {TIMING}", entry(15)), ("run 20", QUIET), ("chain S 1", NOT_OPEN), ("trail S 2", ["trail"])),
+    *((OPEN.replace("S 1", "S 3"), entry(22)), ("run 20", QUIET), ("chain S 3", ["chain S A B E end 101 102"])),
+    *(("tick E 1000", entry(29)), ("chain S 3", BROKEN)),
+]
+
+# The scanner's clock is at its end.
+LATE = [("tick S 1", FULL), ("journal", []), ("tick A 1", entry(0)), ("journal", ["0 A tick 1"])]
+PLAYED = {"plain": [MADE, ASKED, CONNECTED], "indexed": [MADE, ASKED, CONNECTED], "late": [LATE]}
+
+
+class Ran:
+    """What a run on threads comes to: its end, how many feeds and frames are left, its entries in any order, and the tables; also of how
+    many entries the way of the first request is, and whether its last came of its first."""
+
+    def __init__(self, end, feeds, frames, entries, tables, way=0):
+        self.told = end, feeds, frames, Counter(entries), tables, (way, way > 0)
+
+    @staticmethod
+    def of(block):
+        end, feeds, waiting, *lines = block
+        place = next(k for k, line in enumerate(lines) if line.startswith("tables "))
+        last = next(k for k, line in enumerate(lines) if line.startswith("trail"))
+        way, root = lines[last].split()[1:], "".join(lines[last + 1 :])
+        # numbers of entries go by the order of the threads, and not what is told of each
+        entries = re.split(r"\n(?! )", "\n".join(lines[:place])) if place else []
+        entries = [re.sub(r" frame \d+\.\d+$", " frame", it.split(" ", 1)[1], flags=re.M) for it in entries]
+        ran = Ran(end, int(feeds.split()[1]), len(waiting.split()) - 1, entries, lines[place:last])
+        ran.told = *ran.told[:-1], (len(way), bool(way) and root == f"root Some({way[0]})")
+        return ran
+
+
+def request(scanner, address, entries):
+    """The entries of a scanner's request by way of A to B, or the first of them."""
+    done = [
+        f"{scanner} send 1\n{SENT[1]}",
+        f"A frame\n  0 send 1 03 request NUMBER {REQUEST}",
+        f"B frame\n  0 send 1 00 reply NUMBER {ANSWER}",
+        f"A frame\n  0 send 2 {address} reply 1 {ANSWER}",
+        f"{scanner} frame\n  0 done 1 {ANSWER}",
+    ]
+    return [it.replace("NUMBER", "1" if scanner == "S" else "2") for it in done[:entries]]
+
+
+def all_tables(names="SABE", **changed):
+    return [line for name in [*names] for line in changed.get(name, tables(name))]
+
+
+SECOND = f"{SEND.replace('S 1', 'S2 1')}"
+TWO = ["S", "A", "B", "E", "S2"]
+WAITS = ["  pending 1 2 05 due 32000000 words 2 unconnected"]
+LATER = {name: tables(name, 1_000) for name in CHASSIS}
+ONE_OF_TWO = [
+    Ran("limit", 1, 1, request("S", "01", 1), all_tables(TWO, S=tables("S", last=1, rows=WAITS)), 1),
+    Ran("limit", 1, 1, request("S2", "02", 1), all_tables(TWO, S2=tables("S2", last=1, rows=WAITS))),
+]
+BOTH = request("S", "01", 5) + request("S2", "02", 5)
+ALL_OF_TWO = Ran("quiet", 0, 0, BOTH, all_tables(TWO, S=tables("S", last=1), A=tables("A", last=2), S2=tables("S2", last=1)), 3)
+ALL_OF_ONE = Ran("quiet", 0, 0, request("S", "01", 5), all_tables(S=tables("S", last=1), A=tables("A", last=1)), 3)
+NOTHING = Ran("quiet", 0, 0, [], all_tables())
+AT_ITS_END = Ran("quiet", 0, 0, [], all_tables(S=tables("S", 2**63 - 1)))
+TICKED = Ran("quiet", 0, 0, [f"{name} tick 1" for name in CHASSIS], all_tables(**LATER))
+
+# What modules on threads are given, how many turns they have, and what comes of it.
+THREADS = {
+    "two": [
+        *((f"feed {SEND}", []), (f"feed {SECOND}", []), ("threads 100 01234", [ALL_OF_TWO])),
+        *((f"feed {SEND}", []), (f"feed {SECOND}", []), ("threads 1 01234", ONE_OF_TWO)),
+    ],
+    "plain": [
+        *((f"feed {SEND}", []), ("threads 100 0123", [ALL_OF_ONE]), ("threads 100 0123", [NOTHING])),
+        *((f"feed tick {name} 1", []) for name in CHASSIS),
+        *(("threads 100 0123", [TICKED]), (f"feed {SEND}", []), ("threads 100 012", COUNT), ("threads 100 1023", other(0))),
+        ("threads 100 0123 1", stale(1)),
+    ],
+    "indexed": [(f"feed {SEND}", []), ("threads 100 0123", [ALL_OF_ONE])],
+    "late": [("feed tick S 1", []), ("threads 100 0123", FULL), ("threads 100 0123", [AT_ITS_END])],
+}
+
+
+def is_wanted(given, wanted):
+    """Whether a block is what a line must give: these lines, or one of these runs."""
+    if not any(isinstance(it, Ran) for it in wanted):
+        return given == wanted
+    return given[:1] in (QUIET, LIMIT) and Ran.of(given).told in [it.told for it in wanted]
+
+
+class Driver:
+    """The driver, line by line, with the shim that refuses it memory."""
+
+    def __init__(self, program, plant, number, room):
+        self.told = open(f"{room}/told", "w+b")
+        words = {"LD_PRELOAD": f"{room}/refuse.so", "REFUSE_TELL": str(self.told.fileno()), "REFUSE_STEP": str(number)}
+        how = {"stdin": subprocess.PIPE, "stdout": subprocess.PIPE, "stderr": subprocess.PIPE, "encoding": "ascii"}
+        self.ran = subprocess.Popen([program, plant], env=words, pass_fds=[self.told.fileno()], **how)
+        self.clock = threading.Timer(SECONDS, self.ran.kill)
+        self.clock.start()
+
+    def play(self, line):
+        """What comes of a line, and how many allocations were refused to it."""
+        before, block = os.fstat(self.told.fileno()).st_size, []
+        self.ran.stdin.write(line + "\n")
+        self.ran.stdin.flush()
+        while (told := self.ran.stdout.readline()) not in ("\n", ""):
+            block.append(told[:-1])
+        self.has_ended = not told
+        return block, os.fstat(self.told.fileno()).st_size - before
+
+    def left_running(self):
+        """How many threads the driver has but its own, while it waits for a line."""
+        until = time.monotonic() + GONE
+        while (count := len(os.listdir(f"/proc/{self.ran.pid}/task")) - 1) and time.monotonic() < until:
+            time.sleep(0.001)
+        return count
+
+    def end(self):
+        """Returns what was wrong with its end."""
+        said = self.ran.communicate()[1]
+        self.clock.cancel()
+        self.told.close()
+        return [f"status {self.ran.returncode} {said}"] if self.ran.returncode or said else []
+
+
+def refused_once(program, plant, script, number, room, counts):
+    """Plays a script, with one allocation refused to each call. Returns whether any was, and what was wrong; none is tried behind a fault
+    that ended the driver, or that kept it longer than it may be."""
+    driver, faults, was_refused = Driver(program, plant, number, room), [], False
+    for line, wanted in script:
+        given, refused = driver.play(line)
+        where = f"{plant}: allocation {number} refused, {line}:"
+        if driver.has_ended:
+            return False, [*faults, f"{where} the driver ended behind {given}: {driver.end()}"]
+        was_refused |= refused > 0
+        if not line.startswith("feed "):
+            faults += [] if given[:1] == ["><"] else [f"{where} no marks"]
+            given = given[1:]
+        words = ["no memory", "same"]
+        if line.startswith(("new ", "check ")):
+            words = ["no memory", "anew"]
+        elif line.startswith("threads "):
+            words = [given[0] if given[:1] == ["no thread"] else "out of memory", "anew"]
+        if given[:2] == words:
+            counts[f"{line.split()[0]} without a thread" if words[0] == "no thread" else line.split()[0]] += 1
+            faults += [] if refused else [f"{where} {words[0]} where nothing was refused"]
+            given = given[2:]
+        elif refused:
+            counts["as ever"] += 1
+        if not is_wanted(given, wanted):
+            told = [it.told if isinstance(it, Ran) else it for it in wanted]
+            faults.append(f"{where} {given} and not {told}")
+        if line.startswith("threads ") and (left := driver.left_running()):
+            faults.append(f"{where} {left} threads were left running")
+    return was_refused, faults + [f"{plant}: allocation {number} refused: {it}" for it in driver.end()]
+
+
+def each_refused(program, room, name, scripts):
+    """Plays scripts with each allocation of each call refused in turn, prints how many, and returns what was wrong."""
+    faults, counts = [], Counter()
+    for plant, script in scripts:
+        number, was_refused = 0, True
+        while was_refused or number == 1:
+            was_refused, wrong = refused_once(program, plant, script, number, room, counts)
+            faults += wrong
+            number += 1
+    # memory was only asked ahead, or another module's clock was full
+    ever = counts.pop("as ever", 0)
+    told = ", ".join(f"{call} {count}" for call, count in sorted(counts.items()))
+    print(f"played_worlds: {name} met {sum(counts.values())} refusals ({told}; {ever} more answered as ever), {len(faults)} faults")
+    return faults
+
+
+def all_calls_refused(program, room):
+    """Plays calls of worlds, and runs on threads, with memory refused to each, and returns what was wrong."""
+    if not os.path.isfile(program):
+        return [f"there is no program {program}: `rt ci` makes it, or `rt run` in crates/played_worlds"]
+    faults = []
+    for plant, scripts in PLAYED.items():
+        faults += each_refused(program, room, f"calls of worlds, {plant},", [(plant, script) for script in scripts])
+    return faults + each_refused(program, room, "runs on threads", list(THREADS.items()))
