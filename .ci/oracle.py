@@ -8,7 +8,7 @@ under the names that they have in the document, each with its group.
 from collections import Counter
 
 LAST, COUNT = 9_223_372_036_854_775_807, 0xFFFFFFFF
-MESSAGE, HEADER, ROOM = 1_400, bytes.fromhex("0220062401"), 256
+MESSAGE, EMBEDDED, HEADER, ROOM = 66_000, 65_535, bytes.fromhex("0220062401"), 256
 CLASS, INSTANCE, MEMBER, POINT, ATTRIBUTE = range(5)
 # last legal address of the link, own address
 CHASSIS = {
@@ -565,6 +565,8 @@ class Module:
             return self.no("op used", "OpUsed")
         if request[:1] == b"\x52":
             return self.no("reserved service", "ReservedService")
+        if len(request) > EMBEDDED:
+            return self.no("wrong size", "WrongSize")
         data = bytes([tick, ticks]) + put(len(request)) + request + bytes(len(request) % 2)
         data += bytes([len(path) // 2, 0]) + path
         if len(data) + 6 > MESSAGE:

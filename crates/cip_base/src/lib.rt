@@ -26,8 +26,8 @@ pub use index::NumberIndex;
 pub use key::KeyFields;
 pub use laws::{triad_order, triads_are_ordered};
 pub use limits::{
-    LAST_COUNT, MAX_ADDRESS, MAX_ASSEMBLIES, MAX_DATUM, MAX_HOPS, MAX_MESSAGE, MAX_PATH,
-    MAX_PENDINGS, MAX_PORTS,
+    LAST_COUNT, MAX_ADDRESS, MAX_ASSEMBLIES, MAX_DATUM, MAX_EMBEDDED, MAX_HOPS, MAX_MESSAGE,
+    MAX_PATH, MAX_PENDINGS, MAX_PORTS,
 };
 pub use memory::NoMemory;
 pub use numbers::{ModuleId, Ms, PortNumber};

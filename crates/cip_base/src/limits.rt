@@ -5,9 +5,11 @@ pub const MAX_ADDRESS: usize = 16;
 /// The most bytes of a path: 255 words.
 pub const MAX_PATH: usize = 510;
 /// The most bytes of a Message Router request or reply.
-pub const MAX_MESSAGE: usize = 1400;
-/// The most bytes of a datum.
-pub const MAX_DATUM: usize = 511;
+pub const MAX_MESSAGE: usize = 66_000;
+/// The most bytes of a request in an Unconnected_Send: a 16-bit word says its size.
+pub const MAX_EMBEDDED: usize = 65_535;
+/// The most bytes of an assembly, and of a datum without its sequence count.
+pub const MAX_DATUM: usize = 65_535;
 /// The most ports of a module.
 pub const MAX_PORTS: usize = 8;
 /// The most assemblies of a module.

@@ -58,7 +58,7 @@ pub struct ModuleSettings {
     pub hop_room: usize,
     /// At least one, at most 8, exactly one of an adapter, with numbers of their own.
     pub ports: Ports,
-    /// At most 64, of 1 to 65,535 and with instances of their own, each of at most 511 bytes.
+    /// At most 64, of 1 to 65,535 and with instances of their own, each of at most 65,535 bytes.
     pub assemblies: Assemblies,
 }
 

@@ -93,8 +93,8 @@ pub enum Refused {
     OpUsed,
     /// No connection of that op is open here.
     NotOpen,
-    /// The message would have more than 1,400 bytes, or the datum not the size of the connection or
-    /// of the assembly.
+    /// The embedded request would have more than 65,535 bytes or the message more than 66,000, or
+    /// the datum not the size of the connection or of the assembly.
     WrongSize,
     /// An Unconnected_Send in an Unconnected_Send.
     ReservedService,

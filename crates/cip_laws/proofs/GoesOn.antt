@@ -8,7 +8,7 @@ use Rattle.cip_message.specs.Manager.{manager_request, manager_bytes}
 use Rattle.cip_message.specs.Request.{Request}
 use Rattle.cip_message.specs.RequestAt.{request_at}
 use Rattle.cip_message.proofs.Managers.{manager_is_read}
-use Rattle.cip_unconnected.specs.Unconnected.{Unconnected, unconnected_bytes, unconnected_data}
+use Rattle.cip_unconnected.specs.Unconnected.{Unconnected, unconnected_bytes, unconnected_data, is_too_long}
 use Rattle.cip_close.specs.Close.{Close, close_data, close_bytes}
 use Rattle.cip_pending.specs.Pendings.{Pendings}
 use Rattle.cip_target.specs.Object.{attribute_in, with_attribute, instance_in, object_of}
@@ -98,7 +98,7 @@ taken_row false false c e = refl
 -- the request of a Send that is taken is not of the service that is Unconnected_Send's
 pub send_service : (s : State) (op : ℕ) (u : Unconnected) → send_row s op u ≡ command.Taken → eqb (get_or u.request 0 0) 0x52 ≡ false
 unfolding send_row
-send_service s op u e = taken_row (is_spent op s.ops) (eqb (get_or u.request 0 0) 0x52) (nat_lt 1400 (length (unconnected_bytes u))) e
+send_service s op u e = taken_row (is_spent op s.ops) (eqb (get_or u.request 0 0) 0x52) (is_too_long u) e
 
 -- ---- the message that goes on
 

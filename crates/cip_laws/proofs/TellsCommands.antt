@@ -10,7 +10,7 @@ use Rattle.cip_base.specs.declared.timing.Timing.{Timing}
 use Rattle.cip_base.specs.declared.triad.Triad.{Triad}
 use Rattle.cip_base.specs.Triads.{triad_cmp}
 use Rattle.cip_base.proofs.Triads.{triads_total}
-use Rattle.cip_unconnected.specs.Unconnected.{Unconnected, unconnected_bytes}
+use Rattle.cip_unconnected.specs.Unconnected.{Unconnected, is_too_long}
 use Rattle.cip_pending.specs.declared.entry.UpSide.TheVariants.{Local}
 use Rattle.cip_hops.specs.declared.hop.Hop.{Hop}
 use Rattle.cip_hops.specs.declared.hop.Side.TheVariants.{Up, Down}
@@ -63,7 +63,7 @@ send_unused : (s : State) (op : ℕ) (u : Unconnected) → send_row s op u ≡ r
 unfolding send_row
 send_unused s op u e =
     (past (is_spent op s.ops) rows.OpUsed (cond (eqb (slice_index u.request 0) 0x52) rows.ReservedService
-    (cond (nat_lt 1400 (length (unconnected_bytes u))) rows.WrongSize rows.Taken)) rows.Taken e (λ other. cc)).0
+    (cond (is_too_long u) rows.WrongSize rows.Taken)) rows.Taken e (λ other. cc)).0
 
 send_command_tells : (config : ModuleSettings) (s : State) (op : ℕ) (timing : Timing) (path asked : List ℕ)
     → AllTell config s (events.Command (commands.Send op timing path asked))

@@ -135,7 +135,7 @@ fn joined(alloc: Global, service: u8, status: Status, data_: &[u8]) -> Result<Ve
 /// chapter 2, Message Router reply format). The condition is that bit 7 of the service is set, so
 /// that what is written is read back.
 ///
-/// TooLong past 1,400 bytes in all, NoMemory where an allocation is refused.
+/// TooLong past 66,000 bytes in all, NoMemory where an allocation is refused.
 pub fn write_reply(
     alloc: Global,
     service: u8,
@@ -146,7 +146,7 @@ pub fn write_reply(
     ensures ok { IfOk result (λ b. b ≡ reply_bytes (reply_with service status data_.now)) }
     ensures reads { IfOk result (λ b. ReadsReply b (reply_with service status data_.now)) }
     ensures too_long { IsErrOf result WriteFault.TooLong
-        ↔ (1400 < length (reply_bytes (reply_with service status data_.now))) }
+        ↔ (MAX_MESSAGE < length (reply_bytes (reply_with service status data_.now))) }
 {
     let head = match status.extra {
         None => 4,

@@ -9,9 +9,8 @@
 --     taken                                    Taken
 use Rattle.std.specs.Prelude.{◌≡◌, ℕ, ◌≤◌, ◌==◌, false, not, nat_lt, is_some, if◌then◌else◌, List, length, slice_index, Option, Some, None}
 use Rattle.cip_base.specs.Words.{Octets, OpNumber}
-use Rattle.cip_base.specs.declared.limits.TheConstants.{MAX_MESSAGE}
 use Rattle.cip_unconnected.specs.declared.unconnected.TheConstants.{UNCONNECTED_SEND}
-use Rattle.cip_unconnected.specs.Unconnected.{Unconnected, unconnected_bytes}
+use Rattle.cip_unconnected.specs.Unconnected.{Unconnected, is_too_long}
 use Rattle.cip_hops.specs.declared.hop.Hop.{Hop}
 use Rattle.cip_hops.specs.Hops.{hop_by_op}
 use Rattle.cip_module.specs.State.{State, is_spent}
@@ -41,7 +40,7 @@ unfoldable pub send_row : State → OpNumber → Unconnected → CommandRow
 send_row s op u =
     if is_spent op s.ops then OpUsed
     else if slice_index u.request 0 == UNCONNECTED_SEND then ReservedService
-    else if nat_lt MAX_MESSAGE (length (unconnected_bytes u)) then WrongSize
+    else if is_too_long u then WrongSize
     else Taken
 
 -- the row of an Enter by the connection that the op opened

@@ -6,7 +6,7 @@ ghost use Rattle.cip_module.specs.Table.{unread_open_bytes, unread_close_bytes};
 
 use crate::refusals::{LinkRefusal, UnconnectedRefusal};
 use crate::{close, open};
-use cip_base::{Bytes, NoMemory, Status, Triad};
+use cip_base::{Bytes, MAX_MESSAGE, NoMemory, Status, Triad};
 use cip_close::{
     CLOSE_FIXED_PART, CloseFailure, close_triad_at, close_words_at, write_close_failure,
 };
@@ -24,7 +24,7 @@ pub(crate) fn answered(
     bytes: &[u8],
 ) -> Result<Bytes, NoMemory>
     requires service { service < 128 }
-    requires room { length bytes.now ≤ 1394 }
+    requires room { 6 + length bytes.now ≤ MAX_MESSAGE }
     ensures { IfOk result (λ b. b ≡ answered service status bytes.now) }
 {
     match write_reply(alloc, 128 + service, status, bytes) {

@@ -1,7 +1,7 @@
 //! What goes on and what goes up.
 ghost use Rattle.std.specs.Prelude.{◌≡◌, ◌≤◌, [], length, IfOk};
 ghost use Rattle.cip_unconnected.specs.Reading.{unconnected_of};
-ghost use Rattle.cip_unconnected.specs.Unconnected.{unconnected_bytes};
+ghost use Rattle.cip_unconnected.specs.Unconnected.{Fits};
 ghost use Rattle.cip_module.specs.Effects.{reply_up};
 ghost use Rattle.cip_module.specs.Table.{message_on};
 
@@ -45,7 +45,7 @@ pub(crate) fn message_anew(
     view: UnconnectedView<'_>,
     rest: PathView<'_>,
 ) -> Result<Bytes, NoMemory>
-    requires fits { length (unconnected_bytes (unconnected_of view)) ≤ 1400 }
+    requires fits { Fits (unconnected_of view) }
     requires shorter { length rest.bytes.now ≤ length view.route.bytes.now }
     requires ticks { 2 ≤ view.timing.ticks }
     ensures { IfOk result (λ b. b ≡ message_on (unconnected_of view.entry) rest.entry.bytes.now) }

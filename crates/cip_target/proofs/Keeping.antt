@@ -12,6 +12,7 @@ use Rattle.std.proofs.lemmas.Bool.Decides.{nat_tests}
 use Rattle.std.proofs.lemmas.Bool.{eqb-true, cases_eq}
 use Rattle.std.proofs.lemmas.List.{get_or-set_same, get_or-set_other}
 use Rattle.std.proofs.lemmas.List.Quantifiers.{position-Some}
+use Rattle.cip_base.specs.declared.limits.TheConstants.{MAX_DATUM}
 use Rattle.cip_base.proofs.Sorted.{sorted_push, sorted_insert, sorted_at, from_sorted-push, from_sorted-insert, from_sorted-at}
 use Rattle.cip_base.proofs.Places.{find-None, find-Some, find-number, all_miss}
 use Rattle.cip_target.specs.Assemblies.{is_above}
@@ -46,8 +47,8 @@ key_is es q i x e stands =
     let h = position-Some _ es i x e in
     (h.0, ap (λ (f : Entry). f.0) stands ∙ eqb-true _ _ h.1)
 
-pub fits_at : (es : List Entry) (i : ℕ) (x : Entry) → IsHeld es → i < length es → x ≡ get_or es i x → length x.1.bytes ≤ 511
-fits_at es i x h lt stands = subst (λ (f : Entry). length f.1.bytes ≤ 511) (sym (stands ∙ same_at es i x nothing lt)) (h.fits i)
+pub fits_at : (es : List Entry) (i : ℕ) (x : Entry) → IsHeld es → i < length es → x ≡ get_or es i x → length x.1.bytes ≤ MAX_DATUM
+fits_at es i x h lt stands = subst (λ (f : Entry). length f.1.bytes ≤ MAX_DATUM) (sym (stands ∙ same_at es i x nothing lt)) (h.fits i)
 
 pub above_none : (es : List Entry) (after : Option ℕ) → IsHeld es → position (λ e. is_above after e.0) es ≡ None
     → find (λ e. is_above after e.0) (map.entries (the_map es)) ≡ None
@@ -67,17 +68,17 @@ set_is (e ∷ es) zero x lt = refl
 set_is (e ∷ es) (suc i) x lt = ap (λ t. e ∷ t) (set_is es i x (omega arith))
 
 abbrev Fits : List Entry → Type 0
-Fits es = (i : ℕ) → length (get_or es i nothing).1.bytes ≤ 511
+Fits es = (i : ℕ) → length (get_or es i nothing).1.bytes ≤ MAX_DATUM
 
-fits_set : (es : List Entry) (i : ℕ) (x : Entry) → i < length es → Fits es → length x.1.bytes ≤ 511 → Fits (set es i x)
+fits_set : (es : List Entry) (i : ℕ) (x : Entry) → i < length es → Fits es → length x.1.bytes ≤ MAX_DATUM → Fits (set es i x)
 fits_set es i x lt h p k =
     elim (cases_eq k i) [
-      | inl same ↦ subst (λ (f : Entry). length f.1.bytes ≤ 511)
+      | inl same ↦ subst (λ (f : Entry). length f.1.bytes ≤ MAX_DATUM)
           (sym (ap (λ (j : ℕ). get_or (set es i x) j nothing) same ∙ get_or-set_same es i x nothing lt)) p
-      | inr other ↦ subst (λ (f : Entry). length f.1.bytes ≤ 511) (sym (get_or-set_other es i k x nothing other)) (h k)
+      | inr other ↦ subst (λ (f : Entry). length f.1.bytes ≤ MAX_DATUM) (sym (get_or-set_other es i k x nothing other)) (h k)
     ]
 
-pub kept_set : (es : List Entry) (i : ℕ) (x y : Entry) → IsHeld es → i < length es → x ≡ get_or es i x → y.0 ≡ x.0 → length y.1.bytes ≤ 511
+pub kept_set : (es : List Entry) (i : ℕ) (x y : Entry) → IsHeld es → i < length es → x ≡ get_or es i x → y.0 ≡ x.0 → length y.1.bytes ≤ MAX_DATUM
     → IsHeld (set es i y)
 kept_set es i x y h lt stands key p = record {
   sorted =
@@ -105,13 +106,13 @@ greater_is m n e = grind (arith, nat_tests)
 strictly : (m n : ℕ) → nat_le m n ≡ true → (n ≡ m → ⊥) → nat_cmp m n ≡ Less
 strictly m n e d = grind (arith, nat_tests)
 
-fits_push : (es : List Entry) (x : Entry) → Fits es → length x.1.bytes ≤ 511 → Fits (es ++ x ∷ [])
+fits_push : (es : List Entry) (x : Entry) → Fits es → length x.1.bytes ≤ MAX_DATUM → Fits (es ++ x ∷ [])
 fits_push [] x h p zero = p
 fits_push [] x h p (suc k) = h 0
 fits_push (e ∷ es) x h p zero = h 0
 fits_push (e ∷ es) x h p (suc k) = fits_push es x (λ j. h (suc j)) p k
 
-fits_insert : (es : List Entry) (i : ℕ) (x : Entry) → i ≤ length es → Fits es → length x.1.bytes ≤ 511 → Fits (insert es i x)
+fits_insert : (es : List Entry) (i : ℕ) (x : Entry) → i ≤ length es → Fits es → length x.1.bytes ≤ MAX_DATUM → Fits (insert es i x)
 fits_insert es zero x le h p zero = p
 fits_insert es zero x le h p (suc k) = h k
 fits_insert [] (suc i) x le h p k = absurd (omega arith)
@@ -121,7 +122,7 @@ fits_insert (e ∷ es) (suc i) x le h p (suc k) = fits_insert es i x (omega arit
 above_all : (es : List Entry) (k : ℕ) → position (λ e. nat_le k e.0) es ≡ None → (i : ℕ) (d : Entry) → i < length es → nat_cmp (get_or es i d).0 k ≡ Less
 above_all es k e i d lt = less_is _ _ (all_miss (λ (f : Entry). nat_le k f.0) es e i d lt)
 
-pub kept_push : (es : List Entry) (k : ℕ) (v : Assembly) → IsHeld es → position (λ e. nat_le k e.0) es ≡ None → length v.bytes ≤ 511
+pub kept_push : (es : List Entry) (k : ℕ) (v : Assembly) → IsHeld es → position (λ e. nat_le k e.0) es ≡ None → length v.bytes ≤ MAX_DATUM
     → IsHeld (es ++ (k, v) ∷ [])
 kept_push es k v h e p = record {
   sorted = sorted_push nat_cmp es k v h.sorted (above_all es k e);
@@ -146,7 +147,7 @@ pub within : (es : List Entry) (k i : ℕ) → position (λ e. nat_le k e.0) es 
 within es k i e = (position-Some (λ (f : Entry). nat_le k f.0) es i nothing e).0
 
 pub kept_insert : (es : List Entry) (k i : ℕ) (x : Entry) (v : Assembly) → IsHeld es → position (λ e. nat_le k e.0) es ≡ Some i → x ≡ get_or es i x
-    → (x.0 ≡ k → ⊥) → length v.bytes ≤ 511 → IsHeld (insert es i (k, v))
+    → (x.0 ≡ k → ⊥) → length v.bytes ≤ MAX_DATUM → IsHeld (insert es i (k, v))
 kept_insert es k i x v h e stands other p =
     let lt = within es k i e in
     record {

@@ -3,6 +3,7 @@ use Rattle.std.specs.Prelude.{◌≡◌, ℕ, IsSomeAnd, Bool, ◌&&◌, nat_le,
 use Rattle.std.specs.Ordering.{nat_cmp}
 use Rattle.std.specs.Coded.{Coded, coded_list, coded_ℕ}
 use Rattle.std.specs.FinMap as map
+use Rattle.cip_base.specs.declared.limits.TheConstants.{MAX_DATUM}
 use Rattle.cip_base.specs.Words.{Octets, InstanceNumber}
 use Rattle.cip_base.specs.Triads.{coded_triad}
 use Rattle.cip_base.specs.declared.triad.Triad.{Triad}
@@ -22,9 +23,9 @@ Owners = map.FinMap nat_cmp Triad
 abbrev pub coded_owners : Coded Owners
 coded_owners = map.code {R = nat_cmp} coded_ℕ coded_triad
 
--- an instance from 1 and at most 511 bytes
+-- an instance from 1, and no more bytes than a datum may have
 abbrev pub is_assembly : AssemblyConfig → Bool
-is_assembly a = nat_le 1 a.instance && nat_le a.size 511
+is_assembly a = nat_le 1 a.instance && nat_le a.size MAX_DATUM
 
 -- with each of these assemblies in turn, all of its bytes 00; the last of an instance stands
 abbrev pub zeroed_onto : AssemblyMap → List AssemblyConfig → AssemblyMap

@@ -2,6 +2,7 @@
 use Rattle.std.specs.Prelude.{ℕ, ◌≤◌, T, List, [], ◌∷◌, length, slice_index_or, Option, Some, None}
 use Rattle.std.specs.Ordering.{nat_cmp}
 use Rattle.std.specs.FinMap as map
+use Rattle.cip_base.specs.declared.limits.TheConstants.{MAX_DATUM}
 use Rattle.cip_base.specs.Words.{Octets, InstanceNumber}
 use Rattle.cip_base.specs.declared.triad.Triad.{Triad}
 use Rattle.cip_target.specs.declared.assembly.Assembly.{Assembly}
@@ -72,4 +73,4 @@ nothing = (0, record { bytes = []; owner = None })
 
 pub record IsHeld (held : List (InstanceNumber × Assembly)) : Type 0 where
   pub sorted : T (map.is_sorted nat_cmp held)
-  pub fits : (i : ℕ) → length (slice_index_or held i nothing).1.bytes ≤ 511
+  pub fits : (i : ℕ) → length (slice_index_or held i nothing).1.bytes ≤ MAX_DATUM

@@ -1,6 +1,7 @@
 -- What a borrowed row says, for a request with this data.
 use Rattle.std.specs.Prelude.{◌≤◌, length, Option, option_map}
 use Rattle.std.specs.Borrow.{Bor}
+use Rattle.cip_base.specs.declared.limits.TheConstants.{MAX_DATUM}
 use Rattle.cip_base.specs.Words.{Octets, InstanceNumber}
 use Rattle.cip_target.specs.declared.rows.Row.{Row}
 use Rattle.cip_target.specs.declared.rows.Row.TheVariants as rows
@@ -22,5 +23,5 @@ seen d (rows.Written i) = Written i d
 -- what it reads fits a reply
 abbrev pub IsSmall : Row → Type 0
 IsSmall (rows.Refused refusal) = Unit {0}
-IsSmall (rows.Read found) = length found.now ≤ 511
+IsSmall (rows.Read found) = length found.now ≤ MAX_DATUM
 IsSmall (rows.Written i) = Unit {0}

@@ -69,9 +69,6 @@ pub record IsJoined (m : AssemblyMap) (a : Application) (j : Joined) : Type 0 wh
   pub config : config_in m a.config ≡ Some j.config
   pub consume : config_in m a.consume ≡ Some j.consume
   pub produce : config_in m a.produce ≡ Some j.produce
-  pub config_fits : j.config.size ≤ 511
-  pub consume_fits : j.consume.size ≤ 511
-  pub produce_fits : j.produce.size ≤ 511
 
 -- one of the assemblies is missing
 abbrev pub Misses : AssemblyMap → Application → Type 0

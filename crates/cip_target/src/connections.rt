@@ -11,7 +11,7 @@ use crate::config::AssemblyConfig;
 use crate::ends::{EndRefusal, Joined, joined_row};
 use crate::link::EndLink;
 use crate::target::Target;
-use cip_base::Status;
+use cip_base::{MAX_DATUM, Status};
 use cip_open::OpenView;
 
 impl Target {
@@ -39,8 +39,7 @@ impl Target {
 
     /// The instance and size of an assembly, if it exists.
     pub fn assembly(&self, instance: u32) -> Option<AssemblyConfig>
-        ensures value { result ≡ config_in self.now.objects.assemblies instance }
-        ensures fits { IfSome result (λ a. a.size ≤ 511) }
+        ensures { result ≡ config_in self.now.objects.assemblies instance }
     {
         self.assemblies.config(instance)
     }
@@ -103,7 +102,7 @@ impl Target {
     pub fn produce(&self, instance: u16) -> &[u8]
         requires { IsSome (map.get self.now.objects.assemblies instance) }
         ensures value { map.get self.now.objects.assemblies instance ≡ Some result.now }
-        ensures fits { length result.now ≤ 511 }
+        ensures fits { length result.now ≤ MAX_DATUM }
     {
         match self.assemblies.get(u32::from(instance)) {
             Some(bytes) => bytes,

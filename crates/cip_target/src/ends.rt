@@ -1,6 +1,6 @@
 //! The rows of an open that is to end here, from an application path on, in the order of the
 //! routing table (Volume 1, chapter 3, Forward_Open).
-ghost use Rattle.std.specs.Prelude.{◌≡◌, ◌≤◌};
+ghost use Rattle.std.specs.Prelude.{◌≡◌};
 ghost use Rattle.cip_target.specs.Ends.{is_configuration, datum_size, are_sizes, end_status};
 ghost use Rattle.cip_target.specs.Viewed.{row_joined};
 
@@ -54,7 +54,6 @@ pub(crate) struct Joined<'a> {
 
 // Whether the configuration bytes fit an assembly of this size.
 fn is_configuration(size: u16, bytes: &[u8]) -> bool
-    requires { size ≤ 511 }
     ensures { result ≡ is_configuration size bytes.now }
 {
     let size = usize::from(size);
@@ -62,22 +61,20 @@ fn is_configuration(size: u16, bytes: &[u8]) -> bool
 }
 
 // The size of a datum: in class 1 with its sequence count.
-fn datum_size(class: u8, size: u16) -> u16
-    requires { size ≤ 511 }
+fn datum_size(class: u8, size: u16) -> u32
     ensures { result ≡ datum_size class size }
 {
+    let size = u32::from(size);
     if class == 1 { size + 2 } else { size }
 }
 
 // Whether both directions have the sizes of their assemblies.
 fn are_sizes(fields: &OpenFields, consume: u16, produce: u16) -> bool
-    requires consumed { consume ≤ 511 }
-    requires produced { produce ≤ 511 }
     ensures { result ≡ are_sizes fields.now consume produce }
 {
     let class = fields.transport % 16;
-    params(fields.ot_params).size == datum_size(class, consume)
-        && params(fields.to_params).size == datum_size(class, produce)
+    u32::from(params(fields.ot_params).size) == datum_size(class, consume)
+        && u32::from(params(fields.to_params).size) == datum_size(class, produce)
 }
 
 /// The row of an open whose three assemblies exist; `owned` says whether the O→T instance has an
@@ -87,9 +84,6 @@ pub(crate) fn joined_row(
     joined: &Joined<'_>,
     owned: bool,
 ) -> Result<EndLink, EndRefusal>
-    requires config { joined.now.config.size ≤ 511 }
-    requires consume { joined.now.consume.size ≤ 511 }
-    requires produce { joined.now.produce.size ≤ 511 }
     ensures { result ≡ row_joined owned fields.now joined.now }
 {
     let class = fields.transport % 16;

@@ -3,7 +3,7 @@ ghost use Rattle.std.specs.Prelude.{◌≡◌, ◌≤◌, ◌++◌, ◌↔◌, l
 ghost use Rattle.std.specs.List.{list_all};
 ghost use Rattle.cip_target.specs.Identity.{is_printable, is_product_name, is_identity, number_bytes, identity_bytes};
 
-use cip_base::{Bytes, NoMemory, put_double, put_word};
+use cip_base::{Bytes, MAX_DATUM, NoMemory, put_double, put_word};
 use std::alloc::{AllocError, Global};
 use std::marker::Model;
 
@@ -98,7 +98,7 @@ impl Identity {
     /// Attributes 1 to 7, one after the other: what Get_Attributes_All answers.
     pub(crate) fn to_bytes(&self, alloc: Global) -> Result<Bytes, NoMemory>
         ensures is { IfOk result (λ bytes. bytes ≡ identity_bytes self.now) }
-        ensures fits { IfOk result (λ bytes. length bytes ≤ 511) }
+        ensures fits { IfOk result (λ bytes. length bytes ≤ MAX_DATUM) }
     {
         let mut bytes = Vec::new(alloc);
         put_numbers(&mut bytes, &self.fields)?;

@@ -17,7 +17,7 @@ use crate::config::AssemblyConfig;
 use crate::identity::{Identity, IdentityFields};
 use crate::object::{ObjectPath, object_path};
 use crate::rows::{Row, TargetRefusal};
-use cip_base::{Bytes, NoMemory, Status};
+use cip_base::{Bytes, MAX_DATUM, NoMemory, Status};
 use cip_message::{RequestView, WriteFault, write_reply};
 use std::alloc::Global;
 use std::marker::Model;
@@ -34,6 +34,7 @@ pub struct Target {
 }
 
 impl Model for Target {
+    ghost use Rattle.cip_base.specs.declared.limits.TheConstants.{MAX_DATUM};
     ghost use Rattle.std.specs.Prelude.{◌≡◌, ◌≤◌, length};
     ghost use Rattle.std.specs.Coded.{codes};
     ghost use Rattle.cip_target.specs.Assemblies.{coded_assemblies, coded_owners};
@@ -48,12 +49,12 @@ impl Model for Target {
     ghost view = { λ t. ends_with t.identity t.assemblies };
 
     ghost invariant = { λ t.
-        (t.attributes ≡ identity_bytes t.identity) × (length t.attributes ≤ 511) };
+        (t.attributes ≡ identity_bytes t.identity) × (length t.attributes ≤ MAX_DATUM) };
 }
 
 // Reading takes no data.
 fn read<'a>(found: &'a [u8], data_: &[u8]) -> Row<'a>
-    requires { length found.now ≤ 511 }
+    requires { length found.now ≤ MAX_DATUM }
     ensures is { seen data_.now result ≡ read_row found.entry.now data_.now }
     ensures fits { IsSmall result }
 {
@@ -66,7 +67,7 @@ fn read<'a>(found: &'a [u8], data_: &[u8]) -> Row<'a>
 
 // Reading an attribute, if there is one.
 fn get<'a>(found: Option<&'a [u8]>, data_: &[u8]) -> Row<'a>
-    requires { ForSome found (λ d. length d.now ≤ 511) }
+    requires { ForSome found (λ d. length d.now ≤ MAX_DATUM) }
     ensures is { seen data_.now result ≡ get_row (bytes_seen found.entry) data_.now }
     ensures fits { IsSmall result }
 {
@@ -109,9 +110,9 @@ fn set_assembly<'a>(instance: u32, found: Option<&[u8]>, data_: &[u8]) -> Row<'a
 
 // Attribute 3 of an assembly is its data.
 fn assembly_attribute(held: &[u8], attribute: Option<u16>) -> Option<&[u8]>
-    requires { length held.now ≤ 511 }
+    requires { length held.now ≤ MAX_DATUM }
     ensures is { bytes_seen result ≡ assembly_attribute held.now attribute }
-    ensures fits { ForSome result (λ d. length d.now ≤ 511) }
+    ensures fits { ForSome result (λ d. length d.now ≤ MAX_DATUM) }
 {
     match attribute {
         Some(3) => Some(held),
@@ -127,7 +128,7 @@ fn assembly_service<'a>(
     attribute: Option<u16>,
     data_: &[u8],
 ) -> Row<'a>
-    requires { ForSome held (λ d. length d.now ≤ 511) }
+    requires { ForSome held (λ d. length d.now ≤ MAX_DATUM) }
     ensures is { seen data_.now result
         ≡ assembly_row instance (bytes_seen held.entry) service attribute data_.now }
     ensures fits { IsSmall result }
@@ -145,7 +146,7 @@ fn assembly_service<'a>(
 impl Target {
     /// A target of this identity, with these assemblies, all of whose bytes are 00. Where an
     /// instance stands twice, the last size counts. The condition is that each instance is from 1
-    /// and each size at most 511.
+    /// and each size at most 65,535.
     pub fn new(
         alloc: Global,
         identity: Identity,
@@ -166,7 +167,7 @@ impl Target {
     // An attribute of the Identity.
     fn identity_attribute(&self, attribute: Option<u16>) -> Option<&[u8]>
         ensures is { bytes_seen result ≡ identity_attribute self.now.objects.identity attribute }
-        ensures fits { ForSome result (λ d. length d.now ≤ 511) }
+        ensures fits { ForSome result (λ d. length d.now ≤ MAX_DATUM) }
     {
         let attributes = self.attributes.as_slice();
         match attribute? {
@@ -285,7 +286,7 @@ fn zeroed_assemblies(alloc: Global, configs: &[AssemblyConfig]) -> Result<Assemb
 
 // The reply of a general status alone, with data.
 fn reply(alloc: Global, service: u8, general: u8, data_: &[u8]) -> Result<Bytes, NoMemory>
-    requires { length data_.now ≤ 511 }
+    requires { length data_.now ≤ MAX_DATUM }
     ensures { IfOk result (λ bytes. bytes ≡ reply_bytes (plain_reply service general data_.now)) }
 {
     let service = if service < 0x80 {

@@ -8,6 +8,7 @@ use Rattle.std.proofs.lemmas.Bool.{and_parts, eqb-true}
 use Rattle.std.proofs.lemmas.Bool.Decides.{nat_tests}
 use Rattle.std.proofs.lemmas.Slice.Eq.{bytes_eq-Decides}
 use Rattle.toml.specs.Data.{Items, no_items, item, Members, string, array, table, as_str, get_member}
+use Rattle.cip_base.specs.declared.limits.TheConstants.{MAX_DATUM}
 use Rattle.cip_config.specs.declared.config.ModuleKind.{ModuleKind}
 use Rattle.cip_config.specs.declared.config.ModuleKind.TheVariants.{Plain, Adapter, Indexed}
 use Rattle.cip_config.specs.declared.config.ModuleSettings.{ModuleSettings}
@@ -186,12 +187,12 @@ ports_good links modules cs c k f s =
 
 assemblies_good : (c : ModuleSettings) → FitsTypes c → Settled c → AreGoodAssemblies [] c.assemblies
 assemblies_good c f s =
-    let each : (i : ℕ) (a : AssemblyConfig) → slice_get c.assemblies i ≡ Some a → (nat_le 1 a.instance ≡ true) × (nat_le a.size 511 ≡ true) =
-    λ i a at. and_parts (nat_le 1 a.instance) (nat_le a.size 511) (all_at is_assembly c.assemblies i a s.assemblies at) in
+    let each : (i : ℕ) (a : AssemblyConfig) → slice_get c.assemblies i ≡ Some a → (nat_le 1 a.instance ≡ true) × (nat_le a.size MAX_DATUM ≡ true) =
+    λ i a at. and_parts (nat_le 1 a.instance) (nat_le a.size MAX_DATUM) (all_at is_assembly c.assemblies i a s.assemblies at) in
     record {
       least = λ i a at. le_of 1 a.instance (each i a at).0;
       most = f.assemblies;
-      size = λ i a at. le_of a.size 511 (each i a at).1;
+      size = λ i a at. le_of a.size MAX_DATUM (each i a at).1;
       instances = sym (instances_are c.assemblies) ∙ s.instances;
     }
 

@@ -7,6 +7,7 @@ use Rattle.std.specs.Str.{bytes_eq}
 use Rattle.std.proofs.lemmas.Bool.{and_from}
 use Rattle.std.proofs.lemmas.Bool.Decides.{nat_tests}
 use Rattle.toml.specs.Data.{Data, Items, no_items, item, Members}
+use Rattle.cip_base.specs.declared.limits.TheConstants.{MAX_DATUM}
 use Rattle.cip_config.specs.declared.config.PortConfig.{PortConfig}
 use Rattle.cip_config.specs.declared.config.ModuleKind.{ModuleKind}
 use Rattle.cip_config.specs.declared.config.ModuleKind.TheVariants.{Plain, Adapter, Indexed}
@@ -222,17 +223,17 @@ assembly_table_new : (place : Place) (assemblies : List AssemblyConfig) (m : Mem
     → assembly_of_table place assemblies m ≡ Ok a → IsNewAssembly assemblies a
 assembly_table_new place assemblies m a h =
     let (n, instances, h1) = bind_ok (number_at place key.Instance 1 65535 m) (λ n.
-    new_instance place assemblies n >>= λ instance. (number_at place key.Size 0 511 m >>= λ size. Ok (record { instance = instance; size = size }))) a h in
+    new_instance place assemblies n >>= λ instance. (number_at place key.Size 0 MAX_DATUM m >>= λ size. Ok (record { instance = instance; size = size }))) a h in
     let (i, new, h2) = bind_ok (new_instance place assemblies n)
-    (λ instance. number_at place key.Size 0 511 m >>= λ size. Ok (record { instance = instance; size = size })) a h1 in
-    let (size, sizes, h3) = bind_ok (number_at place key.Size 0 511 m) (λ size. Ok (record { instance = i; size = size })) a h2 in
+    (λ instance. number_at place key.Size 0 MAX_DATUM m >>= λ size. Ok (record { instance = instance; size = size })) a h1 in
+    let (size, sizes, h3) = bind_ok (number_at place key.Size 0 MAX_DATUM m) (λ size. Ok (record { instance = i; size = size })) a h2 in
     let (none, same_number) = passed (list_any (has_instance n) assemblies) _ (Ok n) i new in
     let same_i = same_ok n i same_number in
     let low = number_bounds place key.Instance 1 65535 m n instances in
-    let high = number_bounds place key.Size 0 511 m size sizes in
+    let high = number_bounds place key.Size 0 MAX_DATUM m size sizes in
     let same : record { instance = i; size = size } ≡ a = same_ok _ a h3 in
     subst (IsNewAssembly assemblies) same (record {
-      is_one = and_from (nat_le 1 i) (nat_le size 511) (ap (nat_le 1) (sym same_i) ∙ le_true 1 n low.0) (le_true size 511 high.1);
+      is_one = and_from (nat_le 1 i) (nat_le size MAX_DATUM) (ap (nat_le 1) (sym same_i) ∙ le_true 1 n low.0) (le_true size 511 high.1);
       instance = ap (λ (k : ℕ). list_any (has_instance k) assemblies) (sym same_i) ∙ none;
     })
 

@@ -8,6 +8,7 @@ use Rattle.std.proofs.lemmas.Bool.{and_parts, eq-eqb}
 use Rattle.std.proofs.lemmas.Bool.Decides.{nat_tests}
 use Rattle.std.proofs.lemmas.Slice.Eq.{bytes_eq-Decides}
 use Rattle.toml.specs.Data.{Items, no_items, item, Members, get_member, array, table}
+use Rattle.cip_base.specs.declared.limits.TheConstants.{MAX_DATUM}
 use Rattle.cip_config.specs.declared.config.LegalAddresses.{LegalAddresses}
 use Rattle.cip_config.specs.declared.config.LegalAddresses.TheVariants.{Byte, Text}
 use Rattle.cip_config.specs.declared.config.PortConfig.{PortConfig}
@@ -171,22 +172,22 @@ ports_written place links taken kind m ps apart w good some most =
 pub record AreGoodAssemblies (assemblies as' : List AssemblyConfig) : Type 0 where
   pub least : (i : ℕ) (a : AssemblyConfig) → slice_get as' i ≡ Some a → 1 ≤ a.instance
   pub most : (i : ℕ) (a : AssemblyConfig) → slice_get as' i ≡ Some a → a.instance ≤ 65535
-  pub size : (i : ℕ) (a : AssemblyConfig) → slice_get as' i ≡ Some a → a.size ≤ 511
+  pub size : (i : ℕ) (a : AssemblyConfig) → slice_get as' i ≡ Some a → a.size ≤ MAX_DATUM
   pub instances : differ (λ (a : AssemblyConfig). a.instance) (assemblies ++ as') ≡ true
 
 assembly_is : (place : Place) (assemblies : List AssemblyConfig) (a : AssemblyConfig) (m : Members) → WritesAssembly a m
-    → 1 ≤ a.instance → a.instance ≤ 65535 → a.size ≤ 511 → list_any (has_instance a.instance) assemblies ≡ false
+    → 1 ≤ a.instance → a.instance ≤ 65535 → a.size ≤ MAX_DATUM → list_any (has_instance a.instance) assemblies ≡ false
     → assembly_of place assemblies (table m) ≡ Ok a
 unfolding assembly_of
 assembly_is place assemblies a m w least most size new =
     then_ok (number_at place key.Instance 1 65535 m) (λ n. new_instance place assemblies n >>= λ instance.
-    (number_at place key.Size 0 511 m >>= λ size. Ok (record { instance = instance; size = size }))) a.instance (Ok a)
+    (number_at place key.Size 0 MAX_DATUM m >>= λ size. Ok (record { instance = instance; size = size }))) a.instance (Ok a)
     (number_is place key.Instance 1 65535 a.instance m w.instance least most)
     (then_ok (new_instance place assemblies a.instance) (λ instance.
-    number_at place key.Size 0 511 m >>= λ size. Ok (record { instance = instance; size = size })) a.instance (Ok a)
+    number_at place key.Size 0 MAX_DATUM m >>= λ size. Ok (record { instance = instance; size = size })) a.instance (Ok a)
     (if_false (list_any (has_instance a.instance) assemblies) _ (Ok a.instance) new)
-    (then_ok (number_at place key.Size 0 511 m) (λ size. Ok (record { instance = a.instance; size = size })) a.size (Ok a)
-    (number_is place key.Size 0 511 a.size m w.size (omega arith) size) refl))
+    (then_ok (number_at place key.Size 0 MAX_DATUM m) (λ size. Ok (record { instance = a.instance; size = size })) a.size (Ok a)
+    (number_is place key.Size 0 MAX_DATUM a.size m w.size (omega arith) size) refl))
 
 assemblies_are : (place : Place) (assemblies as' : List AssemblyConfig) (ds : Items) → AreTables WritesAssembly as' ds
     → AreGoodAssemblies assemblies as' → assemblies_after place assemblies ds ≡ Ok (assemblies ++ as')

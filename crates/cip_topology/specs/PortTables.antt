@@ -3,6 +3,7 @@ use Rattle.std.specs.Prelude.{ℕ, ◌+◌, Bool, true, not, ◌||◌, ◌&&◌,
 use Rattle.std.specs.List.{list_any}
 use Rattle.std.specs.Str.{bytes_eq}
 use Rattle.toml.specs.Data.{Data, Items, no_items, item, Members}
+use Rattle.cip_base.specs.declared.limits.TheConstants.{MAX_DATUM}
 use Rattle.cip_base.specs.Words.{Octets, LinkAddress}
 use Rattle.cip_config.specs.declared.config.PortConfig.{PortConfig}
 use Rattle.cip_config.specs.declared.config.ModuleKind.{ModuleKind}
@@ -105,7 +106,7 @@ abbrev pub assembly_of_table : Place → List AssemblyConfig → Members → Rea
 assembly_of_table place assemblies m =
     number_at place key.Instance 1 65535 m >>= λ n.
     (new_instance place assemblies n >>= λ instance.
-    (number_at place key.Size 0 511 m >>= λ size.
+    (number_at place key.Size 0 MAX_DATUM m >>= λ size.
     Ok (record { instance = instance; size = size })))
 
 unfoldable pub assembly_of : Place → List AssemblyConfig → Data → Read AssemblyConfig

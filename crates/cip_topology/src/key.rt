@@ -109,7 +109,7 @@ impl Key {
             Key::Address => "1 to 16 pairs of hexadecimal digits",
             Key::Assembly => "[[module.assembly]] tables",
             Key::Instance => "1 to 65535, each once in a module",
-            Key::Size => "0 to 511",
+            Key::Size => "0 to 65535",
         }
     }
 }

@@ -15,7 +15,7 @@ use crate::links::Link;
 use crate::place::Place;
 use crate::seats::Seats;
 use crate::values::{address, items, number, table_of, text};
-use cip_base::{Address, MAX_ASSEMBLIES, MAX_PORTS, PortNumber};
+use cip_base::{Address, MAX_ASSEMBLIES, MAX_DATUM, MAX_PORTS, PortNumber};
 use cip_config::{ModuleKind, PortConfig, is_legal};
 use cip_target::AssemblyConfig;
 use std::alloc::Global;
@@ -253,7 +253,7 @@ fn assembly_of_table(
 {
     let instance = number(table, place, Key::Instance, 1, 65535)? as u16;
     let instance = new_instance(place, assemblies, instance)?;
-    let size = number(table, place, Key::Size, 0, 511)? as u16;
+    let size = number(table, place, Key::Size, 0, MAX_DATUM as u32)? as u16;
     Ok(AssemblyConfig { instance, size })
 }
 

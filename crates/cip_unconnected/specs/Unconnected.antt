@@ -1,7 +1,8 @@
 -- Unconnected_Send, service 52 of the Connection Manager (Volume 1, chapter 3, Unconnected_Send).
-use Rattle.std.specs.Prelude.{◌≡◌, ℕ, ◌*◌, ◌/◌, ◌%◌, ◌∷◌, ◌++◌, length}
+use Rattle.std.specs.Prelude.{◌≡◌, ℕ, Bool, ◌≤◌, ◌*◌, ◌/◌, ◌%◌, ◌∷◌, ◌++◌, ◌||◌, nat_lt, length}
 use Rattle.cip_base.specs.Fields.{word, pad}
 use Rattle.cip_base.specs.Words.{Octets, WordCount}
+use Rattle.cip_base.specs.declared.limits.TheConstants.{MAX_EMBEDDED, MAX_MESSAGE}
 use Rattle.cip_base.specs.declared.timing.Timing.{Timing}
 use Rattle.cip_unconnected.specs.declared.unconnected.TheConstants.{UNCONNECTED_SEND}
 use Rattle.cip_segment.specs.Spelling.{IsReadable, IsFault}
@@ -54,3 +55,14 @@ unconnected_data u = unconnected_layout (pad (length u.request)) (length u.route
 -- the whole message, with the header of a request to the Connection Manager
 abbrev pub unconnected_bytes : Unconnected → Octets
 unconnected_bytes u = manager_bytes UNCONNECTED_SEND (unconnected_data u)
+
+-- a message may carry it: a word holds the size of the embedded request, and the whole is no longer
+-- than a message may be
+abbrev pub Fits : Unconnected → Type 0
+Fits u = (length u.request ≤ MAX_EMBEDDED) × (length (unconnected_bytes u) ≤ MAX_MESSAGE)
+
+-- no message carries it: the embedded request has a size that no word holds, or the whole is longer than
+-- a message may be
+abbrev pub is_too_long : Unconnected → Bool
+is_too_long u =
+    nat_lt MAX_EMBEDDED (length u.request) || nat_lt MAX_MESSAGE (length (unconnected_bytes u))

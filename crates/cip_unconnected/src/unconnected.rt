@@ -1,14 +1,14 @@
 //! The data of Unconnected_Send, read and written.
-ghost use Rattle.std.specs.Prelude.{◌≡◌, ◌+◌, ◌<◌, ◌≤◌, ◌↔◌, length, IfOk, IsErrOf, IfSome, IsNone, take, drop};
+ghost use Rattle.std.specs.Prelude.{◌≡◌, ◌+◌, ◌<◌, ◌≤◌, ◌↔◌, true, length, IfOk, IsErrOf, IfSome, IsNone, take, drop};
 ghost use Rattle.cip_message.specs.Gives.{Gives};
 ghost use Rattle.cip_message.specs.Exact.{IsRead};
 ghost use Rattle.cip_message.specs.Numbers.{word_in};
-ghost use Rattle.cip_unconnected.specs.Unconnected.{ReadsUnconnected, IsUnconnectedFault};
+ghost use Rattle.cip_unconnected.specs.Unconnected.{ReadsUnconnected, IsUnconnectedFault, is_too_long, unconnected_with};
 ghost use Rattle.cip_unconnected.specs.UnconnectedAt.{route_place, unconnected_at, route_words_of};
 ghost use Rattle.cip_unconnected.specs.Reading.{unconnected_of, sent_along};
 
 use crate::fault::UnconnectedFault;
-use cip_base::{Bytes, MAX_MESSAGE, Timing, put_word};
+use cip_base::{Bytes, MAX_EMBEDDED, MAX_MESSAGE, Timing, put_word};
 use cip_message::{DataFault, WriteFault, counted_path, put_manager_header, word_at};
 use cip_segment::PathView;
 use std::alloc::{AllocError, Global};
@@ -37,7 +37,8 @@ pub struct UnconnectedView<'a> {
 /// The size in bytes of the embedded request, in the data of an Unconnected_Send.
 pub fn request_size(data_: &[u8]) -> usize
     requires { UNCONNECTED_REQUEST ≤ length data_.now }
-    ensures { result ≡ word_in data_.now 2 }
+    ensures size { result ≡ word_in data_.now 2 }
+    ensures fits { result ≤ MAX_EMBEDDED }
 {
     usize::from(word_at(data_, UNCONNECTED_SIZE))
 }
@@ -57,7 +58,8 @@ fn size_place(data_: &[u8]) -> Option<usize>
 // The embedded request, which is whole.
 fn embedded(data_: &[u8]) -> &[u8]
     requires { 4 + word_in data_.now 2 ≤ length data_.now }
-    ensures { result.now ≡ take (word_in data_.now 2) (drop 4 data_.now) }
+    ensures request { result.now ≡ take (word_in data_.now 2) (drop 4 data_.now) }
+    ensures fits { length result.now ≤ MAX_EMBEDDED }
 {
     let size = request_size(data_);
     &data_[UNCONNECTED_REQUEST..][..size]
@@ -66,7 +68,8 @@ fn embedded(data_: &[u8]) -> &[u8]
 #[tactic(auto, unfolding(crate::specs::UnconnectedAt::unconnected_at))]
 #[inline(always)]
 fn unconnected(data_: &[u8]) -> Result<UnconnectedView<'_>, UnconnectedFault>
-    ensures { Gives unconnected_of result (unconnected_at data_.now) }
+    ensures gives { Gives unconnected_of result (unconnected_at data_.now) }
+    ensures fits { IfOk result (λ view. length view.request.now ≤ MAX_EMBEDDED) }
 {
     let Some(place) = size_place(data_) else {
         return Err(UnconnectedFault::Short);
@@ -94,8 +97,9 @@ fn unconnected(data_: &[u8]) -> Result<UnconnectedView<'_>, UnconnectedFault>
 /// route, Route of the route's fault.
 #[inline(always)]
 pub fn read_unconnected(data_: &[u8]) -> Result<UnconnectedView<'_>, UnconnectedFault>
-    ensures { IsRead unconnected_of unconnected_at ReadsUnconnected IsUnconnectedFault data_.now
-        result }
+    ensures read { IsRead unconnected_of unconnected_at ReadsUnconnected IsUnconnectedFault
+        data_.now result }
+    ensures fits { IfOk result (λ view. length view.request.now ≤ MAX_EMBEDDED) }
 {
     unconnected(data_)
 }
@@ -124,7 +128,7 @@ fn joined(
     request: &[u8],
     route: PathView<'_>,
 ) -> Result<Vec<u8>, AllocError>
-    requires { length request.now ≤ 1400 }
+    requires { length request.now ≤ MAX_EMBEDDED }
     ensures { IfOk result (λ v. v.items ≡ sent_along timing request.now route.entry) }
 {
     let mut bytes = Vec::with_capacity(alloc, 13 + request.len() + route.bytes.len())?;
@@ -146,7 +150,8 @@ fn joined(
 /// time-out ticks, size of the embedded request in bytes, that request, a pad 00 where its size is
 /// odd, route size in 16-bit words, a reserved 00, route (Volume 1, chapter 3, Unconnected_Send).
 ///
-/// TooLong past 1,400 bytes in all, NoMemory where an allocation is refused.
+/// TooLong past 65,535 bytes of the embedded request or 66,000 bytes in all, NoMemory where an
+/// allocation is refused.
 pub fn write_unconnected(
     alloc: Global,
     timing: Timing,
@@ -155,11 +160,12 @@ pub fn write_unconnected(
 ) -> Result<Bytes, WriteFault>
     ensures ok { IfOk result (λ b. b ≡ sent_along timing request.now route.entry) }
     ensures too_long { IsErrOf result WriteFault.TooLong
-        ↔ (1400 < length (sent_along timing request.now route.entry)) }
+        ↔ (is_too_long (unconnected_with timing request.now route.entry.bytes.now) ≡ true) }
 {
     // All but the embedded request and its pad.
     let others = 12 + route.bytes.len();
-    if request.len() > MAX_MESSAGE - others - request.len() % 2 {
+    let pad = request.len() % 2;
+    if request.len() > MAX_EMBEDDED || request.len() > MAX_MESSAGE - others - pad {
         return Err(WriteFault::TooLong);
     }
     match joined(alloc, timing, request, route) {

@@ -11,7 +11,7 @@ use Rattle.cip_hops.specs.Hops.{hop_by_op}
 use Rattle.cip_module.specs.CloseRows.{CloseRow, close_row}
 use Rattle.cip_module.specs.CloseRows as closes
 use Rattle.cip_laws.specs.Tells.{command_asker}
-use Rattle.cip_unconnected.specs.Unconnected.{Unconnected, unconnected_bytes}
+use Rattle.cip_unconnected.specs.Unconnected.{Unconnected, is_too_long}
 use Rattle.cip_open.specs.Open.{Open}
 use Rattle.cip_module.specs.CommandRows.{CommandRow}
 use Rattle.cip_module.specs.CommandRows as command
@@ -79,7 +79,7 @@ module _ (config : ModuleSettings) (s : State) (op : ℕ) where
 
   send_unused : (u : Unconnected) → send_row s op u ≡ command.Taken → is_spent op s.ops ≡ false
   unfolding send_row
-  send_unused u e = taken_send (is_spent op s.ops) (eqb (slice_index u.request 0) 0x52) (nat_lt 1400 (length (unconnected_bytes u))) e
+  send_unused u e = taken_send (is_spent op s.ops) (eqb (slice_index u.request 0) 0x52) (is_too_long u) e
 
   open_none : (o : Open) (row : OpenRow) → list_any is_refusal (outputs_of config s (Spends op ∷ open_effects s (Local op) o row)) ≡ false
   open_none o (opens.Refuses refusal) = refl

@@ -3,23 +3,23 @@ use crate::messages::play_messages;
 use std::test::Fail;
 
 #[test]
-fn requests_of_at_most_1400_bytes(rt: HostRuntime) -> Result<(), Fail> {
+fn requests_of_at_most_66000_bytes(rt: HostRuntime) -> Result<(), Fail> {
     play_messages(
         &rt,
         "
-        write_request 0x4B 2001_2401 07*1394 = 1400 bytes
-        write_request 0x4B 2001_2401 07*1395 = TooLong: a message has at most 1,400 bytes
+        write_request 0x4B 2001_2401 07*65994 = 66000 bytes
+        write_request 0x4B 2001_2401 07*65995 = TooLong: a message has at most 66,000 bytes
         ",
     )
 }
 
 #[test]
-fn replies_of_at_most_1400_bytes(rt: HostRuntime) -> Result<(), Fail> {
+fn replies_of_at_most_66000_bytes(rt: HostRuntime) -> Result<(), Fail> {
     play_messages(
         &rt,
         "
-        write_reply 0xCB 0 - 07*1396 = 1400 bytes
-        write_reply 0xCB 0 - 07*1397 = TooLong: a message has at most 1,400 bytes
+        write_reply 0xCB 0 - 07*65996 = 66000 bytes
+        write_reply 0xCB 0 - 07*65997 = TooLong: a message has at most 66,000 bytes
         ",
     )
 }
@@ -95,7 +95,7 @@ fn the_texts_of_faults(rt: HostRuntime) -> Result<(), Fail> {
     play_messages(
         &rt,
         "
-        write_request 0x4B 2001_2401 07*1395 = TooLong: a message has at most 1,400 bytes
+        write_request 0x4B 2001_2401 07*65995 = TooLong: a message has at most 66,000 bytes
         ",
     )
 }

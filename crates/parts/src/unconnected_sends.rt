@@ -63,12 +63,15 @@ fn a_pad_stands_behind_an_odd_request(rt: HostRuntime) -> Result<(), Fail> {
 }
 
 #[test]
-fn messages_of_at_most_1400_bytes(rt: HostRuntime) -> Result<(), Fail> {
+fn embedded_requests_of_at_most_65535_bytes(rt: HostRuntime) -> Result<(), Fail> {
     play_messages(
         &rt,
         "
-        write_unconnected 7 249 07*1384 0103_0207 = 1400 bytes
-        write_unconnected 7 249 07*1385 0103_0207 = TooLong: a message has at most 1,400 bytes
+        write_unconnected 7 249 07*65535 0103_0207 = 65552 bytes
+        write_unconnected 7 249 07*65536 0103_0207 = TooLong: a message has at most 66,000 bytes
+        # The longest route, 255 words.
+        write_unconnected 7 249 07*65478 01*510 = 66000 bytes
+        write_unconnected 7 249 07*65479 01*510 = TooLong: a message has at most 66,000 bytes
         ",
     )
 }

@@ -128,9 +128,9 @@ fn data_of_another_size(rt: HostRuntime) -> Result<(), Fail> {
         S data 2 05 17 0100AABBCCDD
         > dropped WrongSize
         # More than a message may have.
-        A data 2 01 34 +1401
+        A data 2 01 34 +66001
         > dropped WrongSize
-        A data 2 01 99 +1401
+        A data 2 01 99 +66001
         > dropped UnknownId
         ",
     )

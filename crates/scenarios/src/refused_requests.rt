@@ -142,10 +142,10 @@ fn messages_that_are_no_requests(rt: HostRuntime) -> Result<(), Fail> {
         > dropped Malformed
         A request 2 01 1 81_00_000001010C000100010300000A0A0000024152
         > dropped Malformed
-        # 1,401 bytes, and 1,400.
-        A request 2 01 1 0E03200124013001+1393
+        # 66,001 bytes, and 66,000.
+        A request 2 01 1 0E03200124013001+65993
         > dropped Malformed
-        A request 2 01 1 0E03200124013001+1392
+        A request 2 01 1 0E03200124013001+65992
         > send 2 01 reply 1 8E001500
         # Path past the end, path unreadable, path of another form.
         A request 2 01 1 01092001

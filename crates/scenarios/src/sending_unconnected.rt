@@ -220,10 +220,10 @@ fn commands_that_are_refused(rt: HostRuntime) -> Result<(), Fail> {
         "
         S send 1 0x07 0xFA 0205_0103 52_0220062401_07F9_0600_010220012401_01_00_0103
         > refused ReservedService
-        S send 1 0x07 0xFA 0205_0103 010220012401+1379
+        S send 1 0x07 0xFA 0205_0103 010220012401+65530
         > refused WrongSize
-        # With its header and its whole path this one has 1,400 bytes.
-        S send 1 0x07 1 0205_0103 010220012401+1378
+        # This one has 65,535 bytes.
+        S send 1 0x07 1 0205_0103 010220012401+65529
         > done 1 D2_00_01_01_0402_02
         S send 1 0x07 0xFA 0205_0103 52_0220062401_07F9_0600_010220012401_01_00_0103
         > refused OpUsed

@@ -224,7 +224,7 @@ fn replies_from_elsewhere(rt: HostRuntime) -> Result<(), Fail> {
             10270000_0648_10270000_0448_01_06_0103_0207_2004_2464_2C65_2C66
         > send 1 03 request 1 54_0220062401_07F8_00000000_21000000_4200_0101_0D0C0B0A_00_000000_\
             10270000_0648_10270000_0448_01_05_0207_2004_2464_2C65_2C66
-        # Another number, another address, another port; a port that A lacks, and 1,401 bytes.
+        # Another number, another address, another port; a port that A lacks, and 66,001 bytes.
         A reply 1 03 2 D4_00_00_00_32000000_21000000_4200_0101_0D0C0B0A_10270000_10270000_00_00
         > dropped Late
         A reply 1 04 1 D4_00_00_00_32000000_21000000_4200_0101_0D0C0B0A_10270000_10270000_00_00
@@ -233,9 +233,9 @@ fn replies_from_elsewhere(rt: HostRuntime) -> Result<(), Fail> {
         > dropped Late
         A reply 3 03 1 D4_00_00_00_32000000_21000000_4200_0101_0D0C0B0A_10270000_10270000_00_00
         > dropped Malformed
-        A reply 1 03 1 D4001300+1397
+        A reply 1 03 1 D4001300+65997
         > dropped Malformed
-        A reply 1 03 9 D4001300+1397
+        A reply 1 03 9 D4001300+65997
         > dropped Malformed
         # What cannot be read, under another number.
         A reply 1 03 2 D4

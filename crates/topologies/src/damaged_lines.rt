@@ -150,10 +150,7 @@ const RULES: [Rule; 19] = [
     Rule {
         table: "assembly",
         key: "size",
-        beyond: "512",
-        found: "512",
-        allowed: "0 to 511",
-        ..NUMBER
+        ..VENDOR
     },
 ];
 

@@ -1,8 +1,7 @@
 -- What a command finds that is taken, and why another one is refused.
-use Rattle.std.specs.Prelude.{◌≡◌, ℕ, ◌≤◌, ◌==◌, false, length, List, Option, Some, Result, Ok, Err}
+use Rattle.std.specs.Prelude.{◌≡◌, ℕ, ◌==◌, false, length, List, Option, Some, Result, Ok, Err}
 use Rattle.cip_base.specs.Words.{Octets, OpNumber}
-use Rattle.cip_base.specs.declared.limits.TheConstants.{MAX_MESSAGE}
-use Rattle.cip_unconnected.specs.Unconnected.{Unconnected, unconnected_bytes}
+use Rattle.cip_unconnected.specs.Unconnected.{Unconnected, Fits}
 use Rattle.cip_hops.specs.declared.hop.Hop.{Hop}
 use Rattle.cip_event.specs.declared.event.Refused.{Refused}
 use Rattle.cip_event.specs.declared.event.Refused.TheVariants as refused
@@ -26,9 +25,9 @@ Decides Finds row (Err fault) = row ≡ row_of fault
 abbrev pub IsNew : State → OpNumber → Type 0
 IsNew s op = is_spent op s.ops ≡ false
 
--- a Send: its op is new, and its message is no longer than a message may be
+-- a Send: its op is new, and a message may carry it
 abbrev pub CanSend : State → OpNumber → Unconnected → Type 0
-CanSend s op u = IsNew s op × (length (unconnected_bytes u) ≤ MAX_MESSAGE)
+CanSend s op u = IsNew s op × Fits u
 
 -- an Enter: the connection, whose size is that of the datum
 abbrev pub CanEnter : Octets → Option Hop → Hop → Type 0

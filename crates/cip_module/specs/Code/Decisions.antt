@@ -1,5 +1,6 @@
 -- What a decision of the code says: a row or an answer, and of a request that goes on that it can.
-use Rattle.std.specs.Prelude.{◌≡◌, ℕ, ◌%◌, ◌≤◌, ◌<◌, true, List, length, None, Ok}
+use Rattle.std.specs.Prelude.{◌≡◌, ℕ, ◌+◌, ◌%◌, ◌≤◌, ◌<◌, true, List, length, None, Ok}
+use Rattle.cip_base.specs.declared.limits.TheConstants.{MAX_MESSAGE}
 use Rattle.cip_base.specs.declared.timing.Timing.{Timing}
 use Rattle.cip_message.specs.Reading.{request_of}
 use Rattle.cip_pending.specs.declared.entry.Kind.{Kind}
@@ -47,7 +48,7 @@ abbrev pub RequestLeads : RequestDecision → Type 0
 RequestLeads request_decisions.UnknownPortOrTooLong = Unit {0}
 RequestLeads request_decisions.NotARequest = Unit {0}
 RequestLeads (request_decisions.Refuses service refusal) = service < 128
-RequestLeads (request_decisions.UnconnectedSend sent) = length sent.now ≤ 1394
+RequestLeads (request_decisions.UnconnectedSend sent) = 6 + length sent.now ≤ MAX_MESSAGE
 RequestLeads (request_decisions.ForwardOpen asked) = Unit {0}
 RequestLeads (request_decisions.ForwardClose asked) = Unit {0}
 RequestLeads (request_decisions.Target request) = request.service < 128

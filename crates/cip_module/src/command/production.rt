@@ -10,7 +10,7 @@ ghost use Rattle.cip_module.specs.Table.{produce_effects};
 
 use crate::data::outputs::datum_up;
 use crate::device::Device;
-use cip_base::{Bytes, NoMemory};
+use cip_base::{Bytes, MAX_DATUM, NoMemory};
 use cip_event::Output;
 use cip_hops::{Hop, HopDown, Side};
 use std::alloc::Global;
@@ -38,7 +38,7 @@ fn next_count(last: Option<u16>) -> u16
 
 // One datum: in class 1 it begins with its sequence count.
 fn datum_of(alloc: Global, hop: &Hop, held: &[u8]) -> Result<Bytes, NoMemory>
-    requires { length held.now ≤ 511 }
+    requires { length held.now ≤ MAX_DATUM }
     ensures { IfOk result (λ bytes. bytes ≡ datum_bytes held.now hop.now) }
 {
     let mut bytes = Vec::with_capacity(alloc, held.len() + 2)?;
@@ -65,7 +65,7 @@ fn count_for(hop: &Hop, instance: u32) -> Option<u16>
 impl Device {
     // The data that go up, in rising triad.
     fn data_of(&self, instance: u32, held: &[u8]) -> Result<Vec<Output>, NoMemory>
-        requires { length held.now ≤ 511 }
+        requires { length held.now ≤ MAX_DATUM }
         ensures { IfOk result (λ outputs. outputs.items
             ≡ made_all instance held.now (open_hops self.now.hops)) }
     {

@@ -10,7 +10,7 @@ ghost use Rattle.cip_module.specs.Code.Commands.{Decides, IsNew, CanSend, CanEnt
 ghost use Rattle.cip_module.specs.Code.Device.{state_of_device};
 
 use crate::device::Device;
-use cip_base::MAX_MESSAGE;
+use cip_base::{MAX_DATUM, MAX_EMBEDDED, MAX_MESSAGE};
 use cip_event::Refused;
 use cip_hops::Hop;
 use cip_unconnected::{UNCONNECTED_SEND, UnconnectedView};
@@ -65,7 +65,7 @@ impl Device {
             Err(Refused::OpUsed)
         } else if is_reserved(view.request) {
             Err(Refused::ReservedService)
-        } else if message_len(view) > MAX_MESSAGE {
+        } else if view.request.len() > MAX_EMBEDDED || message_len(view) > MAX_MESSAGE {
             Err(Refused::WrongSize)
         } else {
             Ok(())
@@ -104,7 +104,7 @@ impl Device {
     pub(crate) fn produce_row(&self, instance: u32) -> Result<&[u8], Refused>
         ensures { Decides (λ held.
             (map.get self.now.target.objects.assemblies instance ≡ Some held.now)
-            × (length held.now ≤ 511))
+            × (length held.now ≤ MAX_DATUM))
             (produce_row (map.get self.now.target.objects.assemblies instance)) result }
     {
         let Some(assembly) = self.target.assembly(instance) else {

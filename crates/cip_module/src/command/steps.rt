@@ -1,7 +1,7 @@
 //! The command group: what a module's own application asks for.
 ghost use Rattle.std.specs.Prelude.{◌≡◌, ◌∷◌, [], ℕ, ◌≤◌, List, length};
 ghost use Rattle.std.specs.Option.{option_to_list};
-ghost use Rattle.cip_unconnected.specs.Unconnected.{unconnected_bytes};
+ghost use Rattle.cip_unconnected.specs.Unconnected.{Fits};
 ghost use Rattle.cip_unconnected.specs.Reading.{unconnected_of};
 ghost use Rattle.cip_pending.specs.declared.entry.UpSide.TheVariants.{Local};
 ghost use Rattle.cip_hops.specs.Hops.{hop_by_op};
@@ -30,7 +30,7 @@ impl Device {
     // A Send that is taken.
     fn take(&mut self, op: u32, view: UnconnectedView<'_>) -> Result<Output, NoMemory>
         requires absent { IsNew (state_of_device self.old) op }
-        requires fits { length (unconnected_bytes (unconnected_of view)) ≤ 1400 }
+        requires fits { Fits (unconnected_of view) }
         ensures { Handles self.old self.new (with_spending (Local op)
             (unconnected_effects (Local op) (unconnected_of view.entry)
             (unconnected_row self.old.config self.old.pendings (unconnected_of view.entry))))

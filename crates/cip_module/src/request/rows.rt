@@ -63,7 +63,7 @@ fn refuses<'a>(service: u8, refusal: RequestRefusal) -> RequestDecision<'a>
 // A request to the Connection Manager: its instance first, then its services.
 fn manager_row<'a>(request: RequestView<'a>, object: ObjectPath) -> RequestDecision<'a>
     requires service { request.service < 128 }
-    requires fits { length request.data_.now ≤ 1394 }
+    requires fits { 6 + length request.data_.now ≤ MAX_MESSAGE }
     ensures row { request_row_of result ≡ manager_row (request_of request.entry) object }
     ensures leads { RequestLeads result }
 {
@@ -82,7 +82,7 @@ fn manager_row<'a>(request: RequestView<'a>, object: ObjectPath) -> RequestDecis
 // A request that was read, by the object that its path names.
 fn object_row(request: RequestView<'_>) -> RequestDecision<'_>
     requires service { request.service < 128 }
-    requires fits { 2 + length request.path.bytes.now + length request.data_.now ≤ 1400 }
+    requires fits { 2 + length request.path.bytes.now + length request.data_.now ≤ MAX_MESSAGE }
     ensures row { request_row_of result ≡ object_row (request_of request.entry)
         (object_of (segments_of request.entry.path.bytes.now)) }
     ensures leads { RequestLeads result }

@@ -3,7 +3,7 @@ ghost use Rattle.std.specs.Prelude.{◌≡◌, ◌≤◌, ◌<◌, ◌∷◌, []
 ghost use Rattle.cip_message.specs.Received.{IsReceived};
 ghost use Rattle.cip_unconnected.specs.declared.unconnected.TheConstants.{UNCONNECTED_SEND};
 ghost use Rattle.cip_unconnected.specs.Reading.{unconnected_of};
-ghost use Rattle.cip_unconnected.specs.Unconnected.{unconnected_bytes};
+ghost use Rattle.cip_unconnected.specs.Unconnected.{Fits};
 ghost use Rattle.cip_unconnected.specs.UnconnectedAt.{unconnected_at};
 ghost use Rattle.cip_pending.specs.declared.entry.Kind.{Kind as Kinds};
 ghost use Rattle.cip_pending.specs.Pendings.{refusal};
@@ -16,7 +16,7 @@ use crate::making::{Making, Outgoing};
 use crate::messages::{message_anew, reply_to};
 use crate::reaction::{Edit, Reaction};
 use crate::unconnected_send::rows::{UnconnectedDecision, unconnected_row, unread_row};
-use cip_base::{Address, Bytes, NoMemory, PortNumber};
+use cip_base::{Address, Bytes, MAX_MESSAGE, NoMemory, PortNumber};
 use cip_event::{Body, Output};
 use cip_pending::{Entry, Kind, UpSide};
 use cip_segment::PathView;
@@ -32,7 +32,7 @@ fn message_on(
     view: UnconnectedView<'_>,
     rest: PathView<'_>,
 ) -> Result<Outgoing, NoMemory>
-    requires fits { length (unconnected_bytes (unconnected_of view)) ≤ 1400 }
+    requires fits { Fits (unconnected_of view) }
     requires shorter { length rest.bytes.now ≤ length view.route.bytes.now }
     requires ticks { 2 ≤ view.timing.ticks }
     ensures { IfOk result (λ made. made ≡ outgoing_of making
@@ -101,7 +101,7 @@ impl Device {
         up: UpSide,
         view: UnconnectedView<'_>,
     ) -> Result<Reaction, NoMemory>
-        requires { length (unconnected_bytes (unconnected_of view)) ≤ 1400 }
+        requires { Fits (unconnected_of view) }
         ensures reacts { Reacts making (SendCame (unconnected_of view.entry)) self.old self.new
             (unconnected_effects up (unconnected_of view.entry)
             (unconnected_row self.old.config self.old.pendings (unconnected_of view.entry)))
@@ -137,7 +137,7 @@ impl Device {
         up: UpSide,
         data_: &[u8],
     ) -> Result<Reaction, NoMemory>
-        requires { length data_.now ≤ 1394 }
+        requires { 6 + length data_.now ≤ MAX_MESSAGE }
         ensures { Reacts making (IsReceived UNCONNECTED_SEND data_.now) self.old self.new
             (unconnected_data_effects self.old.config (state_of_device self.old) up data_.now
             (unconnected_at data_.now)) result }

@@ -6,7 +6,7 @@ use Rattle.cip_unconnected.specs.UnconnectedAt.{unconnected_at}
 use Rattle.cip_unconnected.proofs.Unconnecteds.{unconnected_verdict, unconnected_read}
 use Rattle.cip_unconnected.proofs.unconnected.read_unconnected.Goals as goal
 
-pub returns : goal.returns
-returns c =
-    is_read unconnected_of unconnected_at ReadsUnconnected IsUnconnectedFault c.args.data_.now c.unconnected.result c.unconnected.ensures
+pub returns-clause-read : goal.returns-clause-read
+returns-clause-read c =
+    is_read unconnected_of unconnected_at ReadsUnconnected IsUnconnectedFault c.args.data_.now c.unconnected.result c.unconnected.ensures.gives
     (unconnected_verdict c.args.data_.now (λ i. omega (arith, c.type_inv.data_ i))) (unconnected_read c.args.data_.now)

@@ -18,6 +18,6 @@ returns-in-Ok c =
     let d = c.args.data_.now in
     let u = unconnected_of c.in-Ok.view in
     subst (λ (r : Result Unconnected UnconnectedFault). Reacts c.args.making (IsReceived UNCONNECTED_SEND d) m new
-    (unconnected_data_effects m.config (state_of_device m) c.args.up d r) c.unconnected.result) (sym c.in-Ok.ensures.gives)
+    (unconnected_data_effects m.config (state_of_device m) c.args.up d r) c.unconnected.result) (sym c.in-Ok.ensures.read.gives)
     (narrowed m new c.args.making (SendCame u) (IsReceived UNCONNECTED_SEND d) (unconnected_effects c.args.up u (unconnected_row m.config m.pendings u))
-    c.unconnected.result (λ came received. (d, received, c.in-Ok.ensures.gives)) c.unconnected.ensures.reacts)
+    c.unconnected.result (λ came received. (d, received, c.in-Ok.ensures.read.gives)) c.unconnected.ensures.reacts)

@@ -1,5 +1,6 @@
 use Rattle.std.proofs.Common.{◌≡◌, ℕ, List, length, Some, refl, sym, ap, subst, ◌∙◌, ◌==◌, ◌≤◌}
 use Rattle.std.specs.List.{position}
+use Rattle.cip_base.specs.declared.limits.TheConstants.{MAX_DATUM}
 use Rattle.cip_target.proofs.Keeping.{Entry, key_is, fits_at, kept_set}
 use Rattle.cip_target.proofs.Changes.{no_place, write_over, same_length, always_there}
 use Rattle.cip_target.proofs.assemblies.Assemblies.write.Goals as goal
@@ -19,8 +20,8 @@ invariant_of-self c =
     let long =
     same_length c.self.inside.held.items c.args.instance c.in-Some.at c.index_mut.result.now c.args.bytes.now c.args.self.now c.self.invariant
     (at, c.index_mut.ensures.value) c.self.view_is c.requires in
-    let fits : length c.overwrite.new.self ≤ 511 =
-    subst (λ (n : ℕ). n ≤ 511) (sym (ap (λ (z : List ℕ). length z) c.overwrite.ensures ∙ long))
+    let fits : length c.overwrite.new.self ≤ MAX_DATUM =
+    subst (λ (n : ℕ). n ≤ MAX_DATUM) (sym (ap (λ (z : List ℕ). length z) c.overwrite.ensures ∙ long))
     (fits_at c.self.inside.held.items c.in-Some.at c.index_mut.result.now c.self.invariant there.0 c.index_mut.ensures.value) in
     kept_set c.self.inside.held.items c.in-Some.at c.index_mut.result.now (
       c.index_mut.result.now.0,
