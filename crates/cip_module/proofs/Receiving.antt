@@ -1,5 +1,5 @@
 -- What a reply that opens was waited for by, and that it can be written once more.
-use Rattle.std.proofs.Common.{◌≡◌, ℕ, Bool, true, false, cond, eqb, refl, ap, ◌∙◌, Result, Ok, Err, is_some, ◌%◌, ◌≤◌, ◌<◌, List, length, subst, arith}
+use Rattle.std.proofs.Common.{◌≡◌, ℕ, Bool, true, false, cond, eqb, refl, ap, ◌∙◌, Result, Ok, Err, is_some, Option, Some, ◌%◌, ◌≤◌, ◌<◌, List, length, subst, arith}
 use Rattle.std.specs.Prelude.{slice_get, slice_index}
 use Rattle.cip_base.specs.declared.triad.Triad.{Triad}
 use Rattle.cip_message.specs.Reply.{Reply}
@@ -13,6 +13,7 @@ use Rattle.cip_close.specs.Success.{CloseSuccess}
 use Rattle.cip_close.specs.SuccessAt.{close_reply_at}
 use Rattle.cip_pending.specs.declared.entry.Kind.{Kind}
 use Rattle.cip_pending.specs.declared.entry.Kind.TheVariants.{Unconnected, Opening, Closing}
+use Rattle.cip_pending.specs.Kinds.{opens}
 use Rattle.cip_module.specs.ReplyRows.{ReplyRow, OpenSucceeded, PassedUp, MalformedForItsKind, triad_eq, is_own, failure_row, opened_row, closed_row, opening_row, closing_row, read_row}
 use Rattle.cip_base.specs.Fields.{IsBytes}
 
@@ -64,11 +65,11 @@ opening_asked triad asked success r e =
 
 -- a success is of the triad that its request opens
 pub opens_only : (kind : Kind) (r : Result Reply ReplyFault) (triad : Triad) (success : OpenSuccess) → read_row kind r ≡ OpenSucceeded triad success
-    → kind ≡ Opening triad
+    → opens kind ≡ Some triad
 opens_only kind (Err fault) triad success e = not_malformed triad success e
 opens_only Unconnected (Ok r) triad success e = not_passed triad success e
 opens_only (Opening asked) (Ok r) triad success e =
-    ap Opening (either_row (eqb r.service 0xD4) (opening_row asked r) MalformedForItsKind (OpenSucceeded triad success) e (opening_asked triad asked success r)
+    ap (λ (t : Triad). Some t) (either_row (eqb r.service 0xD4) (opening_row asked r) MalformedForItsKind (OpenSucceeded triad success) e (opening_asked triad asked success r)
     (not_malformed triad success))
 opens_only (Closing asked) (Ok r) triad success e =
     either_row (eqb r.service 0xCE) (closing_row asked r) MalformedForItsKind (OpenSucceeded triad success) e (no_closing triad success asked r)

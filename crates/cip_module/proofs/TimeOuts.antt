@@ -12,7 +12,7 @@ use Rattle.cip_base.specs.declared.triad.Triad.{Triad}
 use Rattle.cip_base.proofs.Triads.{triads_total}
 use Rattle.cip_base.proofs.Sorted.{from_sorted-remove, sorted_remove}
 use Rattle.cip_pending.specs.declared.entry.Kind.{Kind}
-use Rattle.cip_pending.specs.declared.entry.Kind.TheVariants.{Unconnected, Opening as OpeningOf, Closing as ClosingOf}
+use Rattle.cip_pending.specs.Kinds.{opens}
 use Rattle.cip_pending.specs.declared.entry.Entry.{Entry}
 use Rattle.cip_pending.specs.Pendings.{Pendings, is_due, due, first_due, without}
 use Rattle.cip_base.proofs.Going.{first_goes}
@@ -26,7 +26,7 @@ use Rattle.cip_hops.proofs.Steps.{triads_apart}
 use Rattle.cip_base.proofs.Views.{found-gives, find-only, tied_name}
 use Rattle.cip_config.specs.declared.config.ModuleSettings.{ModuleSettings}
 use Rattle.cip_event.specs.declared.event.Output.{Output}
-use Rattle.cip_module.specs.Effects.{Effect, PendingTimesOut, HopTimesOut, apply, applied, output_of, outputs_of, timed_out_reply, given_up, given_up_of}
+use Rattle.cip_module.specs.Effects.{Effect, PendingTimesOut, HopTimesOut, apply, applied, output_of, outputs_of, timed_out_reply, abandoned_if, given_up, given_up_of}
 use Rattle.cip_module.specs.Code.Does.{Does}
 use Rattle.cip_module.specs.Table.{pending_times_out, pending_time_outs, hop_times_out, hop_time_outs, tick_effects}
 use Rattle.cip_module.specs.Code.Ticks.{shown, pendings_timed_out, hop_timed_out, hops_timed_out, pending_time_out, hop_time_out}
@@ -150,15 +150,17 @@ due_held t h triad (IsOpening o ids) at =
     (IsOpening o ids) at refl)
 due_held t h triad (Open hop) at = refl
 
-pub due_given_up : (t : ℕ) (kind : Kind) (h : Hops) → hops.due t (given_up_of kind h) ≡ hops.due t h
-due_given_up t Unconnected h = refl
-due_given_up t (ClosingOf triad) h = refl
-due_given_up t (OpeningOf triad) h =
+due_abandoned : (t : ℕ) (opened : Option Triad) (h : Hops) → hops.due t (abandoned_if opened h) ≡ hops.due t h
+due_abandoned t None h = refl
+due_abandoned t (Some triad) h =
     elim (finite.get h.held triad) as (λ x. finite.get h.held triad ≡ x
     → hops.due t (cond (is_some (option_and_then as_opening x)) (hops.without h triad) h) ≡ hops.due t h) [
       | None ↦ λ at. refl
       | Some x ↦ λ at. due_held t h triad x at
     ] refl
+
+pub due_given_up : (t : ℕ) (kind : Kind) (h : Hops) → hops.due t (given_up_of kind h) ≡ hops.due t h
+due_given_up t kind h = due_abandoned t (opens kind) h
 
 -- ---- the connections
 

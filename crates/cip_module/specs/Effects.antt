@@ -9,6 +9,7 @@ use Rattle.cip_pending.specs.declared.entry.UpSide.{UpSide}
 use Rattle.cip_pending.specs.declared.entry.UpSide.TheVariants.{Link, Local}
 use Rattle.cip_pending.specs.declared.entry.Kind.{Kind}
 use Rattle.cip_pending.specs.declared.entry.Kind.TheVariants.{Unconnected, Opening as OpeningOf, Closing as ClosingOf}
+use Rattle.cip_pending.specs.Kinds.{opens}
 use Rattle.cip_pending.specs.declared.entry.Entry.{Entry}
 use Rattle.cip_pending.specs.Pendings.{Pendings, added, without}
 use Rattle.cip_hops.specs.declared.opening.HopUp.{HopUp}
@@ -120,10 +121,12 @@ abbrev pub removed : Hops → Triad → Hops
 removed h triad = if is_some (hop_at h triad) then hops.without h triad else h
 
 -- a pending that was opening a connection takes it along
+abbrev pub abandoned_if : Option Triad → Hops → Hops
+abandoned_if None h = h
+abandoned_if (Some triad) h = abandoned h triad
+
 abbrev pub given_up_of : Kind → Hops → Hops
-given_up_of Unconnected h = h
-given_up_of (OpeningOf triad) h = abandoned h triad
-given_up_of (ClosingOf triad) h = h
+given_up_of kind h = abandoned_if (opens kind) h
 
 abbrev pub given_up : Option Entry → Hops → Hops
 given_up None h = h

@@ -1,6 +1,7 @@
 //! What the table keeps, and why it refuses.
 ghost use Rattle.std.specs.Prelude.{◌≡◌};
 ghost use Rattle.cip_pending.specs.Pendings.{is_asked};
+ghost use Rattle.cip_pending.specs.Kinds.{opens};
 
 use cip_base::{Address, PortNumber, Triad};
 use thiserror::Error;
@@ -26,6 +27,18 @@ pub enum Kind {
     Unconnected,
     Opening(Triad),
     Closing(Triad),
+}
+
+impl Kind {
+    /// The triad of the connection that the request opens; None where it opens none.
+    pub fn opens(self) -> Option<Triad>
+        ensures { result ≡ opens self }
+    {
+        match self {
+            Kind::Opening(triad) => Some(triad),
+            Kind::Unconnected | Kind::Closing(_) => None,
+        }
+    }
 }
 
 /// A request that was sent on and waits for its reply.

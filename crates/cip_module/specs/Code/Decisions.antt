@@ -1,10 +1,9 @@
 -- What a decision of the code says: a row or an answer, and of a request that goes on that it can.
-use Rattle.std.specs.Prelude.{◌≡◌, ℕ, ◌+◌, ◌%◌, ◌≤◌, ◌<◌, true, List, length, None, Ok}
+use Rattle.std.specs.Prelude.{◌≡◌, ℕ, ◌+◌, ◌%◌, ◌≤◌, ◌<◌, true, List, length, Option, None, Some, Ok}
 use Rattle.cip_base.specs.declared.limits.TheConstants.{MAX_MESSAGE}
 use Rattle.cip_base.specs.declared.timing.Timing.{Timing}
+use Rattle.cip_base.specs.declared.triad.Triad.{Triad}
 use Rattle.cip_message.specs.Reading.{request_of}
-use Rattle.cip_pending.specs.declared.entry.Kind.{Kind}
-use Rattle.cip_pending.specs.declared.entry.Kind.TheVariants.{Opening as OpeningOf}
 use Rattle.cip_pending.specs.Pendings.{Pendings, refusal}
 use Rattle.cip_hops.specs.declared.opening.HopUp.{HopUp}
 use Rattle.cip_hops.specs.Sides.{up_is_link}
@@ -101,9 +100,9 @@ reply_row_of (reply_decisions.OpenSucceeded triad success) =
     replies.OpenSucceeded triad (success_of success)
 reply_row_of reply_decisions.PassedUp = replies.PassedUp
 
--- a success opens what was asked for, and can be written once more
-abbrev pub ReplyLeads : Kind → ReplyDecision → Type 0
-ReplyLeads kind reply_decisions.Malformed = Unit {0}
-ReplyLeads kind (reply_decisions.OpenSucceeded triad success) =
-    (kind ≡ OpeningOf triad) × (length success.reply.now % 2 ≡ 0) × (length success.reply.now ≤ 510)
-ReplyLeads kind reply_decisions.PassedUp = Unit {0}
+-- a success is of the triad whose open was asked for, and can be written once more
+abbrev pub ReplyLeads : Option Triad → ReplyDecision → Type 0
+ReplyLeads asked reply_decisions.Malformed = Unit {0}
+ReplyLeads asked (reply_decisions.OpenSucceeded triad success) =
+    (asked ≡ Some triad) × (length success.reply.now % 2 ≡ 0) × (length success.reply.now ≤ 510)
+ReplyLeads asked reply_decisions.PassedUp = Unit {0}

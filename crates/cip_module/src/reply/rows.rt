@@ -1,5 +1,5 @@
 //! Which row of the reply group a reply meets.
-ghost use Rattle.std.specs.Prelude.{◌≡◌};
+ghost use Rattle.std.specs.Prelude.{◌≡◌, Option, None, Some};
 ghost use Rattle.std.specs.Option.{option_copied};
 ghost use Rattle.cip_message.specs.Reading.{reply_of};
 ghost use Rattle.cip_message.specs.ReplyAt.{reply_at};
@@ -7,8 +7,8 @@ ghost use Rattle.cip_message.specs.Failure.{failure_at};
 ghost use Rattle.cip_open.specs.SuccessAt.{open_reply_at};
 ghost use Rattle.cip_close.specs.SuccessAt.{close_reply_at};
 ghost use Rattle.cip_module.specs.ReplyRows.{triad_eq, failure_row, opened_row, closed_row, opening_row, closing_row, kind_row, read_row};
-ghost use Rattle.cip_pending.specs.declared.entry.Kind.{Kind as Kinds};
-ghost use Rattle.cip_pending.specs.declared.entry.Kind.TheVariants as kinds;
+ghost use Rattle.cip_base.specs.declared.triad.Triad.{Triad as Triads};
+ghost use Rattle.cip_pending.specs.Kinds.{opens};
 ghost use Rattle.cip_module.specs.Code.Decisions.{reply_row_of, ReplyLeads};
 
 use cip_base::Triad;
@@ -28,7 +28,7 @@ pub(crate) enum ReplyDecision<'a> {
 // A failure carries no triad, or the request's.
 fn failed(triad: Triad, data_: &[u8]) -> ReplyDecision<'_>
     ensures row { reply_row_of result ≡ failure_row triad (failure_at data_.entry.now) }
-    ensures leads { (kind : Kinds) → ReplyLeads kind result }
+    ensures leads { (asked : Option Triads) → ReplyLeads asked result }
 {
     match read_failure(data_) {
         Err(_) => ReplyDecision::Malformed,
@@ -47,7 +47,7 @@ fn failed(triad: Triad, data_: &[u8]) -> ReplyDecision<'_>
 
 fn opened(triad: Triad, data_: &[u8]) -> ReplyDecision<'_>
     ensures row { reply_row_of result ≡ opened_row triad (open_reply_at data_.entry.now) }
-    ensures leads { ReplyLeads (kinds.Opening triad) result }
+    ensures leads { ReplyLeads (Some triad) result }
 {
     match read_open_reply(data_) {
         Err(_) => ReplyDecision::Malformed,
@@ -63,7 +63,7 @@ fn opened(triad: Triad, data_: &[u8]) -> ReplyDecision<'_>
 
 fn closed(triad: Triad, data_: &[u8]) -> ReplyDecision<'_>
     ensures row { reply_row_of result ≡ closed_row triad (close_reply_at data_.entry.now) }
-    ensures leads { (kind : Kinds) → ReplyLeads kind result }
+    ensures leads { (asked : Option Triads) → ReplyLeads asked result }
 {
     match read_close_reply(data_) {
         Err(_) => ReplyDecision::Malformed,
@@ -80,7 +80,7 @@ fn closed(triad: Triad, data_: &[u8]) -> ReplyDecision<'_>
 // A success has no additional status and exactly its layout.
 fn opening<'a>(triad: Triad, reply: ReplyView<'a>) -> ReplyDecision<'a>
     ensures row { reply_row_of result ≡ opening_row triad (reply_of reply.entry) }
-    ensures leads { ReplyLeads (kinds.Opening triad) result }
+    ensures leads { ReplyLeads (Some triad) result }
 {
     if reply.general != 0 {
         failed(triad, reply.data_)
@@ -93,7 +93,7 @@ fn opening<'a>(triad: Triad, reply: ReplyView<'a>) -> ReplyDecision<'a>
 
 fn closing<'a>(triad: Triad, reply: ReplyView<'a>) -> ReplyDecision<'a>
     ensures row { reply_row_of result ≡ closing_row triad (reply_of reply.entry) }
-    ensures leads { ReplyLeads (kinds.Closing triad) result }
+    ensures leads { ReplyLeads None result }
 {
     if reply.general != 0 {
         failed(triad, reply.data_)
@@ -106,7 +106,7 @@ fn closing<'a>(triad: Triad, reply: ReplyView<'a>) -> ReplyDecision<'a>
 
 fn by_kind<'a>(kind: Kind, reply: ReplyView<'a>) -> ReplyDecision<'a>
     ensures row { reply_row_of result ≡ kind_row kind (reply_of reply.entry) }
-    ensures leads { ReplyLeads kind result }
+    ensures leads { ReplyLeads (opens kind) result }
 {
     match kind {
         Kind::Unconnected => ReplyDecision::PassedUp,
@@ -130,7 +130,7 @@ fn by_kind<'a>(kind: Kind, reply: ReplyView<'a>) -> ReplyDecision<'a>
 /// The row of a reply to a request of this kind.
 pub(crate) fn reply_row(kind: Kind, bytes: &[u8]) -> ReplyDecision<'_>
     ensures row { reply_row_of result ≡ read_row kind (reply_at bytes.entry.now) }
-    ensures leads { ReplyLeads kind result }
+    ensures leads { ReplyLeads (opens kind) result }
 {
     match read_reply(bytes) {
         Err(_) => ReplyDecision::Malformed,
