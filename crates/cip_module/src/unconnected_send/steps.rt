@@ -1,5 +1,5 @@
 //! The unconnected send group: an Unconnected_Send at a router and at its end.
-ghost use Rattle.std.specs.Prelude.{◌≡◌, ◌≤◌, ◌<◌, ◌∷◌, [], length, None, IfOk};
+ghost use Rattle.std.specs.Prelude.{◌≡◌, ◌≤◌, ◌<◌, ◌+◌, ◌∷◌, [], length, None, IfOk};
 ghost use Rattle.cip_message.specs.Received.{IsReceived};
 ghost use Rattle.cip_unconnected.specs.declared.unconnected.TheConstants.{UNCONNECTED_SEND};
 ghost use Rattle.cip_unconnected.specs.Reading.{unconnected_of};
