@@ -3,13 +3,12 @@ use Rattle.std.proofs.Common.{◌≡◌, ℕ, List, [], ◌∷◌, ◌++◌, Som
 use Rattle.std.specs.FinMap as map
 use Rattle.std.specs.Ordering.{nat_cmp}
 use Rattle.cip_pending.specs.declared.entry.Entry.{Entry}
-use Rattle.cip_pending.specs.declared.entry.Kind.TheVariants.{Opening as OpeningOf}
 use Rattle.cip_config.specs.declared.config.ModuleSettings.{ModuleSettings}
 use Rattle.cip_event.specs.declared.event.Body.TheVariants as bodies
 use Rattle.cip_event.specs.declared.event.Event.{Event}
 use Rattle.cip_event.specs.declared.event.Output.{Output}
 use Rattle.cip_event.specs.declared.event.Output.TheVariants as outputs
-use Rattle.cip_module.specs.Effects.{Effect, Forwards, Begins, entry_for, apply, output_of}
+use Rattle.cip_module.specs.Effects.{Effect, Forwards, Begins, entry_for, kind_for, apply, output_of}
 use Rattle.cip_module.specs.State.{State}
 use Rattle.cip_laws.specs.Tells.{asker, Tells}
 use Rattle.cip_laws.proofs.TellsAskers.{forwards_asker, begins_asker}
@@ -40,7 +39,7 @@ put_sent config s0 s event (Forwards sending kind) p tells h =
     subst (PutSent config event s (Forwards sending kind)) same
     (record { bytes = sending.bytes; asks = forwards_asker config s0 event sending kind tells; sent = refl })
 put_sent config s0 s event (Begins sending opening) p tells h =
-    let same : entry_for s sending (OpeningOf opening.triad) ≡ p = cc in
+    let same : entry_for s sending (kind_for opening) ≡ p = cc in
     subst (PutSent config event s (Begins sending opening)) same
     (record { bytes = sending.bytes; asks = begins_asker config s0 event sending opening tells; sent = refl })
 put_sent config s0 s event e p tells h = absurd (cc)

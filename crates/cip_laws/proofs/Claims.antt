@@ -7,7 +7,6 @@ use Rattle.std.specs.Ordering.{nat_cmp}
 use Rattle.cip_pending.specs.declared.entry.Entry.{Entry}
 use Rattle.cip_pending.specs.declared.entry.UpSide.{UpSide}
 use Rattle.cip_pending.specs.declared.entry.UpSide.TheVariants.{Link, Local}
-use Rattle.cip_pending.specs.declared.entry.Kind.TheVariants.{Opening as OpeningOf}
 use Rattle.cip_hops.specs.declared.opening.HopUp.{HopUp}
 use Rattle.cip_hops.specs.declared.opening.HopUp.TheVariants.{Link as UpLink, Local as UpLocal}
 use Rattle.cip_hops.specs.declared.opening.HopDown.{HopDown}
@@ -23,7 +22,7 @@ use Rattle.cip_target.specs.Objects.{target_answer}
 use Rattle.cip_laws.specs.EffectLists.{takes_up}
 use Rattle.cip_config.specs.declared.config.ModuleSettings.{ModuleSettings}
 use Rattle.cip_event.specs.declared.event.Output.{Output}
-use Rattle.cip_module.specs.Effects.{Effect, Replies, Answers, Forwards, Begins, Finishes, Takes, PendingTimesOut, Passes, objects_of, entry_for, apply, output_of, reply_up, replied, timed_out_reply, timed_out_bytes, datum_up, datum_down, datum_by, passed, succeeded}
+use Rattle.cip_module.specs.Effects.{Effect, Replies, Answers, Forwards, Begins, Finishes, Takes, PendingTimesOut, Passes, objects_of, entry_for, apply, output_of, reply_up, replied, timed_out_reply, timed_out_bytes, datum_up, datum_down, datum_by, passed, succeeded, kind_for}
 use Rattle.cip_module.specs.State.{State}
 use Rattle.cip_module.proofs.Fits.{numbers_apart}
 use Rattle.cip_base.proofs.Points.{one_or_apart, gone_here, gone_apart}
@@ -113,7 +112,7 @@ pub claims_each : (config : ModuleSettings) (up : UpSide) (s : State) (e : Effec
 claims_each config up s (Replies v bytes) h = let is = given up v bytes in omega (arith, is)
 claims_each config up s (Answers v request) h = let is = given up v (reply_bytes (target_answer (objects_of config s) request)) in omega (arith, is)
 claims_each config up s (Forwards sending kind) h = let more = asked up s (entry_for s sending kind) h in omega (arith, more)
-claims_each config up s (Begins sending opening) h = let more = asked up s (entry_for s sending (OpeningOf opening.triad)) h in omega (arith, more)
+claims_each config up s (Begins sending opening) h = let more = asked up s (entry_for s sending (kind_for opening)) h in omega (arith, more)
 claims_each config up s (Finishes number triad bytes success) h =
     let all = taken up s.pendings.entries number (succeeded (map.get s.hops.held triad) bytes success) in omega (arith, all)
 claims_each config up s (Takes number bytes) h = let all = taken up s.pendings.entries number bytes in omega (arith, all)

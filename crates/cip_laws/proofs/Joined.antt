@@ -11,7 +11,7 @@ use Rattle.cip_base.proofs.Triads.{triads_total}
 use Rattle.cip_hops.proofs.Steps.{triads_apart}
 use Rattle.cip_pending.specs.declared.entry.Entry.{Entry}
 use Rattle.cip_pending.specs.declared.entry.Kind.{Kind}
-use Rattle.cip_pending.specs.declared.entry.Kind.TheVariants.{Unconnected as UnconnectedKind, Opening as OpeningKind, Closing as ClosingKind}
+use Rattle.cip_pending.specs.Kinds.{opened_triad}
 use Rattle.cip_hops.specs.declared.opening.Opening.{Opening}
 use Rattle.cip_hops.specs.declared.opening.OwnIds.{OwnIds}
 use Rattle.cip_hops.specs.declared.hop.Hop.{Hop}
@@ -28,9 +28,10 @@ use Rattle.cip_event.specs.declared.event.Body.TheVariants as bodies
 use Rattle.cip_event.specs.declared.event.Event.{Event}
 use Rattle.cip_event.specs.declared.event.Output.{Output}
 use Rattle.cip_event.specs.declared.event.Output.TheVariants as outputs
-use Rattle.cip_module.specs.Effects.{Sending, Effect, Forwards, Begins, Accepts, Finishes, Takes, PendingTimesOut, Removes, HopTimesOut, Renews, Counts, entry_for, abandoned, removed, given_up, given_up_of, ends_here, apply, output_of, applied, outputs_of}
+use Rattle.cip_module.specs.Effects.{Sending, Effect, Forwards, Begins, Accepts, Finishes, Takes, PendingTimesOut, Removes, HopTimesOut, Renews, Counts, entry_for, kind_for, abandoned, abandoned_if, removed, given_up, ends_here, apply, output_of, applied, outputs_of}
 use Rattle.cip_module.specs.State.{State}
 use Rattle.cip_laws.specs.Tells.{Tells, ForwardsAs, BeginsAs, AcceptsAs, FinishesAs}
+use Rattle.cip_module.proofs.Opens.{opens_for}
 use Rattle.cip_module.proofs.Fits.{numbers_apart}
 use Rattle.cip_base.proofs.Points.{put_here, put_apart, gone_apart}
 use Rattle.cip_module.proofs.Removed.{open_at}
@@ -91,8 +92,8 @@ abandoned_apart h k q apart = cond_both (is_some (opening_at h k)) (without h k)
 module _ (P : ℕ → Entry → Opening → OwnIds → Type 0) where
   -- no request that opens is new, and what is opening for one that is left stands
   joined_kept : (s new : State) → Joined P s
-      → ((n : ℕ) (p : Entry) (triad : Triad) → map.get new.pendings.entries n ≡ Some p → p.kind ≡ OpeningKind triad → map.get s.pendings.entries n ≡ Some p)
-      → ((n : ℕ) (p : Entry) (triad : Triad) (o : Opening) (ids : OwnIds) → map.get new.pendings.entries n ≡ Some p → p.kind ≡ OpeningKind triad
+      → ((n : ℕ) (p : Entry) (triad : Triad) → map.get new.pendings.entries n ≡ Some p → opened_triad p.kind ≡ Some triad → map.get s.pendings.entries n ≡ Some p)
+      → ((n : ℕ) (p : Entry) (triad : Triad) (o : Opening) (ids : OwnIds) → map.get new.pendings.entries n ≡ Some p → opened_triad p.kind ≡ Some triad
       → map.get s.hops.held triad ≡ Some (IsOpening o ids)
       → map.get new.hops.held triad ≡ Some (IsOpening o ids))
       → Joined P new
@@ -113,24 +114,22 @@ module _ (P : ℕ → Entry → Opening → OwnIds → Type 0) where
       (λ n p triad o ids at kind there.
       let stands : (x : Option Entry) → map.get s.pendings.entries number ≡ x → map.get (given_up x s.hops).held triad ≡ Some (IsOpening o ids) = elim [
         | None ↦ λ e. there
-        | Some q ↦ λ e. by_kind s number n p q triad o ids h (was n p at).0 (was n p at).1 kind e there q.kind refl
+        | Some q ↦ λ e. by_opening s number n p q triad o ids h (was n p at).0 (was n p at).1 kind e there (opened_triad q.kind) refl
       ] in
       ap (λ (x : Hops). map.get x.held triad) left ∙ stands (map.get s.pendings.entries number) refl)
     where
-      by_kind : (s : State) (number n : ℕ) (p q : Entry) (triad : Triad) (o : Opening) (ids : OwnIds) → Joined P s → (n ≡ number → ⊥)
-          → map.get s.pendings.entries n ≡ Some p → p.kind ≡ OpeningKind triad
-          → map.get s.pendings.entries number ≡ Some q → map.get s.hops.held triad ≡ Some (IsOpening o ids) → (k : Kind) → q.kind ≡ k
-          → map.get (given_up_of k s.hops).held triad ≡ Some (IsOpening o ids)
-      by_kind s number n p q triad o ids h other at kind e there UnconnectedKind is = there
-      by_kind s number n p q triad o ids h other at kind e there (OpeningKind k) is =
-          abandoned_apart s.hops k triad (λ same. other (h.one n number p q triad at e kind (is ∙ ap OpeningKind (sym same)))) ∙ there
-      by_kind s number n p q triad o ids h other at kind e there (ClosingKind k) is = there
+      by_opening : (s : State) (number n : ℕ) (p q : Entry) (triad : Triad) (o : Opening) (ids : OwnIds) → Joined P s → (n ≡ number → ⊥)
+          → map.get s.pendings.entries n ≡ Some p → opened_triad p.kind ≡ Some triad
+          → map.get s.pendings.entries number ≡ Some q → map.get s.hops.held triad ≡ Some (IsOpening o ids) → (k : Option Triad) → opened_triad q.kind ≡ k
+          → map.get (abandoned_if k s.hops).held triad ≡ Some (IsOpening o ids)
+      by_opening s number n p q triad o ids h other at kind e there None is = there
+      by_opening s number n p q triad o ids h other at kind e there (Some k) is =
+          abandoned_apart s.hops k triad (λ same. other (h.one n number p q triad at e kind (is ∙ ap (λ (t : Triad). Some t) (sym same)))) ∙ there
 
 no_forward : (config : ModuleSettings) (s : State) (event : Event) (sending : Sending) (kind : Kind) (triad : Triad)
-    → ForwardsAs config s event sending kind → kind ≡ OpeningKind triad → ⊥
-no_forward config s event sending UnconnectedKind triad h e = cc
-no_forward config s event sending (OpeningKind k) triad h e = h
-no_forward config s event sending (ClosingKind k) triad h e = cc
+    → ForwardsAs config s event sending kind → opened_triad kind ≡ Some triad → ⊥
+no_forward config s event sending kind triad (SentOn is h) e = let no : None ≡ Some triad = ap opened_triad (sym is) ∙ e in cc
+no_forward config s event sending kind triad (ClosedOn k is h) e = let no : None ≡ Some triad = ap opened_triad (sym is) ∙ e in cc
 
 -- ---- a turn
 
@@ -169,7 +168,7 @@ module _ (config : ModuleSettings) (turns : List Turn) (turn : Turn)
 
     begun_new : (n : ℕ) (p : Entry) → n ≡ s.pendings.next → puts s (Begins sending o) ≡ Some p → SentBy n p o (own_ids s.hops.next o)
     begun_new n p number put =
-        let same : entry_for s sending (OpeningKind o.triad) ≡ p = cc in
+        let same : entry_for s sending (kind_for o) ≡ p = cc in
         inl (record {
           sending = sending;
           tells = tells;
@@ -183,13 +182,13 @@ module _ (config : ModuleSettings) (turns : List Turn) (turn : Turn)
           words_is = ap (λ (x : Entry). x.words) (sym same);
         })
 
-    new_triad : (p : Entry) (triad : Triad) → puts s (Begins sending o) ≡ Some p → p.kind ≡ OpeningKind triad → triad ≡ o.triad
+    new_triad : (p : Entry) (triad : Triad) → puts s (Begins sending o) ≡ Some p → opened_triad p.kind ≡ Some triad → triad ≡ o.triad
     new_triad p triad put kind =
-        let same : entry_for s sending (OpeningKind o.triad) ≡ p = cc in
-        let kinds : OpeningKind triad ≡ OpeningKind o.triad = sym kind ∙ ap (λ (x : Entry). x.kind) (sym same) in
+        let same : entry_for s sending (kind_for o) ≡ p = cc in
+        let both : Some triad ≡ Some o.triad = sym kind ∙ ap (λ (x : Entry). opened_triad x.kind) (sym same) ∙ opens_for o in
         cc
 
-    old_apart : (n : ℕ) (p : Entry) (triad : Triad) → map.get s.pendings.entries n ≡ Some p → p.kind ≡ OpeningKind triad → triad ≡ o.triad → ⊥
+    old_apart : (n : ℕ) (p : Entry) (triad : Triad) → map.get s.pendings.entries n ≡ Some p → opened_triad p.kind ≡ Some triad → triad ≡ o.triad → ⊥
     old_apart n p triad at kind same =
         let was = h.each n p triad at kind in
         let no : None ≡ Some (IsOpening was.opening was.ids) = sym free ∙ ap (map.get s.hops.held) (sym same) ∙ was.at in cc
@@ -244,13 +243,13 @@ module _ (config : ModuleSettings) (turns : List Turn) (turn : Turn)
         → Joined SentBy mid → Joined SentBy (after_it (Forwards sending kind))
     joined_forwards sending kind tells h =
         joined_kept SentBy mid (after_it (Forwards sending kind)) h
-        (λ n p triad at opens. elim (pending_cases config mid (Forwards sending kind) n p at) as (λ _. map.get mid.pendings.entries n ≡ Some p) [
+        (λ n p triad at opened. elim (pending_cases config mid (Forwards sending kind) n p at) as (λ _. map.get mid.pendings.entries n ≡ Some p) [
           | inl old ↦ old
           | inr put ↦
               let same : entry_for mid sending kind ≡ p = let e = put.1 in cc in
-              absurd (no_forward config s0 turn.event sending kind triad tells (ap (λ (x : Entry). x.kind) same ∙ opens))
+              absurd (no_forward config s0 turn.event sending kind triad tells (ap (λ (x : Entry). opened_triad x.kind) same ∙ opened))
         ])
-        (λ n p triad o ids at opens there. there)
+        (λ n p triad o ids at opened there. there)
 
     joined_accepts : (o : Opening) (open_ : OpenRequest) (link : EndLink) → before ++ (Accepts o open_ link ∷ after) ≡ now.effects
         → AcceptsAs config s0 turn.event o open_ link
@@ -281,7 +280,7 @@ module _ (config : ModuleSettings) (turns : List Turn) (turn : Turn)
         joined_kept SentBy mid (after_it (Finishes number k bytes success)) h (λ n p triad at kind. (was n p at).1)
         (λ n p triad o ids at kind there.
         finished_apart mid.hops k triad success.ot_id mid.now
-        (λ one. (was n p at).0 (h.one n number p tells.entry triad (was n p at).1 waits kind (tells.kind ∙ ap OpeningKind (sym one)))) ∙ there)
+        (λ one. (was n p at).0 (h.one n number p tells.entry triad (was n p at).1 waits kind (tells.kind ∙ ap (λ (t : Triad). Some t) (sym one)))) ∙ there)
 
     joined_each : (e : Effect) → before ++ (e ∷ after) ≡ now.effects → Tells config s0 turn.event e → Joined SentBy mid → Joined SentBy (after_it e)
     joined_each (Forwards sending kind) is tells h = joined_forwards sending kind tells h

@@ -23,6 +23,7 @@ pub mod Numbers
 pub mod Births
 pub mod Quiet
 pub mod Asking
+pub mod AskedOpens
 pub mod OneReply
 pub mod Dones
 pub mod Failures

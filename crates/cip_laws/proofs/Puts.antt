@@ -7,13 +7,13 @@ use Rattle.std.proofs.lemmas.Bool.{cond_both}
 use Rattle.cip_base.specs.declared.triad.Triad.{Triad}
 use Rattle.cip_pending.specs.declared.entry.Entry.{Entry}
 use Rattle.cip_pending.specs.declared.entry.Kind.{Kind}
-use Rattle.cip_pending.specs.declared.entry.Kind.TheVariants.{Unconnected, Opening as OpeningOf, Closing as ClosingOf}
+use Rattle.cip_pending.specs.Kinds.{opened_triad}
 use Rattle.cip_hops.specs.declared.hop.Hop.{Hop}
 use Rattle.cip_hops.specs.declared.hop.Held.{Held}
 use Rattle.cip_hops.specs.declared.hop.Held.TheVariants.{Opening as IsOpening, Open}
 use Rattle.cip_hops.specs.Hops.{Hops, as_hop, open_in, finished, begun, change_in, changed, touched, counted}
 use Rattle.cip_config.specs.declared.config.ModuleSettings.{ModuleSettings}
-use Rattle.cip_module.specs.Effects.{Effect, Forwards, Begins, Accepts, Finishes, Takes, PendingTimesOut, Removes, HopTimesOut, Renews, Counts, entry_for, abandoned, removed, given_up, given_up_of, renewed, recounted, apply}
+use Rattle.cip_module.specs.Effects.{Effect, Forwards, Begins, Accepts, Finishes, Takes, PendingTimesOut, Removes, HopTimesOut, Renews, Counts, entry_for, kind_for, abandoned, abandoned_if, removed, given_up, renewed, recounted, apply}
 use Rattle.cip_module.specs.State.{State}
 use Rattle.cip_module.proofs.Fits.{numbers_apart}
 use Rattle.cip_base.proofs.MapCases.{insert_cases, remove_cases}
@@ -28,7 +28,7 @@ pending_cases config s (Forwards sending kind) n p h =
       | inr q ↦ inl q.1
     ]
 pending_cases config s (Begins sending opening) n p h =
-    elim (insert_cases nat_cmp_total numbers_apart s.pendings.entries s.pendings.next (entry_for s sending (OpeningOf opening.triad)) n p h) [
+    elim (insert_cases nat_cmp_total numbers_apart s.pendings.entries s.pendings.next (entry_for s sending (kind_for opening)) n p h) [
       | inl q ↦ inr (q.0, ap (λ (x : Entry). Some x) q.1)
       | inr q ↦ inl q.1
     ]
@@ -93,10 +93,9 @@ removed_next h triad = cond_both _ _ _ (λ (k : Hops). k.next ≡ h.next) (λ t.
 
 given_next : (h : Hops) (p : Option Entry) → (given_up p h).next ≡ h.next
 given_next h None = refl
-given_next h (Some p) = elim p.kind as (λ (kind : Kind). (given_up_of kind h).next ≡ h.next) [
-  | Unconnected ↦ refl
-  | OpeningOf triad ↦ abandoned_next h triad
-  | ClosingOf triad ↦ refl
+given_next h (Some p) = elim (opened_triad p.kind) as (λ (opened : Option Triad). (abandoned_if opened h).next ≡ h.next) [
+  | None ↦ refl
+  | Some triad ↦ abandoned_next h triad
 ]
 
 pub next_id : (config : ModuleSettings) (s : State) (e : Effect) → (apply config s e).hops.next ≡ s.hops.next + drawn_ids e

@@ -10,7 +10,7 @@ use Rattle.cip_hops.proofs.Steps.{triads_apart}
 use Rattle.cip_hops.proofs.Changes.{finished_is}
 use Rattle.cip_pending.specs.declared.entry.Entry.{Entry}
 use Rattle.cip_pending.specs.declared.entry.Kind.{Kind}
-use Rattle.cip_pending.specs.declared.entry.Kind.TheVariants.{Unconnected, Opening as OpeningOf, Closing as ClosingOf}
+use Rattle.cip_pending.specs.Kinds.{opened_triad}
 use Rattle.cip_hops.specs.declared.opening.Opening.{Opening}
 use Rattle.cip_hops.specs.declared.hop.Hop.{Hop}
 use Rattle.cip_hops.specs.declared.hop.Held.{Held}
@@ -23,7 +23,7 @@ use Rattle.cip_open.specs.Open.{Open as OpenRequest}
 use Rattle.cip_open.specs.Success.{OpenSuccess}
 use Rattle.cip_target.specs.declared.link.EndLink.{EndLink}
 use Rattle.cip_config.specs.declared.config.ModuleSettings.{ModuleSettings}
-use Rattle.cip_module.specs.Effects.{Effect, Begins, Accepts, Finishes, Takes, PendingTimesOut, Removes, HopTimesOut, Renews, Counts, abandoned, removed, given_up, given_up_of, renewed, recounted, ends_here, apply}
+use Rattle.cip_module.specs.Effects.{Effect, Begins, Accepts, Finishes, Takes, PendingTimesOut, Removes, HopTimesOut, Renews, Counts, abandoned, abandoned_if, removed, given_up, renewed, recounted, ends_here, apply}
 use Rattle.cip_module.specs.State.{State}
 use Rattle.cip_base.proofs.Points.{put_here}
 use Rattle.cip_module.proofs.Removed.{open_at}
@@ -66,10 +66,9 @@ removed_stood h k q x =
 
 given_stood : (p : Option Entry) (h : Hops) (q : Triad) (x : Held) → map.get (given_up p h).held q ≡ Some x → Stood h q x
 given_stood None h q x e = stood_still h q x e
-given_stood (Some p) h q x e = elim p.kind as (λ (kind : Kind). map.get (given_up_of kind h).held q ≡ Some x → Stood h q x) [
-  | Unconnected ↦ λ e. stood_still h q x e
-  | OpeningOf k ↦ λ e. abandoned_stood h k q x e
-  | ClosingOf k ↦ λ e. stood_still h q x e
+given_stood (Some p) h q x e = elim (opened_triad p.kind) as (λ (opened : Option Triad). map.get (abandoned_if opened h).held q ≡ Some x → Stood h q x) [
+  | None ↦ λ e. stood_still h q x e
+  | Some k ↦ λ e. abandoned_stood h k q x e
 ] e
 
 -- a connection that changes in its place keeps its core

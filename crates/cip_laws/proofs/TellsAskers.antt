@@ -6,13 +6,13 @@ use Rattle.cip_open.specs.Open.{Open}
 use Rattle.cip_close.specs.Close.{Close}
 use Rattle.cip_pending.specs.declared.entry.UpSide.{UpSide}
 use Rattle.cip_pending.specs.declared.entry.Kind.{Kind}
-use Rattle.cip_pending.specs.declared.entry.Kind.TheVariants.{Unconnected as UnconnectedKind, Opening as OpeningKind, Closing as ClosingKind}
 use Rattle.cip_hops.specs.declared.opening.Opening.{Opening}
 use Rattle.cip_config.specs.declared.config.ModuleSettings.{ModuleSettings}
 use Rattle.cip_event.specs.declared.event.Event.{Event}
 use Rattle.cip_module.specs.RequestRows.{RequestRow}
 use Rattle.cip_module.specs.Effects.{Sending}
 use Rattle.cip_module.specs.State.{State}
+use Rattle.cip_laws.proofs.AskedOpens.{asks_asker}
 use Rattle.cip_laws.specs.Tells.{asker, Came, AsksSend, AsksOpen, AsksClose, RepliesAs, RequestFails, SendUnread, SendFails, OpenUnread, OpenFails, OpenEnds, CloseUnread, CloseFails, CloseEnds, AnswersAs, Itself, Embedded, ForwardsAs, BeginsAs}
 
 pub came_asker : (config : ModuleSettings) (event : Event) (up : UpSide) (row : RequestRow) → Came config event up row → asker event ≡ Some up
@@ -24,7 +24,8 @@ send_asker config s event up u (inr h) = ap asker h.event_is ∙ ap (λ (u : UpS
 
 pub open_asker : (config : ModuleSettings) (s : State) (event : Event) (up : UpSide) (o : Open) → AsksOpen config s event up o → asker event ≡ Some up
 open_asker config s event up o (inl h) = came_asker config event up _ h.came
-open_asker config s event up o (inr h) = ap asker h.event_is ∙ ap (λ (u : UpSide). Some u) (sym h.up_is)
+open_asker config s event up o (inr h) =
+    ap asker h.event_is ∙ asks_asker config.identity h.command h.op o h.asks ∙ ap (λ (u : UpSide). Some u) (sym h.up_is)
 
 pub close_asker : (config : ModuleSettings) (s : State) (event : Event) (up sender : UpSide) (c : Close) → AsksClose config s event up sender c
     → asker event ≡ Some up
@@ -50,9 +51,8 @@ answers_asker config s event up asked (Embedded u asks whole read) = send_asker 
 
 pub forwards_asker : (config : ModuleSettings) (s : State) (event : Event) (sending : Sending) (kind : Kind)
     → ForwardsAs config s event sending kind → asker event ≡ Some sending.up
-forwards_asker config s event sending UnconnectedKind h = send_asker config s event sending.up h.u h.asks
-forwards_asker config s event sending (OpeningKind triad) h = absurd h
-forwards_asker config s event sending (ClosingKind triad) h =
+forwards_asker config s event sending kind (SentOn is h) = send_asker config s event sending.up h.u h.asks
+forwards_asker config s event sending kind (ClosedOn triad is h) =
     close_asker config s event sending.up h.closes.sender h.c h.closes.asks
 
 pub begins_asker : (config : ModuleSettings) (s : State) (event : Event) (sending : Sending) (opening : Opening)

@@ -24,7 +24,7 @@ close_told config s event up sender c (Forwarded port address rest) asks e =
     let closes : Closes config s event up c h.0 = record { sender = sender; asks = asks; stands = h.1; own = h.2 } in (
       record { up = up; c = c; hop = h.0; closes = closes; triad_is = refl },
       (
-        record {
+        ClosedOn c.fields.triad refl (record {
           c = c;
           hop = h.0;
           next = g.0;
@@ -38,7 +38,7 @@ close_told config s event up sender c (Forwarded port address rest) asks e =
           wait_is = refl;
           words_are = refl;
           ticks = g.6;
-        },
+        }),
         tt,
       ),
     )

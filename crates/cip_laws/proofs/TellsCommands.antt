@@ -11,6 +11,7 @@ use Rattle.cip_base.specs.declared.triad.Triad.{Triad}
 use Rattle.cip_base.specs.Triads.{triad_cmp}
 use Rattle.cip_base.proofs.Triads.{triads_total}
 use Rattle.cip_unconnected.specs.Unconnected.{Unconnected, is_too_long}
+use Rattle.cip_open.specs.Open.{Open}
 use Rattle.cip_pending.specs.declared.entry.UpSide.TheVariants.{Local}
 use Rattle.cip_hops.specs.declared.hop.Hop.{Hop}
 use Rattle.cip_hops.specs.declared.hop.Side.TheVariants.{Up, Down}
@@ -21,7 +22,6 @@ use Rattle.cip_hops.proofs.Steps.{triads_apart}
 use Rattle.cip_base.proofs.Views.{get-at}
 use Rattle.cip_target.specs.Assemblies.{size_in}
 use Rattle.cip_config.specs.declared.config.ModuleSettings.{ModuleSettings}
-use Rattle.cip_event.specs.declared.event.OpenParams.{OpenParams}
 use Rattle.cip_event.specs.declared.event.Event.{Event}
 use Rattle.cip_event.specs.declared.event.Event.TheVariants as events
 use Rattle.cip_event.specs.declared.event.Command.{Command}
@@ -34,9 +34,10 @@ use Rattle.cip_module.specs.CommandRows.{op_row, close_command_row, send_row, en
 use Rattle.cip_module.specs.Effects.{Effect, Counts, Passes, Writes}
 use Rattle.cip_module.specs.Produced.{reads_from, made_effects, held_effects, each_effects, next_count}
 use Rattle.cip_module.specs.State.{State, is_spent}
-use Rattle.cip_module.specs.Table.{refused_effects, sent, open_of, close_of, send_effects, open_command_effects, closed_effects, close_command_effects, entered_effects, enter_effects, produce_effects, command_effects}
+use Rattle.cip_module.specs.Table.{refused_effects, sent, asked_open, close_of, send_effects, open_command_effects, closed_effects, close_command_effects, entered_effects, enter_effects, produce_effects, command_effects}
 use Rattle.cip_laws.specs.Tells.{Entered, Made, CountedDown, Set, Produced, command_row, refused_by, RefusesAs, AllTell}
 use Rattle.cip_module.proofs.Conditions.{past}
+use Rattle.cip_laws.proofs.AskedOpens.{asks_asker, asks_row}
 use Rattle.cip_laws.proofs.TellsEach.{all_append}
 use Rattle.cip_laws.proofs.TellsSends.{sends_tell}
 use Rattle.cip_laws.proofs.TellsOpens.{opens_tell}
@@ -76,14 +77,14 @@ send_command_tells config s op timing path asked =
           (inr (record { op = op; timing = timing; path = path; asked = asked; event_is = refl; up_is = refl; spells = refl; unused = unused })),
     ))
 
-open_command_tells : (config : ModuleSettings) (s : State) (op : ℕ) (timing : Timing) (path : List ℕ) (params : OpenParams)
-    → AllTell config s (events.Command (commands.Open op timing path params)) (open_command_effects config s op (open_of config.identity timing path params))
-open_command_tells config s op timing path params =
-    refused_told config s (commands.Open op timing path params) (op_row s op) _ refl
+open_command_tells : (config : ModuleSettings) (s : State) (command : Command) (op : ℕ) (o : Open) → asked_open config.identity command ≡ Some (op, o)
+    → AllTell config s (events.Command command) (open_command_effects config s op o)
+open_command_tells config s command op o asks =
+    refused_told config s command (op_row s op) _ (asks_row config.identity s command op o asks)
     (λ taken. let unused = (past (is_spent op s.ops) rows.OpUsed rows.Taken rows.Taken taken (λ other. cc)).0 in (
-      record { asks = refl; unused = unused },
-      opens_tell config s (events.Command (commands.Open op timing path params)) (Local op) (open_of config.identity timing path params)
-          (inr (record { op = op; timing = timing; path = path; params = params; event_is = refl; up_is = refl; spells = refl; unused = unused })),
+      record { asks = asks_asker config.identity command op o asks; unused = unused },
+      opens_tell config s (events.Command command) (Local op) o
+          (inr (record { op = op; command = command; event_is = refl; up_is = refl; asks = asks; unused = unused })),
     ))
 
 close_unused : (s : State) (op of : ℕ) → close_command_row s op of ≡ rows.Taken → is_spent op s.ops ≡ false
@@ -198,7 +199,7 @@ produce_tells config s instance (Some held) holds = each_tells config s instance
 -- ---- the group
 
 pub commands_tell : (config : ModuleSettings) (s : State) (command : Command) → AllTell config s (events.Command command) (command_effects config s command)
-commands_tell config s (commands.Open op timing path params) = open_command_tells config s op timing path params
+commands_tell config s (commands.Open op timing path params) = open_command_tells config s (commands.Open op timing path params) op _ refl
 commands_tell config s (commands.Close op of timing) = close_command_tells config s op of timing
 commands_tell config s (commands.Send op timing path asked) = send_command_tells config s op timing path asked
 commands_tell config s (commands.Enter of bytes) = enter_tells config s of bytes (hop_by_op s.hops of) refl

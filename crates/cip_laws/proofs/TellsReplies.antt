@@ -12,7 +12,8 @@ use Rattle.cip_message.specs.declared.fault.DataFault.{DataFault}
 use Rattle.cip_open.specs.Success.{OpenSuccess}
 use Rattle.cip_open.specs.SuccessAt.{open_reply_at}
 use Rattle.cip_pending.specs.declared.entry.Kind.{Kind}
-use Rattle.cip_pending.specs.declared.entry.Kind.TheVariants.{Opening}
+use Rattle.cip_pending.specs.declared.entry.Kind.TheVariants.{Unconnected, Opening, Closing}
+use Rattle.cip_pending.specs.Kinds.{opened_triad}
 use Rattle.cip_pending.specs.declared.entry.Entry.{Entry}
 use Rattle.cip_pending.specs.Pendings.{waiting_at}
 use Rattle.cip_config.specs.declared.config.ModuleSettings.{ModuleSettings}
@@ -77,18 +78,19 @@ opening_tells asked triad success reply service e =
     let h = opened_tells asked triad success (open_reply_at reply.data_) alone.1 in
     (service, eqb-true reply.general 0 zero.0, h.0, h.1)
 
-asked_tells : (triad : Triad) (success : OpenSuccess) (reply : Reply) → kind_row (Opening triad) reply ≡ OpenSucceeded triad success
-    → Succeeds reply triad success
-asked_tells triad success reply e =
-    let tested = first_of (eqb reply.service 0xD4) (opening_row triad reply) MalformedForItsKind (OpenSucceeded triad success) e (λ q. cc) in
-    opening_tells triad triad success reply (eqb-true reply.service 0xD4 tested.0) tested.1
+asked_tells : (kind : Kind) (triad : Triad) (success : OpenSuccess) (reply : Reply) → opened_triad kind ≡ Some triad
+    → kind_row kind reply ≡ OpenSucceeded triad success → Succeeds reply triad success
+asked_tells Unconnected triad success reply opened e = absurd (cc)
+asked_tells (Closing k) triad success reply opened e = absurd (cc)
+asked_tells (Opening k) triad success reply opened e =
+    let tested = first_of (eqb reply.service 0xD4) (opening_row k reply) MalformedForItsKind (OpenSucceeded triad success) e (λ q. cc) in
+    opening_tells k triad success reply (eqb-true reply.service 0xD4 tested.0) tested.1
 
 read_succeeds : (kind : Kind) (r : Result Reply ReplyFault) (triad : Triad) (success : OpenSuccess) → read_row kind r ≡ OpenSucceeded triad success
     → (reply : Reply) × (r ≡ Ok reply) × Succeeds reply triad success
 read_succeeds kind (Err fault) triad success e = absurd (cc)
 read_succeeds kind (Ok reply) triad success e =
-    let opens : kind ≡ Opening triad = opens_only kind (Ok reply) triad success e in
-    (reply, refl, asked_tells triad success reply (sym (ap (λ (k : Kind). kind_row k reply) opens) ∙ e))
+    (reply, refl, asked_tells kind triad success reply (opens_only kind (Ok reply) triad success e) e)
 
 read_passes : (kind : Kind) (r : Result Reply ReplyFault) → read_row kind r ≡ PassedUp → (reply : Reply) × (r ≡ Ok reply) × (kind_row kind reply ≡ PassedUp)
 read_passes kind (Err fault) e = absurd (cc)

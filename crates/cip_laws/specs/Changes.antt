@@ -7,7 +7,6 @@ use Rattle.cip_base.specs.declared.triad.Triad.{Triad}
 use Rattle.cip_open.specs.Open.{Open as OpenRequest}
 use Rattle.cip_open.specs.Success.{OpenSuccess}
 use Rattle.cip_pending.specs.declared.entry.Entry.{Entry}
-use Rattle.cip_pending.specs.declared.entry.Kind.TheVariants.{Opening as OpeningOf}
 use Rattle.cip_hops.specs.declared.opening.Opening.{Opening}
 use Rattle.cip_hops.specs.declared.opening.OwnIds.{OwnIds}
 use Rattle.cip_hops.specs.declared.hop.Held.{Held}
@@ -15,7 +14,7 @@ use Rattle.cip_hops.specs.declared.hop.Held.TheVariants.{Opening as IsOpening, O
 use Rattle.cip_hops.specs.Sides.{own_ids, ids_drawn}
 use Rattle.cip_hops.specs.Hops.{Hops, opened}
 use Rattle.cip_target.specs.declared.link.EndLink.{EndLink}
-use Rattle.cip_module.specs.Effects.{Sending, Effect, Forwards, Begins, Accepts, Finishes, entry_for}
+use Rattle.cip_module.specs.Effects.{Sending, Effect, Forwards, Begins, Accepts, Finishes, entry_for, kind_for}
 use Rattle.cip_module.specs.State.{State}
 
 -- ---- the requests that wait
@@ -23,7 +22,7 @@ use Rattle.cip_module.specs.State.{State}
 -- the request that an effect puts among those that wait
 abbrev pub puts : State → Effect → Option Entry
 puts s (Forwards sending kind) = Some (entry_for s sending kind)
-puts s (Begins sending opening) = Some (entry_for s sending (OpeningOf opening.triad))
+puts s (Begins sending opening) = Some (entry_for s sending (kind_for opening))
 puts s e = None
 
 abbrev pub numbers_drawn : Effect → ℕ

@@ -9,7 +9,7 @@ use Rattle.cip_message.specs.ReplyAt.{reply_at}
 use Rattle.cip_open.specs.Success.{OpenSuccess}
 use Rattle.cip_open.specs.SuccessAt.{open_reply_at}
 use Rattle.cip_pending.specs.declared.entry.Entry.{Entry}
-use Rattle.cip_pending.specs.declared.entry.Kind.TheVariants.{Opening as OpeningKind}
+use Rattle.cip_pending.specs.Kinds.{opened_triad}
 use Rattle.cip_hops.specs.declared.opening.Opening.{Opening}
 use Rattle.cip_hops.specs.declared.opening.OwnIds.{OwnIds}
 use Rattle.cip_hops.specs.declared.hop.Held.TheVariants.{Opening as IsOpening}
@@ -54,10 +54,10 @@ pub record Opens (P : ℕ → Entry → Opening → OwnIds → Type 0) (s : Stat
 -- so does each request that opens, and no two open one triad
 pub record Joined (P : ℕ → Entry → Opening → OwnIds → Type 0) (s : State) : Type 0 where
   pub each : (n : ℕ) (p : Entry) (triad : Triad) → map.get s.pendings.entries n ≡ Some p
-      → p.kind ≡ OpeningKind triad → Opens P s n p triad
+      → opened_triad p.kind ≡ Some triad → Opens P s n p triad
   pub one : (m n : ℕ) (p q : Entry) (triad : Triad) → map.get s.pendings.entries m ≡ Some p
       → map.get s.pendings.entries n ≡ Some q
-      → p.kind ≡ OpeningKind triad → q.kind ≡ OpeningKind triad → m ≡ n
+      → opened_triad p.kind ≡ Some triad → opened_triad q.kind ≡ Some triad → m ≡ n
 
 -- the turn in which the success came to the request that was sent for a connection
 pub record HopOpened (config : ModuleSettings) (o : Opening) (ids : OwnIds) (their_id : Option ℕ)

@@ -26,7 +26,8 @@ use Rattle.cip_close.specs.Success.{close_reply_bytes}
 use Rattle.cip_pending.specs.declared.entry.UpSide.{UpSide}
 use Rattle.cip_pending.specs.declared.entry.UpSide.TheVariants.{Link, Local}
 use Rattle.cip_pending.specs.declared.entry.Kind.{Kind}
-use Rattle.cip_pending.specs.declared.entry.Kind.TheVariants.{Unconnected as UnconnectedKind, Opening as OpeningKind, Closing as ClosingKind}
+use Rattle.cip_pending.specs.declared.entry.Kind.TheVariants.{Unconnected as UnconnectedKind, Closing as ClosingKind}
+use Rattle.cip_pending.specs.Kinds.{opened_triad}
 use Rattle.cip_pending.specs.declared.entry.Entry.{Entry}
 use Rattle.cip_pending.specs.Pendings.{waiting_at}
 use Rattle.cip_hops.specs.declared.opening.Opening.{Opening}
@@ -74,7 +75,7 @@ use Rattle.cip_module.specs.DataRows as datum
 use Rattle.cip_module.specs.CommandRows.{op_row, close_command_row, send_row, enter_row, set_row, produce_row}
 use Rattle.cip_module.specs.Produced.{reads_from, next_count, datum_bytes}
 use Rattle.cip_module.specs.Effects.{Sending, Effect, Spends, Replies, Answers, Forwards, Begins, Accepts, Finishes, Takes, PendingTimesOut, Removes, HopTimesOut, Renews, Passes, Counts, Writes, RefusesCommand, Drops, Advances}
-use Rattle.cip_module.specs.Table.{wait_of, words_of, message_on, up_side_of, open_on, accepted_bytes, close_on, unread_open_bytes, unread_close_bytes, sent, open_of, close_of, other}
+use Rattle.cip_module.specs.Table.{wait_of, words_of, message_on, up_side_of, open_on, accepted_bytes, close_on, unread_open_bytes, unread_close_bytes, sent, asked_open, close_of, other}
 use Rattle.cip_module.specs.State.{State, is_spent}
 use Rattle.cip_module.specs.Links.{LeadsOn}
 
@@ -142,12 +143,10 @@ pub record OpenCame (config : ModuleSettings) (event : Event) (up : UpSide) (o :
 pub record OpenSpelled (config : ModuleSettings) (s : State) (event : Event) (up : UpSide)
     (o : Open) : Type 0 where
   pub op : OpNumber
-  pub timing : Timing
-  pub path : Octets
-  pub params : OpenParams
-  pub event_is : event ≡ events.Command (commands.Open op timing path params)
+  pub command : Command
+  pub event_is : event ≡ events.Command command
   pub up_is : up ≡ Local op
-  pub spells : o ≡ open_of config.identity timing path params
+  pub asks : asked_open config.identity command ≡ Some (op, o)
   pub unused : is_spent op s.ops ≡ false
 
 abbrev pub AsksOpen : ModuleSettings → State → Event → UpSide → Open → Type 0
@@ -269,10 +268,13 @@ pub record ClosesOn (config : ModuleSettings) (s : State) (event : Event) (sendi
   pub words_are : sending.words ≡ words_of c.path
   pub ticks : 2 ≤ c.fields.timing.ticks
 
-abbrev pub ForwardsAs : ModuleSettings → State → Event → Sending → Kind → Type 0
-ForwardsAs config s event sending UnconnectedKind = SendsOn config s event sending
-ForwardsAs config s event sending (OpeningKind triad) = ⊥
-ForwardsAs config s event sending (ClosingKind triad) = ClosesOn config s event sending triad
+-- an Unconnected_Send goes on, or a Forward_Close
+pub data ForwardsAs (config : ModuleSettings) (s : State) (event : Event) (sending : Sending)
+    (kind : Kind) : Type 0 where
+  SentOn : kind ≡ UnconnectedKind → SendsOn config s event sending
+      → ForwardsAs config s event sending kind
+  ClosedOn : (triad : Triad) → kind ≡ ClosingKind triad → ClosesOn config s event sending triad
+      → ForwardsAs config s event sending kind
 
 -- a Forward_Open goes on: its triad is free, and there is room and an id for it
 pub record BeginsAs (config : ModuleSettings) (s : State) (event : Event) (sending : Sending)
@@ -331,7 +333,7 @@ pub record FinishesAs (s : State) (event : Event) (number : RequestNumber) (tria
   pub entry : Entry
   pub reply : Reply
   pub came : ReplyCame s event number bytes entry reply
-  pub kind : entry.kind ≡ OpeningKind triad
+  pub kind : opened_triad entry.kind ≡ Some triad
   pub service : reply.service ≡ FORWARD_OPEN_REPLY
   pub general : reply.general ≡ 0
   pub read : open_reply_at reply.data_ ≡ Ok success

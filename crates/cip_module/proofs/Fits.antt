@@ -9,7 +9,7 @@ use Rattle.std.proofs.lemmas.Map.Lookups.{exact_unsigned}
 use Rattle.cip_base.specs.declared.triad.Triad.{Triad}
 use Rattle.cip_base.proofs.Triads.{triads_total}
 use Rattle.cip_hops.proofs.Steps.{triads_apart}
-use Rattle.cip_pending.specs.Kinds.{opens}
+use Rattle.cip_pending.specs.Kinds.{opened_triad}
 use Rattle.cip_pending.specs.declared.entry.Entry.{Entry}
 use Rattle.cip_pending.specs.Pendings.{Pendings}
 use Rattle.cip_hops.specs.declared.opening.Opening.{Opening}
@@ -92,7 +92,7 @@ module _ (h new : Hops) (k : Triad) (v : Option Held) (b : Becomes h new k v) wh
 
   -- it begins to open, and a request waits for it
   pub paired_begun : (p after : Pendings) (n : ℕ) (entry : Entry) → IsPaired p h → opening_at h k ≡ None → is_some (option_and_then as_opening v) ≡ true
-      → map.get p.entries n ≡ None → after.entries ≡ map.insert p.entries n entry → opens entry.kind ≡ Some k → IsPaired after new
+      → map.get p.entries n ≡ None → after.entries ≡ map.insert p.entries n entry → opened_triad entry.kind ≡ Some k → IsPaired after new
   paired_begun p after n entry old free begins fresh put kind =
       let kept : (q : Triad) (i : ℕ) → IsAwaited after q i → ((q ≡ k) × (i ≡ n)) ⊎ (((q ≡ k → ⊥) × IsAwaited p q i)) =
       λ q i a. elim (one_or_apart nat_cmp_total numbers_apart i n) [
@@ -100,7 +100,7 @@ module _ (h new : Hops) (k : Triad) (v : Option Held) (b : Becomes h new k v) wh
             let both : Some entry ≡ Some a.entry = sym (put_here nat_cmp_total numbers_apart p.entries n entry) ∙ ap (λ m. map.get m n) (sym put)
             ∙ ap (map.get after.entries) (sym e) ∙ a.waits in
             let one : entry ≡ a.entry = cc in
-            let kinds : Some q ≡ Some k = sym a.kind ∙ ap (λ (x : Entry). opens x.kind) (sym one) ∙ kind in
+            let kinds : Some q ≡ Some k = sym a.kind ∙ ap (λ (x : Entry). opened_triad x.kind) (sym one) ∙ kind in
             let triads : q ≡ k = cc in
             inl (triads, e)
         | inr ne ↦
@@ -180,7 +180,7 @@ module _ (h new : Hops) (k : Triad) (v : Option Held) (b : Becomes h new k v) wh
               none i (stays q i a (λ same.
               let both : Some a.entry ≡ Some this.entry = sym a.waits ∙ ap (map.get p.entries) same ∙ this.waits in
               let entries : a.entry ≡ this.entry = cc in
-              let kinds : Some q ≡ Some k = sym a.kind ∙ ap (λ (x : Entry). opens x.kind) entries ∙ this.kind in
+              let kinds : Some q ≡ Some k = sym a.kind ∙ ap (λ (x : Entry). opened_triad x.kind) entries ∙ this.kind in
               let triads : q ≡ k = cc in apart triads)))
         ];
       }
@@ -196,7 +196,7 @@ paired_added p after h n entry old fresh put other =
     let both : Some entry ≡ Some a.entry = sym (put_here nat_cmp_total numbers_apart p.entries n entry) ∙ ap (λ m. map.get m n) (sym put)
     ∙ ap (map.get after.entries) (sym e) ∙ a.waits in
     let one : entry ≡ a.entry = cc in
-    let no : None ≡ Some q = sym other ∙ ap (λ (x : Entry). opens x.kind) one ∙ a.kind in cc in
+    let no : None ≡ Some q = sym other ∙ ap (λ (x : Entry). opened_triad x.kind) one ∙ a.kind in cc in
     record {
       entry = a.entry;
       waits = sym (put_apart nat_cmp_total numbers_apart p.entries n entry i ne) ∙ ap (λ m. map.get m i) (sym put) ∙ a.waits;
@@ -234,7 +234,7 @@ paired_dropped p after h n entry old stands gone other =
     let ne : i ≡ n → ⊥ = λ same.
     let both : Some a.entry ≡ Some entry = sym a.waits ∙ ap (map.get p.entries) same ∙ stands in
     let entries : a.entry ≡ entry = cc in
-    let no : None ≡ Some q = sym other ∙ ap (λ (x : Entry). opens x.kind) (sym entries) ∙ a.kind in cc in
+    let no : None ≡ Some q = sym other ∙ ap (λ (x : Entry). opened_triad x.kind) (sym entries) ∙ a.kind in cc in
     record { entry = a.entry; waits = ap (λ m. map.get m i) gone ∙ gone_apart nat_cmp_total numbers_apart p.entries n i ne ∙ a.waits; kind = a.kind } in
     record {
       each = λ q i a. old.each q i (was q i a);

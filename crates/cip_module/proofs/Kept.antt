@@ -6,7 +6,7 @@ use Rattle.std.specs.FinMap.{FinMap, empty}
 use Rattle.std.specs.declared.cmp.Ordering.{Ordering}
 use Rattle.cip_base.specs.Triads.{triad_cmp}
 use Rattle.cip_base.specs.declared.triad.Triad.{Triad}
-use Rattle.cip_pending.specs.Kinds.{opens}
+use Rattle.cip_pending.specs.Kinds.{opened_triad}
 use Rattle.cip_pending.specs.declared.entry.Entry.{Entry}
 use Rattle.cip_pending.specs.Pendings.{Pendings, added, without, IsWithin as IsPendings}
 use Rattle.cip_hops.specs.declared.opening.Opening.{Opening}
@@ -126,7 +126,7 @@ some_held : (x y : Held) → Some x ≡ Some y → x ≡ y
 some_held x y e = cc
 
 pub fit_begins : (config : ModuleSettings) (p after : Pendings) (h new : Hops) (t : Ends) (ops : List ℕ) (entry : Entry) (o : Opening)
-    → Fit config p h t ops → IsPendings p → after ≡ added p entry → new ≡ begun h o → opens entry.kind ≡ Some o.triad → down_is_link o.down ≡ true
+    → Fit config p h t ops → IsPendings p → after ≡ added p entry → new ≡ begun h o → opened_triad entry.kind ≡ Some o.triad → down_is_link o.down ≡ true
     → ((op : ℕ) → op_of o.up ≡ Some op → is_spent op ops ≡ true) → refusal h o.triad (ids_drawn o) ≡ None → Fit config after new t ops
 fit_begins config p after h new t ops entry o f w e g kind link spent room =
     let x : Held = IsOpening o (own_ids h.next o) in
@@ -208,7 +208,7 @@ opening_gone config p after h new t ops n triad f a e g =
     }
 
 by_opening : (config : ModuleSettings) (p after : Pendings) (h new : Hops) (t : Ends) (ops : List ℕ) (n : ℕ) (entry : Entry) (opened : Option Triad)
-    → opens entry.kind ≡ opened
+    → opened_triad entry.kind ≡ opened
     → Fit config p h t ops → map.get p.entries n ≡ Some entry → after ≡ without p n → new ≡ abandoned_if opened h → Fit config after new t ops
 by_opening config p after h new t ops n entry None k f at e g = same_hops config p after h new t ops n entry f at e k g
 by_opening config p after h new t ops n entry (Some triad) k f at e g =
@@ -216,7 +216,7 @@ by_opening config p after h new t ops n entry (Some triad) k f at e g =
 
 pub fit_gives_up : (config : ModuleSettings) (p after : Pendings) (h new : Hops) (t : Ends) (ops : List ℕ) (n : ℕ) (entry : Entry)
     → Fit config p h t ops → map.get p.entries n ≡ Some entry → after ≡ without p n → new ≡ given_up_of entry.kind h → Fit config after new t ops
-fit_gives_up config p after h new t ops n entry f at e g = by_opening config p after h new t ops n entry (opens entry.kind) refl f at e g
+fit_gives_up config p after h new t ops n entry f at e g = by_opening config p after h new t ops n entry (opened_triad entry.kind) refl f at e g
 
 -- ---- a connection changes in its place
 

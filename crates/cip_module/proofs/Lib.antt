@@ -25,3 +25,4 @@ pub mod ClosesForwarded
 pub mod InPlace
 pub mod AtFirst
 pub mod RowsFound
+pub mod Opens

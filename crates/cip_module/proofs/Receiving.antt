@@ -13,7 +13,7 @@ use Rattle.cip_close.specs.Success.{CloseSuccess}
 use Rattle.cip_close.specs.SuccessAt.{close_reply_at}
 use Rattle.cip_pending.specs.declared.entry.Kind.{Kind}
 use Rattle.cip_pending.specs.declared.entry.Kind.TheVariants.{Unconnected, Opening, Closing}
-use Rattle.cip_pending.specs.Kinds.{opens}
+use Rattle.cip_pending.specs.Kinds.{opened_triad}
 use Rattle.cip_module.specs.ReplyRows.{ReplyRow, OpenSucceeded, PassedUp, MalformedForItsKind, triad_eq, is_own, failure_row, opened_row, closed_row, opening_row, closing_row, read_row}
 use Rattle.cip_base.specs.Fields.{IsBytes}
 
@@ -65,7 +65,7 @@ opening_asked triad asked success r e =
 
 -- a success is of the triad that its request opens
 pub opens_only : (kind : Kind) (r : Result Reply ReplyFault) (triad : Triad) (success : OpenSuccess) → read_row kind r ≡ OpenSucceeded triad success
-    → opens kind ≡ Some triad
+    → opened_triad kind ≡ Some triad
 opens_only kind (Err fault) triad success e = not_malformed triad success e
 opens_only Unconnected (Ok r) triad success e = not_passed triad success e
 opens_only (Opening asked) (Ok r) triad success e =

@@ -12,7 +12,7 @@ use Rattle.cip_base.specs.declared.triad.Triad.{Triad}
 use Rattle.cip_base.proofs.Triads.{triads_total}
 use Rattle.cip_base.proofs.Sorted.{from_sorted-remove, sorted_remove}
 use Rattle.cip_pending.specs.declared.entry.Kind.{Kind}
-use Rattle.cip_pending.specs.Kinds.{opens}
+use Rattle.cip_pending.specs.Kinds.{opened_triad}
 use Rattle.cip_pending.specs.declared.entry.Entry.{Entry}
 use Rattle.cip_pending.specs.Pendings.{Pendings, is_due, due, first_due, without}
 use Rattle.cip_base.proofs.Going.{first_goes}
@@ -160,7 +160,7 @@ due_abandoned t (Some triad) h =
     ] refl
 
 pub due_given_up : (t : ℕ) (kind : Kind) (h : Hops) → hops.due t (given_up_of kind h) ≡ hops.due t h
-due_given_up t kind h = due_abandoned t (opens kind) h
+due_given_up t kind h = due_abandoned t (opened_triad kind) h
 
 -- ---- the connections
 

@@ -4,7 +4,7 @@ use Rattle.std.specs.Prelude.{option_and_then}
 use Rattle.std.specs.FinMap as map
 use Rattle.cip_base.specs.declared.triad.Triad.{Triad}
 use Rattle.cip_pending.specs.declared.entry.Entry.{Entry}
-use Rattle.cip_pending.specs.Kinds.{opens}
+use Rattle.cip_pending.specs.Kinds.{opened_triad}
 use Rattle.cip_pending.specs.Pendings.{Pendings, without, waiting_at, is_asked}
 use Rattle.cip_hops.specs.declared.hop.Held.{Held}
 use Rattle.cip_hops.specs.declared.hop.Held.TheVariants.{Opening as IsOpening, Open}
@@ -24,7 +24,7 @@ waits_at p n port address entry e =
     ] e
 
 pub awaited_at : (p : Pendings) (n port : ℕ) (address : List ℕ) (entry : Entry) (triad : Triad) → waiting_at p n port address ≡ Some entry
-    → opens entry.kind ≡ Some triad → IsAwaited p triad n
+    → opened_triad entry.kind ≡ Some triad → IsAwaited p triad n
 awaited_at p n port address entry triad e kind = record { entry = entry; waits = waits_at p n port address entry e; kind = kind }
 
 by_held : (config : ModuleSettings) (p after : Pendings) (h new : Hops) (t : Ends) (ops : List ℕ) (n their_id now : ℕ) (triad : Triad) (x : Option Held)

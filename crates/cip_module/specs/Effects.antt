@@ -9,7 +9,7 @@ use Rattle.cip_pending.specs.declared.entry.UpSide.{UpSide}
 use Rattle.cip_pending.specs.declared.entry.UpSide.TheVariants.{Link, Local}
 use Rattle.cip_pending.specs.declared.entry.Kind.{Kind}
 use Rattle.cip_pending.specs.declared.entry.Kind.TheVariants.{Unconnected, Opening as OpeningOf, Closing as ClosingOf}
-use Rattle.cip_pending.specs.Kinds.{opens}
+use Rattle.cip_pending.specs.Kinds.{opened_triad}
 use Rattle.cip_pending.specs.declared.entry.Entry.{Entry}
 use Rattle.cip_pending.specs.Pendings.{Pendings, added, without}
 use Rattle.cip_hops.specs.declared.opening.HopUp.{HopUp}
@@ -120,13 +120,17 @@ abandoned h triad = if is_some (opening_at h triad) then hops.without h triad el
 abbrev pub removed : Hops → Triad → Hops
 removed h triad = if is_some (hop_at h triad) then hops.without h triad else h
 
+-- the kind of the request that waits for what this opens
+abbrev pub kind_for : Opening → Kind
+kind_for opening = OpeningOf opening.triad
+
 -- a pending that was opening a connection takes it along
 abbrev pub abandoned_if : Option Triad → Hops → Hops
 abandoned_if None h = h
 abandoned_if (Some triad) h = abandoned h triad
 
 abbrev pub given_up_of : Kind → Hops → Hops
-given_up_of kind h = abandoned_if (opens kind) h
+given_up_of kind h = abandoned_if (opened_triad kind) h
 
 abbrev pub given_up : Option Entry → Hops → Hops
 given_up None h = h
@@ -157,7 +161,7 @@ apply config s (Answers up request) =
     record s { assemblies = (target_after (objects_of config s) request).assemblies }
 apply config s (Forwards sending kind) = record s { pendings = waiting_with s sending kind }
 apply config s (Begins sending opening) = record s {
-  pendings = waiting_with s sending (OpeningOf opening.triad);
+  pendings = waiting_with s sending (kind_for opening);
   hops = begun s.hops opening;
 }
 apply config s (Accepts opening open_ link) =

@@ -291,6 +291,16 @@ open_of identity timing path params = record {
   path = path;
 }
 
+-- the open that a command asks for, and its op
+abbrev pub asked_open : IdentityFields → Command → Option (OpNumber × Open)
+asked_open identity (commands.Open op timing path params) =
+    Some (op, open_of identity timing path params)
+asked_open identity (commands.Close op of timing) = None
+asked_open identity (commands.Send op timing path asked) = None
+asked_open identity (commands.Enter of bytes) = None
+asked_open identity (commands.Set instance bytes) = None
+asked_open identity (commands.Produce instance) = None
+
 -- the Forward_Close that a Close spells, with the path by which the connection was opened
 abbrev pub close_of : Timing → Hop → Close
 close_of timing hop = record {

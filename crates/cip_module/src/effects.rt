@@ -4,7 +4,7 @@ ghost use Rattle.std.specs.Option.{ForSome, option_map};
 ghost use Rattle.std.specs.FinMap as map;
 ghost use Rattle.std.specs.Vec.{vec_len, vec_capacity};
 ghost use Rattle.cip_open.specs.Reading.{open_of};
-ghost use Rattle.cip_pending.specs.Kinds.{opens};
+ghost use Rattle.cip_pending.specs.Kinds.{opened_triad};
 ghost use Rattle.cip_pending.specs.Pendings.{refusal, added, without, waiting_at};
 ghost use Rattle.cip_base.specs.declared.triad.Triad.{Triad as Triads};
 ghost use Rattle.cip_hops.specs.Hops.{begun, finished, HasId};
@@ -43,7 +43,7 @@ fn release(target: &mut Target, down: &HopDown)
 fn give_up(hops: &mut HopTable, kind: Kind)
     ensures { hops.new ≡ given_up_of kind hops.old }
 {
-    if let Some(triad) = kind.opens() {
+    if let Some(triad) = kind.opened_triad() {
         let _opening = hops.abandon(&triad);
     }
 }
@@ -95,7 +95,7 @@ impl Device {
     /// A connection is opening, and the request waits that opens what is below. Its number.
     pub(crate) fn begins(&mut self, entry: Entry, opening: Opening) -> u32
         requires room { refusal self.old.pendings ≡ None }
-        requires kind { opens entry.kind ≡ Some opening.triad }
+        requires kind { opened_triad entry.kind ≡ Some opening.triad }
         requires link { down_is_link opening.down ≡ true }
         requires ready { IsReady self.old opening }
         ensures value { result ≡ self.old.pendings.next }
@@ -146,7 +146,7 @@ impl Device {
         their_id: u32,
     ) -> Option<UpSide>
         requires kind { ForSome (waiting_at self.old.pendings number port from.now)
-            (λ entry. opens entry.kind ≡ Some triad.now) }
+            (λ entry. opened_triad entry.kind ≡ Some triad.now) }
         ensures value { result ≡ option_map (λ entry. entry.up)
             (waiting_at self.old.pendings number port from.now) }
         ensures after { state_of_device self.new ≡ (if is_some result then

@@ -5,7 +5,7 @@ use Rattle.cip_pending.specs.declared.entry.Kind.{Kind}
 use Rattle.cip_pending.specs.declared.entry.Kind.TheVariants.{Unconnected, Opening, Closing}
 
 -- the triad of the connection that a request of this kind opens
-abbrev pub opens : Kind → Option Triad
-opens Unconnected = None
-opens (Opening triad) = Some triad
-opens (Closing triad) = None
+abbrev pub opened_triad : Kind → Option Triad
+opened_triad Unconnected = None
+opened_triad (Opening triad) = Some triad
+opened_triad (Closing triad) = None

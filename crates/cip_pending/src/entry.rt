@@ -1,7 +1,7 @@
 //! What the table keeps, and why it refuses.
 ghost use Rattle.std.specs.Prelude.{◌≡◌};
 ghost use Rattle.cip_pending.specs.Pendings.{is_asked};
-ghost use Rattle.cip_pending.specs.Kinds.{opens};
+ghost use Rattle.cip_pending.specs.Kinds.{opened_triad};
 
 use cip_base::{Address, PortNumber, Triad};
 use thiserror::Error;
@@ -31,8 +31,8 @@ pub enum Kind {
 
 impl Kind {
     /// The triad of the connection that the request opens; None where it opens none.
-    pub fn opens(self) -> Option<Triad>
-        ensures { result ≡ opens self }
+    pub fn opened_triad(self) -> Option<Triad>
+        ensures { result ≡ opened_triad self }
     {
         match self {
             Kind::Opening(triad) => Some(triad),

@@ -3,7 +3,6 @@ use Rattle.std.proofs.Common.{◌≡◌, ℕ, false, cond, List, [], ◌∷◌, 
 use Rattle.std.specs.FinMap as map
 use Rattle.std.proofs.lemmas.Bool.{eq-eqb}
 use Rattle.cip_base.specs.declared.numbers.ModuleId.{ModuleId}
-use Rattle.cip_base.specs.declared.timing.Timing.{Timing}
 use Rattle.cip_base.specs.declared.triad.Triad.{Triad}
 use Rattle.cip_open.specs.Open.{Open as OpenRequest}
 use Rattle.cip_pending.specs.declared.entry.UpSide.{UpSide}
@@ -13,13 +12,13 @@ use Rattle.cip_hops.specs.declared.opening.Opening.{Opening}
 use Rattle.cip_hops.specs.declared.hop.Held.{Held}
 use Rattle.cip_hops.specs.declared.hop.Hop.{Hop}
 use Rattle.cip_hops.specs.Hops.{opening_of, ids_of, hop_by_op}
+use Rattle.cip_target.specs.declared.identity.IdentityFields.{IdentityFields}
 use Rattle.cip_config.specs.declared.config.ModuleSettings.{ModuleSettings}
 use Rattle.cip_module.specs.CommandRows as rows
 use Rattle.cip_event.specs.declared.event.Command.{Command}
 use Rattle.cip_event.specs.declared.event.Command.TheVariants as commands
 use Rattle.cip_event.specs.declared.event.Event.{Event}
 use Rattle.cip_event.specs.declared.event.Event.TheVariants as events
-use Rattle.cip_event.specs.declared.event.OpenParams.{OpenParams}
 use Rattle.cip_event.specs.declared.event.Output.{Output}
 use Rattle.cip_event.specs.declared.event.Output.TheVariants as outputs
 use Rattle.cip_event.specs.declared.event.Refused.{Refused}
@@ -30,8 +29,9 @@ use Rattle.cip_laws.specs.Histories.{Turn, state_after, IsHistory}
 use Rattle.cip_module.specs.OpenRows.{opening_with}
 use Rattle.cip_laws.specs.Outputs.{EndedBy, ByTimeOut, ByRefusal, ByDrop}
 use Rattle.cip_module.specs.State.{State, is_spent}
-use Rattle.cip_module.specs.Table.{up_side_of, open_of}
+use Rattle.cip_module.specs.Table.{up_side_of, asked_open}
 use Rattle.cip_laws.specs.Tells.{AsksOpen, command_row, refused_by}
+use Rattle.cip_laws.proofs.AskedOpens.{asks_row, asks_as}
 use Rattle.cip_laws.proofs.GaveBy.{gave_by}
 use Rattle.cip_laws.proofs.GivenBy.{ended_by}
 use Rattle.cip_laws.proofs.Turns.{newest}
@@ -88,9 +88,10 @@ enter_taken s of bytes hop found sized =
     ∙ ap (λ b. refused_by (cond b rows.Taken rows.WrongSize)) (eq-eqb (length bytes) hop.opening.ot_size sized)
 
 -- an Open of an op that is not used up
-pub open_taken : (s : State) (op : ℕ) (timing : Timing) (path : List ℕ) (params : OpenParams) → is_spent op s.ops ≡ false
-    → refused_by (command_row s (commands.Open op timing path params)) ≡ None
-open_taken s op timing path params unused = ap (λ b. refused_by (cond b rows.OpUsed rows.Taken)) unused
+pub open_taken : (i : IdentityFields) (s : State) (command : Command) (op : ℕ) (o : OpenRequest) → asked_open i command ≡ Some (op, o)
+    → is_spent op s.ops ≡ false → refused_by (command_row s command) ≡ None
+open_taken i s command op o asks unused =
+    ap refused_by (asks_row i s command op o asks) ∙ ap (λ b. refused_by (cond b rows.OpUsed rows.Taken)) unused
 
 -- ---- a past turn is an entry
 
@@ -111,13 +112,13 @@ past_moment t P F m (Lost frame ∷ j) run past f = past_moment t P F m j run.0 
 
 -- the open that the op spelled
 pub record Spelled (config : ModuleSettings) (s : State) (event : Event) (op : ℕ) (o : Opening) : Type 0 where
-  pub timing : Timing
-  pub path : List ℕ
-  pub params : OpenParams
-  pub event_is : event ≡ events.Command (commands.Open op timing path params)
+  pub command : Command
+  pub request : OpenRequest
+  pub event_is : event ≡ events.Command command
+  pub asks : asked_open config.identity command ≡ Some (op, request)
   pub unused : is_spent op s.ops ≡ false
-  pub path_is : path ≡ o.path
-  pub triad_is : (open_of config.identity timing path params).fields.triad ≡ o.triad
+  pub path_is : request.path ≡ o.path
+  pub triad_is : request.fields.triad ≡ o.triad
 
 asked_so : (config : ModuleSettings) (s : State) (event : Event) (op : ℕ) (o : Opening) (up : UpSide) (request : OpenRequest) (down : HopDown)
     → AsksOpen config s event up request
@@ -130,13 +131,13 @@ asked_so config s event op o up request down (inr c) is local =
     let both : UpLocal c.op ≡ UpLocal op = ap (λ (u : UpSide). up_side_of u request.fields.to_id) (sym c.up_is) ∙ sym (ap (λ (x : Opening). x.up) is) ∙ local in
     let same : c.op ≡ op = cc in
     record {
-      timing = c.timing;
-      path = c.path;
-      params = c.params;
-      event_is = c.event_is ∙ ap (λ (n : ℕ). events.Command (commands.Open n c.timing c.path c.params)) same;
+      command = c.command;
+      request = request;
+      event_is = c.event_is;
+      asks = asks_as config.identity c.command c.op op request same c.asks;
       unused = ap (λ (n : ℕ). is_spent n s.ops) (sym same) ∙ c.unused;
-      path_is = sym (ap (λ (r : OpenRequest). r.path) c.spells) ∙ sym (ap (λ (x : Opening). x.path) is);
-      triad_is = sym (ap (λ (r : OpenRequest). r.fields.triad) c.spells) ∙ sym (ap (λ (x : Opening). x.triad) is);
+      path_is = sym (ap (λ (x : Opening). x.path) is);
+      triad_is = sym (ap (λ (x : Opening). x.triad) is);
     }
 
 spelled_by : (config : ModuleSettings) (s : State) (event : Event) (op : ℕ) (o : Opening) → o.up ≡ UpLocal op → BornAs config s event o
@@ -156,26 +157,24 @@ module _ (t : Plan) (j : Journal) (m : ℕ) (config : ModuleSettings) (is : IsMo
     (older : IsOlder (Step n input outs ∷ before) j) (at : n.0 ≡ m) (run : IsRun t (Step n input outs ∷ before))
     (h : IsHistory config (turn_of run.1.event outs ∷ part m before))
     (by : Spelled config (state_in config m before) run.1.event op o) where
-  input_is : input ≡ inputs.Command (commands.Open op by.timing by.path by.params)
-  input_is = command_given t before n.0 input run.1.event (commands.Open op by.timing by.path by.params) run.1.given by.event_is
+  input_is : input ≡ inputs.Command by.command
+  input_is = command_given t before n.0 input run.1.event by.command run.1.given by.event_is
 
   pub open_of_it : OpenOf t j m op o
   open_of_it = record {
-    request = open_of config.identity by.timing by.path by.params;
+    request = by.request;
     opened = record {
       entry = length before;
       at = n;
-      timing = by.timing;
-      path = by.path;
-      params = by.params;
+      command = by.command;
       outs = outs;
       is = number_at (Step n input outs) before j older ∙ ap (λ (i : Input). Some (Step n i outs)) input_is;
       at_is = at;
-      taken = taken_by config (part m before) (turn_of run.1.event outs) h (commands.Open op by.timing by.path by.params) by.event_is
-          (open_taken (state_in config m before) op by.timing by.path by.params by.unused);
+      taken = taken_by config (part m before) (turn_of run.1.event outs) h by.command by.event_is
+          (open_taken config.identity (state_in config m before) by.command op by.request by.asks by.unused);
       config = config;
       is_module = is;
-      request_is = refl;
+      asks = by.asks;
     };
     path_is = by.path_is;
     triad_is = by.triad_is;

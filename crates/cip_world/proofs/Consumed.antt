@@ -61,16 +61,14 @@ pub opened_later : (t : Plan) (l j : Journal) (m op : ℕ) (request : OpenReques
 opened_later t l j m op request older o = record {
   entry = o.entry;
   at = o.at;
-  timing = o.timing;
-  path = o.path;
-  params = o.params;
+  command = o.command;
   outs = o.outs;
-  is = entry_later l j o.entry (Step o.at (inputs.Command (commands.Open op o.timing o.path o.params)) o.outs) older o.is;
+  is = entry_later l j o.entry (Step o.at (inputs.Command o.command) o.outs) older o.is;
   at_is = o.at_is;
   taken = o.taken;
   config = o.config;
   is_module = o.is_module;
-  request_is = o.request_is;
+  asks = o.asks;
 }
 
 -- ---- a step of a run, by its number

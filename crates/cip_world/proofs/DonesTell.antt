@@ -9,6 +9,7 @@ use Rattle.cip_message.specs.Reply.{Reply}
 use Rattle.cip_message.proofs.Failures.{failure_back}
 use Rattle.cip_open.specs.Open.{Open}
 use Rattle.cip_pending.specs.declared.entry.UpSide.TheVariants.{Local}
+use Rattle.cip_config.specs.declared.config.ModuleSettings.{ModuleSettings}
 use Rattle.cip_event.specs.declared.event.Body.TheVariants as bodies
 use Rattle.cip_event.specs.declared.event.Command.{Command}
 use Rattle.cip_event.specs.declared.event.Command.TheVariants as commands
@@ -17,9 +18,10 @@ use Rattle.cip_event.specs.declared.event.Event.TheVariants as events
 use Rattle.cip_event.specs.declared.event.Output.TheVariants as outputs
 use Rattle.cip_laws.specs.Births.{Past}
 use Rattle.cip_laws.specs.Histories.{Turn}
-use Rattle.cip_module.specs.Table.{open_of, sent, words_of}
+use Rattle.cip_module.specs.Table.{asked_open, sent, words_of}
 use Rattle.cip_laws.specs.Tells.{asker, command_asker}
 use Rattle.cip_laws.specs.Turns.{Has, SomeTurn, Gave}
+use Rattle.cip_laws.proofs.AskedOpens.{asks_asker}
 use Rattle.cip_topology.specs.Plan.{Plan}
 use Rattle.cip_topology.proofs.Walks.{walk_ends}
 use Rattle.cip_world.specs.Journals.{Journal, entry_at, part}
@@ -27,6 +29,8 @@ use Rattle.cip_world.specs.Runs.{IsRun}
 use Rattle.cip_world.specs.StepsIn.{StepIn, state_before}
 use Rattle.cip_world.specs.Trails.{is_refusal, trail_of}
 use Rattle.cip_world.specs.TrailTells.{event_in, WordsFall, OpenedIn, OpenDone, SentIn, TellsWhere, EndsThere, AnsweredThere, TrailTells}
+use Rattle.cip_world.proofs.Parts.{same_module}
+use Rattle.cip_world.proofs.AskedOpens.{begins_asked}
 use Rattle.cip_world.proofs.Chassis.{Chassis}
 use Rattle.cip_world.proofs.Entries.{TurnIn, turn_in}
 use Rattle.cip_world.proofs.OpensGo.{AsksThat, Spelled, open_goes}
@@ -99,25 +103,23 @@ module _ (t : Chassis) (j : Journal) (run : IsRun t.plan j) (m op : ℕ) where
   opened_command k path c = record {
     step = c.step;
     here = c.here;
-    command = commands.Open op c.timing path c.params;
+    command = c.command;
     event_is = c.event_is;
-    asks = refl;
+    asks = asks_asker c.step.taken.config.identity c.command op c.request c.asks;
     unrefused = c.unrefused;
   }
 
   opened_begins : (k : ℕ) (path : List ℕ) (c : OpenedIn t.plan j m op k path) → BeginsAt t.plan j m op k c.step
-  opened_begins k path c = trail_begins t.plan j m op k run (opened_command k path c) (eq-eqb op op refl)
+  opened_begins k path c = trail_begins t.plan j m op k run (opened_command k path c)
+      (begins_asked c.step.taken.config.identity op c.request c.command c.asks)
 
-  abbrev opened : (k : ℕ) (path : List ℕ) → OpenedIn t.plan j m op k path → Open
-  opened k path c = open_of c.step.taken.config.identity c.timing path c.params
-
-  opened_asks : (k : ℕ) (path : List ℕ) (c : OpenedIn t.plan j m op k path) → AsksThat c.step.taken.config c.step.taken.event (opened k path c)
-  opened_asks k path c = Spelled op c.timing path c.params c.event_is refl
+  opened_asks : (k : ℕ) (path : List ℕ) (c : OpenedIn t.plan j m op k path) → AsksThat c.step.taken.config c.step.taken.event c.request
+  opened_asks k path c = Spelled c.command op c.event_is c.asks
 
   pub falls : (k : ℕ) (path : List ℕ) → OpenedIn t.plan j m op k path → WordsFall j (trail_of j m op)
   falls k path c =
       let begins = opened_begins k path c in
-      trail_falls t.plan j m op k run c.step (opened k path c) (opened_asks k path c) begins.to begins.first
+      trail_falls t.plan j m op k run c.step c.request (opened_asks k path c) begins.to begins.first
 
   -- the Open is what asked for the Done
   abbrev again : (k : ℕ) (path bytes : List ℕ) → OpenedIn t.plan j m op k path → (r : ReplyOf t.plan j m (Local op) bytes)
@@ -125,10 +127,14 @@ module _ (t : Chassis) (j : Journal) (run : IsRun t.plan j) (m op : ℕ) where
   again k path bytes c r = record {
     step = r.step;
     here = r.here;
-    timing = c.timing;
-    params = c.params;
+    command = c.command;
+    request = c.request;
     event_is =
         sym (same_event t.plan j k r.number (one_command t.plan j m op k r.number run (opened_command k path c) (asked_in bytes r)) c.step r.step) ∙ c.event_is;
+    asks = ap (λ (config : ModuleSettings). asked_open config.identity c.command)
+        (same_module t.plan c.step.at.0 r.step.at.0 r.step.taken.config c.step.taken.config (r.here ∙ sym c.here) r.step.taken.is_module c.step.taken.is_module)
+        ∙ c.asks;
+    path_is = c.path_is;
     unrefused = unrefused bytes r;
   }
 
@@ -138,8 +144,8 @@ module _ (t : Chassis) (j : Journal) (run : IsRun t.plan j) (m op : ℕ) where
       let r = done_by bytes gave in
       let own = again k path bytes c r in
       subst (λ (n : ℕ). ReadAs (Outcome t.plan j m op n path) bytes) r.here
-      (open_outcome t.plan j run m op r.number r.step bytes r.replied (opened r.number path own) (opened_asks r.number path own)
-      (opened_begins r.number path own).to)
+      (subst (λ (p : List ℕ). ReadAs (Outcome t.plan j m op r.step.at.0 p) bytes) own.path_is
+      (open_outcome t.plan j run m op r.number r.step bytes r.replied own.request (opened_asks r.number path own) (opened_begins r.number path own).to))
 
   fails : (k : ℕ) (path : List ℕ) → OpenedIn t.plan j m op k path → (reply : Reply) → Outcome t.plan j m op m path reply
       → reply.general ≢ 0 → TellsWhere t.plan j (trail_of j m op) reply

@@ -16,6 +16,7 @@ pub mod Lines
 pub mod Commands
 pub mod Entered
 pub mod Consumed
+pub mod AskedOpens
 pub mod OpenedOnce
 pub mod Sent
 pub mod ProducedOnce

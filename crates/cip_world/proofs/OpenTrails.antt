@@ -48,6 +48,7 @@ use Rattle.cip_world.specs.Mirrors.{IsOlder}
 use Rattle.cip_world.specs.Runs.{IsRun}
 use Rattle.cip_world.specs.StepsIn.{StepIn, state_before}
 use Rattle.cip_world.specs.TrailTells.{request_words, open_words, event_in, words_at, FailedAt, ByRow as FailedByRow, ByTick as FailedByTick}
+use Rattle.cip_world.proofs.AskedOpens.{words_asked}
 use Rattle.cip_world.proofs.Arrivals.{way_in}
 use Rattle.cip_segment.proofs.PathsShorten.{words_fall}
 use Rattle.cip_world.proofs.Moments.{number_at, before_that}
@@ -75,7 +76,7 @@ event_there t j k s =
     (given_event t s.before s.at.0 s.input s.taken.event s.taken.given)
 
 asked_words : (config : ModuleSettings) (event : Event) (o : Open) → AsksThat config event o → open_words event ≡ Some (words_of o.path)
-asked_words config event o (Spelled op timing path params event_is spells) = ap open_words event_is ∙ ap (λ (x : Open). Some (words_of x.path)) (sym spells)
+asked_words config event o (Spelled command op event_is asks) = ap open_words event_is ∙ words_asked config.identity op o command asks
 asked_words config event o (CameSo port n from event_is) = ap open_words event_is ∙ ap request_words (manager_is_read 0x54 (open_data o) (omega arith))
 
 pub words_there : (t : Plan) (j : Journal) (k : ℕ) (s : StepIn t j k) (o : Open) → AsksThat s.taken.config s.taken.event o
@@ -212,9 +213,9 @@ module _ (t : Plan) (j : Journal) (run : IsRun t j) (m op : ℕ) where
       → OpenGoes s.taken.config (state_before s) s.taken.event o put.sending p.kind → Told s.at.0 o.path bytes
   by_tick k s n p put l tick here ends waits later bytes bytes_are o asks to g =
       let words_is : p.words ≡ words_of o.path = put.words_is ∙ g.words_are in
-      let r = reply_with 0xD4 (link_status TicksSpent) (failure_data (failed_at g.triad p.words)) in
+      let r = reply_with 0xD4 (link_status TicksSpent) (failure_data (failed_at g.opening.triad p.words)) in
       written (Outcome t j m op s.at.0 o.path) r bytes (omega arith) (bytes_are ∙ ap (λ (x : Kind). timed_out_bytes x p.words) g.kind_is)
-      (Failed k s o to asks (link_status TicksSpent) (failed_at g.triad p.words) refl
+      (Failed k s o to asks (link_status TicksSpent) (failed_at g.opening.triad p.words) refl
       (ap (λ (w : ℕ). Some w) words_is) (λ none. absurd (cc)) (link_fails TicksSpent)
       (FailedByTick (record {
         number = n;

@@ -3,7 +3,6 @@ use Rattle.std.proofs.Common.{◌≡◌, ℕ, ◌≤◌, Bool, true, false, cond
 use Rattle.std.specs.FinMap as map
 use Rattle.std.specs.Prelude.{nat_lt, not, ◌||◌, eqb, is_some}
 use Rattle.std.proofs.lemmas.Bool.Decides.{nat_tests}
-use Rattle.cip_base.specs.declared.timing.Timing.{Timing}
 use Rattle.cip_base.specs.declared.triad.Triad.{Triad}
 use Rattle.cip_message.specs.Failure.{HasTriadForWords}
 use Rattle.cip_message.specs.Numbers.{triad_in}
@@ -20,22 +19,21 @@ use Rattle.cip_close.specs.Close.{Close}
 use Rattle.cip_segment.specs.Reading.{HopAt, hop_of, segments_of}
 use Rattle.cip_pending.specs.declared.entry.UpSide.{UpSide}
 use Rattle.cip_pending.specs.declared.entry.Kind.{Kind}
-use Rattle.cip_pending.specs.declared.entry.Kind.TheVariants.{Unconnected as UnconnectedKind, Opening as OpeningKind, Closing as ClosingKind}
 use Rattle.cip_hops.specs.declared.opening.HopUp.{HopUp}
 use Rattle.cip_hops.specs.Hops.{refusal}
 use Rattle.cip_target.specs.declared.link.EndLink.{EndLink}
 use Rattle.cip_config.specs.declared.config.ModuleSettings.{ModuleSettings}
 use Rattle.cip_event.specs.declared.event.Body.TheVariants as bodies
+use Rattle.cip_event.specs.declared.event.Command.{Command}
 use Rattle.cip_event.specs.declared.event.Command.TheVariants as commands
 use Rattle.cip_event.specs.declared.event.Event.{Event}
 use Rattle.cip_event.specs.declared.event.Event.TheVariants as events
-use Rattle.cip_event.specs.declared.event.OpenParams.{OpenParams}
 use Rattle.cip_module.specs.declared.refusals.KeyPart.{KeyPart}
 use Rattle.cip_module.specs.declared.refusals.LinkRefusal.{LinkRefusal}
 use Rattle.cip_module.specs.declared.refusals.OpenRefusal.{OpenRefusal}
 use Rattle.cip_module.specs.declared.refusals.OpenRefusal.TheVariants.{ConnectionTypeNotSupported, RpiOfZero, TriadInUse, NoRoomToPassOn}
 use Rattle.cip_module.specs.Answers.{failed_at}
-use Rattle.cip_module.specs.Effects.{Sending}
+use Rattle.cip_module.specs.Effects.{Sending, kind_for}
 use Rattle.cip_module.specs.Keys.{leading_mismatch}
 use Rattle.cip_module.specs.Links.{link_refusal, LeadsOn}
 use Rattle.cip_module.specs.OpenRows.{OpenRow, Refuses, Forwarded, Accepted, on_row, hop_row, key_row, is_supported, open_row, unread_row}
@@ -43,16 +41,16 @@ use Rattle.cip_module.specs.RequestRows.{RequestRow, request_row}
 use Rattle.cip_module.specs.RequestRows as request
 use Rattle.cip_module.specs.State.{State}
 use Rattle.cip_module.specs.Statuses.{open_status}
-use Rattle.cip_module.specs.Table.{up_side_of, open_of, open_on, words_of, unread_open_bytes, accepted_bytes}
-use Rattle.cip_laws.specs.Tells.{Came, AsksSend, AsksOpen, AsksClose, RepliesAs, RequestFails, SendUnread, SendFails, OpenUnread, OpenFails, OpenEnds, CloseUnread, CloseFails, CloseEnds, AnswersAs, Itself, Embedded, ForwardsAs}
+use Rattle.cip_module.specs.Table.{up_side_of, asked_open, open_on, words_of, unread_open_bytes, accepted_bytes}
+use Rattle.cip_laws.specs.Tells.{Came, AsksSend, AsksOpen, AsksClose, RepliesAs, RequestFails, SendUnread, SendFails, OpenUnread, OpenFails, OpenEnds, CloseUnread, CloseFails, CloseEnds, AnswersAs, Itself, Embedded, ForwardsAs, SentOn, ClosedOn}
+use Rattle.cip_laws.proofs.AskedOpens.{no_open_event, one_open}
 use Rattle.cip_laws.proofs.NextRows.{open_row_is}
 use Rattle.cip_world.specs.TrailTells.{RefusedBy, Unread, Read}
 use Rattle.cip_world.proofs.PutIn.{SentFor, Forwarded as SentForward, Begun}
 
 -- the event asks this open: a command spells it, or it came as it is written
 pub data AsksThat (config : ModuleSettings) (event : Event) (o : Open) : Type 0 where
-  Spelled : (op : ℕ) (timing : Timing) (path : List ℕ) (params : OpenParams) → event ≡ events.Command (commands.Open op timing path params)
-      → o ≡ open_of config.identity timing path params → AsksThat config event o
+  Spelled : (command : Command) (op : ℕ) → event ≡ events.Command command → asked_open config.identity command ≡ Some (op, o) → AsksThat config event o
   CameSo : (port n : ℕ) (from : List ℕ) → event ≡ events.Frame port from (bodies.Request n (open_bytes o)) → AsksThat config event o
 
 -- ---- an open that is accepted names no hop
@@ -138,8 +136,8 @@ pub record OpenAccepted (config : ModuleSettings) (s : State) (event : Event) (o
 -- it went on
 pub record OpenGoes (config : ModuleSettings) (s : State) (event : Event) (o : Open) (sending : Sending) (kind : Kind) : Type 0 where
   pub up : UpSide
-  pub triad : Triad
-  pub kind_is : kind ≡ OpeningKind triad
+  pub opening : Opening
+  pub kind_is : kind ≡ kind_for opening
   pub own : ℕ
   pub rest : List ℕ
   pub leads : LeadsOn config s o.fields.timing o.path sending.port sending.address rest
@@ -158,8 +156,8 @@ module _ (config : ModuleSettings) (s : State) (event : Event) (o : Open) (is : 
   came_row up row came = by_form is
     where
       by_form : AsksThat config event o → (row ≡ request.UnknownPortOrTooLong) ⊎ (row ≡ request.ForwardOpen (open_data o))
-      by_form (Spelled op timing path params event_is spells) =
-          let no : events.Command (commands.Open op timing path params) ≡ events.Frame came.port came.from (bodies.Request came.number came.bytes) =
+      by_form (Spelled command op event_is asks) =
+          let no : events.Command command ≡ events.Frame came.port came.from (bodies.Request came.number came.bytes) =
           sym event_is ∙ came.event_is in absurd (cc)
       by_form (CameSo port n from event_is) =
           let parts = frame_is came.port port came.from from came.number n came.bytes (open_bytes o) (sym came.event_is ∙ event_is) in
@@ -175,9 +173,8 @@ module _ (config : ModuleSettings) (s : State) (event : Event) (o : Open) (is : 
   no_send up u (inr h) = by_form is
     where
       by_form : AsksThat config event o → ⊥
-      by_form (Spelled op timing path params event_is spells) =
-          let no : events.Command (commands.Open op timing path params) ≡ events.Command (commands.Send h.op h.timing h.path h.asked) =
-          sym event_is ∙ h.event_is in cc
+      by_form (Spelled command op event_is asks) =
+          no_open_event config.identity command (commands.Send h.op h.timing h.path h.asked) (op, o) (sym event_is ∙ h.event_is) asks refl
       by_form (CameSo port n from event_is) =
           let no : events.Frame port from (bodies.Request n (open_bytes o)) ≡ events.Command (commands.Send h.op h.timing h.path h.asked) =
           sym event_is ∙ h.event_is in cc
@@ -187,8 +184,8 @@ module _ (config : ModuleSettings) (s : State) (event : Event) (o : Open) (is : 
   no_close up sender c (inr h) = by_form is
     where
       by_form : AsksThat config event o → ⊥
-      by_form (Spelled op timing path params event_is spells) =
-          let no : events.Command (commands.Open op timing path params) ≡ events.Command (commands.Close h.op h.of h.timing) = sym event_is ∙ h.event_is in cc
+      by_form (Spelled command op event_is asks) =
+          no_open_event config.identity command (commands.Close h.op h.of h.timing) (op, o) (sym event_is ∙ h.event_is) asks refl
       by_form (CameSo port n from event_is) =
           let no : events.Frame port from (bodies.Request n (open_bytes o)) ≡ events.Command (commands.Close h.op h.of h.timing) =
           sym event_is ∙ h.event_is in cc
@@ -202,15 +199,12 @@ module _ (config : ModuleSettings) (s : State) (event : Event) (o : Open) (is : 
   same_open up p (inr h) = by_form is
     where
       by_form : AsksThat config event o → p ≡ o
-      by_form (Spelled op timing path params event_is spells) =
-          let both : events.Command (commands.Open h.op h.timing h.path h.params) ≡ events.Command (commands.Open op timing path params) =
-          sym h.event_is ∙ event_is in
-          let timings : h.timing ≡ timing = cc in
-          let paths : h.path ≡ path = cc in
-          let all : h.params ≡ params = cc in
-          h.spells ∙ (λ i. open_of config.identity (timings i) (paths i) (all i)) ∙ sym spells
+      by_form (Spelled command op event_is asks) =
+          let both : events.Command h.command ≡ events.Command command = sym h.event_is ∙ event_is in
+          let same : h.command ≡ command = cc in
+          ap (λ (x : ℕ × Open). x.1) (one_open config.identity h.command command (h.op, p) (op, o) same h.asks asks)
       by_form (CameSo port n from event_is) =
-          let no : events.Frame port from (bodies.Request n (open_bytes o)) ≡ events.Command (commands.Open h.op h.timing h.path h.params) =
+          let no : events.Frame port from (bodies.Request n (open_bytes o)) ≡ events.Command h.command =
           sym event_is ∙ h.event_is in absurd (cc)
 
   -- ---- what it did
@@ -219,14 +213,13 @@ module _ (config : ModuleSettings) (s : State) (event : Event) (o : Open) (is : 
   open_goes sending kind (SentForward h) = absurd (by_kind kind h)
     where
       by_kind : (kind : Kind) → ForwardsAs config s event sending kind → ⊥
-      by_kind UnconnectedKind h = no_send sending.up h.u h.asks
-      by_kind (OpeningKind triad) h = h
-      by_kind (ClosingKind triad) h = no_close sending.up h.closes.sender h.c h.closes.asks
+      by_kind kind (SentOn is h) = no_send sending.up h.u h.asks
+      by_kind kind (ClosedOn triad is h) = no_close sending.up h.closes.sender h.c h.closes.asks
   open_goes sending kind (Begun opening kind_is h) =
       let same = same_open sending.up h.o h.asks in
       record {
         up = sending.up;
-        triad = opening.triad;
+        opening = opening;
         kind_is = kind_is;
         own = s.hops.next;
         rest = h.rest;

@@ -4,7 +4,6 @@ use Rattle.std.specs.FinMap as map
 use Rattle.std.specs.Ordering.{nat_cmp}
 use Rattle.cip_pending.specs.declared.entry.Entry.{Entry}
 use Rattle.cip_pending.specs.declared.entry.Kind.{Kind}
-use Rattle.cip_pending.specs.declared.entry.Kind.TheVariants.{Opening as OpeningKind}
 use Rattle.cip_hops.specs.declared.opening.Opening.{Opening}
 use Rattle.cip_config.specs.declared.config.ModuleSettings.{ModuleSettings}
 use Rattle.cip_event.specs.declared.event.Body.TheVariants as bodies
@@ -12,7 +11,7 @@ use Rattle.cip_event.specs.declared.event.Event.{Event}
 use Rattle.cip_event.specs.declared.event.Output.{Output}
 use Rattle.cip_event.specs.declared.event.Output.TheVariants as outputs
 use Rattle.cip_laws.specs.Births.{Past}
-use Rattle.cip_module.specs.Effects.{Sending, Effect, Forwards, Begins, entry_for, apply, output_of, request_below}
+use Rattle.cip_module.specs.Effects.{Sending, Effect, Forwards, Begins, entry_for, kind_for, apply, output_of, request_below}
 use Rattle.cip_laws.specs.Histories.{Turn, state_after, IsHistory}
 use Rattle.cip_module.specs.State.{State}
 use Rattle.cip_laws.specs.Tells.{asker, Tells, ForwardsAs, BeginsAs}
@@ -25,7 +24,7 @@ use Rattle.cip_laws.proofs.Turns.{by_turn, newest}
 -- what was sent on, and why
 pub data SentFor (config : ModuleSettings) (s : State) (event : Event) (sending : Sending) (kind : Kind) : Type 0 where
   Forwarded : ForwardsAs config s event sending kind → SentFor config s event sending kind
-  Begun : (o : Opening) → kind ≡ OpeningKind o.triad → BeginsAs config s event sending o → SentFor config s event sending kind
+  Begun : (o : Opening) → kind ≡ kind_for o → BeginsAs config s event sending o → SentFor config s event sending kind
 
 -- the turn put the request n, which waits as p, and sent it
 pub record PutIn (config : ModuleSettings) (n : ℕ) (p : Entry) (before : List Turn) (turn : Turn) : Type 0 where
@@ -61,7 +60,7 @@ put_sent config s0 s event (Forwards sending kind) p tells h =
     subst (PutSent config s0 event s (Forwards sending kind)) same
     (record { sending = sending; why = Forwarded tells; sent = refl; up_is = refl; port_is = refl; address_is = refl; words_is = refl })
 put_sent config s0 s event (Begins sending o) p tells h =
-    let same : entry_for s sending (OpeningKind o.triad) ≡ p = cc in
+    let same : entry_for s sending (kind_for o) ≡ p = cc in
     subst (PutSent config s0 event s (Begins sending o)) same
     (record { sending = sending; why = Begun o refl tells; sent = refl; up_is = refl; port_is = refl; address_is = refl; words_is = refl })
 put_sent config s0 s event e p tells h = absurd (cc)

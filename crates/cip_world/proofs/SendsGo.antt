@@ -43,9 +43,10 @@ use Rattle.cip_module.specs.RequestRows as request
 use Rattle.cip_module.specs.State.{State}
 use Rattle.cip_module.specs.Statuses.{request_status, unconnected_status}
 use Rattle.cip_module.specs.Table.{sent, words_of}
-use Rattle.cip_laws.specs.Tells.{Came, AsksSend, AsksOpen, AsksClose, RepliesAs, RequestFails, SendUnread, SendFails, OpenUnread, OpenFails, OpenEnds, CloseUnread, CloseFails, CloseEnds, AnswersAs, Itself, Embedded, ForwardsAs}
+use Rattle.cip_laws.specs.Tells.{Came, AsksSend, AsksOpen, AsksClose, RepliesAs, RequestFails, SendUnread, SendFails, OpenUnread, OpenFails, OpenEnds, CloseUnread, CloseFails, CloseEnds, AnswersAs, Itself, Embedded, ForwardsAs, SentOn, ClosedOn}
 use Rattle.cip_module.specs.Links.{LeadsOn}
 use Rattle.cip_module.specs.UnconnectedRows as unconnected
+use Rattle.cip_laws.proofs.AskedOpens.{no_open_event}
 use Rattle.cip_laws.proofs.GoesOn.{allowed}
 use Rattle.cip_laws.proofs.NextRows.{send_row_is}
 use Rattle.cip_world.proofs.PutIn.{SentFor, Forwarded, Begun}
@@ -100,10 +101,9 @@ module _ (config : ModuleSettings) (s : State) (event : Event) (u : Unconnected)
     where
       by_form : AsksSendThat event u → ⊥
       by_form (Spelled op timing path asked event_is spells) =
-          let no : events.Command (commands.Send op timing path asked) ≡ events.Command (commands.Open h.op h.timing h.path h.params) =
-          sym event_is ∙ h.event_is in cc
+          no_open_event config.identity h.command (commands.Send op timing path asked) (h.op, o) (sym h.event_is ∙ event_is) h.asks refl
       by_form (CameSo port n from event_is) =
-          let no : events.Frame port from (bodies.Request n (unconnected_bytes u)) ≡ events.Command (commands.Open h.op h.timing h.path h.params) =
+          let no : events.Frame port from (bodies.Request n (unconnected_bytes u)) ≡ events.Command h.command =
           sym event_is ∙ h.event_is in cc
 
   no_close : (up sender : UpSide) (c : Close) → AsksClose config s event up sender c → ⊥
@@ -142,12 +142,11 @@ module _ (config : ModuleSettings) (s : State) (event : Event) (u : Unconnected)
   send_goes sending kind (Forwarded h) = by_kind kind h
     where
       by_kind : (kind : Kind) → ForwardsAs config s event sending kind → SendGoes config s event u sending kind
-      by_kind (OpeningKind triad) h = absurd h
-      by_kind (ClosingKind triad) h = absurd (no_close sending.up h.closes.sender h.c h.closes.asks)
-      by_kind UnconnectedKind h =
+      by_kind kind (ClosedOn triad is h) = absurd (no_close sending.up h.closes.sender h.c h.closes.asks)
+      by_kind kind (SentOn is h) =
           let same = same_send sending.up h.u h.asks in
           record {
-            kind_is = refl;
+            kind_is = is;
             rest = h.rest;
             leads = subst (λ (x : Unconnected). LeadsOn config s x.timing x.route sending.port sending.address h.rest) same h.leads;
             bytes_are = h.bytes_are ∙ ap (λ (x : Unconnected). message_on x h.rest) same;
@@ -291,7 +290,7 @@ module _ (config : ModuleSettings) (s : State) (event : Event) (asked : List ℕ
   itself_no_open : (up : UpSide) (o : Open) → AsksOpen config s event up o → ⊥
   itself_no_open up o (inl h) = no_open_row h.asked (target_came up (request.ForwardOpen h.asked) h.came)
   itself_no_open up o (inr h) =
-      let no : events.Frame is.port is.from (bodies.Request is.n asked) ≡ events.Command (commands.Open h.op h.timing h.path h.params) =
+      let no : events.Frame is.port is.from (bodies.Request is.n asked) ≡ events.Command h.command =
       sym is.event_is ∙ h.event_is in cc
 
   itself_no_close : (up sender : UpSide) (c : Close) → AsksClose config s event up sender c → ⊥
@@ -306,9 +305,8 @@ module _ (config : ModuleSettings) (s : State) (event : Event) (asked : List ℕ
   itself_stays sending kind (Forwarded h) = by_kind kind h
     where
       by_kind : (kind : Kind) → ForwardsAs config s event sending kind → ⊥
-      by_kind UnconnectedKind h = itself_no_send sending.up h.u h.asks
-      by_kind (OpeningKind triad) h = h
-      by_kind (ClosingKind triad) h = itself_no_close sending.up h.closes.sender h.c h.closes.asks
+      by_kind kind (SentOn is h) = itself_no_send sending.up h.u h.asks
+      by_kind kind (ClosedOn triad is h) = itself_no_close sending.up h.closes.sender h.c h.closes.asks
 
   failed_so : (objects : Objects) (service : ℕ) (refusal : RequestRefusal) (bytes : List ℕ) → TargetRow r (request.Refuses service refusal)
       → bytes ≡ failure_bytes service (request_status refusal) → bytes ≡ answer_bytes objects r

@@ -25,6 +25,7 @@ use Rattle.cip_pending.specs.declared.entry.UpSide.{UpSide}
 use Rattle.cip_pending.specs.declared.entry.UpSide.TheVariants.{Link, Local}
 use Rattle.cip_pending.specs.declared.entry.Kind.{Kind}
 use Rattle.cip_pending.specs.declared.entry.Kind.TheVariants.{Unconnected as UnconnectedKind, Opening as OpeningKind, Closing as ClosingKind}
+use Rattle.cip_pending.specs.Kinds.{opened_triad}
 use Rattle.cip_hops.specs.declared.opening.HopUp.{HopUp}
 use Rattle.cip_hops.specs.declared.opening.HopUp.TheVariants.{Link as UpLink}
 use Rattle.cip_hops.specs.declared.opening.HopDown.{HopDown}
@@ -42,7 +43,7 @@ use Rattle.cip_event.specs.declared.event.Output.TheVariants as outputs
 use Rattle.cip_module.specs.declared.refusals.RequestRefusal.{RequestRefusal}
 use Rattle.cip_module.specs.declared.refusals.LinkRefusal.TheVariants.{TicksSpent}
 use Rattle.cip_module.specs.Answers.{failed_unread, failed_at, route_words_data}
-use Rattle.cip_module.specs.Effects.{Sending, Effect, Forwards, Begins, Finishes, Takes, entry_for, timed_out_bytes, succeeded, success_up, applied}
+use Rattle.cip_module.specs.Effects.{Sending, Effect, Forwards, Begins, Finishes, Takes, entry_for, kind_for, timed_out_bytes, succeeded, success_up, applied}
 use Rattle.cip_module.specs.OpenRows.{opening_with, end_down, open_row}
 use Rattle.cip_module.specs.OpenRows as opens
 use Rattle.cip_module.specs.ReplyRows.{PassedUp, MalformedForItsKind, OpenSucceeded, kind_row, opening_row, opened_row, failure_row, triad_eq}
@@ -51,7 +52,8 @@ use Rattle.cip_module.specs.RequestRows as request
 use Rattle.cip_module.specs.State.{State}
 use Rattle.cip_module.specs.Statuses.{open_status, link_status}
 use Rattle.cip_module.specs.Table.{up_side_of, open_effects, open_data_effects, accepted_bytes, request_effects, unread_open_bytes, words_of}
-use Rattle.cip_laws.specs.Tells.{Tells, Came, AsksSend, AsksOpen, AsksClose, RepliesAs, RequestFails, SendUnread, SendFails, OpenUnread, OpenFails, OpenEnds, CloseUnread, CloseFails, CloseEnds, AnswersAs, Itself, Embedded, ForwardsAs, FinishesAs, TakesAs}
+use Rattle.cip_laws.specs.Tells.{Tells, Came, AsksSend, AsksOpen, AsksClose, RepliesAs, RequestFails, SendUnread, SendFails, OpenUnread, OpenFails, OpenEnds, CloseUnread, CloseFails, CloseEnds, AnswersAs, Itself, Embedded, ForwardsAs, FinishesAs, TakesAs, SentOn, ClosedOn}
+use Rattle.cip_module.proofs.Opens.{opens_for}
 use Rattle.cip_module.proofs.Waiting.{waits_at}
 use Rattle.cip_laws.specs.Births.{first_opened, born, Past, IsBirth}
 use Rattle.cip_laws.specs.Histories.{Turn, state_after, IsHistory}
@@ -93,8 +95,10 @@ past_elim P F [] h f = absurd h
 past_elim P F (turn ∷ turns) (inl h) f = f turns turn h
 past_elim P F (turn ∷ turns) (inr h) f = past_elim P F turns h f
 
-no_pass : (triad : Triad) (r : Reply) → kind_row (OpeningKind triad) r ≡ PassedUp → r.general ≡ 0 → ⊥
-no_pass triad r e general =
+no_pass : (kind : Kind) (triad : Triad) (r : Reply) → opened_triad kind ≡ Some triad → kind_row kind r ≡ PassedUp → r.general ≡ 0 → ⊥
+no_pass UnconnectedKind triad r opened e general = let no : None ≡ Some triad = opened in cc
+no_pass (ClosingKind k) triad r opened e general = let no : None ≡ Some triad = opened in cc
+no_pass (OpeningKind triad) k r opened e general =
     by_service (eqb r.service 0xD4) (eq-eqb r.general 0 general) e
   where
     no_triad : (b : Bool) (success : OpenSuccess) → cond b (OpenSucceeded triad success) MalformedForItsKind ≡ PassedUp → ⊥
@@ -194,17 +198,17 @@ module _ (config : ModuleSettings) (port n : ℕ) (from : List ℕ) (oo : Open) 
 
     -- what is put among the requests that wait opens a connection
     put_opens : (mid : State) (e : Effect) (p : Entry) → Tells config s event e → puts mid e ≡ Some p → p.up ≡ up
-        → (triad : Triad) × (p.kind ≡ OpeningKind triad)
+        → (triad : Triad) × (opened_triad p.kind ≡ Some triad)
     put_opens mid (Begins sending opening) p tells put is =
-        let same : entry_for mid sending (OpeningKind opening.triad) ≡ p = cc in (opening.triad, ap (λ (x : Entry). x.kind) (sym same))
+        let same : entry_for mid sending (kind_for opening) ≡ p = cc in
+        (opening.triad, ap (λ (x : Entry). opened_triad x.kind) (sym same) ∙ opens_for opening)
     put_opens mid (Forwards sending kind) p tells put is =
         let same : entry_for mid sending kind ≡ p = cc in
         absurd (no_forward sending kind (ap (λ (x : Entry). x.up) same ∙ is) tells)
       where
         no_forward : (sending : Sending) (kind : Kind) → sending.up ≡ up → ForwardsAs config s event sending kind → ⊥
-        no_forward sending UnconnectedKind is h = no_send_asked h.u (subst (λ (x : UpSide). AsksSend config s event x h.u) is h.asks)
-        no_forward sending (OpeningKind k) is h = h
-        no_forward sending (ClosingKind k) is h =
+        no_forward sending kind is (SentOn same h) = no_send_asked h.u (subst (λ (x : UpSide). AsksSend config s event x h.u) is h.asks)
+        no_forward sending kind is (ClosedOn triad same h) =
             no_close_asked h.closes.sender h.c (subst (λ (x : UpSide). AsksClose config s event x h.closes.sender h.c) is h.closes.asks)
     put_opens mid e p tells put is = absurd (cc)
 
@@ -335,7 +339,7 @@ module _ (config : ModuleSettings) (port n : ℕ) (from : List ℕ) (oo : Open) 
         let replies : told.reply ≡ reply = ok_reply told.reply reply (sym told.came.read ∙ read) in
         past_asks port n from oo (PutIn config number told.entry) ⊥ turns asks.1 (put_in config turns h.0 number told.entry waits) (λ earlier t asked put.
         let opens_it = put_opens (state_after config earlier) t.event asked put.mid put.effect told.entry put.tells put.put own in
-        no_pass opens_it.0 told.reply (ap (λ (k : Kind). kind_row k told.reply) (sym opens_it.1) ∙ told.meets)
+        no_pass told.entry.kind opens_it.0 told.reply opens_it.1 told.meets
         (ap (λ (r : Reply). r.general) replies ∙ general))
 
     -- a success that came from below, with the own up id

@@ -8,7 +8,6 @@ use Rattle.cip_open.specs.GoesOn.{lowered}
 use Rattle.cip_open.specs.OpenAt.{open_at}
 use Rattle.cip_pending.specs.declared.entry.UpSide.{UpSide}
 use Rattle.cip_pending.specs.declared.entry.Kind.{Kind}
-use Rattle.cip_pending.specs.declared.entry.Kind.TheVariants.{Unconnected as UnconnectedKind, Opening as OpeningKind, Closing as ClosingKind}
 use Rattle.cip_hops.specs.declared.opening.HopDown.TheVariants.{Link as DownLink}
 use Rattle.cip_hops.specs.declared.opening.HopUp.TheVariants.{Link as UpLink, Local as UpLocal}
 use Rattle.cip_hops.specs.declared.opening.Opening.{Opening}
@@ -27,7 +26,7 @@ use Rattle.cip_module.specs.Effects.{Sending, Effect, Begins, applied}
 use Rattle.cip_module.specs.RequestRows.{UnknownPortOrTooLong, ForwardOpen, request_row}
 use Rattle.cip_module.specs.State.{State}
 use Rattle.cip_module.specs.Table.{up_side_of}
-use Rattle.cip_laws.specs.Tells.{AsksOpen, ForwardsAs, BeginsAs}
+use Rattle.cip_laws.specs.Tells.{AsksOpen, ForwardsAs, BeginsAs, SentOn, ClosedOn}
 use Rattle.cip_laws.specs.Births.{opened_by, Past, IsBirth}
 use Rattle.cip_laws.specs.Histories.{Turn, state_after, IsHistory}
 use Rattle.cip_world.specs.Mirrors.{IsOlder}
@@ -84,11 +83,10 @@ pub record HasUpper (t : Chassis) (j : Journal) (here : Way) (o : Opening) (thei
 no_forward : (config there : ModuleSettings) (s : State) (event : Event) (sending : Sending) (p : ℕ) (asked : List ℕ) (kind : Kind)
     → ForwardsAs config s event sending kind
     → request_row there p sending.bytes ≡ ForwardOpen asked → ⊥
-no_forward config there s event sending p asked UnconnectedKind h e =
+no_forward config there s event sending p asked kind (SentOn is h) e =
     message_no_open config there s.pendings h.u h.embedded sending.port p sending.address h.rest asked h.read h.meets
     (ap (request_row there p) (sym h.bytes_are) ∙ e)
-no_forward config there s event sending p asked (OpeningKind k) h e = h
-no_forward config there s event sending p asked (ClosingKind k) h e =
+no_forward config there s event sending p asked kind (ClosedOn triad is h) e =
     close_no_open there p _ asked (ap (request_row there p) (sym h.bytes_are) ∙ e)
 
 up_parts : (p q : ℕ) (a b : List ℕ) (c d : ℕ) → UpLink p a c ≡ UpLink q b d → (p ≡ q) × (a ≡ b) × (c ≡ d)

@@ -6,13 +6,12 @@ use Rattle.cip_base.specs.declared.numbers.ModuleId.{ModuleId}
 use Rattle.cip_base.proofs.MapCases.{some_same}
 use Rattle.cip_open.specs.Open.{Open}
 use Rattle.cip_pending.specs.declared.entry.Kind.{Kind}
-use Rattle.cip_pending.specs.declared.entry.Kind.TheVariants.{Opening as OpeningKind}
 use Rattle.cip_event.specs.declared.event.Body.TheVariants as bodies
 use Rattle.cip_event.specs.declared.event.Event.{Event}
 use Rattle.cip_event.specs.declared.event.Event.TheVariants as events
 use Rattle.cip_event.specs.declared.event.Output.{Output}
 use Rattle.cip_event.specs.declared.event.Output.TheVariants as outputs
-use Rattle.cip_module.specs.Effects.{Sending, applied}
+use Rattle.cip_module.specs.Effects.{Sending, kind_for, applied}
 use Rattle.cip_laws.specs.Histories.{state_after}
 use Rattle.cip_laws.specs.Outputs.{GaveBy, RequestBy, ByForward, ByBegin}
 use Rattle.cip_module.specs.Table.{words_of}
@@ -149,7 +148,7 @@ was_sent t j k run s port n to bytes has =
     by_effect : RequestBy s.taken.config (state_before s) s.taken.event g.effect port to bytes → WasSent t j k s port to bytes
     by_effect (ByForward sending kind is h p a b) = record { sending = sending; kind = kind; why = Forwarded h; port_is = p; to_is = a; bytes_are = b }
     by_effect (ByBegin sending o is h p a b) =
-        record { sending = sending; kind = OpeningKind o.triad; why = Begun o refl h; port_is = p; to_is = a; bytes_are = b }
+        record { sending = sending; kind = kind_for o; why = Begun o refl h; port_is = p; to_is = a; bytes_are = b }
 
 -- ---- the next entry of the journal
 

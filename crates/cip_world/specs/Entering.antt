@@ -15,11 +15,11 @@ use Rattle.cip_target.specs.ApplicationPath.{Application, application_of}
 use Rattle.cip_config.specs.declared.config.ModuleSettings.{ModuleSettings}
 use Rattle.cip_event.specs.declared.event.Body.TheVariants as bodies
 use Rattle.cip_event.specs.declared.event.Command.TheVariants as commands
-use Rattle.cip_event.specs.declared.event.OpenParams.{OpenParams}
+use Rattle.cip_event.specs.declared.event.Command.{Command as Asked}
 use Rattle.cip_event.specs.declared.event.Output.{Output}
 use Rattle.cip_event.specs.declared.event.Output.TheVariants as outputs
 use Rattle.cip_event.specs.declared.event.Refused.{Refused}
-use Rattle.cip_module.specs.Table.{open_of}
+use Rattle.cip_module.specs.Table.{asked_open}
 use Rattle.cip_laws.specs.Turns.{Has}
 use Rattle.cip_topology.specs.Plan.{Plan}
 use Rattle.cip_topology.specs.Walk.{Stop, walk}
@@ -78,20 +78,18 @@ pub record IsProduced (t : Plan) (j : Journal) (k m : ℕ) (instance : InstanceN
   pub up_is : hop.opening.up ≡ UpLink port to their_id
   pub sent : Has outs (outputs.Send port to (bodies.Data their_id bytes))
 
--- the open that the op spells at module m: that of an Open which is taken
+-- the open that the op asks for at module m, in a command which is taken
 pub record IsOpened (t : Plan) (j : Journal) (m : ℕ) (op : OpNumber) (request : Open) : Type 0 where
   pub entry : ℕ
   pub at : ModuleId
-  pub timing : Timing
-  pub path : Octets
-  pub params : OpenParams
+  pub command : Asked
   pub outs : List Output
-  pub is : entry_at j entry ≡ Some (Step at (Command (commands.Open op timing path params)) outs)
+  pub is : entry_at j entry ≡ Some (Step at (Command command) outs)
   pub at_is : at.0 ≡ m
   pub taken : IsTaken outs
   pub config : ModuleSettings
   pub is_module : IsModule t m config
-  pub request_is : request ≡ open_of config.identity timing path params
+  pub asks : asked_open config.identity command ≡ Some (op, request)
 
 -- the walk of a path from module m ends at module e, with this application path
 pub record LeadsTo (t : Plan) (m : ℕ) (path : Octets) (e : ℕ) (application : Application) : Type 0

@@ -27,7 +27,6 @@ use Rattle.cip_event.specs.declared.event.Command.{Command}
 use Rattle.cip_event.specs.declared.event.Command.TheVariants as commands
 use Rattle.cip_event.specs.declared.event.Event.{Event}
 use Rattle.cip_event.specs.declared.event.Event.TheVariants as events
-use Rattle.cip_event.specs.declared.event.OpenParams.{OpenParams}
 use Rattle.cip_event.specs.declared.event.Output.TheVariants as outputs
 use Rattle.cip_module.specs.declared.refusals.LinkRefusal.TheVariants.{TicksSpent}
 use Rattle.cip_module.specs.declared.refusals.OpenRefusal.{OpenRefusal}
@@ -36,7 +35,7 @@ use Rattle.cip_module.specs.OpenRows.{Refuses, Accepted, open_row, unread_row}
 use Rattle.cip_module.specs.RequestRows.{ForwardOpen}
 use Rattle.cip_module.specs.State.{State}
 use Rattle.cip_module.specs.Statuses.{link_status, open_status}
-use Rattle.cip_module.specs.Table.{up_side_of, words_of}
+use Rattle.cip_module.specs.Table.{up_side_of, words_of, asked_open}
 use Rattle.cip_laws.specs.Tells.{Came, AsksOpen, PendingTimesOutAs}
 use Rattle.cip_laws.specs.Turns.{Has, Gave}
 use Rattle.cip_topology.specs.Plan.{Plan}
@@ -179,14 +178,17 @@ pub record OpenDone (t : Plan) (j : Journal) (ks : List ℕ) (m : ℕ) (path byt
     pub fails : reply.general ≢ 0 → TellsWhere t j ks reply
     pub succeeds : reply.general ≡ 0 → EndsThere t j ks m path
 
--- module m has the Open of this op in entry k, which is not refused
+-- module m has the command of this op in entry k, which asks for an open along the path, and is not
+-- refused
 pub record OpenedIn (t : Plan) (j : Journal) (m : ℕ) (op : OpNumber) (k : ℕ) (path : Octets) :
     Type 0 where
   pub step : StepIn t j k
   pub here : step.at.0 ≡ m
-  pub timing : Timing
-  pub params : OpenParams
-  pub event_is : step.taken.event ≡ events.Command (commands.Open op timing path params)
+  pub command : Command
+  pub request : Open
+  pub event_is : step.taken.event ≡ events.Command command
+  pub asks : asked_open step.taken.config.identity command ≡ Some (op, request)
+  pub path_is : request.path ≡ path
   pub unrefused : list_any is_refusal step.outputs ≡ false
 
 -- ---- a Send

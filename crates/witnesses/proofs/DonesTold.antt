@@ -20,6 +20,7 @@ use Rattle.cip_laws.specs.Turns.{Gave}
 use Rattle.cip_open.specs.OpenAt.{open_at}
 use Rattle.cip_segment.specs.Reading.{segments_within, path_at, segments_of, behind, hop_of}
 use Rattle.cip_segment.specs.Scan.{bytes_at, padded_at, narrow_at, double_at, point_at, words_at as path_words_at, number_at, size_at, plain_port_at, port_at, other_at, logical_at, segment_at}
+use Rattle.cip_module.specs.Table.{open_of}
 use Rattle.cip_topology.specs.Plan.{Plan}
 use Rattle.cip_topology.specs.Walk.{Stop, walk, walk_within}
 use Rattle.cip_world.specs.declared.journal.Entry.TheVariants.{Step}
@@ -64,9 +65,11 @@ opened_at t j k op at timing path params outs run there unrefused =
         taken = next;
       };
       here = refl;
-      timing = timing;
-      params = params;
+      command = commands.Open op timing path params;
+      request = open_of next.config.identity timing path params;
       event_is = next.given;
+      asks = refl;
+      path_is = refl;
       unrefused = unrefused;
     }
 

@@ -8,7 +8,7 @@ ghost use Rattle.cip_open.specs.SuccessAt.{open_reply_at};
 ghost use Rattle.cip_close.specs.SuccessAt.{close_reply_at};
 ghost use Rattle.cip_module.specs.ReplyRows.{triad_eq, failure_row, opened_row, closed_row, opening_row, closing_row, kind_row, read_row};
 ghost use Rattle.cip_base.specs.declared.triad.Triad.{Triad as Triads};
-ghost use Rattle.cip_pending.specs.Kinds.{opens};
+ghost use Rattle.cip_pending.specs.Kinds.{opened_triad};
 ghost use Rattle.cip_module.specs.Code.Decisions.{reply_row_of, ReplyLeads};
 
 use cip_base::Triad;
@@ -106,7 +106,7 @@ fn closing<'a>(triad: Triad, reply: ReplyView<'a>) -> ReplyDecision<'a>
 
 fn by_kind<'a>(kind: Kind, reply: ReplyView<'a>) -> ReplyDecision<'a>
     ensures row { reply_row_of result ≡ kind_row kind (reply_of reply.entry) }
-    ensures leads { ReplyLeads (opens kind) result }
+    ensures leads { ReplyLeads (opened_triad kind) result }
 {
     match kind {
         Kind::Unconnected => ReplyDecision::PassedUp,
@@ -130,7 +130,7 @@ fn by_kind<'a>(kind: Kind, reply: ReplyView<'a>) -> ReplyDecision<'a>
 /// The row of a reply to a request of this kind.
 pub(crate) fn reply_row(kind: Kind, bytes: &[u8]) -> ReplyDecision<'_>
     ensures row { reply_row_of result ≡ read_row kind (reply_at bytes.entry.now) }
-    ensures leads { ReplyLeads (opens kind) result }
+    ensures leads { ReplyLeads (opened_triad kind) result }
 {
     match read_reply(bytes) {
         Err(_) => ReplyDecision::Malformed,
