@@ -123,7 +123,8 @@ module _ (s : State) (tables : Tables) (paired : IsPaired s.pendings s.hops) (sh
       absurd (subst (λ (rs : List HopRow). Among rs (hop_row_of hop)) (sym shows.hops ∙ none.hops)
       (has_row (finite.entries s.hops.held) q hop (sym (finite.get-entries s.hops.held q) ∙ at)))
   none_held q (Some (IsOpening o ids)) at =
-      absurd (paired.only q (ap (λ y. is_some (option_and_then as_opening y)) at) (λ n awaited. none.pendings n awaited.entry awaited.waits q awaited.kind))
+      absurd (paired.only q (ap (λ y. is_some (option_and_then as_opening y)) at) (λ n awaited.
+      let no : None ≡ Some q = sym (none.pendings n awaited.entry awaited.waits) ∙ awaited.kind in cc))
 
   bare : s.hops.held ≡ finite.empty
   bare = finite.same_map triads_total triads_apart s.hops.held finite.empty

@@ -10,7 +10,7 @@ use Rattle.cip_module.specs.CloseRows.{CloseRow, Refuses, Forwarded, ClosedAtThe
 use Rattle.cip_module.specs.RequestRows.{ForwardClose}
 use Rattle.cip_module.specs.State.{State}
 use Rattle.cip_module.specs.Table.{close_on, close_effects, close_data_effects}
-use Rattle.cip_laws.specs.Tells.{Came, AsksClose, Closes, CloseUnread, CloseFails, CloseEnds, AllTell}
+use Rattle.cip_laws.specs.Tells.{Came, AsksClose, Closes, CloseUnread, CloseFails, CloseEnds, AllTell, ClosedOn}
 use Rattle.cip_module.proofs.ClosesForwarded.{close_stands, down_forwards}
 
 -- ---- the group

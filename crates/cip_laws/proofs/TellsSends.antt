@@ -23,7 +23,7 @@ use Rattle.cip_module.specs.UnconnectedRows.{UnconnectedRow, Refuses, AnsweredHe
 use Rattle.cip_module.specs.RequestRows.{UnconnectedSend}
 use Rattle.cip_module.specs.State.{State}
 use Rattle.cip_module.specs.Table.{unconnected_effects, unconnected_data_effects}
-use Rattle.cip_laws.specs.Tells.{Came, AsksSend, SendUnread, SendFails, Embedded, AllTell}
+use Rattle.cip_laws.specs.Tells.{Came, AsksSend, SendUnread, SendFails, Embedded, AllTell, SentOn}
 use Rattle.cip_module.proofs.Conditions.{past, first_of}
 use Rattle.cip_module.proofs.SendsForwarded.{sent_on}
 

@@ -93,6 +93,11 @@ impl<M: Module> Bridge<M> {
         self.request(1, &SEND)
     }
 
+    /// So does this one. Its number below.
+    pub fn send_as(&mut self, message: &[u8]) -> Result<u32, Fault> {
+        self.request(1, message)
+    }
+
     /// The node below answers it.
     pub fn answer(&mut self, number: u32) -> Result<(), Fault> {
         self.reply(number, &ANSWER)

@@ -2,6 +2,7 @@
 
 use crate::bridge::Bridge;
 use crate::fault::Fault;
+use crate::frames::long_send;
 use cip_module::Module;
 use std::alloc::Global;
 use test_harness::{AnyModule, Kinds, device_of, make};
@@ -15,6 +16,8 @@ enum Turn {
     Open,
     /// A datum goes on, by each connection in turn.
     Datum,
+    /// An Unconnected_Send with so many pairs of bytes goes on, and is answered.
+    Long(u16),
 }
 
 /// A step, and how many other requests wait and other connections are open.
@@ -26,7 +29,7 @@ pub struct Case {
 }
 
 /// With the tables empty, and with room in them for what the step takes alone.
-pub const CASES: [Case; 6] = [
+pub const CASES: [Case; 8] = [
     Case {
         name: "send",
         turn: Turn::Send,
@@ -56,6 +59,16 @@ pub const CASES: [Case; 6] = [
         name: "datum-full",
         turn: Turn::Datum,
         others: 255,
+    },
+    Case {
+        name: "half",
+        turn: Turn::Long(16_000),
+        others: 0,
+    },
+    Case {
+        name: "long",
+        turn: Turn::Long(32_000),
+        others: 0,
     },
 ];
 
@@ -106,6 +119,20 @@ fn datum_turns<M: Module>(bridge: &mut Bridge<M>, others: u16, times: u32) -> Re
     Ok(())
 }
 
+fn long_turns<M: Module>(
+    alloc: Global,
+    bridge: &mut Bridge<M>,
+    pairs: u16,
+    times: u32,
+) -> Result<(), Fault> {
+    let message = long_send(alloc, pairs)?;
+    for _ in 0..times {
+        let number = bridge.send_as(&message)?;
+        bridge.answer(number)?;
+    }
+    Ok(())
+}
+
 impl Case {
     // So many turns, once the tables are filled.
     fn turns<M: Module>(&self, alloc: Global, module_: M, times: u32) -> Result<(), Fault> {
@@ -116,6 +143,7 @@ impl Case {
             Turn::Send => send_turns(&mut bridge, self.others, times),
             Turn::Open => open_turns(&mut bridge, self.others, times),
             Turn::Datum => datum_turns(&mut bridge, self.others, times),
+            Turn::Long(pairs) => long_turns(alloc, &mut bridge, pairs, times),
         }
     }
 

@@ -11,7 +11,7 @@ use thiserror::Error;
 #[derive(Clone, Copy, Debug, PartialEq, Eq, Error)]
 pub enum Fault {
     #[error("usage: played plain|indexed|mixed, \
-        played times [send|open|datum|send-full|open-full|datum-full TIMES [indexed]]")]
+        played times [send|open|datum|send-full|open-full|datum-full|half|long TIMES [indexed]]")]
     Usage,
     #[error("a line cannot be played")]
     Line,

@@ -1,10 +1,29 @@
 //! The messages that the nodes beside the bridge send it, as bytes.
+use std::alloc::{AllocError, Global};
 
 /// An Unconnected_Send of Get_Attributes_All to an Identity, by 01 03 and 02 07.
 pub const SEND: [u8; 22] = [
     0x52, 0x02, 0x20, 0x06, 0x24, 0x01, 0x07, 0xF9, 0x06, 0x00, 0x01, 0x02, 0x20, 0x01, 0x24, 0x01,
     0x02, 0x00, 0x01, 0x03, 0x02, 0x07,
 ];
+
+// An Unconnected_Send by the same route whose embedded request is of a service of its own.
+const LONG_HEADER: [u8; 16] = [
+    0x52, 0x02, 0x20, 0x06, 0x24, 0x01, 0x07, 0xF9, 0x00, 0x00, 0x4B, 0x02, 0x20, 0x01, 0x24, 0x01,
+];
+const LONG_ROUTE: [u8; 6] = [0x02, 0x00, 0x01, 0x03, 0x02, 0x07];
+
+/// An Unconnected_Send whose embedded request has data of so many pairs of bytes.
+pub fn long_send(alloc: Global, pairs: u16) -> Result<Vec<u8>, AllocError> {
+    let size = 2 * pairs + 6;
+    let mut bytes = Vec::from_slice(alloc, &LONG_HEADER)?;
+    [bytes[8], bytes[9]] = size.to_le_bytes();
+    for _ in 0..pairs {
+        bytes.extend_from_slice(&[0xAA, 0xBB])?;
+    }
+    bytes.extend_from_slice(&LONG_ROUTE)?;
+    Ok(bytes)
+}
 
 /// The Identity.
 pub const ANSWER: [u8; 21] = [
