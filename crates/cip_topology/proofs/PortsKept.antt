@@ -233,7 +233,7 @@ assembly_table_new place assemblies m a h =
     let high = number_bounds place key.Size 0 MAX_DATUM m size sizes in
     let same : record { instance = i; size = size } ≡ a = same_ok _ a h3 in
     subst (IsNewAssembly assemblies) same (record {
-      is_one = and_from (nat_le 1 i) (nat_le size MAX_DATUM) (ap (nat_le 1) (sym same_i) ∙ le_true 1 n low.0) (le_true size 511 high.1);
+      is_one = and_from (nat_le 1 i) (nat_le size MAX_DATUM) (ap (nat_le 1) (sym same_i) ∙ le_true 1 n low.0) (le_true size MAX_DATUM high.1);
       instance = ap (λ (k : ℕ). list_any (has_instance k) assemblies) (sym same_i) ∙ none;
     })
 

@@ -10,7 +10,7 @@ use Rattle.cip_unconnected.specs.Unconnected.{Unconnected, unconnected_bytes}
 use Rattle.cip_unconnected.specs.GoesOn.{lowered}
 use Rattle.cip_pending.specs.declared.entry.Entry as entries
 use Rattle.cip_pending.specs.declared.entry.Kind.{Kind}
-use Rattle.cip_pending.specs.declared.entry.Kind.TheVariants.{Unconnected as UnconnectedKind, Opening as OpeningKind}
+use Rattle.cip_pending.specs.Kinds.{opened_triad}
 use Rattle.cip_target.specs.Objects.{target_answer, answer_bytes}
 use Rattle.cip_event.specs.declared.event.Body.TheVariants as bodies
 use Rattle.cip_event.specs.declared.event.Event.TheVariants as events
@@ -152,4 +152,4 @@ module _ (t : Plan) (j : Journal) (run : IsRun t j) (m op : ℕ) where
       (λ v is. send_outcome l next bytes below v is on) (eqb (length g.rest) 0) refl g.bytes_are
   send_outcome k s bytes (AsSuccess _ _ n p put l next arrives triad kind_is came reply read_below general held success _ bytes_are below) u asks to =
       let g = goes_there k s n p put u asks in
-      let no : OpeningKind triad ≡ UnconnectedKind = sym kind_is ∙ g.kind_is in absurd (cc)
+      let no : Some triad ≡ None = sym kind_is ∙ ap opened_triad g.kind_is in absurd (cc)

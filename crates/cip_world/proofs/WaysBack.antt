@@ -8,8 +8,8 @@ use Rattle.cip_message.specs.Reply.{Reply, reply_bytes}
 use Rattle.cip_message.specs.ReplyAt.{reply_at}
 use Rattle.cip_message.specs.Request.{Request}
 use Rattle.cip_open.specs.Success.{OpenSuccess}
+use Rattle.cip_pending.specs.Kinds.{opened_triad}
 use Rattle.cip_pending.specs.declared.entry.Entry as entries
-use Rattle.cip_pending.specs.declared.entry.Kind.TheVariants.{Opening as OpeningKind}
 use Rattle.cip_pending.specs.declared.entry.UpSide.{UpSide}
 use Rattle.cip_pending.specs.declared.entry.UpSide.TheVariants.{Link, Local}
 use Rattle.cip_hops.specs.declared.hop.Held.{Held}
@@ -89,7 +89,7 @@ pub data Replied (t : Plan) (j : Journal) : (k : ℕ) → StepIn t j k → List 
   AsItCame : (k : ℕ) (s : StepIn t j k) (n : ℕ) (p : entries.Entry) (put : PutAt s n p) (l : ℕ) (r : StepIn t j l) → Arrives t j k l s r n put.sending
       → (bytes : List ℕ) → Replied t j l r bytes → Replied t j k s bytes
   AsSuccess : (k : ℕ) (s : StepIn t j k) (n : ℕ) (p : entries.Entry) (put : PutAt s n p) (l : ℕ) (r : StepIn t j l) → Arrives t j k l s r n put.sending
-      → (triad : Triad) → p.kind ≡ OpeningKind triad → (came : List ℕ) (reply : Reply) → reply_at came ≡ Ok reply → reply.general ≡ 0
+      → (triad : Triad) → opened_triad p.kind ≡ Some triad → (came : List ℕ) (reply : Reply) → reply_at came ≡ Ok reply → reply.general ≡ 0
       → (held : Option Held) (success : OpenSuccess) (bytes : List ℕ) → bytes ≡ succeeded held came success → Replied t j l r came → Replied t j k s bytes
 
 -- ---- frames of an entry
@@ -407,7 +407,7 @@ module _ (t : Chassis) (j : Journal) (run : IsRun t.plan j) (l : ℕ) (s : StepI
           taken = request_taken b.put.sending n;
           replied =
               AsSuccess b.number b.step n p b.put b.below b.arrival b.arrives triad
-              (ap (λ (x : entries.Entry). x.kind) same ∙ told.kind) came told.reply told.came.read told.general
+              (ap (λ (x : entries.Entry). opened_triad x.kind) same ∙ told.kind) came told.reply told.came.read told.general
               (map.get (applied config (state_before s) g.before).hops.held triad) success bytes bytes_are b.replied;
         }
     by_way g (Late n p effect_is at ups bytes_are) h =
