@@ -2,18 +2,16 @@
 -- these alone.
 use Rattle.std.proofs.Common.{◌≡◌, ℕ, refl, sym, ap, ◌∙◌, Some, None}
 use Rattle.cip_open.specs.Open.{Open}
-use Rattle.cip_pending.specs.declared.entry.UpSide.{UpSide}
 use Rattle.cip_pending.specs.declared.entry.UpSide.TheVariants.{Local}
 use Rattle.cip_target.specs.declared.identity.IdentityFields.{IdentityFields}
 use Rattle.cip_config.specs.declared.config.ModuleSettings.{ModuleSettings}
 use Rattle.cip_event.specs.declared.event.Command.{Command}
 use Rattle.cip_event.specs.declared.event.Command.TheVariants as commands
-use Rattle.cip_event.specs.declared.event.Event.{Event}
 use Rattle.cip_event.specs.declared.event.Event.TheVariants as events
 use Rattle.cip_module.specs.CommandRows.{op_row}
 use Rattle.cip_module.specs.State.{State}
 use Rattle.cip_module.specs.Table.{asked_open, open_command_effects, command_effects}
-use Rattle.cip_laws.specs.Tells.{command_asker, command_row, asker}
+use Rattle.cip_laws.specs.Tells.{command_asker, command_row}
 
 module _ (i : IdentityFields) where
   op_asked : (c : Command) (p q : ℕ × Open) → asked_open i c ≡ Some p → asked_open i c ≡ Some q → p ≡ q

@@ -1,6 +1,5 @@
 -- What goes on for an Unconnected_Send or a Forward_Close is no Forward_Open.
 use Rattle.std.proofs.Common.{◌≡◌, ◌<◌, ℕ, Bool, true, false, cond, get_or, List, [], ◌∷◌, length, Ok, Option, Some, None, refl, sym, ap, ◌∙◌, arith, eqb}
-use Rattle.std.specs.Prelude.{nat_lt}
 use Rattle.cip_segment.specs.declared.segment.Segment.{Segment}
 use Rattle.cip_segment.specs.declared.segment.Segment.TheVariants.{Class, Instance}
 use Rattle.cip_segment.specs.Reading.{segments_of}

@@ -6,7 +6,6 @@ use Rattle.std.specs.Option.{option_and_then}
 use Rattle.std.proofs.lemmas.Bool.{cond_both}
 use Rattle.cip_base.specs.declared.triad.Triad.{Triad}
 use Rattle.cip_pending.specs.declared.entry.Entry.{Entry}
-use Rattle.cip_pending.specs.declared.entry.Kind.{Kind}
 use Rattle.cip_pending.specs.Kinds.{opened_triad}
 use Rattle.cip_hops.specs.declared.hop.Hop.{Hop}
 use Rattle.cip_hops.specs.declared.hop.Held.{Held}

@@ -9,7 +9,6 @@ use Rattle.cip_base.proofs.Triads.{triads_total}
 use Rattle.cip_hops.proofs.Steps.{triads_apart}
 use Rattle.cip_hops.proofs.Changes.{finished_is}
 use Rattle.cip_pending.specs.declared.entry.Entry.{Entry}
-use Rattle.cip_pending.specs.declared.entry.Kind.{Kind}
 use Rattle.cip_pending.specs.Kinds.{opened_triad}
 use Rattle.cip_hops.specs.declared.opening.Opening.{Opening}
 use Rattle.cip_hops.specs.declared.hop.Hop.{Hop}

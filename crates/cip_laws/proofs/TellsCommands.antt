@@ -1,7 +1,7 @@
 -- What a command tells, read backwards.
 use Rattle.std.proofs.Common.{◌≡◌, ℕ, Bool, true, false, cond, eqb, not, is_some, List, [], ◌∷◌, ◌++◌, length, refl, sym, ap, ◌∙◌, inr, Option, Some, None}
 use Rattle.std.specs.List.{All}
-use Rattle.std.specs.Prelude.{slice_index, nat_lt, option_and_then}
+use Rattle.std.specs.Prelude.{slice_index, option_and_then}
 use Rattle.std.specs.FinMap as map
 use Rattle.std.proofs.lemmas.Bool.{eqb-true}
 use Rattle.std.proofs.lemmas.List.Elements.{All-head, All-tail}

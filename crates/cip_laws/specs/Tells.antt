@@ -41,7 +41,6 @@ use Rattle.cip_target.specs.declared.link.EndLink.{EndLink}
 use Rattle.cip_target.specs.Assemblies.{size_in}
 use Rattle.cip_target.specs.Ends.{end_row}
 use Rattle.cip_config.specs.declared.config.ModuleSettings.{ModuleSettings}
-use Rattle.cip_event.specs.declared.event.OpenParams.{OpenParams}
 use Rattle.cip_event.specs.declared.event.Event.{Event}
 use Rattle.cip_event.specs.declared.event.Event.TheVariants as events
 use Rattle.cip_event.specs.declared.event.Command.{Command}

@@ -1,5 +1,5 @@
 -- What a reply that opens was waited for by, and that it can be written once more.
-use Rattle.std.proofs.Common.{◌≡◌, ℕ, Bool, true, false, cond, eqb, refl, ap, ◌∙◌, Result, Ok, Err, is_some, Option, Some, ◌%◌, ◌≤◌, ◌<◌, List, length, subst, arith}
+use Rattle.std.proofs.Common.{◌≡◌, ℕ, Bool, true, false, cond, eqb, refl, ap, ◌∙◌, Result, Ok, Err, is_some, Some, ◌%◌, ◌≤◌, ◌<◌, List, length, subst, arith}
 use Rattle.std.specs.Prelude.{slice_get, slice_index}
 use Rattle.cip_base.specs.declared.triad.Triad.{Triad}
 use Rattle.cip_message.specs.Reply.{Reply}

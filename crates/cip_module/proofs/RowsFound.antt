@@ -1,5 +1,5 @@
 -- A look through the rows of the connections finds the row of the connection that a look at the connections finds.
-use Rattle.std.proofs.Common.{◌≡◌, Bool, true, false, cond, List, [], ◌∷◌, refl, Option, Some, None}
+use Rattle.std.proofs.Common.{◌≡◌, Bool, true, false, cond, List, [], ◌∷◌, refl, Option, Some}
 use Rattle.std.specs.Option.{option_and_then, option_map}
 use Rattle.std.specs.List.{find, filter_map, cons_option}
 use Rattle.std.specs.Prelude.{map as mapped}

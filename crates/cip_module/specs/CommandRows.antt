@@ -7,7 +7,7 @@
 --     wrong size                               WrongSize
 --     no instance, of a Set before wrong size  NoInstance
 --     taken                                    Taken
-use Rattle.std.specs.Prelude.{◌≡◌, ℕ, ◌≤◌, ◌==◌, false, not, nat_lt, is_some, if◌then◌else◌, List, length, slice_index, Option, Some, None}
+use Rattle.std.specs.Prelude.{ℕ, ◌==◌, not, is_some, if◌then◌else◌, List, length, slice_index, Option, Some, None}
 use Rattle.cip_base.specs.Words.{Octets, OpNumber}
 use Rattle.cip_unconnected.specs.declared.unconnected.TheConstants.{UNCONNECTED_SEND}
 use Rattle.cip_unconnected.specs.Unconnected.{Unconnected, is_too_long}

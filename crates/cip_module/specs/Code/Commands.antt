@@ -1,5 +1,5 @@
 -- What a command finds that is taken, and why another one is refused.
-use Rattle.std.specs.Prelude.{◌≡◌, ℕ, ◌==◌, false, length, List, Option, Some, Result, Ok, Err}
+use Rattle.std.specs.Prelude.{◌≡◌, false, length, Option, Some, Result, Ok, Err}
 use Rattle.cip_base.specs.Words.{Octets, OpNumber}
 use Rattle.cip_unconnected.specs.Unconnected.{Unconnected, Fits}
 use Rattle.cip_hops.specs.declared.hop.Hop.{Hop}

@@ -1,4 +1,4 @@
-use Rattle.std.proofs.Common.{◌≡◌, Option, refl, sym, ap, subst, ◌∙◌, length, [], ◌∷◌}
+use Rattle.std.proofs.Common.{Option, refl, sym, ap, subst, ◌∙◌, [], ◌∷◌}
 use Rattle.cip_hops.specs.declared.hop.Hop.{Hop}
 use Rattle.cip_hops.specs.Hops.{is_hop_by_op}
 use Rattle.cip_module.specs.Table.{enter_effects}

@@ -1,7 +1,6 @@
-use Rattle.std.proofs.Common.{ap, sym, ◌∙◌}
 use Rattle.std.specs.FinMap as map
 use Rattle.cip_module.specs.Code.Device.{state_of_device}
-use Rattle.cip_module.proofs.Made.{makes, named_instance}
+use Rattle.cip_module.proofs.Made.{makes}
 use Rattle.cip_module.proofs.device.Device.produce.Goals as goal
 
 pub returns : goal.returns
