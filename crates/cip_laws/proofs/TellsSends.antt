@@ -66,9 +66,11 @@ send_told : (config : ModuleSettings) (s : State) (event : Event) (up : UpSide) 
 send_told config s event up u (Refuses refusal) asks e = (SendFails u refusal asks e refl, tt)
 send_told config s event up u (AnsweredHere asked) asks e = let h = answered_here config s.pendings u asked e in (Embedded u asks h.0 h.1, tt)
 send_told config s event up u (Forwarded port address rest) asks e =
-    let h = sent_on config s u port address rest e in
-    (SentOn refl
-    (record { u = u; rest = rest; embedded = h.0; asks = asks; meets = e; read = h.1; leads = h.2; bytes_are = refl; wait_is = refl; words_are = refl }), tt)
+    let h = sent_on config s u port address rest e in (
+      SentOn refl
+          (record { u = u; rest = rest; embedded = h.0; asks = asks; meets = e; read = h.1; leads = h.2; bytes_are = refl; wait_is = refl; words_are = refl }),
+      tt,
+    )
 
 pub sends_tell : (config : ModuleSettings) (s : State) (event : Event) (up : UpSide) (u : Unconnected) → AsksSend config s event up u
     → AllTell config s event (unconnected_effects up u (unconnected_row config s.pendings u))
