@@ -92,7 +92,8 @@ abandoned_apart h k q apart = cond_both (is_some (opening_at h k)) (without h k)
 module _ (P : ℕ → Entry → Opening → OwnIds → Type 0) where
   -- no request that opens is new, and what is opening for one that is left stands
   joined_kept : (s new : State) → Joined P s
-      → ((n : ℕ) (p : Entry) (triad : Triad) → map.get new.pendings.entries n ≡ Some p → opened_triad p.kind ≡ Some triad → map.get s.pendings.entries n ≡ Some p)
+      → ((n : ℕ) (p : Entry) (triad : Triad) → map.get new.pendings.entries n ≡ Some p → opened_triad p.kind ≡ Some triad
+      → map.get s.pendings.entries n ≡ Some p)
       → ((n : ℕ) (p : Entry) (triad : Triad) (o : Opening) (ids : OwnIds) → map.get new.pendings.entries n ≡ Some p → opened_triad p.kind ≡ Some triad
       → map.get s.hops.held triad ≡ Some (IsOpening o ids)
       → map.get new.hops.held triad ≡ Some (IsOpening o ids))

@@ -171,7 +171,8 @@ module _ (h new : Hops) (k : Triad) (v : Option Held) (b : Becomes h new k v) wh
       } in
       record {
         each = λ q i a. let w = was q i a in
-            let apart : q ≡ k → ⊥ = λ e. w.1 (old.one q i n w.0 (record { entry = this.entry; waits = this.waits; kind = this.kind ∙ ap (λ (t : Triad). Some t) (sym e) })) in
+            let apart : q ≡ k → ⊥ = λ e.
+            w.1 (old.one q i n w.0 (record { entry = this.entry; waits = this.waits; kind = this.kind ∙ ap (λ (t : Triad). Some t) (sym e) })) in
             ap (λ x. is_some (option_and_then as_opening x)) (b.others q apart) ∙ old.each q i w.0;
         one = λ q i j x y. old.one q i j (was q i x).0 (was q j y).0;
         only = λ q e none. elim (triad_or_not q k) as (λ _. ⊥) [

@@ -69,7 +69,8 @@ pub opens_only : (kind : Kind) (r : Result Reply ReplyFault) (triad : Triad) (su
 opens_only kind (Err fault) triad success e = not_malformed triad success e
 opens_only Unconnected (Ok r) triad success e = not_passed triad success e
 opens_only (Opening asked) (Ok r) triad success e =
-    ap (λ (t : Triad). Some t) (either_row (eqb r.service 0xD4) (opening_row asked r) MalformedForItsKind (OpenSucceeded triad success) e (opening_asked triad asked success r)
+    ap (λ (t : Triad). Some t) (either_row (eqb r.service 0xD4) (opening_row asked r) MalformedForItsKind (OpenSucceeded triad success) e
+    (opening_asked triad asked success r)
     (not_malformed triad success))
 opens_only (Closing asked) (Ok r) triad success e =
     either_row (eqb r.service 0xCE) (closing_row asked r) MalformedForItsKind (OpenSucceeded triad success) e (no_closing triad success asked r)

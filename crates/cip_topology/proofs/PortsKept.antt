@@ -223,7 +223,8 @@ assembly_table_new : (place : Place) (assemblies : List AssemblyConfig) (m : Mem
     → assembly_of_table place assemblies m ≡ Ok a → IsNewAssembly assemblies a
 assembly_table_new place assemblies m a h =
     let (n, instances, h1) = bind_ok (number_at place key.Instance 1 65535 m) (λ n.
-    new_instance place assemblies n >>= λ instance. (number_at place key.Size 0 MAX_DATUM m >>= λ size. Ok (record { instance = instance; size = size }))) a h in
+    new_instance place assemblies n >>= λ instance.
+    (number_at place key.Size 0 MAX_DATUM m >>= λ size. Ok (record { instance = instance; size = size }))) a h in
     let (i, new, h2) = bind_ok (new_instance place assemblies n)
     (λ instance. number_at place key.Size 0 MAX_DATUM m >>= λ size. Ok (record { instance = instance; size = size })) a h1 in
     let (size, sizes, h3) = bind_ok (number_at place key.Size 0 MAX_DATUM m) (λ size. Ok (record { instance = i; size = size })) a h2 in

@@ -61,8 +61,8 @@ unconnected_bytes u = manager_bytes UNCONNECTED_SEND (unconnected_data u)
 abbrev pub Fits : Unconnected → Type 0
 Fits u = (length u.request ≤ MAX_EMBEDDED) × (length (unconnected_bytes u) ≤ MAX_MESSAGE)
 
--- no message carries it: the embedded request has a size that no word holds, or the whole is longer than
--- a message may be
+-- no message carries it: the embedded request has a size that no word holds, or the whole is longer
+-- than a message may be
 abbrev pub is_too_long : Unconnected → Bool
 is_too_long u =
     nat_lt MAX_EMBEDDED (length u.request) || nat_lt MAX_MESSAGE (length (unconnected_bytes u))

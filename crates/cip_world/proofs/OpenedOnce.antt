@@ -150,8 +150,8 @@ fresh t e j m config op at command request outs asks run is same at_is taken =
     (run_history t j m config y.0 is, step_here t j m at.0 config (inputs.Command command) outs at_is is y.1) in
     unused config (part m j) (turn_of y.1.event outs) h op command request asks y.1.given taken
 
-entry_once : (t : Plan) (j : Journal) (m : ℕ) (config : ModuleSettings) (op i k : ℕ) → IsRun t j → IsModule t m config → OpenAt j config i m op → OpenAt j config k m op
-    → i ≡ k
+entry_once : (t : Plan) (j : Journal) (m : ℕ) (config : ModuleSettings) (op i k : ℕ) → IsRun t j → IsModule t m config
+    → OpenAt j config i m op → OpenAt j config k m op → i ≡ k
 entry_once t [] m config op i k run is a b = let no = a.is in absurd (cc)
 entry_once t (e ∷ j) m config op i k run is a b =
     by_cases (entry_cases e j i (open_entry a.at a.command a.outs) a.is)
