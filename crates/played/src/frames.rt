@@ -16,7 +16,7 @@ const LONG_ROUTE: [u8; 6] = [0x02, 0x00, 0x01, 0x03, 0x02, 0x07];
 
 /// An Unconnected_Send whose embedded request has data of so many pairs of bytes.
 pub fn long_send(alloc: Global, pairs: u16) -> Result<Vec<u8>, AllocError> {
-    let size = 2 * pairs + 6;
+    let size = pairs.wrapping_mul(2).wrapping_add(6);
     let mut bytes = Vec::from_slice(alloc, &LONG_HEADER)?;
     [bytes[8], bytes[9]] = size.to_le_bytes();
     for _ in 0..pairs {
