@@ -7,7 +7,7 @@ returns-then-view-ge1 c =
     let (hop, leads, rest) = c.in-Some-left.ensures in (
       unconnected_of c.in-Ok.view,
       hop,
-      record { data_ = c.in-Some.found.now; request = c.in-Some.ensures; is = c.in-Ok.ensures.gives; leads = leads },
+      record { data_ = c.in-Some.found.now; request = c.in-Some.ensures; is = c.in-Ok.ensures.read.gives; leads = leads },
       c.if-view-ge1.true,
       ap (λ (z : List ℕ). length z) rest,
     )
