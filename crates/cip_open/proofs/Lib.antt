@@ -1,3 +1,4 @@
+pub mod Services
 pub mod Opens
 pub mod Successes
 pub mod ReadAgain

@@ -1,5 +1,5 @@
 -- What is read of the bytes of an open, of its success and of its failure is what was written, whatever the path or the application reply is.
-use Rattle.std.proofs.Common.{◌≡◌, ℕ, List, [], Ok, sym, ap, ◌∙◌, arith}
+use Rattle.std.proofs.Common.{◌≡◌, ◌/◌, ℕ, Bool, List, [], length, Ok, refl, sym, ap, ◌∙◌}
 use Rattle.cip_base.specs.declared.timing.Status.{Status}
 use Rattle.cip_message.specs.Counted.{counted_at, counted_path_at}
 use Rattle.cip_message.specs.Failure.{failure_data}
@@ -7,34 +7,26 @@ use Rattle.cip_message.specs.Reply.{Reply, reply_with, done_with}
 use Rattle.cip_message.specs.ReplyAt.{reply_at}
 use Rattle.cip_message.specs.declared.failure.ConnectionFailure.{ConnectionFailure}
 use Rattle.cip_message.proofs.ReadAgain.{part_read, path_part_read, part_of, reply_is}
-use Rattle.cip_message.proofs.Words.{word_again, double_again, triad_again}
+use Rattle.cip_message.proofs.Words.{double_again, triad_again}
 use Rattle.cip_open.specs.Failed.{open_failure_bytes}
+use Rattle.cip_open.specs.Kinds.{open_reply_service, words_place, open_fixed_part}
 use Rattle.cip_open.specs.Open.{Open, open_data}
 use Rattle.cip_open.specs.OpenAt.{open_at, open_fields_in, open_in}
 use Rattle.cip_open.specs.Success.{OpenSuccess, open_reply_data, open_reply_bytes}
 use Rattle.cip_open.specs.SuccessAt.{open_reply_at, open_success_in}
-
-layout_fields : (o : Open) → open_fields_in (open_data o) ≡ o.fields
-layout_fields o = λ i. record {
-  timing = o.fields.timing;
-  ot_id = double_again o.fields.ot_id i;
-  to_id = double_again o.fields.to_id i;
-  triad = triad_again o.fields.triad [] i;
-  multiplier = o.fields.multiplier;
-  ot_rpi = double_again o.fields.ot_rpi i;
-  ot_params = word_again o.fields.ot_params i;
-  to_rpi = double_again o.fields.to_rpi i;
-  to_params = word_again o.fields.to_params i;
-  transport = o.fields.transport;
-}
+use Rattle.cip_open.proofs.Services.{reply_service_high}
+use Rattle.cip_open.proofs.Opens.{layout_fields, layout_path}
 
 -- whatever its path: what is read of it is it
-pub open_data_read : (o p : Open) → open_at (open_data o) ≡ Ok p → p ≡ o
+pub open_data_read : (o p : Open) → open_at o.fields.large (open_data o) ≡ Ok p → p ≡ o
 unfolding open_at
 open_data_read o p e =
-    let of = part_of (open_in (open_data o)) (counted_path_at 35 36 (open_data o)) p e in
-    let path : of.part ≡ o.path = path_part_read 35 36 (open_data o) of.part of.is in
-    of.makes ∙ (λ i. record { fields = layout_fields o i; path = path i })
+    let large = o.fields.large in
+    let of = part_of (open_in large (open_data o)) (counted_path_at (words_place large) (open_fixed_part large) (open_data o)) p e in
+    let path : of.part ≡ o.path =
+    path_part_read (words_place large) (open_fixed_part large) (open_data o) of.part of.is ∙ layout_path large 0 0 0 (length o.path / 2) o in
+    let fields : open_fields_in large (open_data o) ≡ o.fields = layout_fields large 0 0 0 (length o.path / 2) o refl in
+    of.makes ∙ (λ i. record { fields = fields i; path = path i })
 
 pub open_success_read : (s t : OpenSuccess) → open_reply_at (open_reply_data s) ≡ Ok t → t ≡ s
 unfolding open_reply_at
@@ -51,18 +43,19 @@ open_success_read s t e =
     })
 
 -- the whole reply, read as a reply and its data
-pub open_success_back : (s t : OpenSuccess) (r : Reply) (bytes : List ℕ) → bytes ≡ open_reply_bytes s → reply_at bytes ≡ Ok r → open_reply_at r.data_ ≡ Ok t
-    → t ≡ s
-open_success_back s t r bytes is e read =
-    let same = reply_is (done_with 0xD4 (open_reply_data s)) r bytes (omega arith) is e in
+pub open_success_back : (large : Bool) (s t : OpenSuccess) (r : Reply) (bytes : List ℕ) → bytes ≡ open_reply_bytes large s → reply_at bytes ≡ Ok r
+    → open_reply_at r.data_ ≡ Ok t → t ≡ s
+open_success_back large s t r bytes is e read =
+    let same = reply_is (done_with (open_reply_service large) (open_reply_data s)) r bytes (reply_service_high large) is e in
     open_success_read s t (ap (λ (x : Reply). open_reply_at x.data_) (sym same) ∙ read)
 
 -- its O→T id
-pub success_back : (s t : OpenSuccess) (r : Reply) (bytes : List ℕ) → bytes ≡ open_reply_bytes s → reply_at bytes ≡ Ok r → open_reply_at r.data_ ≡ Ok t
-    → t.ot_id ≡ s.ot_id
-success_back s t r bytes is e read = ap (λ (x : OpenSuccess). x.ot_id) (open_success_back s t r bytes is e read)
+pub success_back : (large : Bool) (s t : OpenSuccess) (r : Reply) (bytes : List ℕ) → bytes ≡ open_reply_bytes large s → reply_at bytes ≡ Ok r
+    → open_reply_at r.data_ ≡ Ok t → t.ot_id ≡ s.ot_id
+success_back large s t r bytes is e read = ap (λ (x : OpenSuccess). x.ot_id) (open_success_back large s t r bytes is e read)
 
 -- what is read of a failure has its status
-pub failure_back : (status : Status) (f : ConnectionFailure) (r : Reply) (bytes : List ℕ) → bytes ≡ open_failure_bytes status f → reply_at bytes ≡ Ok r
-    → r.general ≡ status.general
-failure_back status f r bytes is e = ap (λ (x : Reply). x.general) (reply_is (reply_with 0xD4 status (failure_data f)) r bytes (omega arith) is e)
+pub failure_back : (large : Bool) (status : Status) (f : ConnectionFailure) (r : Reply) (bytes : List ℕ) → bytes ≡ open_failure_bytes large status f
+    → reply_at bytes ≡ Ok r → r.general ≡ status.general
+failure_back large status f r bytes is e =
+    ap (λ (x : Reply). x.general) (reply_is (reply_with (open_reply_service large) status (failure_data f)) r bytes (reply_service_high large) is e)

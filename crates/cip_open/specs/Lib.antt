@@ -1,4 +1,5 @@
 pub mod Params
+pub mod Kinds
 pub mod Open
 pub mod OpenAt
 pub mod Success

@@ -5,6 +5,8 @@ use Rattle.cip_open.specs.declared.request.OpenFields.{OpenFields}
 use Rattle.cip_open.specs.Success.{OpenSuccess}
 use Rattle.cip_open.specs.declared.request.OpenView.{OpenView}
 use Rattle.cip_open.specs.declared.success.OpenReply.{OpenReply}
+use Rattle.cip_open.specs.declared.failed.OpenFailure.{OpenFailure}
+use Rattle.cip_message.specs.declared.failure.ConnectionFailure.{ConnectionFailure}
 
 abbrev pub open_of : OpenView → Open
 open_of v = record { fields = v.fields; path = v.path.bytes.now }
@@ -22,3 +24,6 @@ success_of r = record {
   to_api = r.to_api;
   reply = r.reply.now;
 }
+
+abbrev pub failure_of : OpenFailure → ConnectionFailure
+failure_of f = record { triad = f.triad; words = f.words }

@@ -1,10 +1,10 @@
--- The data of a successful Forward_Open's reply (Volume 1, chapter 3, Forward_Open, successful
--- response).
-use Rattle.std.specs.Prelude.{◌≡◌, ℕ, ◌*◌, ◌/◌, ◌∷◌, ◌++◌, length}
+-- The data of a successful open's reply (Volume 1, chapter 3, Forward_Open and Large_Forward_Open,
+-- successful response).
+use Rattle.std.specs.Prelude.{◌≡◌, ℕ, Bool, ◌*◌, ◌/◌, ◌∷◌, ◌++◌, length}
 use Rattle.cip_base.specs.Fields.{double}
 use Rattle.cip_base.specs.Words.{Octets, ConnectionId, Microseconds, WordCount}
 use Rattle.cip_base.specs.declared.triad.Triad.{Triad}
-use Rattle.cip_open.specs.declared.request.TheConstants.{FORWARD_OPEN_REPLY}
+use Rattle.cip_open.specs.Kinds.{open_reply_service}
 use Rattle.cip_message.specs.declared.fault.DataFault.{DataFault}
 use Rattle.cip_message.specs.Numbers.{triad_bytes}
 use Rattle.cip_message.specs.Cut.{IsPartFault}
@@ -42,6 +42,6 @@ IsOpenReplyFault b f = IsPartFault HasOpenReplyLayout (λ c g. ⊥) b f
 abbrev pub open_reply_data : OpenSuccess → Octets
 open_reply_data s = open_reply_layout (length s.reply / 2) 0 s
 
--- the whole message: a reply of Forward_Open with status 00
-abbrev pub open_reply_bytes : OpenSuccess → Octets
-open_reply_bytes s = reply_bytes (done_with FORWARD_OPEN_REPLY (open_reply_data s))
+-- the whole message: a reply of the service with status 00
+abbrev pub open_reply_bytes : Bool → OpenSuccess → Octets
+open_reply_bytes large s = reply_bytes (done_with (open_reply_service large) (open_reply_data s))

@@ -1,6 +1,6 @@
-//! What holds of every Forward_Open: reading gives exactly what has the layout, and what is written
+//! What holds of every open, large or not: reading gives exactly what has the layout, and what is written
 //! is read back.
-ghost use Rattle.std.specs.Prelude.{◌≡◌, ◌%◌, length, Ok};
+ghost use Rattle.std.specs.Prelude.{◌≡◌, ◌%◌, Bool, length, Ok};
 ghost use Rattle.cip_base.specs.declared.timing.Status.{Status};
 ghost use Rattle.cip_segment.specs.Spelling.{IsReadable};
 ghost use Rattle.cip_message.specs.Exact.{ReadsEach, Decides, Refuses, RefusesBytes};
@@ -10,20 +10,22 @@ ghost use Rattle.cip_message.specs.Reply.{reply_with};
 ghost use Rattle.cip_message.specs.ReplyAt.{reply_at, IsDone};
 ghost use Rattle.cip_message.specs.RequestAt.{IsSent};
 ghost use Rattle.cip_open.specs.Failed.{open_failure_bytes};
+ghost use Rattle.cip_open.specs.Kinds.{open_service, open_reply_service};
 ghost use Rattle.cip_open.specs.Open.{Open, ReadsOpen, IsOpenFault, open_data, open_bytes};
 ghost use Rattle.cip_open.specs.OpenAt.{open_at};
 ghost use Rattle.cip_open.specs.Success.{OpenSuccess, ReadsOpenReply, IsOpenReplyFault, open_reply_data, open_reply_bytes};
 ghost use Rattle.cip_open.specs.SuccessAt.{open_reply_at};
 
-/// Reading data as that of Forward_Open gives the one record that has its layout, or the one fault
-/// that fits.
+/// Reading data as that of an open, large or not, gives the one record that has its layout, or the
+/// one fault that fits.
 pub fn open_is_exact()
-    ensures only { ReadsEach open_at ReadsOpen }
-    ensures verdict { Decides open_at ReadsOpen IsOpenFault }
-    ensures faults { RefusesBytes open_at IsOpenFault }
+    ensures only { (large : Bool) → ReadsEach (open_at large) (ReadsOpen large) }
+    ensures verdict { (large : Bool)
+        → Decides (open_at large) (ReadsOpen large) (IsOpenFault large) }
+    ensures faults { (large : Bool) → RefusesBytes (open_at large) (IsOpenFault large) }
 {}
 
-/// Reading data as that of a successful Forward_Open's reply gives the one record that has its
+/// Reading data as that of a successful open's reply gives the one record that has its
 /// layout, or the first fault that fits.
 pub fn open_reply_is_exact()
     ensures only { ReadsEach open_reply_at ReadsOpenReply }
@@ -34,15 +36,17 @@ pub fn open_reply_is_exact()
 /// The message that is written is read as a request to the Connection Manager, and its data as the
 /// same record; as no other, whatever the path is.
 pub fn written_open_is_read()
-    ensures request { (o : Open) → IsSent 0x54 (open_data o) (open_bytes o) }
-    ensures data_ { (o : Open) → IsReadable o.path → open_at (open_data o) ≡ Ok o }
-    ensures alone { (o p : Open) → open_at (open_data o) ≡ Ok p → p ≡ o }
+    ensures request { (o : Open)
+        → IsSent (open_service o.fields.large) (open_data o) (open_bytes o) }
+    ensures data_ { (o : Open) → IsReadable o.path → open_at o.fields.large (open_data o) ≡ Ok o }
+    ensures alone { (o p : Open) → open_at o.fields.large (open_data o) ≡ Ok p → p ≡ o }
 {}
 
 /// The reply of a success that is written is read as a reply of status 00, and its data as the same
 /// record; as no other, whatever the application reply is.
 pub fn written_open_reply_is_read()
-    ensures reply { (s : OpenSuccess) → IsDone 0xD4 (open_reply_data s) (open_reply_bytes s) }
+    ensures reply { (large : Bool) (s : OpenSuccess)
+        → IsDone (open_reply_service large) (open_reply_data s) (open_reply_bytes large s) }
     ensures data_ { (s : OpenSuccess) → length s.reply % 2 ≡ 0
         → open_reply_at (open_reply_data s) ≡ Ok s }
     ensures alone { (s t : OpenSuccess) → open_reply_at (open_reply_data s) ≡ Ok t → t ≡ s }
@@ -51,6 +55,7 @@ pub fn written_open_reply_is_read()
 /// The reply of a failure that is written is read as a reply of that status; its data is read back
 /// as the law of failures says.
 pub fn written_open_failure_is_read()
-    ensures { (status : Status) (f : Failure)
-        → reply_at (open_failure_bytes status f) ≡ Ok (reply_with 0xD4 status (failure_data f)) }
+    ensures { (large : Bool) (status : Status) (f : Failure)
+        → reply_at (open_failure_bytes large status f)
+        ≡ Ok (reply_with (open_reply_service large) status (failure_data f)) }
 {}

@@ -1,12 +1,12 @@
-//! The reply of a successful Forward_Open.
-ghost use Rattle.std.specs.Prelude.{◌≡◌, ◌≤◌, ◌%◌, length, IfOk};
+//! The reply of a successful open.
+ghost use Rattle.std.specs.Prelude.{◌≡◌, ◌≤◌, ◌%◌, false, length, IfOk};
 ghost use Rattle.cip_message.specs.Gives.{Gives};
 ghost use Rattle.cip_message.specs.Exact.{IsRead};
 ghost use Rattle.cip_open.specs.Success.{ReadsOpenReply, IsOpenReplyFault, open_reply_bytes};
 ghost use Rattle.cip_open.specs.SuccessAt.{open_reply_at};
 ghost use Rattle.cip_open.specs.Reading.{success_of};
 
-use crate::request::FORWARD_OPEN_REPLY;
+use crate::kinds::open_reply_service;
 use cip_base::{Bytes, NoMemory, Status, Triad, put_double};
 use cip_message::{
     DataFault, REPLY_HEADER, counted_part, double_at, put_reply_header, put_triad, triad_at,
@@ -24,8 +24,8 @@ pub const SUCCESS_RESERVED: usize = 25;
 /// The bytes of the data of a success before the application reply.
 pub const SUCCESS_FIXED_PART: usize = 26;
 
-/// What the data of a successful Forward_Open's reply says (Volume 1, chapter 3, Forward_Open,
-/// successful response).
+/// What the data of a successful open's reply says (Volume 1, chapter 3, Forward_Open and
+/// Large_Forward_Open, successful response).
 #[derive(Clone, Copy)]
 pub struct OpenReply<'a> {
     /// The O→T network connection id.
@@ -39,11 +39,14 @@ pub struct OpenReply<'a> {
     pub to_api: u32,
     /// The application reply: an even number of bytes, at most 510.
     pub reply: &'a [u8],
+    /// Whether the reply is that of a Large_Forward_Open: it picks the service that is written.
+    pub large: bool,
 }
 
 #[tactic(auto, unfolding(crate::specs::SuccessAt::open_reply_at))]
 fn success(data_: &[u8]) -> Result<OpenReply<'_>, DataFault>
-    ensures { Gives success_of result (open_reply_at data_.now) }
+    ensures given { Gives success_of result (open_reply_at data_.now) }
+    ensures standard { IfOk result (λ r. r.large ≡ false) }
 {
     let reply = counted_part(data_, SUCCESS_WORDS, SUCCESS_FIXED_PART)?;
     Ok(OpenReply {
@@ -53,17 +56,20 @@ fn success(data_: &[u8]) -> Result<OpenReply<'_>, DataFault>
         ot_api: double_at(data_, 16),
         to_api: double_at(data_, 20),
         reply,
+        large: false,
     })
 }
 
-/// What the data of a successful Forward_Open's reply says, all of it; the data is what follows the
-/// reply's status (Volume 1, chapter 3, Forward_Open, successful response). The reserved byte has
-/// any value. It takes no memory.
+/// What the data of a successful open's reply says, all of it; the data is what follows the reply's
+/// status (Volume 1, chapter 3, Forward_Open and Large_Forward_Open, successful response). The
+/// reserved byte has any value. The data does not tell the service: `large` is false. It takes no
+/// memory.
 ///
 /// Otherwise the first that fits: Short where bytes are missing, Long where bytes stand after the
 /// application reply.
 pub fn read_open_reply(data_: &[u8]) -> Result<OpenReply<'_>, DataFault>
-    ensures { IsRead success_of open_reply_at ReadsOpenReply IsOpenReplyFault data_.now result }
+    ensures read { IsRead success_of open_reply_at ReadsOpenReply IsOpenReplyFault data_.now result }
+    ensures standard { IfOk result (λ r. r.large ≡ false) }
 {
     success(data_)
 }
@@ -75,11 +81,11 @@ const DONE: Status = Status {
 
 fn joined(alloc: Global, reply: &OpenReply<'_>) -> Result<Vec<u8>, AllocError>
     requires { length reply.now.reply.now ≤ 510 }
-    ensures { IfOk result (λ v. v.items ≡ open_reply_bytes (success_of reply.now)) }
+    ensures { IfOk result (λ v. v.items ≡ open_reply_bytes reply.now.large (success_of reply.now)) }
 {
     let room = REPLY_HEADER + SUCCESS_FIXED_PART + reply.reply.len();
     let mut bytes = Vec::with_capacity(alloc, room)?;
-    put_reply_header(&mut bytes, FORWARD_OPEN_REPLY, DONE)?;
+    put_reply_header(&mut bytes, open_reply_service(reply.large), DONE)?;
     put_double(&mut bytes, reply.ot_id)?;
     put_double(&mut bytes, reply.to_id)?;
     put_triad(&mut bytes, reply.triad)?;
@@ -91,14 +97,15 @@ fn joined(alloc: Global, reply: &OpenReply<'_>) -> Result<Vec<u8>, AllocError>
     Ok(bytes)
 }
 
-/// The whole message of a successful Forward_Open's reply: the reply's header with status 00, the
+/// The whole message of a successful open's reply: the reply's header with status 00, the
 /// connection ids, the triad, the actual packet intervals, the size of the application reply in
-/// words, a reserved 00, the application reply (Volume 1, chapter 3, Forward_Open, successful
-/// response). The application reply has an even number of bytes, at most 510.
+/// words, a reserved 00, the application reply (Volume 1, chapter 3, Forward_Open and
+/// Large_Forward_Open, successful response). The application reply has an even number of bytes, at
+/// most 510.
 pub fn write_open_reply(alloc: Global, reply: &OpenReply<'_>) -> Result<Bytes, NoMemory>
     requires even { length reply.now.reply.now % 2 ≡ 0 }
     requires most { length reply.now.reply.now ≤ 510 }
-    ensures { IfOk result (λ b. b ≡ open_reply_bytes (success_of reply.now)) }
+    ensures { IfOk result (λ b. b ≡ open_reply_bytes reply.now.large (success_of reply.now)) }
 {
     Ok(Bytes::of(joined(alloc, reply)?))
 }

@@ -1,12 +1,12 @@
 -- What a message is after each of the edits of its fields.
-use Rattle.std.proofs.Common.{◌≡◌, ℕ, ◌+◌, ◌-◌, ◌/◌, ◌%◌, ◌<◌, List, [], ◌∷◌, ◌++◌, length, take, drop, get_or, set, refl, ap, ◌∙◌, append-nil, arith}
+use Rattle.std.proofs.Common.{◌≡◌, ℕ, Bool, true, false, ◌+◌, ◌-◌, ◌/◌, ◌%◌, ◌<◌, List, [], ◌∷◌, ◌++◌, length, take, drop, get_or, set, refl, ap, ◌∙◌, append-nil, arith}
 use Rattle.std.proofs.lemmas.List.{drop_all, drop_at, take_at, length-drop}
 use borrow.Rule.Slice.PartMut.{put_mid}
 use Rattle.cip_base.specs.Fields.{word, double, pad}
 use Rattle.cip_message.specs.Manager.{manager_bytes}
+use Rattle.cip_open.specs.Kinds.{words_place}
 use Rattle.cip_open.specs.Open.{Open, open_layout}
 use Rattle.cip_message.specs.Reply.{reply_layout, done_with}
-use Rattle.cip_open.specs.declared.request.TheConstants.{FORWARD_OPEN_REPLY}
 use Rattle.cip_open.specs.Success.{OpenSuccess, open_reply_layout}
 use Rattle.cip_open.specs.GoesOn.{lowered, with_ids}
 use Rattle.cip_close.specs.Close.{Close, close_layout}
@@ -44,15 +44,27 @@ double_written i n xs ys lt e =
 abbrev one_less_at : ℕ → List ℕ → List ℕ
 one_less_at i m = set m i (get_or m i 0 - 1)
 
-abbrev others : ℕ → List ℕ → List ℕ
-others words m = set (set (set (set m 25 0) 26 0) 27 0) 41 words
+abbrev others : ℕ → ℕ → List ℕ → List ℕ
+others place words m = set (set (set (set m 25 0) 26 0) 27 0) (6 + place) words
 
-pub open_lowered : (s x y z w : ℕ) (o : Open) (id words : ℕ) (m ys : List ℕ) → id < 4294967296 → m ≡ manager_bytes s (open_layout x y z w o)
+abbrev with_id : ℕ → List ℕ → List ℕ
+with_id id m = take 12 (one_less_at 7 m) ++ (double id ++ drop 4 (drop 12 (one_less_at 7 m)))
+
+others_are : (large : Bool) (s x y z w : ℕ) (o : Open) (id words : ℕ)
+    → others (words_place large) words (with_id id (manager_bytes s (open_layout large x y z w o))) ≡ manager_bytes s (open_layout large 0 0 0 words (lowered o id o.path))
+others_are true s x y z w o id words = refl
+others_are false s x y z w o id words = refl
+
+pub open_lowered : (large : Bool) (s x y z w : ℕ) (o : Open) (id place words : ℕ) (m ys : List ℕ) → id < 4294967296 → place ≡ words_place large
+    → m ≡ manager_bytes s (open_layout large x y z w o)
     → ys ≡ quad id ++ drop 4 (take (length (one_less_at 7 m) - 12) (drop 12 (one_less_at 7 m)))
-    → others words (put_mid 12 (length (one_less_at 7 m) - 12) (one_less_at 7 m) ys) ≡ manager_bytes s (open_layout 0 0 0 words (lowered o id o.path))
-open_lowered s x y z w o id words m ys lt e f =
-    ap (λ (t : List ℕ). others words t) (double_written 12 id (one_less_at 7 m) ys lt f)
-    ∙ ap (λ (t : List ℕ). others words (take 12 (one_less_at 7 t) ++ (double id ++ drop 4 (drop 12 (one_less_at 7 t))))) e
+    → others place words (put_mid 12 (length (one_less_at 7 m) - 12) (one_less_at 7 m) ys)
+    ≡ manager_bytes s (open_layout large 0 0 0 words (lowered o id o.path))
+open_lowered large s x y z w o id place words m ys lt at e f =
+    ap (λ (t : List ℕ). others place words t) (double_written 12 id (one_less_at 7 m) ys lt f)
+    ∙ ap (λ (n : ℕ). others n words (with_id id m)) at
+    ∙ ap (λ (t : List ℕ). others (words_place large) words (with_id id t)) e
+    ∙ others_are large s x y z w o id words
 
 pub close_lowered : (s w x : ℕ) (c : Close) (words : ℕ) (m : List ℕ) → m ≡ manager_bytes s (close_layout w x c)
     → set (set (one_less_at 7 m) 16 words) 17 0 ≡ manager_bytes s (close_layout words 0 (close_down c c.path))
@@ -93,13 +105,13 @@ with_up up n = take 4 n ++ (double up ++ drop 4 (drop 4 n))
 abbrev with_their : ℕ → List ℕ → List ℕ
 with_their their n = take 8 n ++ (double their ++ drop 4 (drop 8 n))
 
-pub success_raised : (x y w : ℕ) (s : OpenSuccess) (up their : ℕ) (m p ys zs : List ℕ) → up < 4294967296 → their < 4294967296
-    → m ≡ reply_layout x (done_with FORWARD_OPEN_REPLY (open_reply_layout w y s))
+pub success_raised : (service x y w : ℕ) (s : OpenSuccess) (up their : ℕ) (m p ys zs : List ℕ) → up < 4294967296 → their < 4294967296
+    → m ≡ reply_layout x (done_with service (open_reply_layout w y s))
     → ys ≡ quad up ++ drop 4 (take (length (done_at m) - 4) (drop 4 (done_at m)))
     → p ≡ put_mid 4 (length (done_at m) - 4) (done_at m) ys
     → zs ≡ quad their ++ drop 4 (take (length p - 8) (drop 8 p))
-    → set (put_mid 8 (length p - 8) p zs) 29 0 ≡ reply_layout 0 (done_with FORWARD_OPEN_REPLY (open_reply_layout w 0 (with_ids s up their)))
-success_raised x y w s up their m p ys zs lu lt e f p_is g =
+    → set (put_mid 8 (length p - 8) p zs) 29 0 ≡ reply_layout 0 (done_with service (open_reply_layout w 0 (with_ids s up their)))
+success_raised service x y w s up their m p ys zs lu lt e f p_is g =
     ap (λ (t : List ℕ). set t 29 0) (double_written 8 their p zs lt g)
     ∙ ap (λ (t : List ℕ). set (with_their their t) 29 0) (p_is ∙ double_written 4 up (done_at m) ys lu f)
     ∙ ap (λ (t : List ℕ). set (with_their their (with_up up (done_at t))) 29 0) e

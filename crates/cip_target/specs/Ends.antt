@@ -10,7 +10,7 @@ use Rattle.cip_segment.specs.Reading.{segments_of}
 use Rattle.cip_message.specs.Request.{Request}
 use Rattle.cip_open.specs.declared.request.OpenFields.{OpenFields}
 use Rattle.cip_open.specs.Open.{Open}
-use Rattle.cip_open.specs.Params.{params_of}
+use Rattle.cip_open.specs.Params.{open_params_of}
 use Rattle.cip_target.specs.declared.ends.EndRefusal.{EndRefusal}
 use Rattle.cip_target.specs.declared.ends.EndRefusal.TheVariants.{NotAnApplicationPath, NoSuchInstanceOrConfiguration, TransportClassNotSupported, SizeMismatch, OutputOwned}
 use Rattle.cip_target.specs.declared.config.AssemblyConfig.{AssemblyConfig}
@@ -41,8 +41,8 @@ datum_size class size = if class == 1 then size + 2 else size
 -- both directions have the sizes of their assemblies
 abbrev pub are_sizes : OpenFields → ℕ → ℕ → Bool
 are_sizes f consume produce =
-    (params_of f.ot_params).size == datum_size (class_of f.transport) consume
-    && (params_of f.to_params).size == datum_size (class_of f.transport) produce
+    (open_params_of f.large f.ot_params).size == datum_size (class_of f.transport) consume
+    && (open_params_of f.large f.to_params).size == datum_size (class_of f.transport) produce
 
 abbrev pub link_of : OpenFields → Application → EndLink
 link_of f a = record {

@@ -7,7 +7,7 @@ ghost use Rattle.cip_target.specs.Viewed.{row_joined};
 use crate::config::AssemblyConfig;
 use crate::link::EndLink;
 use cip_base::Status;
-use cip_open::{OpenFields, params};
+use cip_open::{OpenFields, open_params};
 
 /// Why an open cannot end here.
 #[derive(Clone, Copy, Debug, PartialEq, Eq)]
@@ -73,8 +73,9 @@ fn are_sizes(fields: &OpenFields, consume: u16, produce: u16) -> bool
     ensures { result ≡ are_sizes fields.now consume produce }
 {
     let class = fields.transport % 16;
-    u32::from(params(fields.ot_params).size) == datum_size(class, consume)
-        && u32::from(params(fields.to_params).size) == datum_size(class, produce)
+    let large = fields.large;
+    u32::from(open_params(large, fields.ot_params).size) == datum_size(class, consume)
+        && u32::from(open_params(large, fields.to_params).size) == datum_size(class, produce)
 }
 
 /// The row of an open whose three assemblies exist; `owned` says whether the O→T instance has an
