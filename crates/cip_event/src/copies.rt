@@ -54,6 +54,20 @@ impl Command {
                     params: *params,
                 })
             }
+            Command::LargeOpen {
+                op,
+                timing,
+                path,
+                params,
+            } => {
+                let path = path.copy(alloc)?;
+                Ok(Command::LargeOpen {
+                    op: *op,
+                    timing: *timing,
+                    path,
+                    params: *params,
+                })
+            }
             Command::Close { op, of, timing } => Ok(Command::Close {
                 op: *op,
                 of: *of,

@@ -1,4 +1,6 @@
 //! What a module is given, and what it does.
+ghost use Rattle.std.specs.Prelude.{◌≡◌, ◌<◌, ◌^◌};
+ghost use Rattle.cip_event.specs.Params.{widened};
 
 use cip_base::{Address, Bytes, Ms, PortNumber, Timing, Triad};
 use cip_segment::Path;
@@ -32,8 +34,45 @@ pub struct OpenParams {
     pub to_params: u16,
 }
 
+/// The same with network connection parameters of 32 bits (Volume 1, chapter 3,
+/// Large_Forward_Open).
+#[derive(Clone, Copy, Debug, PartialEq, Eq)]
+pub struct LargeParams {
+    /// The connection serial number; the originator vendor and serial number are those of the
+    /// module's identity.
+    pub serial: u16,
+    /// The connection timeout multiplier.
+    pub multiplier: u8,
+    /// Transport class and trigger.
+    pub transport: u8,
+    /// The requested packet intervals, in microseconds, and the network connection parameters of
+    /// each direction.
+    pub ot_rpi: u32,
+    pub ot_params: u32,
+    pub to_rpi: u32,
+    pub to_params: u32,
+}
+
+impl OpenParams {
+    /// The same parameters, with those of the network connection in 32 bits.
+    pub fn widened(&self) -> LargeParams
+        ensures value { result ≡ widened self.now }
+        ensures width { (result.ot_params < 2 ^ 16) × (result.to_params < 2 ^ 16) }
+    {
+        LargeParams {
+            serial: self.serial,
+            multiplier: self.multiplier,
+            transport: self.transport,
+            ot_rpi: self.ot_rpi,
+            ot_params: u32::from(self.ot_params),
+            to_rpi: self.to_rpi,
+            to_params: u32::from(self.to_params),
+        }
+    }
+}
+
 /// What a module's own application asks for. `op` names what is asked, once for ever; `of` is the
-/// op of an Open.
+/// op of an Open or a LargeOpen.
 #[derive(Debug, Drop)]
 pub enum Command {
     /// Open a connection along a path (Volume 1, chapter 3, Forward_Open).
@@ -43,7 +82,15 @@ pub enum Command {
         path: Path,
         params: OpenParams,
     },
-    /// Close a connection that an Open opened (Volume 1, chapter 3, Forward_Close).
+    /// Open a connection along a path, with sizes of up to 65,535 bytes (Volume 1, chapter 3,
+    /// Large_Forward_Open).
+    LargeOpen {
+        op: u32,
+        timing: Timing,
+        path: Path,
+        params: LargeParams,
+    },
+    /// Close a connection that was opened (Volume 1, chapter 3, Forward_Close).
     Close {
         op: u32,
         of: u32,
@@ -56,7 +103,7 @@ pub enum Command {
         path: Path,
         request: Bytes,
     },
-    /// Send a datum by a connection that an Open opened.
+    /// Send a datum by a connection that was opened.
     Enter {
         of: u32,
         bytes: Bytes,
@@ -136,7 +183,7 @@ pub enum Output {
         instance: u32,
         bytes: Bytes,
     },
-    /// A datum came back to the Open of this op.
+    /// A datum came back to the Open or LargeOpen of this op.
     Arrived {
         op: u32,
         bytes: Bytes,

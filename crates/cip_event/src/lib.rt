@@ -5,4 +5,4 @@ mod copies;
 mod event;
 mod filled;
 
-pub use event::{Body, Command, Dropped, Event, OpenParams, Output, Refused};
+pub use event::{Body, Command, Dropped, Event, LargeParams, OpenParams, Output, Refused};

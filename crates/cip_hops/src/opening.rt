@@ -38,7 +38,8 @@ pub enum HopDown {
     },
 }
 
-/// A connection that is being opened: what Forward_Open asked (Volume 1, chapter 3).
+/// A connection that is being opened: what Forward_Open or Large_Forward_Open asked (Volume 1,
+/// chapter 3).
 #[derive(Debug, Drop, PartialEq, Eq)]
 pub struct Opening {
     pub triad: Triad,
@@ -56,6 +57,8 @@ pub struct Opening {
     pub multiplier: u8,
     /// The transport class.
     pub class: u8,
+    /// Whether a Large_Forward_Open asked.
+    pub large: bool,
 }
 
 /// The ids under which this module is sent data, of the sides that are links.

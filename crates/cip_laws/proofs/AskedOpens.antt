@@ -32,6 +32,9 @@ module _ (i : IdentityFields) where
   asks_asker (commands.Open n timing path params) op o e =
       let same : n ≡ op = ap (λ (x : ℕ × Open). x.0) (op_asked (commands.Open n timing path params) _ (op, o) refl e) in
       ap (λ (n : ℕ). Some (Local n)) same
+  asks_asker (commands.LargeOpen n timing path params) op o e =
+      let same : n ≡ op = ap (λ (x : ℕ × Open). x.0) (op_asked (commands.LargeOpen n timing path params) _ (op, o) refl e) in
+      ap (λ (n : ℕ). Some (Local n)) same
   asks_asker (commands.Close n of timing) op o e = absurd (cc)
   asks_asker (commands.Send n timing path asked) op o e = absurd (cc)
   asks_asker (commands.Enter of bytes) op o e = absurd (cc)
@@ -41,6 +44,9 @@ module _ (i : IdentityFields) where
   pub asks_row : (s : State) (c : Command) (op : ℕ) (o : Open) → asked_open i c ≡ Some (op, o) → command_row s c ≡ op_row s op
   asks_row s (commands.Open n timing path params) op o e =
       let same : n ≡ op = ap (λ (x : ℕ × Open). x.0) (op_asked (commands.Open n timing path params) _ (op, o) refl e) in
+      ap (op_row s) same
+  asks_row s (commands.LargeOpen n timing path params) op o e =
+      let same : n ≡ op = ap (λ (x : ℕ × Open). x.0) (op_asked (commands.LargeOpen n timing path params) _ (op, o) refl e) in
       ap (op_row s) same
   asks_row s (commands.Close n of timing) op o e = absurd (cc)
   asks_row s (commands.Send n timing path asked) op o e = absurd (cc)
@@ -52,6 +58,8 @@ pub asks_effects : (config : ModuleSettings) (s : State) (c : Command) (op : ℕ
     → command_effects config s c ≡ open_command_effects config s op o
 asks_effects config s (commands.Open n timing path params) op o e =
     ap (λ (x : ℕ × Open). open_command_effects config s x.0 x.1) (op_asked config.identity (commands.Open n timing path params) _ (op, o) refl e)
+asks_effects config s (commands.LargeOpen n timing path params) op o e =
+    ap (λ (x : ℕ × Open). open_command_effects config s x.0 x.1) (op_asked config.identity (commands.LargeOpen n timing path params) _ (op, o) refl e)
 asks_effects config s (commands.Close n of timing) op o e = absurd (cc)
 asks_effects config s (commands.Send n timing path asked) op o e = absurd (cc)
 asks_effects config s (commands.Enter of bytes) op o e = absurd (cc)

@@ -113,6 +113,8 @@ module _ (op : ℕ) where
           → decide config s event ≡ Some turn.effects → Uses config s turn.effects
       by_event (events.Command (commands.Open o timing path params)) most tells e =
           by_count o config s _ turn.effects (eqb o op) refl most tells (begins o turn.effects _ e (refused o (op_row s o) _))
+      by_event (events.Command (commands.LargeOpen o timing path params)) most tells e =
+          by_count o config s _ turn.effects (eqb o op) refl most tells (begins o turn.effects _ e (refused o (op_row s o) _))
       by_event (events.Command (commands.Close o of timing)) most tells e =
           by_count o config s _ turn.effects (eqb o op) refl most tells
           (begins o turn.effects _ e (closing s o of timing (close_command_row s o of) (hop_by_op s.hops of)))

@@ -24,12 +24,12 @@ use Rattle.cip_module.specs.UnconnectedRows as unconnected
 use Rattle.cip_laws.proofs.NextRows.{manager_object}
 
 -- the row of bytes, unless they come by no port or are too long
-row_or : (config : ModuleSettings) (port : ℕ) (bytes d : List ℕ) → request_row config port bytes ≡ ForwardOpen d
-    → read_row bytes (request_at bytes) ≡ ForwardOpen d
+row_or : (config : ModuleSettings) (port : ℕ) (bytes : List ℕ) (large : Bool) (d : List ℕ) → request_row config port bytes ≡ ForwardOpen large d
+    → read_row bytes (request_at bytes) ≡ ForwardOpen large d
 unfolding request_row
-row_or config port bytes d e =
-    elim (is_malformed config port bytes) as (λ b. cond b UnknownPortOrTooLong (read_row bytes (request_at bytes)) ≡ ForwardOpen d
-    → read_row bytes (request_at bytes) ≡ ForwardOpen d) [
+row_or config port bytes large d e =
+    elim (is_malformed config port bytes) as (λ b. cond b UnknownPortOrTooLong (read_row bytes (request_at bytes)) ≡ ForwardOpen large d
+    → read_row bytes (request_at bytes) ≡ ForwardOpen large d) [
       | true ↦ λ s. absurd (cc)
       | false ↦ λ s. s
     ] e
@@ -38,28 +38,28 @@ manager_read : (s : ℕ) (d : List ℕ) → s < 128 → read_row (manager_bytes 
     ≡ object_row (manager_request s d) (object_of (Class 6 ∷ Instance 1 ∷ []))
 manager_read s d small = ap (read_row (manager_bytes s d)) (manager_is_read s d small) ∙ ap (object_row (manager_request s d)) manager_object
 
-pub close_no_open : (config : ModuleSettings) (port : ℕ) (c : Close) (d : List ℕ) → request_row config port (close_bytes c) ≡ ForwardOpen d → ⊥
-close_no_open config port c d e = let no = sym (manager_read 0x4E (close_data c) (omega arith)) ∙ row_or config port (close_bytes c) d e in cc
+pub close_no_open : (config : ModuleSettings) (port : ℕ) (c : Close) (d : List ℕ) (large : Bool) → request_row config port (close_bytes c) ≡ ForwardOpen large d → ⊥
+close_no_open config port c d large e = let no = sym (manager_read 0x4E (close_data c) (omega arith)) ∙ row_or config port (close_bytes c) large d e in cc
 
-pub send_no_open : (config : ModuleSettings) (port : ℕ) (u : Unconnected) (d : List ℕ) → request_row config port (unconnected_bytes u) ≡ ForwardOpen d → ⊥
-send_no_open config port u d e = let no = sym (manager_read 0x52 (unconnected_data u) (omega arith)) ∙ row_or config port (unconnected_bytes u) d e in cc
+pub send_no_open : (config : ModuleSettings) (port : ℕ) (u : Unconnected) (d : List ℕ) (large : Bool) → request_row config port (unconnected_bytes u) ≡ ForwardOpen large d → ⊥
+send_no_open config port u d large e = let no = sym (manager_read 0x52 (unconnected_data u) (omega arith)) ∙ row_or config port (unconnected_bytes u) large d e in cc
 
 -- ---- an embedded request
 
-class_row : (r : Request) (c i : ℕ) (x : Option (Option ℕ)) (d : List ℕ) → eqb c 6 ≡ false → object_row r (with_attribute c i x) ≡ ForwardOpen d → ⊥
-class_row r c i None d other e = cc
-class_row r c i (Some a) d other e =
+class_row : (r : Request) (c i : ℕ) (x : Option (Option ℕ)) (large : Bool) (d : List ℕ) → eqb c 6 ≡ false → object_row r (with_attribute c i x) ≡ ForwardOpen large d → ⊥
+class_row r c i None large d other e = cc
+class_row r c i (Some a) large d other e =
     let is : object_row r (with_attribute c i (Some a)) ≡ Target r =
     ap (λ b. cond b (manager_row r (record { class_ = c; instance = i; attribute = a })) (Target r)) other in
-    let no : Target r ≡ ForwardOpen d = sym is ∙ e in cc
+    let no : Target r ≡ ForwardOpen large d = sym is ∙ e in cc
 
-behind_class : (r : Request) (c : ℕ) (others : List Segment) (d : List ℕ) → eqb c 6 ≡ false → object_row r (instance_in c others) ≡ ForwardOpen d → ⊥
-behind_class r c (Instance i ∷ others) d other e = class_row r c i (attribute_in others) d other e
-behind_class r c s d other e = cc
+behind_class : (r : Request) (c : ℕ) (others : List Segment) (large : Bool) (d : List ℕ) → eqb c 6 ≡ false → object_row r (instance_in c others) ≡ ForwardOpen large d → ⊥
+behind_class r c (Instance i ∷ others) large d other e = class_row r c i (attribute_in others) large d other e
+behind_class r c s large d other e = cc
 
-no_manager : (r : Request) (s : List Segment) (d : List ℕ) → begins_with_manager s ≡ false → object_row r (object_of s) ≡ ForwardOpen d → ⊥
-no_manager r (Class c ∷ others) d other e = behind_class r c others d other e
-no_manager r s d other e = cc
+no_manager : (r : Request) (s : List Segment) (large : Bool) (d : List ℕ) → begins_with_manager s ≡ false → object_row r (object_of s) ≡ ForwardOpen large d → ⊥
+no_manager r (Class c ∷ others) large d other e = behind_class r c others large d other e
+no_manager r s large d other e = cc
 
 -- what is sent on does not begin with the Connection Manager
 pub allowed : (config : ModuleSettings) (p : Pendings) (u : Unconnected) (r : Request) (port : ℕ) (address rest : List ℕ) → request_at u.request ≡ Ok r
@@ -101,13 +101,13 @@ send_service s op u e = taken_row (is_spent op s.ops) (eqb (get_or u.request 0 0
 
 -- ---- the message that goes on
 
-pub message_no_open : (config there : ModuleSettings) (p : Pendings) (u : Unconnected) (r : Request) (port q : ℕ) (address rest d : List ℕ)
+pub message_no_open : (config there : ModuleSettings) (p : Pendings) (u : Unconnected) (r : Request) (port q : ℕ) (address rest d : List ℕ) (large : Bool)
     → request_at u.request ≡ Ok r
-    → unconnected_row config p u ≡ unconnected.Forwarded port address rest → request_row there q (message_on u rest) ≡ ForwardOpen d → ⊥
-message_no_open config there p u r port q address rest d read meets =
+    → unconnected_row config p u ≡ unconnected.Forwarded port address rest → request_row there q (message_on u rest) ≡ ForwardOpen large d → ⊥
+message_no_open config there p u r port q address rest d large read meets =
     elim (eqb (length rest) 0) as (λ b. request_row there q
-    (cond b u.request (unconnected_bytes (record { timing = one_less u.timing; request = u.request; route = rest }))) ≡ ForwardOpen d → ⊥) [
-      | true ↦ λ e. no_manager r (segments_of r.path) d (allowed config p u r port address rest read meets)
-          (sym (ap (read_row u.request) read) ∙ row_or there q u.request d e)
-      | false ↦ λ e. send_no_open there q (record { timing = one_less u.timing; request = u.request; route = rest }) d e
+    (cond b u.request (unconnected_bytes (record { timing = one_less u.timing; request = u.request; route = rest }))) ≡ ForwardOpen large d → ⊥) [
+      | true ↦ λ e. no_manager r (segments_of r.path) large d (allowed config p u r port address rest read meets)
+          (sym (ap (read_row u.request) read) ∙ row_or there q u.request large d e)
+      | false ↦ λ e. send_no_open there q (record { timing = one_less u.timing; request = u.request; route = rest }) d large e
     ]

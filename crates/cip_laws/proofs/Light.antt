@@ -1,5 +1,5 @@
 -- The effects of an event do one thing for whom it asks.
-use Rattle.std.proofs.Common.{◌≡◌, ℕ, ◌+◌, ◌≤◌, List, Result, Ok, Err, Option, Some, None, subst, arith}
+use Rattle.std.proofs.Common.{◌≡◌, ℕ, ◌+◌, ◌≤◌, List, Result, Ok, Err, Option, Some, None, subst, arith, Bool, true, false}
 use Rattle.cip_base.specs.declared.triad.Triad.{Triad}
 use Rattle.cip_base.specs.declared.timing.Timing.{Timing}
 use Rattle.cip_message.specs.Request.{Request}
@@ -44,6 +44,7 @@ use Rattle.cip_module.specs.CommandRows.{op_row, close_command_row, send_row}
 use Rattle.cip_module.specs.State.{State}
 use Rattle.cip_module.specs.Table.{up_side_of, send_below, unconnected_effects, unconnected_data_effects, open_below, open_effects, open_data_effects, close_effects, close_below, close_data_effects, request_effects, refused_effects, with_spending, send_effects, open_command_effects, closed_effects, close_command_effects, close_of, open_of, sent, decide}
 use Rattle.cip_laws.specs.Tells.{asker}
+use Rattle.cip_event.specs.Params.{widened}
 
 module _ (d : Effect → ℕ) (b : UpSide → ℕ) (light : IsLight d b) where
   abbrev taken_up : List Effect → ℕ
@@ -97,10 +98,10 @@ module _ (d : Effect → ℕ) (b : UpSide → ℕ) (light : IsLight d b) where
       a_begin (open_below s v o port address rest) (opening_with (up_side_of v o.fields.to_id) (DownLink port address) o)
   open_once s v o (opens.Accepted link) = an_end _ o link v _
 
-  opens_once : (config : ModuleSettings) (s : State) (v : UpSide) (asked : List ℕ) (r : Result Open DataFault)
-      → taken_up (open_data_effects config s v asked r) ≤ b v
-  opens_once config s v asked (Err fault) = a_reply v _
-  opens_once config s v asked (Ok o) = open_once s v o (open_row config s (up_side_of v o.fields.to_id) o)
+  opens_once : (config : ModuleSettings) (s : State) (v : UpSide) (large : Bool) (asked : List ℕ) (r : Result Open DataFault)
+      → taken_up (open_data_effects config s v large asked r) ≤ b v
+  opens_once config s v large asked (Err fault) = a_reply v _
+  opens_once config s v large asked (Ok o) = open_once s v o (open_row config s (up_side_of v o.fields.to_id) o)
 
   close_once : (v : UpSide) (c : Close) (row : CloseRow) → taken_up (close_effects v c row) ≤ b v
   close_once v c (closes.Refuses refusal) = a_reply v _
@@ -116,7 +117,7 @@ module _ (d : Effect → ℕ) (b : UpSide → ℕ) (light : IsLight d b) where
   requests_once config s v request.NotARequest = a_drop _ (b v)
   requests_once config s v (request.Refuses service refusal) = a_reply v _
   requests_once config s v (request.UnconnectedSend asked) = data_once config s v asked (unconnected_at asked)
-  requests_once config s v (request.ForwardOpen asked) = opens_once config s v asked (open_at asked)
+  requests_once config s v (request.ForwardOpen large asked) = opens_once config s v large asked (open_at large asked)
   requests_once config s v (request.ForwardClose asked) = closes_once s v asked (close_at asked)
   requests_once config s v (request.Target asked) = an_answer v asked
 
@@ -164,8 +165,11 @@ module _ (d : Effect → ℕ) (b : UpSide → ℕ) (light : IsLight d b) where
   light_once config s (events.Frame port from (bodies.Reply number bytes)) es e = tt
   light_once config s (events.Frame port from (bodies.Data id bytes)) es e = tt
   light_once config s (events.Command (commands.Open op timing path params)) es e =
-      same_taken es (open_command_effects config s op (open_of config.identity timing path params)) (b (Local op)) e
-      (opened_once config s op (open_of config.identity timing path params))
+      let o = open_of config.identity false timing path (widened params) in
+      same_taken es (open_command_effects config s op o) (b (Local op)) e (opened_once config s op o)
+  light_once config s (events.Command (commands.LargeOpen op timing path params)) es e =
+      let o = open_of config.identity true timing path params in
+      same_taken es (open_command_effects config s op o) (b (Local op)) e (opened_once config s op o)
   light_once config s (events.Command (commands.Close op of timing)) es e =
       same_taken es (close_command_effects s op of timing) (b (Local op)) e
       (refused_once (close_command_row s op of) (closed_effects s op of timing (hop_by_op s.hops of)) (b (Local op))

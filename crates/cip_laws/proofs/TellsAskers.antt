@@ -37,7 +37,7 @@ pub replies_asker : (config : ModuleSettings) (s : State) (event : Event) (up : 
 replies_asker config s event up bytes (RequestFails service refusal came e) = came_asker config event up _ came
 replies_asker config s event up bytes (SendUnread asked fault came read e) = came_asker config event up _ came
 replies_asker config s event up bytes (SendFails u refusal asks meets e) = send_asker config s event up u asks
-replies_asker config s event up bytes (OpenUnread asked fault came read e) = came_asker config event up _ came
+replies_asker config s event up bytes (OpenUnread large asked fault came read e) = came_asker config event up _ came
 replies_asker config s event up bytes (OpenFails o refusal asks meets e) = open_asker config s event up o asks
 replies_asker config s event up bytes (OpenEnds o link asks meets e) = open_asker config s event up o asks
 replies_asker config s event up bytes (CloseUnread asked fault came read e) = came_asker config event up _ came

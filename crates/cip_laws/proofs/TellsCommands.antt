@@ -200,6 +200,7 @@ produce_tells config s instance (Some held) holds = each_tells config s instance
 
 pub commands_tell : (config : ModuleSettings) (s : State) (command : Command) → AllTell config s (events.Command command) (command_effects config s command)
 commands_tell config s (commands.Open op timing path params) = open_command_tells config s (commands.Open op timing path params) op _ refl
+commands_tell config s (commands.LargeOpen op timing path params) = open_command_tells config s (commands.LargeOpen op timing path params) op _ refl
 commands_tell config s (commands.Close op of timing) = close_command_tells config s op of timing
 commands_tell config s (commands.Send op timing path asked) = send_command_tells config s op timing path asked
 commands_tell config s (commands.Enter of bytes) = enter_tells config s of bytes (hop_by_op s.hops of) refl

@@ -1,5 +1,5 @@
 -- What a Forward_Open tells, read backwards.
-use Rattle.std.proofs.Common.{◌≡◌, ℕ, true, is_some, List, refl, ap, inl, Option, Some, None, Result, Ok, Err}
+use Rattle.std.proofs.Common.{◌≡◌, ℕ, true, is_some, List, refl, ap, inl, Option, Some, None, Result, Ok, Err, Bool}
 use Rattle.std.specs.FinMap as map
 use Rattle.cip_segment.specs.Reading.{HopAt, hop_of, segments_of}
 use Rattle.cip_message.specs.declared.fault.DataFault.{DataFault}
@@ -23,9 +23,10 @@ use Rattle.cip_module.specs.OpenRows.{OpenRow, Refuses, Forwarded, Accepted, acc
 use Rattle.cip_module.specs.RequestRows.{ForwardOpen}
 use Rattle.cip_module.specs.State.{State}
 use Rattle.cip_module.specs.Table.{up_side_of, open_effects, open_data_effects}
-use Rattle.cip_laws.specs.Tells.{Came, AsksOpen, OpenUnread, OpenFails, OpenEnds, AllTell}
+use Rattle.cip_laws.specs.Tells.{Came, AsksOpen, OpenUnread, OpenFails, OpenEnds, AllTell, OpenCame}
 use Rattle.cip_module.proofs.Conditions.{past, past_not, none_is}
 use Rattle.cip_module.proofs.OpensForwarded.{past_all, open_forwards}
+use Rattle.cip_open.proofs.ReadAgain.{large_read}
 
 -- ---- an open that ends here
 
@@ -109,13 +110,18 @@ pub opens_tell : (config : ModuleSettings) (s : State) (event : Event) (up : UpS
     → AllTell config s event (open_effects s up o (open_row config s (up_side_of up o.fields.to_id) o))
 opens_tell config s event up o asks = open_told config s event up o (open_row config s (up_side_of up o.fields.to_id) o) asks refl
 
-read_told : (config : ModuleSettings) (s : State) (event : Event) (up : UpSide) (asked : List ℕ) (r : Result Open DataFault)
-    → Came config event up (ForwardOpen asked)
-    → open_at asked ≡ r → AllTell config s event (open_data_effects config s up asked r)
-read_told config s event up asked (Err fault) came e = (OpenUnread asked fault came e refl, tt)
-read_told config s event up asked (Ok o) came e = opens_tell config s event up o (inl (record { asked = asked; came = came; read = e }))
+came_open : (config : ModuleSettings) (event : Event) (up : UpSide) (large : Bool) (asked : List ℕ) (o : Open) → o.fields.large ≡ large
+    → Came config event up (ForwardOpen large asked) → open_at large asked ≡ Ok o → OpenCame config event up o
+came_open config event up large asked o same came e = record { asked = asked; came = rw same came; read = rw same e }
 
--- a Forward_Open in a frame
-pub open_tells : (config : ModuleSettings) (s : State) (event : Event) (up : UpSide) (asked : List ℕ) → Came config event up (ForwardOpen asked)
-    → AllTell config s event (open_data_effects config s up asked (open_at asked))
-open_tells config s event up asked came = read_told config s event up asked (open_at asked) came refl
+read_told : (config : ModuleSettings) (s : State) (event : Event) (up : UpSide) (large : Bool) (asked : List ℕ) (r : Result Open DataFault)
+    → Came config event up (ForwardOpen large asked)
+    → open_at large asked ≡ r → AllTell config s event (open_data_effects config s up large asked r)
+read_told config s event up large asked (Err fault) came e = (OpenUnread large asked fault came e refl, tt)
+read_told config s event up large asked (Ok o) came e =
+    opens_tell config s event up o (inl (came_open config event up large asked o (large_read large asked o e) came e))
+
+-- an open, large or not, in a frame
+pub open_tells : (config : ModuleSettings) (s : State) (event : Event) (up : UpSide) (large : Bool) (asked : List ℕ)
+    → Came config event up (ForwardOpen large asked) → AllTell config s event (open_data_effects config s up large asked (open_at large asked))
+open_tells config s event up large asked came = read_told config s event up large asked (open_at large asked) came refl

@@ -11,9 +11,10 @@ use Rattle.cip_message.specs.declared.fault.ReplyFault.{ReplyFault}
 use Rattle.cip_message.specs.declared.fault.DataFault.{DataFault}
 use Rattle.cip_open.specs.Success.{OpenSuccess}
 use Rattle.cip_open.specs.SuccessAt.{open_reply_at}
+use Rattle.cip_open.specs.Kinds.{open_reply_service}
 use Rattle.cip_pending.specs.declared.entry.Kind.{Kind}
-use Rattle.cip_pending.specs.declared.entry.Kind.TheVariants.{Unconnected, Opening, Closing}
-use Rattle.cip_pending.specs.Kinds.{opened_triad}
+use Rattle.cip_pending.specs.declared.entry.Kind.TheVariants.{Unconnected, Opening, OpeningLarge, Closing}
+use Rattle.cip_pending.specs.Kinds.{opened_triad, is_large_kind}
 use Rattle.cip_pending.specs.declared.entry.Entry.{Entry}
 use Rattle.cip_pending.specs.Pendings.{waiting_at}
 use Rattle.cip_config.specs.declared.config.ModuleSettings.{ModuleSettings}
@@ -22,7 +23,7 @@ use Rattle.cip_event.specs.declared.event.Body.TheVariants as bodies
 use Rattle.cip_event.specs.declared.event.Dropped.{Dropped}
 use Rattle.cip_event.specs.declared.event.Dropped.TheVariants as dropped
 use Rattle.cip_module.specs.RequestRows.{is_malformed}
-use Rattle.cip_module.specs.ReplyRows.{ReplyRow, UnknownPortOrTooLong, Late, MalformedForItsKind, OpenSucceeded, PassedUp, triad_eq, is_own, opened_row, opening_row, failure_row, kind_row, read_row, waiting_row, reply_row}
+use Rattle.cip_module.specs.ReplyRows.{ReplyRow, UnknownPortOrTooLong, Late, MalformedForItsKind, OpenSucceeded, PassedUp, triad_eq, is_own, opened_row, opening_row, open_kind_row, failure_row, kind_row, read_row, waiting_row, reply_row}
 use Rattle.cip_module.specs.State.{State}
 use Rattle.cip_module.specs.Table.{reply_effects}
 use Rattle.cip_laws.specs.Tells.{DropsAs, reply_dropped, AllTell}
@@ -46,8 +47,9 @@ triad_parts a b e =
     first_two true b e = (refl, e)
     first_two false b e = absurd (cc)
 
-abbrev Succeeds : Reply → Triad → OpenSuccess → Type 0
-Succeeds reply triad success = (reply.service ≡ 0xD4) × (reply.general ≡ 0) × (open_reply_at reply.data_ ≡ Ok success) × (success.triad ≡ triad)
+abbrev Succeeds : Bool → Reply → Triad → OpenSuccess → Type 0
+Succeeds large reply triad success =
+    (reply.service ≡ open_reply_service large) × (reply.general ≡ 0) × (open_reply_at reply.data_ ≡ Ok success) × (success.triad ≡ triad)
 
 no_failure : (triad asked : Triad) (success : OpenSuccess) (r : Result ConnectionFailure DataFault) → failure_row asked r ≡ OpenSucceeded triad success → ⊥
 no_failure triad asked success (Err fault) e = cc
@@ -66,9 +68,9 @@ opened_tells asked triad success (Ok other) e =
     let same : other ≡ success = cc in
     (ap (λ (x : OpenSuccess). Ok x) same, ap (λ (x : OpenSuccess). x.triad) (sym same) ∙ triad_parts other.triad asked tested.0 ∙ own)
 
-opening_tells : (asked triad : Triad) (success : OpenSuccess) (reply : Reply) → reply.service ≡ 0xD4 → opening_row asked reply ≡ OpenSucceeded triad success
-    → Succeeds reply triad success
-opening_tells asked triad success reply service e =
+opening_tells : (large : Bool) (asked triad : Triad) (success : OpenSuccess) (reply : Reply) → reply.service ≡ open_reply_service large
+    → opening_row asked reply ≡ OpenSucceeded triad success → Succeeds large reply triad success
+opening_tells large asked triad success reply service e =
     let opened = opened_row asked (open_reply_at reply.data_) in
     let more = is_some (slice_get reply.extra 0) in
     let zero = first_of (eqb reply.general 0) (cond more MalformedForItsKind opened) (failure_row asked (failure_at reply.data_)) (OpenSucceeded triad success)
@@ -78,16 +80,22 @@ opening_tells asked triad success reply service e =
     let h = opened_tells asked triad success (open_reply_at reply.data_) alone.1 in
     (service, eqb-true reply.general 0 zero.0, h.0, h.1)
 
+open_kind_tells : (large : Bool) (k triad : Triad) (success : OpenSuccess) (reply : Reply) → open_kind_row large k reply ≡ OpenSucceeded triad success
+    → Succeeds large reply triad success
+open_kind_tells large k triad success reply e =
+    let service = open_reply_service large in
+    let tested = first_of (eqb reply.service service) (opening_row k reply) MalformedForItsKind (OpenSucceeded triad success) e (λ q. cc) in
+    opening_tells large k triad success reply (eqb-true reply.service service tested.0) tested.1
+
 asked_tells : (kind : Kind) (triad : Triad) (success : OpenSuccess) (reply : Reply) → opened_triad kind ≡ Some triad
-    → kind_row kind reply ≡ OpenSucceeded triad success → Succeeds reply triad success
+    → kind_row kind reply ≡ OpenSucceeded triad success → Succeeds (is_large_kind kind) reply triad success
 asked_tells Unconnected triad success reply opened e = absurd (cc)
 asked_tells (Closing k) triad success reply opened e = absurd (cc)
-asked_tells (Opening k) triad success reply opened e =
-    let tested = first_of (eqb reply.service 0xD4) (opening_row k reply) MalformedForItsKind (OpenSucceeded triad success) e (λ q. cc) in
-    opening_tells k triad success reply (eqb-true reply.service 0xD4 tested.0) tested.1
+asked_tells (Opening k) triad success reply opened e = open_kind_tells false k triad success reply e
+asked_tells (OpeningLarge k) triad success reply opened e = open_kind_tells true k triad success reply e
 
 read_succeeds : (kind : Kind) (r : Result Reply ReplyFault) (triad : Triad) (success : OpenSuccess) → read_row kind r ≡ OpenSucceeded triad success
-    → (reply : Reply) × (r ≡ Ok reply) × Succeeds reply triad success
+    → (reply : Reply) × (r ≡ Ok reply) × Succeeds (is_large_kind kind) reply triad success
 read_succeeds kind (Err fault) triad success e = absurd (cc)
 read_succeeds kind (Ok reply) triad success e =
     (reply, refl, asked_tells kind triad success reply (opens_only kind (Ok reply) triad success e) e)

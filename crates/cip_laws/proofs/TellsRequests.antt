@@ -32,7 +32,7 @@ request_told config s event up UnknownPortOrTooLong came = (drops config s event
 request_told config s event up NotARequest came = (drops config s event up NotARequest Malformed came refl, tt)
 request_told config s event up (Refuses service refusal) came = (RequestFails service refusal came refl, tt)
 request_told config s event up (UnconnectedSend asked) came = send_tells config s event up asked came
-request_told config s event up (ForwardOpen asked) came = open_tells config s event up asked came
+request_told config s event up (ForwardOpen large asked) came = open_tells config s event up large asked came
 request_told config s event up (ForwardClose asked) came = close_tells config s event up asked came
 request_told config s event up (Target asked) came = (Itself came, tt)
 

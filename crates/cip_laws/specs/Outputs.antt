@@ -35,6 +35,7 @@ use Rattle.cip_module.specs.Table.{up_side_of}
 use Rattle.cip_laws.specs.Tells.{Tells, AsksOpen, RepliesAs, AnswersAs, ForwardsAs, BeginsAs, HopTimesOutAs, RefusesAs, DropsAs}
 use Rattle.cip_laws.specs.Weights.{mark}
 use Rattle.cip_laws.specs.Turns.{Has}
+use Rattle.cip_pending.specs.Kinds.{is_large_kind}
 
 -- the effect that gave an output, and those before it and after it
 pub record GaveBy (config : ModuleSettings) (s : State) (event : Event) (all : List Effect)
@@ -79,7 +80,7 @@ pub data RepliesBy (config : ModuleSettings) (s : State) (event : Event) (mid : 
   Opened : (number : RequestNumber) (triad : Triad) (came : Octets) (success : OpenSuccess)
       (p : Entry) → e ≡ Finishes number triad came success
       → map.get mid.pendings.entries number ≡ Some p → p.up ≡ up
-      → bytes ≡ succeeded (map.get mid.hops.held triad) came success
+      → bytes ≡ succeeded (is_large_kind p.kind) (map.get mid.hops.held triad) came success
       → RepliesBy config s event mid e up bytes
   Taken : (number : RequestNumber) (p : Entry) → e ≡ Takes number bytes
       → map.get mid.pendings.entries number ≡ Some p → p.up ≡ up

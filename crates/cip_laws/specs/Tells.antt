@@ -1,11 +1,11 @@
 -- The routing table read backwards: what each effect of an event tells of the event, and of the
 -- state before it.
-use Rattle.std.specs.Prelude.{◌≡◌, ℕ, ◌+◌, ◌*◌, ◌^◌, ◌≤◌, ◌<◌, ◌==◌, ◌⊎◌, true, false, if◌then◌else◌, Option, Some, None, Ok, Err, List, [], ◌∷◌, drop, length}
+use Rattle.std.specs.Prelude.{◌≡◌, ℕ, ◌+◌, ◌*◌, ◌^◌, ◌≤◌, ◌<◌, ◌==◌, ◌⊎◌, true, false, if◌then◌else◌, Option, Some, None, Ok, Err, List, [], ◌∷◌, drop, length, Bool}
 use Rattle.std.specs.FinMap as map
 use Rattle.cip_base.specs.Words.{ConnectionId, InstanceNumber, LinkAddress, Microseconds, Milliseconds, Octets, OpNumber, PortIdentifier, RequestNumber}
 use Rattle.cip_base.specs.declared.timing.Timing.{Timing}
 use Rattle.cip_base.specs.declared.triad.Triad.{Triad}
-use Rattle.cip_open.specs.declared.request.TheConstants.{FORWARD_OPEN_REPLY}
+use Rattle.cip_open.specs.Kinds.{open_reply_service}
 use Rattle.cip_segment.specs.Reading.{HopAt, hop_of}
 use Rattle.cip_message.specs.Numbers.{word_in}
 use Rattle.cip_message.specs.Request.{Request}
@@ -27,7 +27,7 @@ use Rattle.cip_pending.specs.declared.entry.UpSide.{UpSide}
 use Rattle.cip_pending.specs.declared.entry.UpSide.TheVariants.{Link, Local}
 use Rattle.cip_pending.specs.declared.entry.Kind.{Kind}
 use Rattle.cip_pending.specs.declared.entry.Kind.TheVariants.{Unconnected as UnconnectedKind, Closing as ClosingKind}
-use Rattle.cip_pending.specs.Kinds.{opened_triad}
+use Rattle.cip_pending.specs.Kinds.{opened_triad, is_large_kind}
 use Rattle.cip_pending.specs.declared.entry.Entry.{Entry}
 use Rattle.cip_pending.specs.Pendings.{waiting_at}
 use Rattle.cip_hops.specs.declared.opening.Opening.{Opening}
@@ -84,6 +84,7 @@ use Rattle.cip_module.specs.Links.{LeadsOn}
 -- command
 abbrev pub command_asker : Command → Option UpSide
 command_asker (commands.Open op timing path params) = Some (Local op)
+command_asker (commands.LargeOpen op timing path params) = Some (Local op)
 command_asker (commands.Close op of timing) = Some (Local op)
 command_asker (commands.Send op timing path asked) = Some (Local op)
 command_asker (commands.Enter of bytes) = None
@@ -132,12 +133,12 @@ pub record SendSpelled (s : State) (event : Event) (up : UpSide) (u : Unconnecte
 abbrev pub AsksSend : ModuleSettings → State → Event → UpSide → Unconnected → Type 0
 AsksSend config s event up u = SendCame config event up u ⊎ SendSpelled s event up u
 
--- a Forward_Open, in a frame or spelled by a command
+-- an open, large or not, in a frame or spelled by a command
 pub record OpenCame (config : ModuleSettings) (event : Event) (up : UpSide) (o : Open) : Type 0
   where
     pub asked : Octets
-    pub came : Came config event up (request.ForwardOpen asked)
-    pub read : open_at asked ≡ Ok o
+    pub came : Came config event up (request.ForwardOpen o.fields.large asked)
+    pub read : open_at o.fields.large asked ≡ Ok o
 
 pub record OpenSpelled (config : ModuleSettings) (s : State) (event : Event) (up : UpSide)
     (o : Open) : Type 0 where
@@ -197,12 +198,13 @@ pub data RepliesAs (config : ModuleSettings) (s : State) (event : Event) (up : U
       → unconnected_row config s.pendings u ≡ unconnected.Refuses refusal
       → bytes ≡ unconnected_failure refusal (Some (words_of u.route))
       → RepliesAs config s event up bytes
-  OpenUnread : (asked : Octets) (fault : DataFault)
-      → Came config event up (request.ForwardOpen asked) → open_at asked ≡ Err fault
-      → bytes ≡ unread_open_bytes asked fault → RepliesAs config s event up bytes
+  OpenUnread : (large : Bool) (asked : Octets) (fault : DataFault)
+      → Came config event up (request.ForwardOpen large asked) → open_at large asked ≡ Err fault
+      → bytes ≡ unread_open_bytes large asked fault → RepliesAs config s event up bytes
   OpenFails : (o : Open) (refusal : OpenRefusal) → AsksOpen config s event up o
       → open_row config s (up_side_of up o.fields.to_id) o ≡ opens.Refuses refusal
-      → bytes ≡ open_failed (open_status refusal) o.fields.triad (words_of o.path)
+      → bytes
+      ≡ open_failed o.fields.large (open_status refusal) o.fields.triad (words_of o.path)
       → RepliesAs config s event up bytes
   OpenEnds : (o : Open) (link : EndLink) → AsksOpen config s event up o
       → open_row config s (up_side_of up o.fields.to_id) o ≡ opens.Accepted link
@@ -333,7 +335,7 @@ pub record FinishesAs (s : State) (event : Event) (number : RequestNumber) (tria
   pub reply : Reply
   pub came : ReplyCame s event number bytes entry reply
   pub kind : opened_triad entry.kind ≡ Some triad
-  pub service : reply.service ≡ FORWARD_OPEN_REPLY
+  pub service : reply.service ≡ open_reply_service (is_large_kind entry.kind)
   pub general : reply.general ≡ 0
   pub read : open_reply_at reply.data_ ≡ Ok success
   pub triad_is : success.triad ≡ triad
@@ -458,6 +460,7 @@ pub data WritesAs (s : State) (event : Event) (instance : InstanceNumber) (bytes
 -- the row that a command meets
 abbrev pub command_row : State → Command → CommandRow
 command_row s (commands.Open op timing path params) = op_row s op
+command_row s (commands.LargeOpen op timing path params) = op_row s op
 command_row s (commands.Close op of timing) = close_command_row s op of
 command_row s (commands.Send op timing path asked) = send_row s op (sent timing path asked)
 command_row s (commands.Enter of bytes) = enter_row bytes (hop_by_op s.hops of)

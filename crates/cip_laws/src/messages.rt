@@ -1,5 +1,5 @@
 //! What holds of the messages that a module sends on, of its failures, and of data.
-ghost use Rattle.std.specs.Prelude.{◌≡◌, ℕ, ◌+◌, ◌≤◌, ◌==◌, List, [], ◌∷◌, length, slice_index, Option, Some, None, Ok, true, false, is_some};
+ghost use Rattle.std.specs.Prelude.{◌≡◌, ℕ, ◌+◌, ◌≤◌, ◌==◌, List, [], ◌∷◌, length, slice_index, Option, Some, None, Ok, true, false, is_some, Bool};
 ghost use Rattle.cip_base.specs.declared.timing.Status.{Status};
 ghost use Rattle.cip_base.specs.declared.triad.Triad.{Triad};
 ghost use Rattle.cip_segment.specs.Reading.{segments_of};
@@ -38,6 +38,7 @@ ghost use Rattle.cip_module.specs.Statuses.{request_status, unconnected_status, 
 ghost use Rattle.cip_module.specs.Table.{decide, message_on};
 ghost use Rattle.cip_module.specs.UnconnectedRows.{AnsweredHere, Forwarded, unconnected_row};
 ghost use Rattle.cip_laws.specs.Weights.{weight_in};
+ghost use Rattle.cip_open.specs.Kinds.{open_reply_service};
 
 /// What a module replies to a request that fails is read back as its status and what it tells of
 /// the request, whole.
@@ -47,9 +48,10 @@ pub fn failures_are_read_back()
     ensures sends { (status : Status) (words : Option ℕ)
         → reply_at (unconnected_failed status words)
         ≡ Ok (reply_with 0xD2 status (route_words_data words)) }
-    ensures opens { (status : Status) (triad : Triad) (words : ℕ)
-        → (reply_at (open_failed status triad words)
-        ≡ Ok (reply_with 0xD4 status (failure_data (failed_at triad words))))
+    ensures opens { (large : Bool) (status : Status) (triad : Triad) (words : ℕ)
+        → (reply_at (open_failed large status triad words)
+        ≡ Ok (reply_with (open_reply_service large) status
+        (failure_data (failed_at triad words))))
         × (failure_at (failure_data (failed_at triad words)) ≡ Ok (failed_at triad words)) }
     ensures closes { (status : Status) (triad : Triad) (words : ℕ)
         → (reply_at (close_failed status triad words)
@@ -62,7 +64,7 @@ pub fn failures_are_read_back()
 pub fn what_goes_on_meets_its_group()
     ensures opens { (config : Settings) (port : ℕ) (o : Open)
         → request_row config port (open_bytes o)
-        ≡ unless_malformed config port (open_bytes o) (ForwardOpen (open_data o)) }
+        ≡ unless_malformed config port (open_bytes o) (ForwardOpen o.fields.large (open_data o)) }
     ensures sends { (config : Settings) (port : ℕ) (u : Unconnected)
         → request_row config port (unconnected_bytes u)
         ≡ unless_malformed config port (unconnected_bytes u)
@@ -72,15 +74,15 @@ pub fn what_goes_on_meets_its_group()
         ≡ unless_malformed config port (close_bytes c) (ForwardClose (close_data c)) }
 {}
 
-/// What an Unconnected_Send or a Forward_Close sends on opens nothing: no module reads a
-/// Forward_Open in it.
+/// What an Unconnected_Send or a Forward_Close sends on opens nothing: no module reads an
+/// open, large or not, in it.
 pub fn what_goes_on_is_no_open()
     ensures sends { (config there : Settings) (p : Pendings) (u : Unconnected) (r : Asked)
-        (port q : ℕ) (address rest data_ : List ℕ) → request_at u.request ≡ Ok r
+        (port q : ℕ) (address rest data_ : List ℕ) (large : Bool) → request_at u.request ≡ Ok r
         → unconnected_row config p u ≡ Forwarded port address rest
-        → request_row there q (message_on u rest) ≡ ForwardOpen data_ → ⊥ }
-    ensures closes { (config : Settings) (port : ℕ) (c : Close) (data_ : List ℕ)
-        → request_row config port (close_bytes c) ≡ ForwardOpen data_ → ⊥ }
+        → request_row there q (message_on u rest) ≡ ForwardOpen large data_ → ⊥ }
+    ensures closes { (config : Settings) (port : ℕ) (c : Close) (data_ : List ℕ) (large : Bool)
+        → request_row config port (close_bytes c) ≡ ForwardOpen large data_ → ⊥ }
 {}
 
 /// What travels embedded is not for the Connection Manager: the request in an Unconnected_Send that

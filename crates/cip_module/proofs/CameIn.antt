@@ -10,7 +10,7 @@ use Rattle.cip_message.specs.Request.{Request, request_with}
 use Rattle.cip_message.specs.RequestAt.{request_at}
 use Rattle.cip_message.specs.Received.{IsManager, IsReceived}
 use Rattle.cip_unconnected.specs.declared.unconnected.TheConstants.{UNCONNECTED_SEND}
-use Rattle.cip_open.specs.declared.request.TheConstants.{FORWARD_OPEN}
+use Rattle.cip_open.specs.declared.kinds.TheConstants.{FORWARD_OPEN, LARGE_FORWARD_OPEN}
 use Rattle.cip_close.specs.declared.request.TheConstants.{FORWARD_CLOSE}
 use Rattle.cip_target.specs.declared.object.ObjectPath.{ObjectPath}
 use Rattle.cip_target.specs.Object.{object_of}
@@ -21,7 +21,7 @@ use Rattle.cip_message.specs.declared.failure.ConnectionFailure.{ConnectionFailu
 use Rattle.cip_message.specs.Failure.{failure_at}
 use Rattle.cip_message.specs.Reply.{Reply}
 use Rattle.cip_message.specs.ReplyAt.{reply_at, IsDone}
-use Rattle.cip_open.specs.declared.request.TheConstants.{FORWARD_OPEN_REPLY}
+use Rattle.cip_open.specs.Kinds.{open_service, open_reply_service}
 use Rattle.cip_open.specs.Success.{OpenSuccess}
 use Rattle.cip_open.specs.SuccessAt.{open_reply_at}
 use Rattle.cip_open.specs.GoesOn.{IsOpenSuccess}
@@ -30,10 +30,12 @@ use Rattle.cip_close.specs.Success.{CloseSuccess}
 use Rattle.cip_close.specs.SuccessAt.{close_reply_at}
 use Rattle.cip_pending.specs.declared.entry.Entry.{Entry}
 use Rattle.cip_pending.specs.declared.entry.Kind.{Kind}
-use Rattle.cip_pending.specs.declared.entry.Kind.TheVariants.{Unconnected, Opening, Closing}
+use Rattle.cip_pending.specs.declared.entry.Kind.TheVariants.{Unconnected, Opening, OpeningLarge, Closing}
+use Rattle.cip_pending.specs.Kinds.{is_large_kind}
 use Rattle.cip_pending.specs.Pendings.{waiting_at}
 use Rattle.cip_module.specs.State.{State}
-use Rattle.cip_module.specs.ReplyRows.{ReplyRow, OpenSucceeded, triad_eq, is_own, failure_row, opened_row, closed_row, opening_row, kind_row, waiting_row, reply_row}
+use Rattle.cip_module.specs.Effects.{waits_large}
+use Rattle.cip_module.specs.ReplyRows.{ReplyRow, OpenSucceeded, triad_eq, is_own, failure_row, opened_row, closed_row, opening_row, open_kind_row, kind_row, waiting_row, reply_row}
 use Rattle.cip_module.specs.ReplyRows as replies
 use Rattle.cip_config.specs.declared.config.ModuleSettings.{ModuleSettings}
 use Rattle.cip_module.specs.RequestRows.{RequestRow, UnconnectedSend, ForwardOpen, ForwardClose, is_malformed, read_row, object_row, manager_row, request_row}
@@ -41,7 +43,7 @@ use Rattle.cip_module.specs.RequestRows.{RequestRow, UnconnectedSend, ForwardOpe
 -- what a row of the Connection Manager says of the bytes
 abbrev pub SaysOf : List ℕ → RequestRow → Type 0
 SaysOf b (UnconnectedSend d) = IsReceived UNCONNECTED_SEND d b
-SaysOf b (ForwardOpen d) = IsReceived FORWARD_OPEN d b
+SaysOf b (ForwardOpen large d) = IsReceived (open_service large) d b
 SaysOf b (ForwardClose d) = IsReceived FORWARD_CLOSE d b
 SaysOf b row = Unit {0}
 
@@ -72,7 +74,8 @@ by_manager b r object ec is e =
     let says = received b r object in
     cond_both (eqb r.service UNCONNECTED_SEND) _ _ (SaysOf b) (λ s. says UNCONNECTED_SEND ec ei is e (eqb-true _ _ s))
     (λ no_send. cond_both (eqb r.service FORWARD_OPEN) _ _ (SaysOf b) (λ s. says FORWARD_OPEN ec ei is e (eqb-true _ _ s))
-    (λ no_open. cond_both (eqb r.service FORWARD_CLOSE) _ _ (SaysOf b) (λ s. says FORWARD_CLOSE ec ei is e (eqb-true _ _ s)) (λ no_close. tt))))
+    (λ no_open. cond_both (eqb r.service LARGE_FORWARD_OPEN) _ _ (SaysOf b) (λ s. says LARGE_FORWARD_OPEN ec ei is e (eqb-true _ _ s))
+    (λ no_large. cond_both (eqb r.service FORWARD_CLOSE) _ _ (SaysOf b) (λ s. says FORWARD_CLOSE ec ei is e (eqb-true _ _ s)) (λ no_close. tt)))))
 
 by_object : (b : List ℕ) (r : Request) (o : Option ObjectPath) → object_of (segments_of r.path) ≡ o → request_at b ≡ Ok r → SaysOf b (object_row r o)
 by_object b r None is e = tt
@@ -92,63 +95,68 @@ came_in config port b = cond_both (is_malformed config port b) _ _ (SaysOf b) (�
 
 -- ---- a success
 
-abbrev pub SaysSuccess : List ℕ → ReplyRow → Type 0
-SaysSuccess b (OpenSucceeded triad success) = IsOpenSuccess b success
-SaysSuccess b row = Unit {0}
+abbrev pub SaysSuccess : Bool → List ℕ → ReplyRow → Type 0
+SaysSuccess large b (OpenSucceeded triad success) = IsOpenSuccess large b success
+SaysSuccess large b row = Unit {0}
 
 no_words : (e : List ℕ) → is_some (slice_get e 0) ≡ false → e ≡ []
 no_words [] h = refl
 no_words (x ∷ e) h = cc
 
-done : (b : List ℕ) (r : Reply) → reply_at b ≡ Ok r → r.service ≡ FORWARD_OPEN_REPLY → r.general ≡ 0 → r.extra ≡ [] → IsDone FORWARD_OPEN_REPLY r.data_ b
-done b r e es eg ee =
+done : (b : List ℕ) (r : Reply) (service : ℕ) → reply_at b ≡ Ok r → r.service ≡ service → r.general ≡ 0 → r.extra ≡ [] → IsDone service r.data_ b
+done b r service e es eg ee =
     e
     ∙ ap (λ (s : ℕ). ok (record { service = s; general = r.general; extra = r.extra; data_ = r.data_ })) es
-    ∙ ap (λ (g : ℕ). ok (record { service = FORWARD_OPEN_REPLY; general = g; extra = r.extra; data_ = r.data_ })) eg
-    ∙ ap (λ (x : List ℕ). ok (record { service = FORWARD_OPEN_REPLY; general = 0; extra = x; data_ = r.data_ })) ee
+    ∙ ap (λ (g : ℕ). ok (record { service = service; general = g; extra = r.extra; data_ = r.data_ })) eg
+    ∙ ap (λ (x : List ℕ). ok (record { service = service; general = 0; extra = x; data_ = r.data_ })) ee
 
-by_success : (b : List ℕ) (triad : Triad) (r : Reply) → IsDone FORWARD_OPEN_REPLY r.data_ b → (q : Result OpenSuccess DataFault)
-    → open_reply_at r.data_ ≡ q → SaysSuccess b (opened_row triad q)
-by_success b triad r d (Err f) e = tt
-by_success b triad r d (Ok s) e =
-    cond_both (triad_eq s.triad triad) _ _ (SaysSuccess b) (λ same. record { data_ = r.data_; reply = d; is = e }) (λ other. tt)
+by_success : (large : Bool) (b : List ℕ) (triad : Triad) (r : Reply) → IsDone (open_reply_service large) r.data_ b → (q : Result OpenSuccess DataFault)
+    → open_reply_at r.data_ ≡ q → SaysSuccess large b (opened_row triad q)
+by_success large b triad r d (Err f) e = tt
+by_success large b triad r d (Ok s) e =
+    cond_both (triad_eq s.triad triad) _ _ (SaysSuccess large b) (λ same. record { data_ = r.data_; reply = d; is = e }) (λ other. tt)
 
-by_failure : (b : List ℕ) (triad : Triad) (q : Result ConnectionFailure DataFault) → SaysSuccess b (failure_row triad q)
-by_failure b triad (Err f) = tt
-by_failure b triad (Ok f) = cond_both (is_own triad f.triad) _ _ (SaysSuccess b) (λ own. tt) (λ other. tt)
+by_failure : (large : Bool) (b : List ℕ) (triad : Triad) (q : Result ConnectionFailure DataFault) → SaysSuccess large b (failure_row triad q)
+by_failure large b triad (Err f) = tt
+by_failure large b triad (Ok f) = cond_both (is_own triad f.triad) _ _ (SaysSuccess large b) (λ own. tt) (λ other. tt)
 
-by_opening : (b : List ℕ) (triad : Triad) (r : Reply) → reply_at b ≡ Ok r → r.service ≡ FORWARD_OPEN_REPLY → SaysSuccess b (opening_row triad r)
-by_opening b triad r e es =
-    cond_both (eqb r.general 0) _ _ (SaysSuccess b)
-    (λ good. cond_both (is_some (slice_get r.extra 0)) _ _ (SaysSuccess b) (λ more. tt)
-    (λ none. by_success b triad r (done b r e es (eqb-true _ _ good) (no_words r.extra none)) (open_reply_at r.data_) refl))
-    (λ bad. by_failure b triad (failure_at r.data_))
+by_opening : (large : Bool) (b : List ℕ) (triad : Triad) (r : Reply) → reply_at b ≡ Ok r → r.service ≡ open_reply_service large
+    → SaysSuccess large b (opening_row triad r)
+by_opening large b triad r e es =
+    cond_both (eqb r.general 0) _ _ (SaysSuccess large b)
+    (λ good. cond_both (is_some (slice_get r.extra 0)) _ _ (SaysSuccess large b) (λ more. tt)
+    (λ none. by_success large b triad r (done b r (open_reply_service large) e es (eqb-true _ _ good) (no_words r.extra none)) (open_reply_at r.data_) refl))
+    (λ bad. by_failure large b triad (failure_at r.data_))
 
-by_closed : (b : List ℕ) (triad : Triad) (q : Result CloseSuccess DataFault) → SaysSuccess b (closed_row triad q)
-by_closed b triad (Err f) = tt
-by_closed b triad (Ok s) = cond_both (triad_eq s.triad triad) _ _ (SaysSuccess b) (λ same. tt) (λ other. tt)
+by_closed : (large : Bool) (b : List ℕ) (triad : Triad) (q : Result CloseSuccess DataFault) → SaysSuccess large b (closed_row triad q)
+by_closed large b triad (Err f) = tt
+by_closed large b triad (Ok s) = cond_both (triad_eq s.triad triad) _ _ (SaysSuccess large b) (λ same. tt) (λ other. tt)
 
-by_kind : (b : List ℕ) (kind : Kind) (r : Reply) → reply_at b ≡ Ok r → SaysSuccess b (kind_row kind r)
+by_open_kind : (large : Bool) (b : List ℕ) (triad : Triad) (r : Reply) → reply_at b ≡ Ok r → SaysSuccess large b (open_kind_row large triad r)
+by_open_kind large b triad r e =
+    cond_both (eqb r.service (open_reply_service large)) _ _ (SaysSuccess large b) (λ s. by_opening large b triad r e (eqb-true _ _ s)) (λ other. tt)
+
+by_kind : (b : List ℕ) (kind : Kind) (r : Reply) → reply_at b ≡ Ok r → SaysSuccess (is_large_kind kind) b (kind_row kind r)
 by_kind b Unconnected r e = tt
-by_kind b (Opening triad) r e =
-    cond_both (eqb r.service FORWARD_OPEN_REPLY) _ _ (SaysSuccess b) (λ s. by_opening b triad r e (eqb-true _ _ s)) (λ other. tt)
+by_kind b (Opening triad) r e = by_open_kind false b triad r e
+by_kind b (OpeningLarge triad) r e = by_open_kind true b triad r e
 by_kind b (Closing triad) r e =
-    cond_both (eqb r.service FORWARD_CLOSE_REPLY) _ _ (SaysSuccess b)
-    (λ s. cond_both (eqb r.general 0) _ _ (SaysSuccess b)
-    (λ good. cond_both (is_some (slice_get r.extra 0)) _ _ (SaysSuccess b) (λ more. tt) (λ none. by_closed b triad (close_reply_at r.data_)))
-    (λ bad. by_failure b triad (failure_at r.data_)))
+    cond_both (eqb r.service FORWARD_CLOSE_REPLY) _ _ (SaysSuccess false b)
+    (λ s. cond_both (eqb r.general 0) _ _ (SaysSuccess false b)
+    (λ good. cond_both (is_some (slice_get r.extra 0)) _ _ (SaysSuccess false b) (λ more. tt) (λ none. by_closed false b triad (close_reply_at r.data_)))
+    (λ bad. by_failure false b triad (failure_at r.data_)))
     (λ other. tt)
 
-by_reply : (b : List ℕ) (kind : Kind) (q : Result Reply ReplyFault) → reply_at b ≡ q → SaysSuccess b (replies.read_row kind q)
+by_reply : (b : List ℕ) (kind : Kind) (q : Result Reply ReplyFault) → reply_at b ≡ q → SaysSuccess (is_large_kind kind) b (replies.read_row kind q)
 by_reply b kind (Err f) e = tt
 by_reply b kind (Ok r) e = by_kind b kind r e
 
-by_entry : (b : List ℕ) (o : Option Entry) → SaysSuccess b (waiting_row b o)
+by_entry : (b : List ℕ) (o : Option Entry) → SaysSuccess (waits_large o) b (waiting_row b o)
 by_entry b None = tt
 by_entry b (Some entry) = by_reply b entry.kind (reply_at b) refl
 
 pub success_came : (config : ModuleSettings) (s : State) (port : ℕ) (from : List ℕ) (number : ℕ) (b : List ℕ)
-    → SaysSuccess b (reply_row config s port from number b)
+    → SaysSuccess (waits_large (waiting_at s.pendings number port from)) b (reply_row config s port from number b)
 unfolding reply_row
 success_came config s port from number b =
-    cond_both (is_malformed config port b) _ _ (SaysSuccess b) (λ malformed. tt) (λ fits. by_entry b (waiting_at s.pendings number port from))
+    cond_both (is_malformed config port b) _ _ (SaysSuccess (waits_large (waiting_at s.pendings number port from)) b) (λ malformed. tt) (λ fits. by_entry b (waiting_at s.pendings number port from))

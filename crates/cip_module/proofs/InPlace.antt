@@ -10,7 +10,7 @@ use Rattle.cip_unconnected.specs.declared.unconnected.TheConstants.{UNCONNECTED_
 use Rattle.cip_unconnected.specs.Unconnected.{Unconnected, unconnected_bytes}
 use Rattle.cip_unconnected.specs.UnconnectedAt.{unconnected_at}
 use Rattle.cip_unconnected.specs.GoesOn.{lowered, message_on}
-use Rattle.cip_open.specs.declared.request.TheConstants.{FORWARD_OPEN}
+use Rattle.cip_open.specs.Kinds.{open_service}
 use Rattle.cip_open.specs.Open.{Open}
 use Rattle.cip_open.specs.OpenAt.{open_at}
 use Rattle.cip_open.specs.GoesOn.{open_on, success_with, IsOpenSuccess}
@@ -22,6 +22,7 @@ use Rattle.cip_close.specs.GoesOn.{close_on}
 use Rattle.cip_pending.specs.declared.entry.UpSide.{UpSide}
 use Rattle.cip_pending.specs.declared.entry.UpSide.TheVariants.{Link, Local}
 use Rattle.cip_pending.specs.declared.entry.Entry.{Entry}
+use Rattle.cip_pending.specs.Kinds.{is_large_kind}
 use Rattle.cip_pending.specs.Pendings.{waiting_at, without}
 use Rattle.cip_pending.specs.declared.entry.Kind.TheVariants.{Unconnected as UnconnectedKind, Closing}
 use Rattle.cip_hops.specs.declared.opening.HopUp.{HopUp}
@@ -39,7 +40,7 @@ use Rattle.cip_module.specs.declared.reaction.Reaction.{Reaction}
 use Rattle.cip_module.specs.declared.reaction.Reaction.TheVariants as reactions
 use Rattle.cip_module.specs.declared.reaction.Edit.{Edit}
 use Rattle.cip_module.specs.declared.reaction.Edit.TheVariants.{AsTheyCame, Unwrapped, SentOn, OpenedOn, ClosedOn, SuccessUp}
-use Rattle.cip_module.specs.Effects.{Effect, Forwards, Begins, Removes, Finishes, Takes, given_up, success_up, succeeded, replied, reply_up, applied, outputs_of}
+use Rattle.cip_module.specs.Effects.{Effect, Forwards, Begins, Removes, Finishes, Takes, given_up, success_up, succeeded, waits_large, replied, reply_up, applied, outputs_of}
 use Rattle.cip_module.specs.OpenRows as opens
 use Rattle.cip_module.specs.OpenRows.{OpenRow, open_row, opening_with}
 use Rattle.cip_module.specs.CloseRows as closes
@@ -93,7 +94,7 @@ send_becomes came d config s u port address rest received is e =
     by_rest came u rest d config s port address received is (sent_on config s u port address rest e).2 (eqb (length rest) 0) refl
 
 pub open_becomes : (came d : List ℕ) (config : ModuleSettings) (s : State) (up : HopUp) (o : Open) (port id : ℕ) (address rest : List ℕ)
-    → IsReceived FORWARD_OPEN d came → open_at d ≡ Ok o → open_row config s up o ≡ opens.Forwarded port address rest
+    → IsReceived (open_service o.fields.large) d came → open_at o.fields.large d ≡ Ok o → open_row config s up o ≡ opens.Forwarded port address rest
     → Becomes came (OpenedOn id) (open_on o id rest)
 open_becomes came d config s up o port id address rest received is e =
     let leads = (open_forwards config s up o port address rest e).1.0 in (
@@ -245,21 +246,21 @@ module _ (old new : Device) where
 
 -- ---- a success goes up with the ids of the sides above
 
-pub success_made : {E : Type 0} (m : Making) (held : Option Held) (x : Held) (port : ℕ) (address : List ℕ) (their_id up_id : ℕ) (came : List ℕ)
+pub success_made : {E : Type 0} (m : Making) (large : Bool) (held : Option Held) (x : Held) (port : ℕ) (address : List ℕ) (their_id up_id : ℕ) (came : List ℕ)
     (s : OpenSuccess) (r : Result Outgoing E) → held ≡ Some x → (opening_of x).up ≡ UpLink port address their_id
     → up_id ≡ option_map_or (λ id. id) (ids_of x).up 0
-    → IfOk r (λ made. made ≡ outgoing_of m (success_with s up_id their_id) (SuccessUp up_id their_id))
-    → IfOk r (λ made. IsMade m (λ b. (b ≡ came) × IsOpenSuccess b s) (succeeded held came s) made)
-success_made m held x port address their_id up_id came s (Ok made) stands above own so =
-    let is : succeeded held came s ≡ success_with s up_id their_id =
-    ap (λ (h : Option Held). succeeded h came s) stands
-    ∙ ap (λ (up : HopUp). success_up up (ids_of x) came s) above
-    ∙ ap (λ (id : ℕ). success_with s id their_id) (sym own) in record {
+    → IfOk r (λ made. made ≡ outgoing_of m (success_with large s up_id their_id) (SuccessUp up_id their_id))
+    → IfOk r (λ made. IsMade m (λ b. (b ≡ came) × IsOpenSuccess large b s) (succeeded large held came s) made)
+success_made m large held x port address their_id up_id came s (Ok made) stands above own so =
+    let is : succeeded large held came s ≡ success_with large s up_id their_id =
+    ap (λ (h : Option Held). succeeded large h came s) stands
+    ∙ ap (λ (up : HopUp). success_up large up (ids_of x) came s) above
+    ∙ ap (λ (id : ℕ). success_with large s id their_id) (sym own) in record {
       edit = SuccessUp up_id their_id;
       so = so ∙ ap (λ (b : List ℕ). outgoing_of m b (SuccessUp up_id their_id)) (sym is);
-      becomes = λ b e. (s, e.1, is);
+      becomes = λ b e. (large, s, e.1, is);
     }
-success_made m held x port address their_id up_id came s (Err fault) stands above own so = tt
+success_made m large held x port address their_id up_id came s (Err fault) stands above own so = tt
 
 -- ---- a step of the routing table, whose bytes stay where they are
 
@@ -319,21 +320,34 @@ module _ (old new : Device) (m : Making) (port number : ℕ) (from came : List �
   abbrev Answered : Type 0
   Answered = Reacted m AsCame old new (reply_effects number came (reply_row old.config before port from number came)) r
 
-  pub finished_up : (triad : Triad) (success : OpenSuccess) → OpenSucceeded triad success ≡ reply_row old.config before port from number came
-      → IsMade m (λ b. (b ≡ came) × IsOpenSuccess b success) (succeeded (map.get old.hops.held triad) came success) made
+  pub finished_up : (large : Bool) (triad : Triad) (success : OpenSuccess) → large ≡ is_large_kind entry.kind
+      → OpenSucceeded triad success ≡ reply_row old.config before port from number came
+      → IsMade m (λ b. (b ≡ came) × IsOpenSuccess large b success) (succeeded large (map.get old.hops.held triad) came success) made
       → state_of_device new
       ≡ record before { pendings = without before.pendings number; hops = finished before.hops triad success.ot_id before.now }
       → Answered
-  finished_up triad success row made_up after =
-      let says = subst (SaysSuccess came) (sym row) (success_came old.config before port from number came) in
+  finished_up large triad success asked row made_up after =
+      let held : Option Held = map.get old.hops.held triad in
+      let waiting : Option Entry = waiting_at old.pendings number port from in
+      let says = subst (SaysSuccess (waits_large waiting) came) (sym row) (success_came old.config before port from number came) in
+      let same : IsOpenSuccess large came success =
+      subst (λ (l : Bool). IsOpenSuccess l came success) (ap waits_large (sym waits) ∙ sym asked) says in
       subst (λ (x : ReplyRow). Reacted m AsCame old new (reply_effects number came x) r) row
-      (goes_up old new m AsCame up (Finishes number triad came success ∷ []) (succeeded (map.get old.hops.held triad) came success) made o r
+      (goes_up old new m AsCame up (Finishes number triad came success ∷ []) (succeeded large held came success) made o r
       (record {
         edit = made_up.edit;
         so = made_up.so;
-        becomes = λ b e. made_up.becomes b (e, subst (λ (x : List ℕ). IsOpenSuccess x success) (sym e) says);
+        becomes = λ b e. made_up.becomes b (e, subst (λ (x : List ℕ). IsOpenSuccess large x success) (sym e) same);
       })
-      (record { does = record { state = sym after; out = told (succeeded (map.get old.hops.held triad) came success) }; same_config = kept }) is puts)
+      (record {
+        does = record {
+          state = sym after;
+          out =
+              told (succeeded (waits_large (map.get old.pendings.entries number)) held came success)
+              ∙ ap (λ (l : Bool). reply_up up (succeeded l held came success) ∷ []) (ap waits_large stands ∙ sym asked);
+        };
+        same_config = kept;
+      }) is puts)
 
   pub passed_up : PassedUp ≡ reply_row old.config before port from number came → made ≡ outgoing_of m came AsTheyCame
       → state_of_device new

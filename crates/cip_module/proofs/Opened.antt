@@ -4,7 +4,7 @@ use Rattle.std.specs.Prelude.{not, ◌||◌, eqb}
 use Rattle.std.specs.FinMap as map
 use Rattle.std.proofs.lemmas.Bool.Decides.{nat_tests}
 use Rattle.cip_open.specs.Open.{Open}
-use Rattle.cip_open.specs.Params.{params_of}
+use Rattle.cip_open.specs.Params.{open_params_of}
 use Rattle.cip_pending.specs.declared.entry.UpSide.{UpSide}
 use Rattle.cip_pending.specs.declared.entry.UpSide.TheVariants.{Link, Local}
 use Rattle.cip_hops.specs.declared.opening.HopUp.{HopUp}
@@ -64,7 +64,8 @@ at_most n e = grind (arith, nat_tests)
 
 pub supported_below : (o : Open) → is_supported o ≡ true → o.fields.multiplier < 8
 supported_below o e = at_most o.fields.multiplier
-    (both_last (is_supported_direction (params_of o.fields.ot_params)) (is_supported_direction (params_of o.fields.to_params))
+    (both_last (is_supported_direction (open_params_of o.fields.large o.fields.ot_params))
+    (is_supported_direction (open_params_of o.fields.large o.fields.to_params))
     (leb o.fields.multiplier 7) e)
 
 unless_refused : (b : Bool) (row other : OpenRow) → row ≡ cond (not b) (Refuses ConnectionTypeNotSupported) other

@@ -7,14 +7,15 @@ use Rattle.cip_message.specs.Failure.{failure_at}
 use Rattle.cip_message.specs.declared.failure.ConnectionFailure.{ConnectionFailure}
 use Rattle.cip_message.specs.declared.fault.ReplyFault.{ReplyFault}
 use Rattle.cip_message.specs.declared.fault.DataFault.{DataFault}
+use Rattle.cip_open.specs.Kinds.{open_reply_service}
 use Rattle.cip_open.specs.Success.{OpenSuccess, ReadsOpenReply, open_reply_layout}
 use Rattle.cip_open.specs.SuccessAt.{open_reply_at}
 use Rattle.cip_close.specs.Success.{CloseSuccess}
 use Rattle.cip_close.specs.SuccessAt.{close_reply_at}
 use Rattle.cip_pending.specs.declared.entry.Kind.{Kind}
-use Rattle.cip_pending.specs.declared.entry.Kind.TheVariants.{Unconnected, Opening, Closing}
+use Rattle.cip_pending.specs.declared.entry.Kind.TheVariants.{Unconnected, Opening, OpeningLarge, Closing}
 use Rattle.cip_pending.specs.Kinds.{opened_triad}
-use Rattle.cip_module.specs.ReplyRows.{ReplyRow, OpenSucceeded, PassedUp, MalformedForItsKind, triad_eq, is_own, failure_row, opened_row, closed_row, opening_row, closing_row, read_row}
+use Rattle.cip_module.specs.ReplyRows.{ReplyRow, OpenSucceeded, PassedUp, MalformedForItsKind, triad_eq, is_own, failure_row, opened_row, closed_row, opening_row, open_kind_row, closing_row, read_row}
 use Rattle.cip_base.specs.Fields.{IsBytes}
 
 either_row : {P : Type 0} (b : Bool) (x y z : ReplyRow) → cond b x y ≡ z → (x ≡ z → P) → (y ≡ z → P) → P
@@ -63,15 +64,19 @@ opening_asked triad asked success r e =
     (not_malformed triad success) (opened_asked triad asked success (open_reply_at r.data_)))
     (no_failure triad success asked (failure_at r.data_))
 
+of_open_asked : (large : Bool) (triad asked : Triad) (success : OpenSuccess) (r : Reply) → open_kind_row large asked r ≡ OpenSucceeded triad success
+    → asked ≡ triad
+of_open_asked large triad asked success r e =
+    either_row (eqb r.service (open_reply_service large)) (opening_row asked r) MalformedForItsKind (OpenSucceeded triad success) e
+    (opening_asked triad asked success r) (not_malformed triad success)
+
 -- a success is of the triad that its request opens
 pub opens_only : (kind : Kind) (r : Result Reply ReplyFault) (triad : Triad) (success : OpenSuccess) → read_row kind r ≡ OpenSucceeded triad success
     → opened_triad kind ≡ Some triad
 opens_only kind (Err fault) triad success e = not_malformed triad success e
 opens_only Unconnected (Ok r) triad success e = not_passed triad success e
-opens_only (Opening asked) (Ok r) triad success e =
-    ap (λ (t : Triad). Some t) (either_row (eqb r.service 0xD4) (opening_row asked r) MalformedForItsKind (OpenSucceeded triad success) e
-    (opening_asked triad asked success r)
-    (not_malformed triad success))
+opens_only (Opening asked) (Ok r) triad success e = ap (λ (t : Triad). Some t) (of_open_asked false triad asked success r e)
+opens_only (OpeningLarge asked) (Ok r) triad success e = ap (λ (t : Triad). Some t) (of_open_asked true triad asked success r e)
 opens_only (Closing asked) (Ok r) triad success e =
     either_row (eqb r.service 0xCE) (closing_row asked r) MalformedForItsKind (OpenSucceeded triad success) e (no_closing triad success asked r)
     (not_malformed triad success)

@@ -1,5 +1,5 @@
 -- The replies that rows answer.
-use Rattle.std.specs.Prelude.{ℕ, ◌+◌, [], ◌∷◌, Option, Some, None}
+use Rattle.std.specs.Prelude.{ℕ, ◌+◌, [], ◌∷◌, Bool, Option, Some, None}
 use Rattle.cip_base.specs.Words.{Octets, WordCount}
 use Rattle.cip_base.specs.declared.timing.Status.{Status}
 use Rattle.cip_base.specs.declared.triad.Triad.{Triad}
@@ -45,8 +45,8 @@ failed_at triad words = record { triad = Some triad; words = Some words }
 abbrev pub failed_unread : ConnectionFailure
 failed_unread = record { triad = None; words = None }
 
-abbrev pub open_failed : Status → Triad → WordCount → Octets
-open_failed status triad words = open_failure_bytes status (failed_at triad words)
+abbrev pub open_failed : Bool → Status → Triad → WordCount → Octets
+open_failed large status triad words = open_failure_bytes large status (failed_at triad words)
 
 abbrev pub close_failed : Status → Triad → WordCount → Octets
 close_failed status triad words = close_failure_bytes status (failed_at triad words)

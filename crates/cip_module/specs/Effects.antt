@@ -1,6 +1,6 @@
 -- What a row does: a list of effects. An effect carries keys and bytes, and looks records up in the
 -- state where it is applied.
-use Rattle.std.specs.Prelude.{ℕ, ◌+◌, ◌==◌, not, false, if◌then◌else◌, List, [], ◌∷◌, ◌++◌, Bool, Option, Some, None, is_some, length}
+use Rattle.std.specs.Prelude.{ℕ, ◌+◌, ◌==◌, not, true, false, if◌then◌else◌, List, [], ◌∷◌, ◌++◌, Bool, Option, Some, None, is_some, length}
 use Rattle.std.specs.Option.{option_map_or}
 use Rattle.std.specs.FinMap as map
 use Rattle.cip_base.specs.Words.{InstanceNumber, LinkAddress, Microseconds, Octets, OpNumber, PortIdentifier, RequestNumber, WordCount}
@@ -8,8 +8,8 @@ use Rattle.cip_base.specs.declared.triad.Triad.{Triad}
 use Rattle.cip_pending.specs.declared.entry.UpSide.{UpSide}
 use Rattle.cip_pending.specs.declared.entry.UpSide.TheVariants.{Link, Local}
 use Rattle.cip_pending.specs.declared.entry.Kind.{Kind}
-use Rattle.cip_pending.specs.declared.entry.Kind.TheVariants.{Unconnected, Opening as OpeningOf, Closing as ClosingOf}
-use Rattle.cip_pending.specs.Kinds.{opened_triad}
+use Rattle.cip_pending.specs.declared.entry.Kind.TheVariants.{Unconnected, Opening as OpeningOf, OpeningLarge as LargeOf, Closing as ClosingOf}
+use Rattle.cip_pending.specs.Kinds.{opened_triad, opening_kind, is_large_kind}
 use Rattle.cip_pending.specs.declared.entry.Entry.{Entry}
 use Rattle.cip_pending.specs.Pendings.{Pendings, added, without}
 use Rattle.cip_hops.specs.declared.opening.HopUp.{HopUp}
@@ -122,7 +122,7 @@ removed h triad = if is_some (hop_at h triad) then hops.without h triad else h
 
 -- the kind of the request that waits for what this opens
 abbrev pub kind_for : Opening → Kind
-kind_for opening = OpeningOf opening.triad
+kind_for opening = opening_kind opening.large opening.triad
 
 -- a pending that was opening a connection takes it along
 abbrev pub abandoned_if : Option Triad → Hops → Hops
@@ -212,16 +212,21 @@ abbrev pub reply_up : UpSide → Octets → Output
 reply_up (Link port address number) bytes = outputs.Send port address (bodies.Reply number bytes)
 reply_up (Local op) bytes = outputs.Done op bytes
 
--- a success as it goes up: with the own up id, and the T→O id of the device above; a command gets
--- the bytes as received
-abbrev pub success_up : HopUp → OwnIds → Octets → OpenSuccess → Octets
-success_up (UpLink port address their_id) ids bytes success =
-    success_with success (option_map_or (λ id. id) ids.up 0) their_id
-success_up (UpLocal op) ids bytes success = bytes
+-- a success as it goes up, of an open that is large or not: with the own up id, and the T→O id of
+-- the device above; a command gets the bytes as received
+abbrev pub success_up : Bool → HopUp → OwnIds → Octets → OpenSuccess → Octets
+success_up large (UpLink port address their_id) ids bytes success =
+    success_with large success (option_map_or (λ id. id) ids.up 0) their_id
+success_up large (UpLocal op) ids bytes success = bytes
 
-abbrev pub succeeded : Option Held → Octets → OpenSuccess → Octets
-succeeded None bytes success = bytes
-succeeded (Some x) bytes success = success_up (opening_of x).up (ids_of x) bytes success
+abbrev pub succeeded : Bool → Option Held → Octets → OpenSuccess → Octets
+succeeded large None bytes success = bytes
+succeeded large (Some x) bytes success =
+    success_up large (opening_of x).up (ids_of x) bytes success
+
+-- whether a large open waits
+abbrev pub waits_large : Option Entry → Bool
+waits_large p = option_map_or (λ entry. is_large_kind entry.kind) p false
 
 abbrev pub replied : Option Entry → Octets → List Output
 replied None bytes = []
@@ -230,7 +235,8 @@ replied (Some entry) bytes = reply_up entry.up bytes ∷ []
 -- no answer came in time, with the words of the path as received
 abbrev pub timed_out_bytes : Kind → WordCount → Octets
 timed_out_bytes Unconnected words = unconnected_failed (link_status TicksSpent) (Some words)
-timed_out_bytes (OpeningOf triad) words = open_failed (link_status TicksSpent) triad words
+timed_out_bytes (OpeningOf triad) words = open_failed false (link_status TicksSpent) triad words
+timed_out_bytes (LargeOf triad) words = open_failed true (link_status TicksSpent) triad words
 timed_out_bytes (ClosingOf triad) words = close_failed (link_status TicksSpent) triad words
 
 abbrev pub timed_out_reply : Option Entry → List Output
@@ -266,8 +272,8 @@ output_of config s (Forwards sending kind) = request_below s sending ∷ []
 output_of config s (Begins sending opening) = request_below s sending ∷ []
 output_of config s (Accepts opening open_ link) = []
 output_of config s (Finishes number triad bytes success) =
-    replied (map.get s.pendings.entries number)
-    (succeeded (map.get s.hops.held triad) bytes success)
+    let asked = map.get s.pendings.entries number in
+    replied asked (succeeded (waits_large asked) (map.get s.hops.held triad) bytes success)
 output_of config s (Takes number bytes) = replied (map.get s.pendings.entries number) bytes
 output_of config s (PendingTimesOut number) = timed_out_reply (map.get s.pendings.entries number)
 output_of config s (Removes triad) = []

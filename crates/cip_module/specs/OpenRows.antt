@@ -1,4 +1,5 @@
--- The open group: which row answers a Forward_Open (Volume 1, chapter 3, Forward_Open).
+-- The open group: which row answers a Forward_Open or a Large_Forward_Open (Volume 1, chapter 3,
+-- Forward_Open and Large_Forward_Open).
 --
 -- The rows in their order; the first that fits answers.
 --     cut in the fixed part              CutInTheFixedPart (unread_row)
@@ -27,12 +28,12 @@
 use Rattle.std.specs.Prelude.{ℕ, ◌==◌, Bool, true, false, not, ◌&&◌, ◌||◌, nat_lt, nat_le, if◌then◌else◌, Option, Some, None, Ok, Err, length, is_some}
 use Rattle.std.specs.FinMap as map
 use Rattle.cip_base.specs.Words.{InstanceNumber, LinkAddress, Octets, PortIdentifier}
-use Rattle.cip_open.specs.declared.request.TheConstants.{OPEN_FIXED_PART}
+use Rattle.cip_open.specs.Kinds.{open_fixed_part}
 use Rattle.cip_segment.specs.Reading.{HopAt, hop_of, segments_of}
 use Rattle.cip_message.specs.declared.fault.DataFault.{DataFault}
 use Rattle.cip_message.specs.declared.fault.DataFault.TheVariants.{Short, Long, Path}
 use Rattle.cip_open.specs.Open.{Open}
-use Rattle.cip_open.specs.Params.{params_of}
+use Rattle.cip_open.specs.Params.{open_params_of}
 use Rattle.cip_open.specs.declared.parameters.Params.{Params}
 use Rattle.cip_open.specs.declared.parameters.ConnectionKind.{ConnectionKind}
 use Rattle.cip_open.specs.declared.parameters.ConnectionKind.TheVariants.{Null, Multicast, PointToPoint, Reserved}
@@ -117,10 +118,11 @@ abbrev pub is_supported_direction : Params → Bool
 is_supported_direction p = is_point_to_point p.kind && not p.redundant
 
 abbrev pub is_supported : Open → Bool
-is_supported o = is_supported_direction (params_of o.fields.ot_params)
-    && (is_supported_direction (params_of o.fields.to_params) && nat_le o.fields.multiplier 7)
+is_supported o = is_supported_direction (open_params_of o.fields.large o.fields.ot_params)
+    && (is_supported_direction (open_params_of o.fields.large o.fields.to_params)
+    && nat_le o.fields.multiplier 7)
 
--- the row of a Forward_Open that was read
+-- the row of an open that was read
 unfoldable pub open_row : ModuleSettings → State → HopUp → Open → OpenRow
 open_row config s up o =
     if not (is_supported o) then Refuses ConnectionTypeNotSupported
@@ -128,11 +130,12 @@ open_row config s up o =
     else if is_some (map.get s.hops.held o.fields.triad) then Refuses TriadInUse
     else key_row config s up o (leading_mismatch config (segments_of o.path))
 
--- the row of data that cannot be read as a Forward_Open
-abbrev pub unread_row : Octets → DataFault → OpenRefusal
-unread_row d Short = if nat_lt (length d) OPEN_FIXED_PART then CutInTheFixedPart else CutInThePath
-unread_row d Long = BytesAfterThePath
-unread_row d (Path fault) = PathUnreadable
+-- the row of data that cannot be read as an open, large or not
+abbrev pub unread_row : Bool → Octets → DataFault → OpenRefusal
+unread_row large d Short =
+    if nat_lt (length d) (open_fixed_part large) then CutInTheFixedPart else CutInThePath
+unread_row large d Long = BytesAfterThePath
+unread_row large d (Path fault) = PathUnreadable
 
 -- ---- what is opened
 
@@ -142,12 +145,13 @@ opening_with up down o = record {
   up = up;
   down = down;
   path = o.path;
-  ot_size = (params_of o.fields.ot_params).size;
-  to_size = (params_of o.fields.to_params).size;
+  ot_size = (open_params_of o.fields.large o.fields.ot_params).size;
+  to_size = (open_params_of o.fields.large o.fields.to_params).size;
   ot_rpi = o.fields.ot_rpi;
   to_rpi = o.fields.to_rpi;
   multiplier = o.fields.multiplier;
   class = class_of o.fields.transport;
+  large = o.fields.large;
 }
 
 abbrev pub end_down : EndLink → HopDown

@@ -1,5 +1,5 @@
 -- What a frame puts out that stays in the buffer in which it came.
-use Rattle.std.specs.Prelude.{◌≡◌, ◌≤◌, ◌<◌, length}
+use Rattle.std.specs.Prelude.{◌≡◌, ◌≤◌, ◌<◌, Bool, length}
 use Rattle.cip_base.specs.Words.{Octets}
 use Rattle.cip_segment.specs.Reading.{HopAt}
 use Rattle.cip_unconnected.specs.Unconnected.{Unconnected, unconnected_bytes}
@@ -33,7 +33,8 @@ Becomes came edits.ClosedOn b =
     (c : Close) × (hop : HopAt) × IsCloseGoingOn came c hop × (1 ≤ c.fields.timing.ticks)
     × (b ≡ close_on c hop.rest)
 Becomes came (edits.SuccessUp up_id their_id) b =
-    (s : OpenSuccess) × IsOpenSuccess came s × (b ≡ success_with s up_id their_id)
+    (large : Bool) × (s : OpenSuccess) × IsOpenSuccess large came s
+    × (b ≡ success_with large s up_id their_id)
 
 -- a reaction to these bytes puts out what P holds of
 abbrev pub PutsOut : Octets → Reaction → (Output → Type 0) → Type 0

@@ -6,11 +6,11 @@
 --     malformed for its kind    MalformedForItsKind
 --     open succeeded            OpenSucceeded
 --     passed up                 PassedUp
-use Rattle.std.specs.Prelude.{◌==◌, ◌&&◌, Bool, true, if◌then◌else◌, Option, Some, None, Result, Ok, Err, is_some, slice_get}
+use Rattle.std.specs.Prelude.{◌==◌, ◌&&◌, Bool, true, false, if◌then◌else◌, Option, Some, None, Result, Ok, Err, is_some, slice_get}
 use Rattle.cip_base.specs.Words.{LinkAddress, Octets, PortIdentifier, RequestNumber}
 use Rattle.cip_base.specs.declared.triad.Triad.{Triad}
 use Rattle.cip_close.specs.declared.request.TheConstants.{FORWARD_CLOSE_REPLY}
-use Rattle.cip_open.specs.declared.request.TheConstants.{FORWARD_OPEN_REPLY}
+use Rattle.cip_open.specs.Kinds.{open_reply_service}
 use Rattle.cip_message.specs.Reply.{Reply}
 use Rattle.cip_message.specs.ReplyAt.{reply_at}
 use Rattle.cip_message.specs.Failure.{failure_at}
@@ -22,7 +22,7 @@ use Rattle.cip_open.specs.SuccessAt.{open_reply_at}
 use Rattle.cip_close.specs.Success.{CloseSuccess}
 use Rattle.cip_close.specs.SuccessAt.{close_reply_at}
 use Rattle.cip_pending.specs.declared.entry.Kind.{Kind}
-use Rattle.cip_pending.specs.declared.entry.Kind.TheVariants.{Unconnected, Opening, Closing}
+use Rattle.cip_pending.specs.declared.entry.Kind.TheVariants.{Unconnected, Opening, OpeningLarge, Closing}
 use Rattle.cip_pending.specs.declared.entry.Entry.{Entry}
 use Rattle.cip_pending.specs.Pendings.{waiting_at}
 use Rattle.cip_config.specs.declared.config.ModuleSettings.{ModuleSettings}
@@ -72,11 +72,16 @@ closing_row triad r =
     else closed_row triad (close_reply_at r.data_))
     else failure_row triad (failure_at r.data_)
 
+-- to an open, large or not, one of its service
+abbrev pub open_kind_row : Bool → Triad → Reply → ReplyRow
+open_kind_row large triad r = if r.service == open_reply_service large then opening_row triad r
+    else MalformedForItsKind
+
 -- to an Unconnected_Send any reply that can be read; to an open or a close one of its service
 abbrev pub kind_row : Kind → Reply → ReplyRow
 kind_row Unconnected r = PassedUp
-kind_row (Opening triad) r = if r.service == FORWARD_OPEN_REPLY then opening_row triad r
-    else MalformedForItsKind
+kind_row (Opening triad) r = open_kind_row false triad r
+kind_row (OpeningLarge triad) r = open_kind_row true triad r
 kind_row (Closing triad) r = if r.service == FORWARD_CLOSE_REPLY then closing_row triad r
     else MalformedForItsKind
 

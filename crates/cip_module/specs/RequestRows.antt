@@ -11,12 +11,12 @@
 --     service not supported                Refuses service ServiceNotSupported
 --     Connection Manager                   UnconnectedSend, ForwardOpen, ForwardClose
 --     target                               Target
-use Rattle.std.specs.Prelude.{ℕ, ◌==◌, ◌||◌, nat_lt, not, if◌then◌else◌, Option, Some, None, Result, Ok, Err, length, slice_index, is_some, Bool}
+use Rattle.std.specs.Prelude.{ℕ, ◌==◌, ◌||◌, nat_lt, not, if◌then◌else◌, Option, Some, None, Result, Ok, Err, length, slice_index, is_some, Bool, true, false}
 use Rattle.cip_base.specs.Words.{Octets, PortIdentifier}
 use Rattle.cip_base.specs.declared.limits.TheConstants.{MAX_MESSAGE}
 use Rattle.cip_message.specs.declared.request.TheConstants.{CONNECTION_MANAGER}
 use Rattle.cip_close.specs.declared.request.TheConstants.{FORWARD_CLOSE}
-use Rattle.cip_open.specs.declared.request.TheConstants.{FORWARD_OPEN}
+use Rattle.cip_open.specs.declared.kinds.TheConstants.{FORWARD_OPEN, LARGE_FORWARD_OPEN}
 use Rattle.cip_unconnected.specs.declared.unconnected.TheConstants.{UNCONNECTED_SEND}
 use Rattle.cip_segment.specs.Reading.{segments_of}
 use Rattle.cip_message.specs.Request.{Request}
@@ -34,9 +34,10 @@ pub data RequestRow : Type 0 where
   UnknownPortOrTooLong : RequestRow
   NotARequest : RequestRow
   Refuses : (service : ℕ) → (refusal : RequestRefusal) → RequestRow
-  -- the Connection Manager: an Unconnected_Send, a Forward_Open or a Forward_Close with this data
+  -- the Connection Manager: an Unconnected_Send, a Forward_Open or Large_Forward_Open, or a
+  -- Forward_Close with this data
   UnconnectedSend : (sent : Octets) → RequestRow
-  ForwardOpen : (asked : Octets) → RequestRow
+  ForwardOpen : (large : Bool) → (asked : Octets) → RequestRow
   ForwardClose : (asked : Octets) → RequestRow
   Target : (request : Request) → RequestRow
 
@@ -45,7 +46,8 @@ abbrev pub manager_row : Request → ObjectPath → RequestRow
 manager_row r object =
     if not (object.instance == 1) then Refuses r.service NoSuchManagerInstance
     else if r.service == UNCONNECTED_SEND then UnconnectedSend r.data_
-    else if r.service == FORWARD_OPEN then ForwardOpen r.data_
+    else if r.service == FORWARD_OPEN then ForwardOpen false r.data_
+    else if r.service == LARGE_FORWARD_OPEN then ForwardOpen true r.data_
     else if r.service == FORWARD_CLOSE then ForwardClose r.data_
     else Refuses r.service ServiceNotSupported
 

@@ -1,12 +1,12 @@
 -- The routing table: what a module does at each event.
-use Rattle.std.specs.Prelude.{ℕ, ◌+◌, ◌*◌, ◌/◌, ◌%◌, ◌^◌, nat_lt, if◌then◌else◌, Option, Some, None, Result, Ok, Err, List, [], ◌∷◌, ◌++◌, map, length}
+use Rattle.std.specs.Prelude.{ℕ, ◌+◌, ◌*◌, ◌/◌, ◌%◌, ◌^◌, nat_lt, Bool, true, false, if◌then◌else◌, Option, Some, None, Result, Ok, Err, List, [], ◌∷◌, ◌++◌, map, length}
 use Rattle.std.specs.FinMap as finite
 use Rattle.cip_base.specs.Words.{ConnectionId, InstanceNumber, LinkAddress, Microseconds, Octets, OpNumber, PortIdentifier, RequestNumber}
 use Rattle.cip_base.specs.declared.timing.Timing.{Timing}
 pub use Rattle.cip_base.specs.Timings.{one_less}
 use Rattle.cip_base.specs.declared.triad.Triad.{Triad}
 use Rattle.cip_close.specs.declared.request.TheConstants.{CLOSE_FIXED_PART}
-use Rattle.cip_open.specs.declared.request.TheConstants.{OPEN_FIXED_PART}
+use Rattle.cip_open.specs.Kinds.{open_fixed_part}
 use Rattle.cip_clock.specs.Times.{ticks_us}
 use Rattle.cip_message.specs.declared.fault.DataFault.{DataFault}
 use Rattle.cip_unconnected.specs.Unconnected.{Unconnected}
@@ -39,7 +39,8 @@ use Rattle.cip_hops.specs.Hops as hops
 use Rattle.cip_target.specs.declared.identity.IdentityFields.{IdentityFields}
 use Rattle.cip_target.specs.Assemblies.{size_in}
 use Rattle.cip_config.specs.declared.config.ModuleSettings.{ModuleSettings}
-use Rattle.cip_event.specs.declared.event.OpenParams.{OpenParams}
+use Rattle.cip_event.specs.declared.event.LargeParams.{LargeParams}
+use Rattle.cip_event.specs.Params.{widened}
 use Rattle.cip_event.specs.declared.event.Event.{Event}
 use Rattle.cip_event.specs.declared.event.Event.TheVariants as events
 use Rattle.cip_event.specs.declared.event.Command.{Command}
@@ -121,7 +122,7 @@ up_side_of (Local op) to_id = UpLocal op
 -- the success of an end: its own up id as O→T id, the intervals as they were asked, no application
 -- reply
 abbrev pub accepted_bytes : Open → ℕ → Octets
-accepted_bytes o up_id = open_reply_bytes (record {
+accepted_bytes o up_id = open_reply_bytes o.fields.large (record {
   ot_id = up_id;
   to_id = o.fields.to_id;
   triad = o.fields.triad;
@@ -142,7 +143,8 @@ open_below s up o port address rest = record {
 
 abbrev pub open_effects : State → UpSide → Open → OpenRow → List Effect
 open_effects s up o (opens.Refuses refusal) =
-    Replies up (open_failed (open_status refusal) o.fields.triad (words_of o.path)) ∷ []
+    Replies up
+    (open_failed o.fields.large (open_status refusal) o.fields.triad (words_of o.path)) ∷ []
 open_effects s up o (opens.Forwarded port address rest) =
     Begins (open_below s up o port address rest)
     (opening_with (up_side_of up o.fields.to_id) (DownLink port address) o) ∷ []
@@ -151,18 +153,17 @@ open_effects s up o (opens.Accepted link) =
     ∷ Replies up (accepted_bytes o s.hops.next) ∷ []
 
 -- where the fixed part is cut, the failure tells nothing; else the triad and the path size byte
-abbrev pub unread_open_bytes : Octets → DataFault → Octets
-unread_open_bytes d fault =
-    if nat_lt (length d) OPEN_FIXED_PART then
-    open_failure_bytes (open_status (opens.unread_row d fault))
-    failed_unread
-    else open_failure_bytes (open_status (opens.unread_row d fault))
-    (record { triad = open_triad_of d; words = open_words_of d })
+abbrev pub unread_open_bytes : Bool → Octets → DataFault → Octets
+unread_open_bytes large d fault =
+    open_failure_bytes large (open_status (opens.unread_row large d fault))
+    (if nat_lt (length d) (open_fixed_part large) then failed_unread
+    else record { triad = open_triad_of d; words = open_words_of large d })
 
-abbrev pub open_data_effects : ModuleSettings → State → UpSide → Octets → Result Open DataFault
-    → List Effect
-open_data_effects config s up d (Err fault) = Replies up (unread_open_bytes d fault) ∷ []
-open_data_effects config s up d (Ok o) =
+abbrev pub open_data_effects : ModuleSettings → State → UpSide → Bool → Octets
+    → Result Open DataFault → List Effect
+open_data_effects config s up large d (Err fault) =
+    Replies up (unread_open_bytes large d fault) ∷ []
+open_data_effects config s up large d (Ok o) =
     open_effects s up o (open_row config s (up_side_of up o.fields.to_id) o)
 
 -- ---- close
@@ -208,7 +209,8 @@ request_effects config s up (request.Refuses service refusal) =
     Replies up (failure_bytes service (request_status refusal)) ∷ []
 request_effects config s up (request.UnconnectedSend d) =
     unconnected_data_effects config s up d (unconnected_at d)
-request_effects config s up (request.ForwardOpen d) = open_data_effects config s up d (open_at d)
+request_effects config s up (request.ForwardOpen large d) =
+    open_data_effects config s up large d (open_at large d)
 request_effects config s up (request.ForwardClose d) = close_data_effects s up d (close_at d)
 request_effects config s up (request.Target asked) = Answers up asked ∷ []
 
@@ -267,10 +269,10 @@ refused_effects command.Taken es = es
 abbrev pub sent : Timing → Octets → Octets → Unconnected
 sent timing path asked = record { timing = timing; request = asked; route = path }
 
--- the Forward_Open that an Open spells, with the vendor and the serial number of the module's
--- identity; the O→T id is the target's to choose
-abbrev pub open_of : IdentityFields → Timing → Octets → OpenParams → Open
-open_of identity timing path params = record {
+-- the open, large or not, that a command spells, with the vendor and the serial number of the
+-- module's identity; the O→T id is the target's to choose
+abbrev pub open_of : IdentityFields → Bool → Timing → Octets → LargeParams → Open
+open_of identity large timing path params = record {
   fields = record {
     timing = timing;
     ot_id = 0;
@@ -287,6 +289,7 @@ open_of identity timing path params = record {
     to_rpi = params.to_rpi;
     to_params = params.to_params;
     transport = params.transport;
+    large = large;
   };
   path = path;
 }
@@ -294,7 +297,9 @@ open_of identity timing path params = record {
 -- the open that a command asks for, and its op
 abbrev pub asked_open : IdentityFields → Command → Option (OpNumber × Open)
 asked_open identity (commands.Open op timing path params) =
-    Some (op, open_of identity timing path params)
+    Some (op, open_of identity false timing path (widened params))
+asked_open identity (commands.LargeOpen op timing path params) =
+    Some (op, open_of identity true timing path params)
 asked_open identity (commands.Close op of timing) = None
 asked_open identity (commands.Send op timing path asked) = None
 asked_open identity (commands.Enter of bytes) = None
@@ -351,7 +356,9 @@ produce_effects s instance held = refused_effects (produce_row held) (made_effec
 
 abbrev pub command_effects : ModuleSettings → State → Command → List Effect
 command_effects config s (commands.Open op timing path params) =
-    open_command_effects config s op (open_of config.identity timing path params)
+    open_command_effects config s op (open_of config.identity false timing path (widened params))
+command_effects config s (commands.LargeOpen op timing path params) =
+    open_command_effects config s op (open_of config.identity true timing path params)
 command_effects config s (commands.Close op of timing) = close_command_effects s op of timing
 command_effects config s (commands.Send op timing path asked) =
     send_effects config s op (sent timing path asked) (send_row s op (sent timing path asked))

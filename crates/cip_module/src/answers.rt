@@ -11,7 +11,7 @@ use cip_close::{
     CLOSE_FIXED_PART, CloseFailure, close_triad_at, close_words_at, write_close_failure,
 };
 use cip_message::{DataFault, WriteFault, write_reply};
-use cip_open::{OPEN_FIXED_PART, OpenFailure, triad_at, words_at, write_open_failure};
+use cip_open::{OpenFailure, open_fixed_part, open_words_at, triad_at, write_open_failure};
 use cip_pending::Kind;
 use cip_unconnected::UNCONNECTED_SEND;
 use std::alloc::Global;
@@ -68,37 +68,47 @@ pub(crate) fn unconnected_failure(
     unconnected_failed(alloc, refusal.status(), words)
 }
 
-/// The failure of a Forward_Open that was read: its triad, and the words of its path as received.
+/// The failure of an open, large or not, that was read: its triad, and the words of its path as
+/// received.
 pub(crate) fn open_failed(
     alloc: Global,
+    large: bool,
     status: Status,
     triad: Triad,
     words: u8,
 ) -> Result<Bytes, NoMemory>
-    ensures { IfOk result (λ b. b ≡ open_failed status triad words) }
+    ensures { IfOk result (λ b. b ≡ open_failed large status triad words) }
 {
     let failure = OpenFailure {
         triad: Some(triad),
         words: Some(words),
+        large,
     };
     write_open_failure(alloc, status, &failure)
 }
 
-/// The failure of a Forward_Open that cannot be read: nothing where its fixed part is cut, else its
-/// triad and its path size.
-pub(crate) fn unread_open(alloc: Global, data_: &[u8], fault: DataFault) -> Result<Bytes, NoMemory>
-    ensures { IfOk result (λ b. b ≡ unread_open_bytes data_.now fault) }
+/// The failure of an open, large or not, that cannot be read: nothing where its fixed part is cut,
+/// else its triad and its path size.
+pub(crate) fn unread_open(
+    alloc: Global,
+    large: bool,
+    data_: &[u8],
+    fault: DataFault,
+) -> Result<Bytes, NoMemory>
+    ensures { IfOk result (λ b. b ≡ unread_open_bytes large data_.now fault) }
 {
-    let status = open::rows::unread_row(data_, fault).status();
-    let failure = if data_.len() < OPEN_FIXED_PART {
+    let status = open::rows::unread_row(large, data_, fault).status();
+    let failure = if data_.len() < open_fixed_part(large) {
         OpenFailure {
             triad: None,
             words: None,
+            large,
         }
     } else {
         OpenFailure {
             triad: triad_at(data_),
-            words: words_at(data_),
+            words: open_words_at(large, data_),
+            large,
         }
     };
     write_open_failure(alloc, status, &failure)
@@ -147,7 +157,8 @@ pub(crate) fn timed_out_failure(alloc: Global, kind: Kind, words: u8) -> Result<
     let status = LinkRefusal::TicksSpent.status();
     match kind {
         Kind::Unconnected => unconnected_failed(alloc, status, Some(words)),
-        Kind::Opening(triad) => open_failed(alloc, status, triad, words),
+        Kind::Opening(triad) => open_failed(alloc, false, status, triad, words),
+        Kind::OpeningLarge(triad) => open_failed(alloc, true, status, triad, words),
         Kind::Closing(triad) => close_failed(alloc, status, triad, words),
     }
 }

@@ -33,7 +33,7 @@ pub use cip_config::{
     Assemblies, LegalAddresses, ModuleConfig, ModuleKind, ModuleSettings, PortConfig, Ports,
     is_legal, is_name,
 };
-pub use cip_event::{Body, Command, Dropped, Event, OpenParams, Output, Refused};
+pub use cip_event::{Body, Command, Dropped, Event, LargeParams, OpenParams, Output, Refused};
 pub use contract::{Module, StepFault};
 pub use device::Device;
 pub use plain::PlainModule;

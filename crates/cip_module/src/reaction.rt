@@ -10,11 +10,11 @@ pub enum Edit {
     Unwrapped,
     /// An Unconnected_Send, along what is left of its route.
     SentOn,
-    /// A Forward_Open, along what is left of its path and with this own id as T→O id.
+    /// An open, large or not, along what is left of its path and with this own id as T→O id.
     OpenedOn { down_id: u32 },
     /// A Forward_Close, along what is left of its path.
     ClosedOn,
-    /// The success of a Forward_Open, with these ids.
+    /// The success of an open, large or not, with these ids.
     SuccessUp { up_id: u32, their_id: u32 },
 }
 

@@ -64,7 +64,16 @@ impl Device {
                 timing,
                 path,
                 params,
-            } => Ok(Some(self.open_command(*op, *timing, path, params)?)),
+            } => {
+                let params = params.widened();
+                Ok(Some(self.open_command(*op, false, *timing, path, &params)?))
+            }
+            Command::LargeOpen {
+                op,
+                timing,
+                path,
+                params,
+            } => Ok(Some(self.open_command(*op, true, *timing, path, params)?)),
             Command::Close { op, of, timing } => Ok(Some(self.close_command(*op, *of, *timing)?)),
             Command::Send {
                 op,

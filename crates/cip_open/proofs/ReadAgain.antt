@@ -28,6 +28,12 @@ open_data_read o p e =
     let fields : open_fields_in large (open_data o) ≡ o.fields = layout_fields large 0 0 0 (length o.path / 2) o refl in
     of.makes ∙ (λ i. record { fields = fields i; path = path i })
 
+-- what is read as of one service is of that service
+pub large_read : (large : Bool) (b : List ℕ) (o : Open) → open_at large b ≡ Ok o → o.fields.large ≡ large
+unfolding open_at
+large_read large b o e =
+    ap (λ (x : Open). x.fields.large) (part_of (open_in large b) (counted_path_at (words_place large) (open_fixed_part large) b) o e).makes
+
 pub open_success_read : (s t : OpenSuccess) → open_reply_at (open_reply_data s) ≡ Ok t → t ≡ s
 unfolding open_reply_at
 open_success_read s t e =

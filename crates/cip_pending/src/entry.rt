@@ -1,7 +1,7 @@
 //! What the table keeps, and why it refuses.
 ghost use Rattle.std.specs.Prelude.{◌≡◌};
 ghost use Rattle.cip_pending.specs.Pendings.{is_asked};
-ghost use Rattle.cip_pending.specs.Kinds.{opened_triad};
+ghost use Rattle.cip_pending.specs.Kinds.{opened_triad, opening_kind, is_large_kind};
 
 use cip_base::{Address, PortNumber, Triad};
 use thiserror::Error;
@@ -20,22 +20,41 @@ pub enum UpSide {
     },
 }
 
-/// The service that was sent on (Volume 1, chapter 3): what Unconnected_Send carries, Forward_Open
-/// or Forward_Close.
+/// The service that was sent on (Volume 1, chapter 3): what Unconnected_Send carries, Forward_Open,
+/// Large_Forward_Open or Forward_Close.
 #[derive(Clone, Copy, Debug, PartialEq, Eq)]
 pub enum Kind {
     Unconnected,
     Opening(Triad),
+    OpeningLarge(Triad),
     Closing(Triad),
 }
 
 impl Kind {
+    /// The kind of a request that opens a connection, large or not.
+    pub fn opening(large: bool, triad: Triad) -> Kind
+        ensures { result ≡ opening_kind large triad }
+    {
+        if large {
+            Kind::OpeningLarge(triad)
+        } else {
+            Kind::Opening(triad)
+        }
+    }
+
+    /// Whether the request is a Large_Forward_Open.
+    pub fn is_large(self) -> bool
+        ensures { result ≡ is_large_kind self }
+    {
+        matches!(self, Kind::OpeningLarge(_))
+    }
+
     /// The triad of the connection that the request opens; None where it opens none.
     pub fn opened_triad(self) -> Option<Triad>
         ensures { result ≡ opened_triad self }
     {
         match self {
-            Kind::Opening(triad) => Some(triad),
+            Kind::Opening(triad) | Kind::OpeningLarge(triad) => Some(triad),
             Kind::Unconnected | Kind::Closing(_) => None,
         }
     }

@@ -37,7 +37,7 @@ request_row_of request_decisions.UnknownPortOrTooLong = requests.UnknownPortOrTo
 request_row_of request_decisions.NotARequest = requests.NotARequest
 request_row_of (request_decisions.Refuses service refusal) = requests.Refuses service refusal
 request_row_of (request_decisions.UnconnectedSend sent) = requests.UnconnectedSend sent.now
-request_row_of (request_decisions.ForwardOpen asked) = requests.ForwardOpen asked.now
+request_row_of (request_decisions.ForwardOpen large asked) = requests.ForwardOpen large asked.now
 request_row_of (request_decisions.ForwardClose asked) = requests.ForwardClose asked.now
 request_row_of (request_decisions.Target request) = requests.Target (request_of request)
 
@@ -48,7 +48,7 @@ RequestLeads request_decisions.UnknownPortOrTooLong = Unit {0}
 RequestLeads request_decisions.NotARequest = Unit {0}
 RequestLeads (request_decisions.Refuses service refusal) = service < 128
 RequestLeads (request_decisions.UnconnectedSend sent) = 6 + length sent.now ≤ MAX_MESSAGE
-RequestLeads (request_decisions.ForwardOpen asked) = Unit {0}
+RequestLeads (request_decisions.ForwardOpen large asked) = Unit {0}
 RequestLeads (request_decisions.ForwardClose asked) = Unit {0}
 RequestLeads (request_decisions.Target request) = request.service < 128
 

@@ -6,7 +6,7 @@ use Rattle.cip_message.specs.Received.{IsReceived}
 use Rattle.cip_unconnected.specs.declared.unconnected.TheConstants.{UNCONNECTED_SEND}
 use Rattle.cip_unconnected.specs.Unconnected.{Unconnected}
 use Rattle.cip_unconnected.specs.UnconnectedAt.{unconnected_at}
-use Rattle.cip_open.specs.declared.request.TheConstants.{FORWARD_OPEN}
+use Rattle.cip_open.specs.Kinds.{open_service}
 use Rattle.cip_open.specs.Open.{Open}
 use Rattle.cip_open.specs.OpenAt.{open_at}
 use Rattle.cip_close.specs.declared.request.TheConstants.{FORWARD_CLOSE}
@@ -67,7 +67,9 @@ SendCame u came =
     (d : Octets) × IsReceived UNCONNECTED_SEND d came × (unconnected_at d ≡ Ok u)
 
 abbrev pub OpenCame : Open → Octets → Type 0
-OpenCame o came = (d : Octets) × IsReceived FORWARD_OPEN d came × (open_at d ≡ Ok o)
+OpenCame o came =
+    (d : Octets) × IsReceived (open_service o.fields.large) d came
+    × (open_at o.fields.large d ≡ Ok o)
 
 abbrev pub CloseCame : Close → Octets → Type 0
 CloseCame c came = (d : Octets) × IsReceived FORWARD_CLOSE d came × (close_at d ≡ Ok c)

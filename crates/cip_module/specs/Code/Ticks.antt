@@ -65,6 +65,7 @@ IsNoTick (events.Tick by) = ⊥
 -- a command that has one output at most
 abbrev pub IsSingle : Command → Type 0
 IsSingle (commands.Open op timing path params) = Unit {0}
+IsSingle (commands.LargeOpen op timing path params) = Unit {0}
 IsSingle (commands.Close op of timing) = Unit {0}
 IsSingle (commands.Send op timing path asked) = Unit {0}
 IsSingle (commands.Enter of bytes) = Unit {0}

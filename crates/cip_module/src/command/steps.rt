@@ -1,6 +1,7 @@
 //! The command group: what a module's own application asks for.
-ghost use Rattle.std.specs.Prelude.{◌≡◌, ◌∷◌, [], ℕ, ◌≤◌, List, length};
+ghost use Rattle.std.specs.Prelude.{◌≡◌, ◌∷◌, [], ℕ, ◌≤◌, ◌<◌, ◌^◌, false, List, length};
 ghost use Rattle.std.specs.Option.{option_to_list};
+ghost use Rattle.cip_open.specs.Open.{FitWidth};
 ghost use Rattle.cip_unconnected.specs.Unconnected.{Fits};
 ghost use Rattle.cip_unconnected.specs.Reading.{unconnected_of};
 ghost use Rattle.cip_pending.specs.declared.entry.UpSide.TheVariants.{Local};
@@ -20,7 +21,7 @@ use crate::messages::no_bytes;
 use crate::reaction::Reaction;
 use cip_base::{Bytes, NoMemory, Timing, Triad};
 use cip_close::{CloseFields, CloseView};
-use cip_event::{OpenParams, Output, Refused};
+use cip_event::{LargeParams, Output, Refused};
 use cip_open::{OpenFields, OpenView};
 use cip_pending::UpSide;
 use cip_segment::Path;
@@ -58,10 +59,13 @@ impl Device {
         }
     }
 
-    // The fields of the Forward_Open that an Open spells.
-    fn open_fields(&self, timing: Timing, params: &OpenParams) -> OpenFields
-        ensures { (path : List ℕ) → record { fields = result; path = path }
-            ≡ open_of self.now.config.identity timing path params.now }
+    // The fields of the open, large or not, that a command spells.
+    fn open_fields(&self, large: bool, timing: Timing, params: &LargeParams) -> OpenFields
+        requires { large ≡ false → (params.now.ot_params < 2 ^ 16)
+            × (params.now.to_params < 2 ^ 16) }
+        ensures spelled { (path : List ℕ) → record { fields = result; path = path }
+            ≡ open_of self.now.config.identity large timing path params.now }
+        ensures width { FitWidth result }
     {
         let identity = self.config.settings().identity.fields();
         OpenFields {
@@ -79,23 +83,27 @@ impl Device {
             to_rpi: params.to_rpi,
             to_params: params.to_params,
             transport: params.transport,
+            large,
         }
     }
 
-    // An Open that is taken.
+    // An open that is taken.
     fn open_anew(
         &mut self,
         op: u32,
+        large: bool,
         timing: Timing,
         path: &Path,
-        params: &OpenParams,
+        params: &LargeParams,
     ) -> Result<Output, NoMemory>
         requires absent { IsNew (state_of_device self.old) op }
+        requires width { large ≡ false → (params.now.ot_params < 2 ^ 16)
+            × (params.now.to_params < 2 ^ 16) }
         ensures { Handles self.old self.new
             (open_command_effects self.old.config (state_of_device self.old)
-            op (open_of self.old.config.identity timing path.now params.now)) result }
+            op (open_of self.old.config.identity large timing path.now params.now)) result }
     {
-        let fields = self.open_fields(timing, params);
+        let fields = self.open_fields(large, timing, params);
         let view = OpenView {
             fields,
             path: path.view(),
@@ -107,20 +115,24 @@ impl Device {
         }
     }
 
-    /// An Open: handled as the Forward_Open that it spells, with its op as the up side.
+    /// An Open, or a LargeOpen: handled as the request that it spells, with its op as the up side.
+    /// The network connection parameters of an Open are below 65,536.
     pub(crate) fn open_command(
         &mut self,
         op: u32,
+        large: bool,
         timing: Timing,
         path: &Path,
-        params: &OpenParams,
+        params: &LargeParams,
     ) -> Result<Output, NoMemory>
+        requires { large ≡ false → (params.now.ot_params < 2 ^ 16)
+            × (params.now.to_params < 2 ^ 16) }
         ensures { Handles self.old self.new
             (open_command_effects self.old.config (state_of_device self.old)
-            op (open_of self.old.config.identity timing path.now params.now)) result }
+            op (open_of self.old.config.identity large timing path.now params.now)) result }
     {
         match self.op_row(op) {
-            Ok(()) => self.open_anew(op, timing, path, params),
+            Ok(()) => self.open_anew(op, large, timing, path, params),
             Err(fault) => Ok(Output::Refused(fault)),
         }
     }

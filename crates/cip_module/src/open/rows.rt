@@ -2,7 +2,6 @@
 ghost use Rattle.std.specs.Prelude.{◌≡◌};
 ghost use Rattle.cip_segment.specs.Reading.{hop_of, segments_of};
 ghost use Rattle.cip_open.specs.Reading.{open_of};
-ghost use Rattle.cip_open.specs.Params.{params_of};
 ghost use Rattle.cip_target.specs.Ends.{end_row, row_at};
 ghost use Rattle.cip_hops.specs.Sides.{up_is_link};
 ghost use Rattle.cip_module.specs.Keys.{leading_mismatch};
@@ -17,11 +16,11 @@ use crate::refusals::OpenRefusal;
 use cip_base::{Address, PortNumber};
 use cip_hops::HopUp;
 use cip_message::DataFault;
-use cip_open::{ConnectionKind, OPEN_FIXED_PART, OpenView, Params, params};
+use cip_open::{ConnectionKind, OpenView, Params, open_fixed_part, open_params};
 use cip_segment::{FirstHop, PathView, first_hop, rest};
 use cip_target::{EndLink, EndRefusal};
 
-/// The row that answers a Forward_Open.
+/// The row that answers an open.
 #[derive(Drop)]
 pub(crate) enum OpenDecision<'a> {
     Refuses(OpenRefusal),
@@ -43,8 +42,9 @@ fn is_supported_direction(params: Params) -> bool
 fn is_supported(view: &OpenView<'_>) -> bool
     ensures { result ≡ is_supported (open_of view.now) }
 {
-    is_supported_direction(params(view.fields.ot_params))
-        && is_supported_direction(params(view.fields.to_params))
+    let fields = &view.fields;
+    is_supported_direction(open_params(fields.large, fields.ot_params))
+        && is_supported_direction(open_params(fields.large, fields.to_params))
         && view.fields.multiplier <= 7
 }
 
@@ -55,13 +55,13 @@ fn ids_if_forwarded(up: &HopUp) -> u8
     if up.is_link() { 2 } else { 1 }
 }
 
-/// The row of data that cannot be read as a Forward_Open.
-pub(crate) fn unread_row(data_: &[u8], fault: DataFault) -> OpenRefusal
-    ensures { result ≡ unread_row data_.now fault }
+/// The row of data that cannot be read as an open, large or not.
+pub(crate) fn unread_row(large: bool, data_: &[u8], fault: DataFault) -> OpenRefusal
+    ensures { result ≡ unread_row large data_.now fault }
 {
     match fault {
         DataFault::Short => {
-            if data_.len() < OPEN_FIXED_PART {
+            if data_.len() < open_fixed_part(large) {
                 OpenRefusal::CutInTheFixedPart
             } else {
                 OpenRefusal::CutInThePath
@@ -157,7 +157,8 @@ impl Device {
         }
     }
 
-    /// The row that answers a Forward_Open which was read (Volume 1, chapter 3, Forward_Open).
+    /// The row that answers an open which was read (Volume 1, chapter 3, Forward_Open and
+    /// Large_Forward_Open).
     #[tactic(auto, unfolding(crate::specs::OpenRows::open_row))]
     pub(crate) fn open_row<'a>(&self, up: &HopUp, view: &OpenView<'a>) -> OpenDecision<'a>
         ensures row { open_row_of result ≡ open_row self.now.config

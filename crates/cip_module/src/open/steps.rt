@@ -1,7 +1,8 @@
-//! The open group: Forward_Open at a router, at an end and at its originator.
+//! The open group: Forward_Open and Large_Forward_Open at a router, at an end and at its originator.
 ghost use Rattle.std.specs.Prelude.{◌≡◌, ◌≤◌, ◌<◌, ◌∷◌, [], length, IfOk, OnErr, None, Some, Ok, true};
 ghost use Rattle.cip_message.specs.Received.{IsReceived};
-ghost use Rattle.cip_open.specs.declared.request.TheConstants.{FORWARD_OPEN};
+ghost use Rattle.cip_open.specs.Kinds.{open_service};
+ghost use Rattle.cip_open.specs.Open.{FitWidth};
 ghost use Rattle.cip_open.specs.Reading.{open_of};
 ghost use Rattle.cip_open.specs.OpenAt.{open_at};
 ghost use Rattle.cip_open.specs.declared.request.OpenView.{OpenView as Views};
@@ -27,7 +28,9 @@ use crate::reaction::{Edit, Reaction};
 use cip_base::{Address, Bytes, NoMemory, PortNumber, Timing};
 use cip_event::{Body, Output};
 use cip_hops::{HopDown, HopUp, Opening};
-use cip_open::{OpenFields, OpenReply, OpenView, params, read_open, write_open, write_open_reply};
+use cip_open::{
+    OpenFields, OpenReply, OpenView, open_params, read_open_of, write_open, write_open_reply,
+};
 use cip_pending::{Entry, Kind, UpSide};
 use cip_segment::{Path, PathView};
 use cip_target::EndLink;
@@ -56,12 +59,13 @@ fn opening_with(up: HopUp, down: HopDown, fields: &OpenFields, path: Path) -> Op
         up,
         down,
         path,
-        ot_size: params(fields.ot_params).size,
-        to_size: params(fields.to_params).size,
+        ot_size: open_params(fields.large, fields.ot_params).size,
+        to_size: open_params(fields.large, fields.to_params).size,
         ot_rpi: fields.ot_rpi,
         to_rpi: fields.to_rpi,
         multiplier: fields.multiplier,
         class: fields.transport % 16,
+        large: fields.large,
     }
 }
 
@@ -74,7 +78,8 @@ fn open_on(
     down_id: u32,
     rest: PathView<'_>,
 ) -> Result<Outgoing, NoMemory>
-    requires { 2 ≤ view.now.fields.timing.ticks }
+    requires ticks { 2 ≤ view.now.fields.timing.ticks }
+    requires width { FitWidth view.now.fields }
     ensures { IfOk result (λ made. made ≡ outgoing_of making
         (open_on (open_of view.now) down_id rest.entry.bytes.now) (Edit.OpenedOn down_id)) }
 {
@@ -101,12 +106,13 @@ fn accepted(alloc: Global, fields: &OpenFields, up_id: u32) -> Result<Bytes, NoM
         ot_api: fields.ot_rpi,
         to_api: fields.to_rpi,
         reply: &[],
+        large: fields.large,
     };
     write_open_reply(alloc, &reply)
 }
 
 impl Device {
-    // The connection goes on by a link, and its Forward_Open as these bytes.
+    // The connection goes on by a link, and its request as these bytes.
     fn begin_below(
         &mut self,
         up: UpSide,
@@ -140,7 +146,7 @@ impl Device {
             address: address.copy(),
             deadline,
             words: view.path.words(),
-            kind: Kind::Opening(view.fields.triad),
+            kind: Kind::opening(view.fields.large, view.fields.triad),
         };
         let number = self.begins(entry, opening);
         Ok(Output::Send {
@@ -178,7 +184,7 @@ impl Device {
         Ok(reply_to(up, bytes))
     }
 
-    /// A Forward_Open that was read.
+    /// An open, large or not, that was read.
     #[inline(always)]
     pub(crate) fn open(
         &mut self,
@@ -187,6 +193,7 @@ impl Device {
         view: &OpenView<'_>,
     ) -> Result<Reaction, NoMemory>
         requires spend { CanSpend self.old up }
+        requires width { FitWidth view.now.fields }
         ensures { Reacts making (OpenCame (open_of view.now)) self.old self.new (with_spending up
             (open_effects (state_of_device self.old) up (open_of view.now)
             (open_row self.old.config (state_of_device self.old)
@@ -196,7 +203,8 @@ impl Device {
         match self.open_row(&asker, view) {
             OpenDecision::Refuses(refusal) => {
                 let words = view.path.words();
-                let bytes = open_failed(self.alloc, refusal.status(), view.fields.triad, words)?;
+                let OpenFields { large, triad, .. } = view.fields;
+                let bytes = open_failed(self.alloc, large, refusal.status(), triad, words)?;
                 self.spend_for(&up);
                 Ok(Reaction::Whole(reply_to(up, bytes)))
             }
@@ -216,23 +224,24 @@ impl Device {
         }
     }
 
-    /// A Forward_Open, by its data.
+    /// An open, large or not, by its data.
     #[inline(always)]
     pub(crate) fn forward_open(
         &mut self,
         making: Making,
         up: UpSide,
+        large: bool,
         data_: &[u8],
     ) -> Result<Reaction, NoMemory>
         requires { IsAsked up }
-        ensures { Reacts making (IsReceived FORWARD_OPEN data_.now) self.old self.new
+        ensures { Reacts making (IsReceived (open_service large) data_.now) self.old self.new
             (open_data_effects self.old.config (state_of_device self.old) up
-            data_.now (open_at data_.now)) result }
+            large data_.now (open_at large data_.now)) result }
     {
-        match read_open(data_) {
+        match read_open_of(large, data_) {
             Ok(view) => self.open(making, up, &view),
             Err(fault) => {
-                let bytes = unread_open(self.alloc, data_, fault)?;
+                let bytes = unread_open(self.alloc, large, data_, fault)?;
                 Ok(Reaction::Whole(reply_to(up, bytes)))
             }
         }

@@ -6,7 +6,7 @@ ghost use Rattle.cip_message.specs.ReplyAt.{reply_at};
 ghost use Rattle.cip_message.specs.Failure.{failure_at};
 ghost use Rattle.cip_open.specs.SuccessAt.{open_reply_at};
 ghost use Rattle.cip_close.specs.SuccessAt.{close_reply_at};
-ghost use Rattle.cip_module.specs.ReplyRows.{triad_eq, failure_row, opened_row, closed_row, opening_row, closing_row, kind_row, read_row};
+ghost use Rattle.cip_module.specs.ReplyRows.{triad_eq, failure_row, opened_row, closed_row, opening_row, open_kind_row, closing_row, kind_row, read_row};
 ghost use Rattle.cip_base.specs.declared.triad.Triad.{Triad as Triads};
 ghost use Rattle.cip_pending.specs.Kinds.{opened_triad};
 ghost use Rattle.cip_module.specs.Code.Decisions.{reply_row_of, ReplyLeads};
@@ -14,7 +14,7 @@ ghost use Rattle.cip_module.specs.Code.Decisions.{reply_row_of, ReplyLeads};
 use cip_base::Triad;
 use cip_close::{FORWARD_CLOSE_REPLY, read_close_reply};
 use cip_message::{ReplyView, read_failure, read_reply};
-use cip_open::{FORWARD_OPEN_REPLY, OpenReply, read_open_reply};
+use cip_open::{OpenReply, open_reply_service, read_open_reply};
 use cip_pending::Kind;
 
 /// What a reply that was waited for says.
@@ -91,6 +91,18 @@ fn opening<'a>(triad: Triad, reply: ReplyView<'a>) -> ReplyDecision<'a>
     }
 }
 
+// One of the service of the open, large or not.
+fn of_open<'a>(large: bool, triad: Triad, reply: ReplyView<'a>) -> ReplyDecision<'a>
+    ensures row { reply_row_of result ≡ open_kind_row large triad (reply_of reply.entry) }
+    ensures leads { ReplyLeads (Some triad) result }
+{
+    if reply.service == open_reply_service(large) {
+        opening(triad, reply)
+    } else {
+        ReplyDecision::Malformed
+    }
+}
+
 fn closing<'a>(triad: Triad, reply: ReplyView<'a>) -> ReplyDecision<'a>
     ensures row { reply_row_of result ≡ closing_row triad (reply_of reply.entry) }
     ensures leads { ReplyLeads None result }
@@ -110,13 +122,8 @@ fn by_kind<'a>(kind: Kind, reply: ReplyView<'a>) -> ReplyDecision<'a>
 {
     match kind {
         Kind::Unconnected => ReplyDecision::PassedUp,
-        Kind::Opening(triad) => {
-            if reply.service == FORWARD_OPEN_REPLY {
-                opening(triad, reply)
-            } else {
-                ReplyDecision::Malformed
-            }
-        }
+        Kind::Opening(triad) => of_open(false, triad, reply),
+        Kind::OpeningLarge(triad) => of_open(true, triad, reply),
         Kind::Closing(triad) => {
             if reply.service == FORWARD_CLOSE_REPLY {
                 closing(triad, reply)

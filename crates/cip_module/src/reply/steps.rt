@@ -21,11 +21,12 @@ use cip_hops::HopUp;
 use cip_open::{OpenReply, write_open_reply};
 use std::alloc::Global;
 
-// The success of a Forward_Open, with these ids.
+// The success of an open, large or not, with these ids.
 #[inline(always)]
 fn success_with(
     alloc: Global,
     making: Making,
+    large: bool,
     success: OpenReply<'_>,
     up_id: u32,
     their_id: u32,
@@ -33,7 +34,7 @@ fn success_with(
     requires even { length success.reply.now % 2 ≡ 0 }
     requires most { length success.reply.now ≤ 510 }
     ensures made { IfOk result (λ made. made ≡ outgoing_of making
-        (success_with (success_of success.entry) up_id their_id)
+        (success_with large (success_of success.entry) up_id their_id)
         (Edit.SuccessUp up_id their_id)) }
     ensures edited { making ≡ Making.Edited → IsOk result }
 {
@@ -42,6 +43,7 @@ fn success_with(
             let mut reply = success;
             reply.ot_id = up_id;
             reply.to_id = their_id;
+            reply.large = large;
             Ok(Outgoing::anew(write_open_reply(alloc, &reply)?))
         }
         Making::Edited => Ok(Outgoing::edited(alloc, Edit::SuccessUp { up_id, their_id })),
@@ -66,6 +68,7 @@ impl Device {
     fn success_up(
         &self,
         making: Making,
+        large: bool,
         triad: &Triad,
         bytes: &[u8],
         success: OpenReply<'_>,
@@ -73,15 +76,15 @@ impl Device {
         requires even { length success.reply.now % 2 ≡ 0 }
         requires most { length success.reply.now ≤ 510 }
         ensures made { IfOk result (λ made. IsMade making
-            (λ came. came ≡ bytes.now × IsOpenSuccess came (success_of success.entry))
-            (succeeded (map.get self.now.hops.held triad.now) bytes.now
+            (λ came. came ≡ bytes.now × IsOpenSuccess large came (success_of success.entry))
+            (succeeded large (map.get self.now.hops.held triad.now) bytes.now
             (success_of success.entry)) made) }
         ensures edited { making ≡ Making.Edited → IsOk result }
     {
         if let Some(held) = self.hops.held(triad) {
             if let HopUp::Link { their_id, .. } = &held.opening().up {
                 let up_id = held.ids().up.unwrap_or(0);
-                return success_with(self.alloc, making, success, up_id, *their_id);
+                return success_with(self.alloc, making, large, success, up_id, *their_id);
             }
         }
         as_they_came(self.alloc, making, bytes)
@@ -110,10 +113,11 @@ impl Device {
         let Some(entry) = self.pendings.look(number, port, from) else {
             return Ok(Reaction::Whole(Output::Dropped(Dropped::Late)));
         };
-        match reply_row(entry.kind, bytes) {
+        let kind = entry.kind;
+        match reply_row(kind, bytes) {
             ReplyDecision::Malformed => Ok(Reaction::Whole(Output::Dropped(Dropped::Malformed))),
             ReplyDecision::OpenSucceeded(triad, success) => {
-                let made = self.success_up(making, &triad, bytes, success)?;
+                let made = self.success_up(making, kind.is_large(), &triad, bytes, success)?;
                 let Some(up) = self.finishes(number, port, from, &triad, success.ot_id) else {
                     unreachable!()
                 };

@@ -12,7 +12,7 @@ use cip_base::{MAX_MESSAGE, PortNumber};
 use cip_close::FORWARD_CLOSE;
 use cip_config::{ModuleSettings, port_of};
 use cip_message::{CONNECTION_MANAGER, RequestFault, RequestView, read_request};
-use cip_open::FORWARD_OPEN;
+use cip_open::{FORWARD_OPEN, LARGE_FORWARD_OPEN};
 use cip_segment::{PathView, SegmentView, split_first};
 use cip_target::{ObjectPath, object_path};
 use cip_unconnected::UNCONNECTED_SEND;
@@ -27,7 +27,10 @@ pub(crate) enum RequestDecision<'a> {
         refusal: RequestRefusal,
     },
     UnconnectedSend(&'a [u8]),
-    ForwardOpen(&'a [u8]),
+    ForwardOpen {
+        large: bool,
+        data_: &'a [u8],
+    },
     ForwardClose(&'a [u8]),
     Target(RequestView<'a>),
 }
@@ -73,7 +76,14 @@ fn manager_row<'a>(request: RequestView<'a>, object: ObjectPath) -> RequestDecis
     }
     match service {
         UNCONNECTED_SEND => RequestDecision::UnconnectedSend(request.data_),
-        FORWARD_OPEN => RequestDecision::ForwardOpen(request.data_),
+        FORWARD_OPEN => RequestDecision::ForwardOpen {
+            large: false,
+            data_: request.data_,
+        },
+        LARGE_FORWARD_OPEN => RequestDecision::ForwardOpen {
+            large: true,
+            data_: request.data_,
+        },
         FORWARD_CLOSE => RequestDecision::ForwardClose(request.data_),
         _ => refuses(service, RequestRefusal::ServiceNotSupported),
     }

@@ -46,7 +46,9 @@ impl Device {
                 Ok(Reaction::Whole(reply_to(up, bytes)))
             }
             RequestDecision::UnconnectedSend(data_) => self.unconnected_send(making, up, data_),
-            RequestDecision::ForwardOpen(data_) => self.forward_open(making, up, data_),
+            RequestDecision::ForwardOpen { large, data_ } => {
+                self.forward_open(making, up, large, data_)
+            }
             RequestDecision::ForwardClose(data_) => self.forward_close(making, up, data_),
             RequestDecision::Target(request) => {
                 Ok(Reaction::Whole(self.answer_here(up, request)?))

@@ -16,7 +16,7 @@ returns-in-Some-finishes-clause-reacts c =
     finished_up m c.finishes.new.self c.args.making c.args.port c.args.number c.args.from.now b c.in-Some.entry.now c.in-Some-finishes.up
     c.in_ok-made-in-OpenSucceeded.made c.reply_to.result c.with.result c.in-Some.ensures c.in-Some-finishes.ensures.value c.reply_to.ensures c.with.ensures
     c.in-Some-finishes.ensures.config
-    c.in-OpenSucceeded.triad (success_of c.in-OpenSucceeded.success)
+    c.is_large.result c.in-OpenSucceeded.triad (success_of c.in-OpenSucceeded.success) c.is_large.ensures
     (c.in-OpenSucceeded.ensures.row
     ∙ row_is m.config (state_of_device m) c.args.port c.args.from.now c.args.number b c.in-Some.entry.now fits c.in-Some.ensures)
     c.in_ok-made-in-OpenSucceeded.ensures.made c.in-Some-finishes.ensures.after

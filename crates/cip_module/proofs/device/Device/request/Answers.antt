@@ -1,7 +1,7 @@
 use Rattle.std.proofs.Common.{◌≡◌, sym, ap, subst, ◌∙◌, List, ℕ}
 use Rattle.cip_message.specs.Received.{IsReceived}
 use Rattle.cip_unconnected.specs.declared.unconnected.TheConstants.{UNCONNECTED_SEND}
-use Rattle.cip_open.specs.declared.request.TheConstants.{FORWARD_OPEN}
+use Rattle.cip_open.specs.Kinds.{open_service}
 use Rattle.cip_close.specs.declared.request.TheConstants.{FORWARD_CLOSE}
 use Rattle.cip_pending.specs.declared.entry.UpSide.TheVariants.{Link}
 use Rattle.cip_config.specs.declared.config.ModuleSettings.{ModuleSettings}
@@ -33,13 +33,14 @@ returns-in-ForwardOpen c =
     let b = c.args.bytes.now in
     let new = c.forward_open.new.self in
     let d = c.in-ForwardOpen.data_.now in
+    let large = c.in-ForwardOpen.large in
     let e = c.in-ForwardOpen.ensures.row ∙ ap (λ (config : ModuleSettings). request_row config c.args.port b) c.settings.ensures.value in
     subst (λ (row : RequestRow). Reacts c.args.making (λ came. came ≡ b) m new
     (request_effects m.config (state_of_device m) (Link c.args.port c.args.from.now c.args.number) row) c.forward_open.result) e
     (subst (λ (from : List ℕ). Reacts c.args.making (λ came. came ≡ b) m new
-    (request_effects m.config (state_of_device m) (Link c.args.port from c.args.number) (ForwardOpen d)) c.forward_open.result) c.copy.ensures
-    (narrowed m new c.args.making (IsReceived FORWARD_OPEN d) (λ came. came ≡ b) _ c.forward_open.result
-    (λ came is. subst (IsReceived FORWARD_OPEN d) (sym is) (subst (SaysOf b) (sym e) (came_in m.config c.args.port b))) c.forward_open.ensures))
+    (request_effects m.config (state_of_device m) (Link c.args.port from c.args.number) (ForwardOpen large d)) c.forward_open.result) c.copy.ensures
+    (narrowed m new c.args.making (IsReceived (open_service large) d) (λ came. came ≡ b) _ c.forward_open.result
+    (λ came is. subst (IsReceived (open_service large) d) (sym is) (subst (SaysOf b) (sym e) (came_in m.config c.args.port b))) c.forward_open.ensures))
 
 pub returns-in-ForwardClose : goal.returns-in-ForwardClose
 returns-in-ForwardClose c =

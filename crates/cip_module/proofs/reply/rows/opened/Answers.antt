@@ -5,5 +5,5 @@ use Rattle.cip_module.proofs.reply.rows.opened.Goals as goal
 
 pub returns-then-eq-clause-leads : goal.returns-then-eq-clause-leads
 returns-then-eq-clause-leads c =
-    let small = small_reply c.args.data_.now (success_of c.in-Ok.success) (λ i. omega (arith, c.type_inv.data_ i)) c.in-Ok.ensures.found in
+    let small = small_reply c.args.data_.now (success_of c.in-Ok.success) (λ i. omega (arith, c.type_inv.data_ i)) c.in-Ok.ensures.read.found in
     (refl, small.0, small.1)
