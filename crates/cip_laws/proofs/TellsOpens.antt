@@ -1,5 +1,5 @@
 -- What a Forward_Open tells, read backwards.
-use Rattle.std.proofs.Common.{◌≡◌, ℕ, true, is_some, List, refl, ap, inl, Option, Some, None, Result, Ok, Err, Bool}
+use Rattle.std.proofs.Common.{◌≡◌, ℕ, true, is_some, List, refl, ap, inl, Option, Some, None, Result, Ok, Err, Bool, subst, sym}
 use Rattle.std.specs.FinMap as map
 use Rattle.cip_segment.specs.Reading.{HopAt, hop_of, segments_of}
 use Rattle.cip_message.specs.declared.fault.DataFault.{DataFault}
@@ -112,7 +112,11 @@ opens_tell config s event up o asks = open_told config s event up o (open_row co
 
 came_open : (config : ModuleSettings) (event : Event) (up : UpSide) (large : Bool) (asked : List ℕ) (o : Open) → o.fields.large ≡ large
     → Came config event up (ForwardOpen large asked) → open_at large asked ≡ Ok o → OpenCame config event up o
-came_open config event up large asked o same came e = record { asked = asked; came = rw same came; read = rw same e }
+came_open config event up large asked o same came e = record {
+  asked = asked;
+  came = subst (λ (l : Bool). Came config event up (ForwardOpen l asked)) (sym same) came;
+  read = subst (λ (l : Bool). open_at l asked ≡ Ok o) (sym same) e;
+}
 
 read_told : (config : ModuleSettings) (s : State) (event : Event) (up : UpSide) (large : Bool) (asked : List ℕ) (r : Result Open DataFault)
     → Came config event up (ForwardOpen large asked)

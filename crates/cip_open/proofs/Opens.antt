@@ -1,5 +1,5 @@
 -- Reading the data of an open, large or not, gives exactly the record that has its layout.
-use Rattle.std.proofs.Common.{◌≡◌, ◌<◌, ℕ, Bool, true, false, ◌*◌, ◌/◌, List, [], ◌∷◌, ◌++◌, length, drop, get_or, Result, Ok, Err, refl, sym, ap, subst, ◌∙◌, arith}
+use Rattle.std.proofs.Common.{◌≡◌, ◌<◌, ℕ, Bool, true, false, ◌*◌, ◌/◌, List, [], ◌∷◌, ◌++◌, length, drop, get_or, Result, Ok, Err, refl, sym, ap, subst, ◌∙◌, arith, ◌+◌}
 use Rattle.std.specs.Prelude.{MatchResult}
 use Rattle.std.proofs.lemmas.List.{length-drop}
 use Rattle.cip_base.specs.Fields.{IsBytes}
@@ -62,6 +62,10 @@ layout_read false x y z n o is readable len =
 pub layout_path : (large : Bool) (x y z n : ℕ) (o : Open) → drop (open_fixed_part large) (open_layout large x y z n o) ≡ o.path
 layout_path true x y z n o = refl
 layout_path false x y z n o = refl
+
+pub layout_long : (large : Bool) (x y z n : ℕ) (o : Open) → length (open_layout large x y z n o) ≡ open_fixed_part large + length o.path
+layout_long true x y z n o = omega arith
+layout_long false x y z n o = omega arith
 
 pub open_read : (large : Bool) (b : List ℕ) (o : Open) → ReadsOpen large b o → open_at large b ≡ Ok o
 open_read large b o (readable, (x, y, z, n, len, e, is)) =

@@ -9,7 +9,7 @@ use Rattle.cip_message.proofs.Receiveds.{Placed, placed}
 use Rattle.cip_open.specs.Kinds.{open_service, open_fixed_part}
 use Rattle.cip_open.specs.Open.{Open, open_with, open_layout, ReadsOpen, IsOpenFault}
 use Rattle.cip_open.specs.GoesOn.{IsOpenGoingOn}
-use Rattle.cip_open.proofs.Opens.{open_verdict, layout_path}
+use Rattle.cip_open.proofs.Opens.{open_verdict, layout_path, layout_long}
 use Rattle.cip_rewrite.specs.LeadsOn.{LeadsOn}
 use Rattle.cip_rewrite.proofs.Paths.{start_of, leads_on}
 
@@ -28,10 +28,6 @@ layout_cut : (large : Bool) (x y z n : ℕ) (o : Open) (rest : List ℕ)
     → take (open_fixed_part large) (open_layout large x y z n o) ++ rest ≡ open_layout large x y z n (open_with o.fields rest)
 layout_cut true x y z n o rest = refl
 layout_cut false x y z n o rest = refl
-
-pub layout_long : (large : Bool) (x y z n : ℕ) (o : Open) → length (open_layout large x y z n o) ≡ open_fixed_part large + length o.path
-layout_long true x y z n o = omega arith
-layout_long false x y z n o = omega arith
 
 pub message_long : (s : ℕ) (large : Bool) (x y z n : ℕ) (o : Open)
     → length (manager_bytes s (open_layout large x y z n o)) ≡ 6 + (open_fixed_part large + length o.path)

@@ -182,6 +182,7 @@ asked_that (events.Frame p a (bodies.Request k b)) port n from h =
 asked_that (events.Frame p a (bodies.Reply k b)) port n from h = absurd (omega (arith, h))
 asked_that (events.Frame p a (bodies.Data k b)) port n from h = absurd (omega (arith, h))
 asked_that (events.Command (commands.Open op timing path params)) port n from h = absurd (omega (arith, h))
+asked_that (events.Command (commands.LargeOpen op timing path params)) port n from h = absurd (omega (arith, h))
 asked_that (events.Command (commands.Close op of timing)) port n from h = absurd (omega (arith, h))
 asked_that (events.Command (commands.Send op timing path request)) port n from h = absurd (omega (arith, h))
 asked_that (events.Command (commands.Enter of bytes)) port n from h = absurd (omega (arith, h))

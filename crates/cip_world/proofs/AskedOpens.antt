@@ -15,6 +15,7 @@ module _ (i : IdentityFields) (op : ℕ) (o : Open) where
 
   pub words_asked : (c : Command) → asked_open i c ≡ Some (op, o) → command_words c ≡ Some (words_of o.path)
   words_asked (commands.Open n timing path params) e = ap (λ (x : ℕ × Open). Some (words_of x.1.path)) (same_asked _ e)
+  words_asked (commands.LargeOpen n timing path params) e = ap (λ (x : ℕ × Open). Some (words_of x.1.path)) (same_asked _ e)
   words_asked (commands.Close n of timing) e = absurd (cc)
   words_asked (commands.Send n timing path asked) e = absurd (cc)
   words_asked (commands.Enter of bytes) e = absurd (cc)
@@ -23,6 +24,7 @@ module _ (i : IdentityFields) (op : ℕ) (o : Open) where
 
   pub begins_asked : (c : Command) → asked_open i c ≡ Some (op, o) → opens_or_sends op c ≡ true
   begins_asked (commands.Open n timing path params) e = eq-eqb n op (ap (λ (x : ℕ × Open). x.0) (same_asked _ e))
+  begins_asked (commands.LargeOpen n timing path params) e = eq-eqb n op (ap (λ (x : ℕ × Open). x.0) (same_asked _ e))
   begins_asked (commands.Close n of timing) e = absurd (cc)
   begins_asked (commands.Send n timing path asked) e = absurd (cc)
   begins_asked (commands.Enter of bytes) e = absurd (cc)

@@ -149,7 +149,7 @@ module _ (t : Chassis) (j : Journal) (run : IsRun t.plan j) (m op : ℕ) where
 
   fails : (k : ℕ) (path : List ℕ) → OpenedIn t.plan j m op k path → (reply : Reply) → Outcome t.plan j m op m path reply
       → reply.general ≢ 0 → TellsWhere t.plan j (trail_of j m op) reply
-  fails k path c reply (Failed place step o trail asks status failure r_is words_is triad_there failed why) other = record {
+  fails k path c reply (Failed place step o trail asks large status failure r_is words_is triad_there failed why) other = record {
     status = status;
     general_is = ap (λ (x : Reply). x.general) r_is;
     extra_is = ap (λ (x : Reply). x.extra) r_is;
@@ -169,7 +169,7 @@ module _ (t : Chassis) (j : Journal) (run : IsRun t.plan j) (m op : ℕ) where
 
   succeeds : (k : ℕ) (path : List ℕ) → OpenedIn t.plan j m op k path → (reply : Reply) → Outcome t.plan j m op m path reply
       → reply.general ≡ 0 → EndsThere t.plan j (trail_of j m op) m path
-  succeeds k path c reply (Failed place step o trail asks status failure r_is words_is triad_there failed why) general =
+  succeeds k path c reply (Failed place step o trail asks large status failure r_is words_is triad_there failed why) general =
       absurd (failed (ap (λ (x : Reply). x.general) (sym r_is) ∙ general))
   succeeds k path c reply (Ended place step o came trail asks accepted was there) general = record {
     place = place;

@@ -1,5 +1,5 @@
 -- The trail of an Open: its path shortens from entry to entry, and the Done tells where it failed or that it was accepted at the end.
-use Rattle.std.proofs.Common.{◌≡◌, ℕ, ◌/◌, ◌<◌, ◌≤◌, List, [], Ok, Option, Some, None, refl, sym, ap, subst, ◌∙◌, ◌⊎◌, inl, inr, arith, length}
+use Rattle.std.proofs.Common.{◌≡◌, ℕ, ◌/◌, ◌<◌, ◌≤◌, List, [], Ok, Option, Some, None, refl, sym, ap, subst, ◌∙◌, ◌⊎◌, inl, inr, arith, length, Bool, true, false}
 use Rattle.std.specs.Prelude.{option_map, option_and_then}
 use Rattle.std.specs.FinMap as map
 use Rattle.std.specs.Option.{option_map_or}
@@ -12,7 +12,7 @@ use Rattle.cip_message.specs.declared.failure.ConnectionFailure.{ConnectionFailu
 use Rattle.cip_message.proofs.Managers.{manager_is_read}
 use Rattle.cip_message.proofs.ReadAgain.{ok_reply}
 use Rattle.cip_message.proofs.Replies.{reply_back}
-use Rattle.cip_open.specs.Open.{Open, open_data}
+use Rattle.cip_open.specs.Open.{Open, open_data, open_layout}
 use Rattle.cip_open.specs.GoesOn.{lowered, with_ids}
 use Rattle.cip_open.specs.Success.{OpenSuccess, open_reply_data, open_reply_bytes}
 use Rattle.cip_pending.specs.declared.entry.Entry as entries
@@ -29,7 +29,7 @@ use Rattle.cip_event.specs.declared.event.Event.TheVariants as events
 use Rattle.cip_event.specs.declared.event.Output.{Output}
 use Rattle.cip_event.specs.declared.event.Output.TheVariants as outputs
 use Rattle.cip_module.specs.declared.refusals.LinkRefusal.TheVariants.{TicksSpent}
-use Rattle.cip_module.specs.Answers.{failed_at}
+use Rattle.cip_module.specs.Answers.{failed_at, open_failed}
 use Rattle.cip_module.specs.Effects.{Sending, timed_out_bytes, succeeded, success_up}
 use Rattle.cip_module.specs.Statuses.{link_status, open_status}
 use Rattle.cip_module.specs.Table.{words_of, accepted_bytes}
@@ -56,6 +56,11 @@ use Rattle.cip_world.proofs.OpensGo.{AsksThat, Spelled, CameSo, OpenRefused, Ope
 use Rattle.cip_world.proofs.Parts.{given_event}
 use Rattle.cip_world.proofs.TrailSteps.{TrailTo, trail_on}
 use Rattle.cip_world.proofs.WaysBack.{Arrives, PutAt, Replied, ByRow, ByTarget, ByTick, AsItCame, AsSuccess, older_frame}
+use Rattle.cip_open.specs.Kinds.{open_service, open_reply_service}
+use Rattle.cip_open.proofs.Services.{service_low, reply_service_high}
+use Rattle.cip_message.specs.Manager.{manager_request}
+use Rattle.cip_pending.specs.Kinds.{opening_kind}
+use Rattle.cip_base.specs.declared.triad.Triad.{Triad}
 
 -- ---- words as received
 
@@ -77,7 +82,14 @@ event_there t j k s =
 
 asked_words : (config : ModuleSettings) (event : Event) (o : Open) → AsksThat config event o → open_words event ≡ Some (words_of o.path)
 asked_words config event o (Spelled command op event_is asks) = ap open_words event_is ∙ words_asked config.identity op o command asks
-asked_words config event o (CameSo port n from event_is) = ap open_words event_is ∙ ap request_words (manager_is_read 0x54 (open_data o) (omega arith))
+asked_words config event o (CameSo port n from event_is) =
+    ap open_words event_is ∙ ap request_words (manager_is_read (open_service o.fields.large) (open_data o) (service_low o.fields.large))
+    ∙ words_read o.fields.large o
+  where
+    words_read : (large : Bool) (o : Open)
+        → request_words (Ok (manager_request (open_service large) (open_layout large 0 0 0 (length o.path / 2) o))) ≡ Some (words_of o.path)
+    words_read true o = refl
+    words_read false o = refl
 
 pub words_there : (t : Plan) (j : Journal) (k : ℕ) (s : StepIn t j k) (o : Open) → AsksThat s.taken.config s.taken.event o
     → words_at j k ≡ Some (words_of o.path)
@@ -147,29 +159,36 @@ of_read P bytes r read x = subst P (ok_reply x.reply r (sym x.read ∙ read)) x.
 written : (P : Reply → Type 0) (r : Reply) (bytes : List ℕ) → 128 ≤ r.service → bytes ≡ reply_bytes r → P r → ReadAs P bytes
 written P r bytes big is has = record { reply = r; read = ap reply_at is ∙ reply_back r big; has = has }
 
-success_read : (x : OpenSuccess) (bytes : List ℕ) → bytes ≡ open_reply_bytes x → ReadAs (λ r. r.general ≡ 0) bytes
-success_read x bytes is = written (λ r. r.general ≡ 0) (done_with 0xD4 (open_reply_data x)) bytes (omega arith) is refl
+success_read : (large : Bool) (x : OpenSuccess) (bytes : List ℕ) → bytes ≡ open_reply_bytes large x → ReadAs (λ r. r.general ≡ 0) bytes
+success_read large x bytes is =
+    written (λ r. r.general ≡ 0) (done_with (open_reply_service large) (open_reply_data x)) bytes (reply_service_high large) is refl
 
 accepted_read : (o : Open) (id : ℕ) (bytes : List ℕ) → bytes ≡ accepted_bytes o id → ReadAs (λ r. r.general ≡ 0) bytes
 accepted_read o id bytes is =
-    success_read
+    success_read o.fields.large
     (record { ot_id = id; to_id = o.fields.to_id; triad = o.fields.triad; ot_api = o.fields.ot_rpi; to_api = o.fields.to_rpi; reply = [] }) bytes is
 
 -- a success that is passed on stays one
-passed_read : (held : Option Held) (came : List ℕ) (success : OpenSuccess) (bytes : List ℕ) (reply : Reply) → bytes ≡ succeeded held came success
+passed_read : (large : Bool) (held : Option Held) (came : List ℕ) (success : OpenSuccess) (bytes : List ℕ) (reply : Reply) → bytes ≡ succeeded large held came success
     → reply_at came ≡ Ok reply → reply.general ≡ 0 → ReadAs (λ r. r.general ≡ 0) bytes
-passed_read None came success bytes reply is read general = record { reply = reply; read = ap reply_at is ∙ read; has = general }
-passed_read (Some x) came success bytes reply is read general = by_up (opening_of x).up is
+passed_read large None came success bytes reply is read general = record { reply = reply; read = ap reply_at is ∙ read; has = general }
+passed_read large (Some x) came success bytes reply is read general = by_up (opening_of x).up is
   where
-    by_up : (up : HopUp) → bytes ≡ success_up up (ids_of x) came success → ReadAs (λ r. r.general ≡ 0) bytes
-    by_up (UpLink port address id) e = success_read (with_ids success (option_map_or (λ own. own) (ids_of x).up 0) id) bytes e
+    by_up : (up : HopUp) → bytes ≡ success_up large up (ids_of x) came success → ReadAs (λ r. r.general ≡ 0) bytes
+    by_up (UpLink port address id) e = success_read large (with_ids success (option_map_or (λ own. own) (ids_of x).up 0) id) bytes e
     by_up (UpLocal op) e = record { reply = reply; read = ap reply_at e ∙ read; has = general }
+
+-- the reply to an open that waited too long
+late_of : (large : Bool) (triad : Triad) (words : ℕ)
+    → timed_out_bytes (opening_kind large triad) words ≡ open_failed large (link_status TicksSpent) triad words
+late_of true triad words = refl
+late_of false triad words = refl
 
 -- the reply to an open whose trail came to entry k
 pub data Outcome (t : Plan) (j : Journal) (m op at : ℕ) (path : List ℕ) (r : Reply) : Type 0 where
   Failed : (place : ℕ) (step : StepIn t j place) (o : Open) → TrailTo t j m op place step → AsksThat step.taken.config step.taken.event o
-      → (status : Status) (failure : ConnectionFailure)
-      → r ≡ reply_with 0xD4 status (failure_data failure) → failure.words ≡ Some (words_of o.path) → HasTriadForWords failure → (status.general ≡ 0 → ⊥)
+      → (large : Bool) (status : Status) (failure : ConnectionFailure)
+      → r ≡ reply_with (open_reply_service large) status (failure_data failure) → failure.words ≡ Some (words_of o.path) → HasTriadForWords failure → (status.general ≡ 0 → ⊥)
       → FailedAt t j place step status → Outcome t j m op at path r
   Ended : (place : ℕ) (step : StepIn t j place) (o : Open) (bytes : List ℕ) → TrailTo t j m op place step → AsksThat step.taken.config step.taken.event o
       → OpenAccepted step.taken.config (state_before step) step.taken.event o bytes → r.general ≡ 0 → walk t at path ≡ walk t step.at.0 o.path
@@ -177,15 +196,15 @@ pub data Outcome (t : Plan) (j : Journal) (m op at : ℕ) (path : List ℕ) (r :
 
 further : (t : Plan) (j : Journal) (m op at to : ℕ) (path rest : List ℕ) (r : Reply) → walk t at path ≡ walk t to rest → Outcome t j m op to rest r
     → Outcome t j m op at path r
-further t j m op at to path rest r walks (Failed place step o trail asks status failure r_is words_is triad_there fails why) =
-    Failed place step o trail asks status failure r_is words_is triad_there fails why
+further t j m op at to path rest r walks (Failed place step o trail asks large status failure r_is words_is triad_there fails why) =
+    Failed place step o trail asks large status failure r_is words_is triad_there fails why
 further t j m op at to path rest r walks (Ended place step o bytes trail asks accepted general there) =
     Ended place step o bytes trail asks accepted general (walks ∙ there)
 
 -- a success in place of a success
 renamed : (t : Plan) (j : Journal) (m op at : ℕ) (path : List ℕ) (reply r : Reply) → reply.general ≡ 0 → r.general ≡ 0 → Outcome t j m op at path reply
     → Outcome t j m op at path r
-renamed t j m op at path reply r general too (Failed place step o trail asks status failure r_is words_is triad_there fails why) =
+renamed t j m op at path reply r general too (Failed place step o trail asks large status failure r_is words_is triad_there fails why) =
     absurd (fails (ap (λ (y : Reply). y.general) (sym r_is) ∙ general))
 renamed t j m op at path reply r general too (Ended place step o bytes trail asks accepted was there) = Ended place step o bytes trail asks accepted too there
 
@@ -198,9 +217,9 @@ module _ (t : Plan) (j : Journal) (run : IsRun t j) (m op : ℕ) where
       → OpenRefused s.taken.config (state_before s) s.taken.event o bytes ⊎ OpenAccepted s.taken.config (state_before s) s.taken.event o bytes
       → Told s.at.0 o.path bytes
   by_row k s bytes o asks to (inl refused) =
-      let r = reply_with 0xD4 (open_status refused.refusal) (failure_data refused.failure) in
-      written (Outcome t j m op s.at.0 o.path) r bytes (omega arith) refused.bytes_are
-      (Failed k s o to asks (open_status refused.refusal) refused.failure refl refused.words_is refused.triad_there (open_fails refused.refusal)
+      let r = reply_with (open_reply_service refused.large) (open_status refused.refusal) (failure_data refused.failure) in
+      written (Outcome t j m op s.at.0 o.path) r bytes (reply_service_high refused.large) refused.bytes_are
+      (Failed k s o to asks refused.large (open_status refused.refusal) refused.failure refl refused.words_is refused.triad_there (open_fails refused.refusal)
       (FailedByRow refused.refusal refused.why refl))
   by_row k s bytes o asks to (inr accepted) =
       let success = accepted_read o (state_before s).hops.next bytes accepted.bytes_are in
@@ -213,9 +232,11 @@ module _ (t : Plan) (j : Journal) (run : IsRun t j) (m op : ℕ) where
       → OpenGoes s.taken.config (state_before s) s.taken.event o put.sending p.kind → Told s.at.0 o.path bytes
   by_tick k s n p put l tick here ends waits later bytes bytes_are o asks to g =
       let words_is : p.words ≡ words_of o.path = put.words_is ∙ g.words_are in
-      let r = reply_with 0xD4 (link_status TicksSpent) (failure_data (failed_at g.opening.triad p.words)) in
-      written (Outcome t j m op s.at.0 o.path) r bytes (omega arith) (bytes_are ∙ ap (λ (x : Kind). timed_out_bytes x p.words) g.kind_is)
-      (Failed k s o to asks (link_status TicksSpent) (failed_at g.opening.triad p.words) refl
+      let large = g.opening.large in
+      let r = reply_with (open_reply_service large) (link_status TicksSpent) (failure_data (failed_at g.opening.triad p.words)) in
+      written (Outcome t j m op s.at.0 o.path) r bytes (reply_service_high large)
+      (bytes_are ∙ ap (λ (x : Kind). timed_out_bytes x p.words) g.kind_is ∙ late_of large g.opening.triad p.words)
+      (Failed k s o to asks large (link_status TicksSpent) (failed_at g.opening.triad p.words) refl
       (ap (λ (w : ℕ). Some w) words_is) (λ none. absurd (cc)) (link_fails TicksSpent)
       (FailedByTick (record {
         number = n;
@@ -269,8 +290,8 @@ module _ (t : Plan) (j : Journal) (run : IsRun t j) (m op : ℕ) where
       let on = there k s n p put l next arrives o asks in
       passed_on s.at.0 next.at.0 o.path on.next.path bytes on.walks
       (open_outcome l next bytes below on.next on.asks (trail_on t j run m op k l s next n put.sending arrives to))
-  open_outcome k s bytes (AsSuccess _ _ n p put l next arrives triad kind_is came reply read_below general held success _ bytes_are below) o asks to =
+  open_outcome k s bytes (AsSuccess _ _ n p put l next arrives triad kind_is came reply read_below general large held success _ bytes_are below) o asks to =
       let on = there k s n p put l next arrives o asks in
       succeeded_on s.at.0 next.at.0 o.path on.next.path bytes came reply on.walks read_below general
-      (passed_read held came success bytes reply bytes_are read_below general)
+      (passed_read large held came success bytes reply bytes_are read_below general)
       (open_outcome l next came below on.next on.asks (trail_on t j run m op k l s next n put.sending arrives to))

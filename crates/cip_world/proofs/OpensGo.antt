@@ -1,5 +1,5 @@
 -- What a step whose event asks an open did for it: sent it on, refused it or accepted it, and nothing else.
-use Rattle.std.proofs.Common.{◌≡◌, ℕ, ◌≤◌, Bool, true, false, cond, List, Option, Some, None, refl, sym, ap, subst, ◌∙◌, ◌⊎◌, inl, inr, arith, length}
+use Rattle.std.proofs.Common.{◌≡◌, ℕ, ◌≤◌, Bool, true, false, cond, List, Option, Some, None, refl, sym, ap, subst, ◌∙◌, ◌⊎◌, inl, inr, arith, length, ◌/◌, ◌+◌}
 use Rattle.std.specs.FinMap as map
 use Rattle.std.specs.Prelude.{nat_lt, not, ◌||◌, eqb, is_some}
 use Rattle.std.proofs.lemmas.Bool.Decides.{nat_tests}
@@ -9,8 +9,10 @@ use Rattle.cip_message.specs.Numbers.{triad_in}
 use Rattle.cip_message.specs.Request.{Request}
 use Rattle.cip_message.specs.declared.failure.ConnectionFailure.{ConnectionFailure}
 use Rattle.cip_message.specs.declared.fault.DataFault.{DataFault}
-use Rattle.cip_open.specs.Open.{Open, open_data, open_bytes}
+use Rattle.cip_open.specs.Open.{Open, open_layout, open_data, open_bytes}
+use Rattle.cip_open.specs.Kinds.{open_fixed_part}
 use Rattle.cip_open.specs.OpenAt.{open_at, open_triad_of, open_words_of}
+use Rattle.cip_open.proofs.Opens.{layout_long}
 use Rattle.cip_open.specs.Failed.{open_failure_bytes}
 use Rattle.cip_open.specs.GoesOn.{lowered}
 use Rattle.cip_open.proofs.ReadAgain.{open_data_read}
@@ -48,6 +50,7 @@ use Rattle.cip_laws.proofs.AskedOpens.{no_open_event, one_open}
 use Rattle.cip_laws.proofs.NextRows.{open_row_is}
 use Rattle.cip_world.specs.TrailTells.{RefusedBy, Unread, Read}
 use Rattle.cip_world.proofs.PutIn.{SentFor, Forwarded as SentForward, Begun}
+use Rattle.std.proofs.lemmas.Bool.{le-ltb}
 
 -- the event asks this open: a command spells it, or it came as it is written
 pub data AsksThat (config : ModuleSettings) (event : Event) (o : Open) : Type 0 where
@@ -93,19 +96,30 @@ accepted_ends config s up o link e =
 
 -- ---- what is read of an open that cannot be read
 
-long_enough : (o : Open) → nat_lt (length (open_data o)) 36 ≡ false
-long_enough o = let l : 36 ≤ length (open_data o) = omega arith in grind (arith, nat_tests, l)
+data_long : (o : Open) → length (open_data o) ≡ open_fixed_part o.fields.large + length o.path
+data_long o = layout_long o.fields.large 0 0 0 (length o.path / 2) o
 
-unread_is : (o : Open) (fault : DataFault) → unread_open_bytes (open_data o) fault
-    ≡ open_failure_bytes (open_status (unread_row (open_data o) fault)) (record { triad = open_triad_of (open_data o); words = Some (words_of o.path) })
+long_enough : (o : Open) → nat_lt (length (open_data o)) (open_fixed_part o.fields.large) ≡ false
+long_enough o = let l : open_fixed_part o.fields.large ≤ length (open_data o) = omega (arith, data_long o) in le-ltb (length (open_data o)) (open_fixed_part o.fields.large) l
+
+-- the path size stands at its place
+words_stand : (large : Bool) (o : Open) → open_words_of large (open_layout large 0 0 0 (length o.path / 2) o) ≡ Some (words_of o.path)
+words_stand true o = refl
+words_stand false o = refl
+
+unread_is : (o : Open) (fault : DataFault) → unread_open_bytes o.fields.large (open_data o) fault
+    ≡ open_failure_bytes o.fields.large (open_status (unread_row o.fields.large (open_data o) fault))
+    (record { triad = open_triad_of (open_data o); words = Some (words_of o.path) })
 unread_is o fault =
-    ap (λ b. cond b (open_failure_bytes (open_status (unread_row (open_data o) fault)) (record { triad = None; words = None }))
-    (open_failure_bytes (open_status (unread_row (open_data o) fault)) (record { triad = open_triad_of (open_data o); words = open_words_of (open_data o) })))
+    let large = o.fields.large in
+    let bytes : ConnectionFailure → List ℕ = λ f. open_failure_bytes large (open_status (unread_row large (open_data o) fault)) f in
+    ap (λ b. bytes (cond b (record { triad = None; words = None }) (record { triad = open_triad_of (open_data o); words = open_words_of large (open_data o) })))
     (long_enough o)
+    ∙ ap (λ (w : Option ℕ). bytes (record { triad = open_triad_of (open_data o); words = w })) (words_stand large o)
 
 has_triad : (o : Open) → HasTriadForWords (record { triad = open_triad_of (open_data o); words = Some (words_of o.path) })
 has_triad o none =
-    let l : 18 ≤ length (open_data o) = omega arith in
+    let l : 18 ≤ length (open_data o) = omega (arith, data_long o) in
     let long : nat_lt (length (open_data o)) 18 ≡ false = grind (arith, nat_tests, l) in
     let some = ap (λ b. cond b None (Some (triad_there o))) long in
     let no : None ≡ Some (triad_there o) = sym none ∙ some in
@@ -123,7 +137,8 @@ pub record OpenRefused (config : ModuleSettings) (s : State) (event : Event) (o 
   pub failure : ConnectionFailure
   pub words_is : failure.words ≡ Some (words_of o.path)
   pub triad_there : HasTriadForWords failure
-  pub bytes_are : bytes ≡ open_failure_bytes (open_status refusal) failure
+  pub large : Bool
+  pub bytes_are : bytes ≡ open_failure_bytes large (open_status refusal) failure
 
 -- it was accepted, at the end of its path
 pub record OpenAccepted (config : ModuleSettings) (s : State) (event : Event) (o : Open) (bytes : List ℕ) : Type 0 where
@@ -153,10 +168,10 @@ frame_is p q a b k n c d e = (cc, cc, cc, cc)
 
 module _ (config : ModuleSettings) (s : State) (event : Event) (o : Open) (is : AsksThat config event o) where
   -- a request that came is this open, or dropped
-  came_row : (up : UpSide) (row : RequestRow) → Came config event up row → (row ≡ request.UnknownPortOrTooLong) ⊎ (row ≡ request.ForwardOpen (open_data o))
+  came_row : (up : UpSide) (row : RequestRow) → Came config event up row → (row ≡ request.UnknownPortOrTooLong) ⊎ (row ≡ request.ForwardOpen o.fields.large (open_data o))
   came_row up row came = by_form is
     where
-      by_form : AsksThat config event o → (row ≡ request.UnknownPortOrTooLong) ⊎ (row ≡ request.ForwardOpen (open_data o))
+      by_form : AsksThat config event o → (row ≡ request.UnknownPortOrTooLong) ⊎ (row ≡ request.ForwardOpen o.fields.large (open_data o))
       by_form (Spelled command op event_is asks) =
           let no : events.Command command ≡ events.Frame came.port came.from (bodies.Request came.number came.bytes) =
           sym event_is ∙ came.event_is in absurd (cc)
@@ -165,7 +180,7 @@ module _ (config : ModuleSettings) (s : State) (event : Event) (o : Open) (is : 
           let row_is : request_row config came.port (open_bytes o) ≡ row = ap (request_row config came.port) (sym parts.3) ∙ came.meets in
           elim (open_row_is config came.port o) [ inl dropped ↦ inl (sym row_is ∙ dropped) | inr met ↦ inr (sym row_is ∙ met) ]
 
-  not_came : (up : UpSide) (row : RequestRow) → (row ≡ request.UnknownPortOrTooLong → ⊥) → (row ≡ request.ForwardOpen (open_data o) → ⊥)
+  not_came : (up : UpSide) (row : RequestRow) → (row ≡ request.UnknownPortOrTooLong → ⊥) → (row ≡ request.ForwardOpen o.fields.large (open_data o) → ⊥)
       → Came config event up row → ⊥
   not_came up row a b came = elim (came_row up row came) [ inl dropped ↦ a dropped | inr met ↦ b met ]
 
@@ -191,12 +206,15 @@ module _ (config : ModuleSettings) (s : State) (event : Event) (o : Open) (is : 
           let no : events.Frame port from (bodies.Request n (open_bytes o)) ≡ events.Command (commands.Close h.op h.of h.timing) =
           sym event_is ∙ h.event_is in cc
 
-  asked_data : (up : UpSide) (asked : List ℕ) → Came config event up (request.ForwardOpen asked) → asked ≡ open_data o
-  asked_data up asked came = elim (came_row up (request.ForwardOpen asked) came) [ inl dropped ↦ absurd (cc) | inr met ↦ cc ]
+  asked_data : (up : UpSide) (large : Bool) (asked : List ℕ) → Came config event up (request.ForwardOpen large asked)
+      → (large ≡ o.fields.large) × (asked ≡ open_data o)
+  asked_data up large asked came = elim (came_row up (request.ForwardOpen large asked) came) [ inl dropped ↦ absurd (cc) | inr met ↦ (cc, cc) ]
 
   -- it asks no other open
   pub same_open : (up : UpSide) (p : Open) → AsksOpen config s event up p → p ≡ o
-  same_open up p (inl h) = open_data_read o p (ap open_at (sym (asked_data up h.asked h.came)) ∙ h.read)
+  same_open up p (inl h) =
+      let same = asked_data up p.fields.large h.asked h.came in
+      open_data_read o p (ap (open_at o.fields.large) (sym same.1) ∙ ap (λ (l : Bool). open_at l h.asked) (sym same.0) ∙ h.read)
   same_open up p (inr h) = by_form is
     where
       by_form : AsksThat config event o → p ≡ o
@@ -243,26 +261,23 @@ module _ (config : ModuleSettings) (s : State) (event : Event) (o : Open) (is : 
   open_replied up bytes (CloseUnread asked fault came read e) = absurd (not_came up (request.ForwardClose asked) (λ e. cc) (λ e. cc) came)
   open_replied up bytes (CloseFails sender c refusal asks meets e) = absurd (no_close up sender c asks)
   open_replied up bytes (CloseEnds sender c asks meets e) = absurd (no_close up sender c asks)
-  open_replied up bytes (OpenUnread asked fault came read e) =
-      let same = asked_data up asked came in
+  open_replied up bytes (OpenUnread large asked fault came read e) =
+      let same = asked_data up large asked came in
       inl (record {
-        refusal = unread_row asked fault;
-        why = Unread up asked fault came read refl;
+        refusal = unread_row o.fields.large (open_data o) fault;
+        why = Unread up large asked fault came read (λ i. unread_row (sym same.0 i) (sym same.1 i) fault);
+        large = o.fields.large;
         failure = record { triad = open_triad_of (open_data o); words = Some (words_of o.path) };
         words_is = refl;
         triad_there = has_triad o;
-        bytes_are = e ∙ ap (λ (d : List ℕ). unread_open_bytes d fault) same ∙ unread_is o fault
-            ∙ ap (λ (d : List ℕ). open_failure_bytes (open_status (unread_row d fault)) (record {
-              triad = open_triad_of (open_data o);
-              words = Some
-                  (words_of o.path);
-            })) (sym same);
+        bytes_are = e ∙ (λ i. unread_open_bytes (same.0 i) (same.1 i) fault) ∙ unread_is o fault;
       })
   open_replied up bytes (OpenFails p refusal asks meets e) =
       let same = same_open up p asks in
       inl (record {
         refusal = refusal;
         why = Read up p asks meets;
+        large = p.fields.large;
         failure = failed_at p.fields.triad (words_of p.path);
         words_is = ap (λ (x : Open). Some (words_of x.path)) same;
         triad_there = λ none. absurd (cc);

@@ -30,7 +30,7 @@ use Rattle.cip_laws.specs.Histories.{Turn, state_after, IsHistory}
 use Rattle.cip_module.specs.OpenRows.{OpenRow, open_row}
 use Rattle.cip_module.specs.OpenRows as opens
 use Rattle.cip_module.specs.State.{State, is_spent}
-use Rattle.cip_module.specs.Table.{decide, refused_effects, open_effects, close_effects, closed_effects, close_of, unconnected_effects, open_of, sent}
+use Rattle.cip_module.specs.Table.{decide, refused_effects, open_effects, close_effects, closed_effects, close_of, unconnected_effects, open_of, sent, open_command_effects}
 use Rattle.cip_module.specs.UnconnectedRows.{UnconnectedRow, unconnected_row}
 use Rattle.cip_module.specs.UnconnectedRows as unconnected
 use Rattle.cip_module.proofs.Kept.{spent_now, spent_still}
@@ -49,6 +49,7 @@ use Rattle.cip_world.specs.Trails.{is_refusal, opens_or_sends, asks_for, is_comm
 use Rattle.cip_world.proofs.Entries.{older_one, turned_in}
 use Rattle.cip_world.proofs.Moments.{run_older, before_that}
 use Rattle.cip_world.proofs.Parts.{turn_of, part_here, part_step, step_here, same_module, run_history}
+use Rattle.cip_event.specs.Params.{widened}
 
 -- ---- one command
 
@@ -126,13 +127,20 @@ module _ (config : ModuleSettings) (s : State) (op : ℕ) where
   local_is : (o : ℕ) → Some (Local o) ≡ Some (Local op) → o ≡ op
   local_is o e = cc
 
+  uses_open : (oo : Open) → Uses config s op (open_command_effects config s op oo)
+  uses_open oo =
+      uses_by (op_row s op) (open_effects s (Local op) oo (open_row config s (UpLocal op) oo)) (taken_open (is_spent op s.ops))
+      (open_none oo (open_row config s (UpLocal op) oo))
+
   pub uses : (c : Command) (es : List Effect) → command_asker c ≡ Some (Local op) → decide config s (events.Command c) ≡ Some es → Uses config s op es
   uses (commands.Open o timing path params) es is e =
       let same = local_is o is in
-      let oo = open_of config.identity timing path params in
       uses_of _ es (ap (λ (k : ℕ). decide config s (events.Command (commands.Open k timing path params))) (sym same) ∙ e)
-      (uses_by (op_row s op) (open_effects s (Local op) oo (open_row config s (UpLocal op) oo)) (taken_open (is_spent op s.ops))
-      (open_none oo (open_row config s (UpLocal op) oo)))
+      (uses_open (open_of config.identity false timing path (widened params)))
+  uses (commands.LargeOpen o timing path params) es is e =
+      let same = local_is o is in
+      uses_of _ es (ap (λ (k : ℕ). decide config s (events.Command (commands.LargeOpen k timing path params))) (sym same) ∙ e)
+      (uses_open (open_of config.identity true timing path params))
   uses (commands.Send o timing path asked) es is e =
       let same = local_is o is in
       let u = sent timing path asked in
@@ -224,6 +232,7 @@ asked_command t j m op (inputs.Frame port from name) event given e = absurd (cc)
 
 asks_so : (op : ℕ) (c : Command) → opens_or_sends op c ≡ true → command_asker c ≡ Some (Local op)
 asks_so op (commands.Open o timing path params) e = ap (λ (k : ℕ). Some (Local k)) (eqb-true o op e)
+asks_so op (commands.LargeOpen o timing path params) e = ap (λ (k : ℕ). Some (Local k)) (eqb-true o op e)
 asks_so op (commands.Send o timing path asked) e = ap (λ (k : ℕ). Some (Local k)) (eqb-true o op e)
 asks_so op (commands.Close o of timing) e = absurd (cc)
 asks_so op (commands.Enter of bytes) e = absurd (cc)

@@ -57,7 +57,7 @@ row_late config s n bytes reply.UnknownPortOrTooLong h = refl
 row_late config s n bytes reply.Late h = refl
 row_late config s n bytes reply.MalformedForItsKind h = refl
 row_late config s n bytes (reply.OpenSucceeded triad success) h =
-    let out = succeeded (waits_large (map.get s.pendings.entries number)) (map.get s.hops.held triad) bytes success in
+    let out = succeeded (waits_large (map.get s.pendings.entries n)) (map.get s.hops.held triad) bytes success in
     absurd (not_dropped (map.get s.pendings.entries n) out (has_first (replied (map.get s.pendings.entries n) out) (outputs.Dropped dropped.Late) h))
 row_late config s n bytes reply.PassedUp h =
     absurd (not_dropped (map.get s.pendings.entries n) bytes (has_first (replied (map.get s.pendings.entries n) bytes) (outputs.Dropped dropped.Late) h))

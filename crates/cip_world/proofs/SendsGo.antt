@@ -96,7 +96,7 @@ module _ (config : ModuleSettings) (s : State) (event : Event) (u : Unconnected)
   not_came up row a b came = elim (came_row up row came) [ inl dropped ↦ a dropped | inr met ↦ b met ]
 
   no_open : (up : UpSide) (o : Open) → AsksOpen config s event up o → ⊥
-  no_open up o (inl h) = not_came up (request.ForwardOpen h.asked) (λ e. cc) (λ e. cc) h.came
+  no_open up o (inl h) = not_came up (request.ForwardOpen o.fields.large h.asked) (λ e. cc) (λ e. cc) h.came
   no_open up o (inr h) = by_form is
     where
       by_form : AsksSendThat event u → ⊥
@@ -161,7 +161,7 @@ module _ (config : ModuleSettings) (s : State) (event : Event) (u : Unconnected)
   send_replied up bytes (SendUnread asked fault came read e) =
       is_failed (unconnected_status (unconnected.unread_row asked fault)) (route_words_of asked) bytes e
   send_replied up bytes (SendFails v refusal asks meets e) = is_failed (unconnected_status refusal) (Some (words_of v.route)) bytes e
-  send_replied up bytes (OpenUnread asked fault came read e) = absurd (not_came up (request.ForwardOpen asked) (λ e. cc) (λ e. cc) came)
+  send_replied up bytes (OpenUnread large asked fault came read e) = absurd (not_came up (request.ForwardOpen large asked) (λ e. cc) (λ e. cc) came)
   send_replied up bytes (OpenFails o refusal asks meets e) = absurd (no_open up o asks)
   send_replied up bytes (OpenEnds o link asks meets e) = absurd (no_open up o asks)
   send_replied up bytes (CloseUnread asked fault came read e) = absurd (not_came up (request.ForwardClose asked) (λ e. cc) (λ e. cc) came)
@@ -271,10 +271,10 @@ module _ (config : ModuleSettings) (s : State) (event : Event) (asked : List ℕ
   no_send_row data_ (NamesNone none e) = cc
   no_send_row data_ (IsTarget e) = cc
 
-  no_open_row : (data_ : List ℕ) → TargetRow r (request.ForwardOpen data_) → ⊥
-  no_open_row data_ (IsDropped e) = cc
-  no_open_row data_ (NamesNone none e) = cc
-  no_open_row data_ (IsTarget e) = cc
+  no_open_row : (large : Bool) (data_ : List ℕ) → TargetRow r (request.ForwardOpen large data_) → ⊥
+  no_open_row large data_ (IsDropped e) = cc
+  no_open_row large data_ (NamesNone none e) = cc
+  no_open_row large data_ (IsTarget e) = cc
 
   no_close_row : (data_ : List ℕ) → TargetRow r (request.ForwardClose data_) → ⊥
   no_close_row data_ (IsDropped e) = cc
@@ -288,7 +288,7 @@ module _ (config : ModuleSettings) (s : State) (event : Event) (asked : List ℕ
       sym is.event_is ∙ h.event_is in cc
 
   itself_no_open : (up : UpSide) (o : Open) → AsksOpen config s event up o → ⊥
-  itself_no_open up o (inl h) = no_open_row h.asked (target_came up (request.ForwardOpen h.asked) h.came)
+  itself_no_open up o (inl h) = no_open_row o.fields.large h.asked (target_came up (request.ForwardOpen o.fields.large h.asked) h.came)
   itself_no_open up o (inr h) =
       let no : events.Frame is.port is.from (bodies.Request is.n asked) ≡ events.Command h.command =
       sym is.event_is ∙ h.event_is in cc
@@ -323,7 +323,8 @@ module _ (config : ModuleSettings) (s : State) (event : Event) (asked : List ℕ
       failed_so objects service refusal bytes (target_came up (request.Refuses service refusal) came) e
   itself_replied objects up bytes (SendUnread asked_ fault came read e) = absurd (no_send_row asked_ (target_came up (request.UnconnectedSend asked_) came))
   itself_replied objects up bytes (SendFails u refusal asks meets e) = absurd (itself_no_send up u asks)
-  itself_replied objects up bytes (OpenUnread asked_ fault came read e) = absurd (no_open_row asked_ (target_came up (request.ForwardOpen asked_) came))
+  itself_replied objects up bytes (OpenUnread large asked_ fault came read e) =
+      absurd (no_open_row large asked_ (target_came up (request.ForwardOpen large asked_) came))
   itself_replied objects up bytes (OpenFails o refusal asks meets e) = absurd (itself_no_open up o asks)
   itself_replied objects up bytes (OpenEnds o link asks meets e) = absurd (itself_no_open up o asks)
   itself_replied objects up bytes (CloseUnread asked_ fault came read e) = absurd (no_close_row asked_ (target_came up (request.ForwardClose asked_) came))

@@ -24,8 +24,8 @@ use Rattle.cip_pending.specs.declared.entry.Entry.{Entry}
 use Rattle.cip_pending.specs.declared.entry.UpSide.{UpSide}
 use Rattle.cip_pending.specs.declared.entry.UpSide.TheVariants.{Link, Local}
 use Rattle.cip_pending.specs.declared.entry.Kind.{Kind}
-use Rattle.cip_pending.specs.declared.entry.Kind.TheVariants.{Unconnected as UnconnectedKind, Opening as OpeningKind, Closing as ClosingKind}
-use Rattle.cip_pending.specs.Kinds.{opened_triad}
+use Rattle.cip_pending.specs.declared.entry.Kind.TheVariants.{Unconnected as UnconnectedKind, Opening as OpeningKind, OpeningLarge as LargeKind, Closing as ClosingKind}
+use Rattle.cip_pending.specs.Kinds.{opened_triad, is_large_kind}
 use Rattle.cip_hops.specs.declared.opening.HopUp.{HopUp}
 use Rattle.cip_hops.specs.declared.opening.HopUp.TheVariants.{Link as UpLink}
 use Rattle.cip_hops.specs.declared.opening.HopDown.{HopDown}
@@ -46,7 +46,7 @@ use Rattle.cip_module.specs.Answers.{failed_unread, failed_at, route_words_data}
 use Rattle.cip_module.specs.Effects.{Sending, Effect, Forwards, Begins, Finishes, Takes, entry_for, kind_for, timed_out_bytes, succeeded, success_up, applied}
 use Rattle.cip_module.specs.OpenRows.{opening_with, end_down, open_row}
 use Rattle.cip_module.specs.OpenRows as opens
-use Rattle.cip_module.specs.ReplyRows.{PassedUp, MalformedForItsKind, OpenSucceeded, kind_row, opening_row, opened_row, failure_row, triad_eq}
+use Rattle.cip_module.specs.ReplyRows.{PassedUp, MalformedForItsKind, OpenSucceeded, kind_row, open_kind_row, opening_row, opened_row, failure_row, triad_eq}
 use Rattle.cip_module.specs.RequestRows.{RequestRow, request_row}
 use Rattle.cip_module.specs.RequestRows as request
 use Rattle.cip_module.specs.State.{State}
@@ -69,6 +69,7 @@ use Rattle.cip_laws.proofs.Puts.{puts, pending_cases}
 use Rattle.cip_laws.proofs.Quiet.{reply_alone}
 use Rattle.cip_laws.proofs.GaveBy.{GaveBy, gave_by, RepliesBy, AtOnce, Here, Opened, Taken, Late, reply_by}
 use Rattle.cip_laws.proofs.Turns.{Turned, newest, by_turn}
+use Rattle.cip_open.specs.Kinds.{open_reply_service}
 
 -- ---- where each request that waits was put
 
@@ -95,11 +96,9 @@ past_elim P F [] h f = absurd h
 past_elim P F (turn ∷ turns) (inl h) f = f turns turn h
 past_elim P F (turn ∷ turns) (inr h) f = past_elim P F turns h f
 
-no_pass : (kind : Kind) (triad : Triad) (r : Reply) → opened_triad kind ≡ Some triad → kind_row kind r ≡ PassedUp → r.general ≡ 0 → ⊥
-no_pass UnconnectedKind triad r opened e general = let no : None ≡ Some triad = opened in cc
-no_pass (ClosingKind k) triad r opened e general = let no : None ≡ Some triad = opened in cc
-no_pass (OpeningKind triad) k r opened e general =
-    by_service (eqb r.service 0xD4) (eq-eqb r.general 0 general) e
+no_open_pass : (large : Bool) (triad : Triad) (r : Reply) → open_kind_row large triad r ≡ PassedUp → r.general ≡ 0 → ⊥
+no_open_pass large triad r e general =
+    by_service (eqb r.service (open_reply_service large)) (eq-eqb r.general 0 general) e
   where
     no_triad : (b : Bool) (success : OpenSuccess) → cond b (OpenSucceeded triad success) MalformedForItsKind ≡ PassedUp → ⊥
     no_triad true success f = cc
@@ -116,10 +115,17 @@ no_pass (OpeningKind triad) k r opened e general =
         (failure_row triad (failure_at r.data_))) t) ∙ f)
     by_service false t f = cc
 
+no_pass : (kind : Kind) (triad : Triad) (r : Reply) → opened_triad kind ≡ Some triad → kind_row kind r ≡ PassedUp → r.general ≡ 0 → ⊥
+no_pass UnconnectedKind triad r opened e general = let no : None ≡ Some triad = opened in cc
+no_pass (ClosingKind k) triad r opened e general = let no : None ≡ Some triad = opened in cc
+no_pass (OpeningKind triad) k r opened e general = no_open_pass false triad r e general
+no_pass (LargeKind triad) k r opened e general = no_open_pass true triad r e general
+
 late_general : (kind : Kind) (words : ℕ) (r : Reply) (bytes : List ℕ) → bytes ≡ timed_out_bytes kind words → reply_at bytes ≡ Ok r → r.general ≡ 1
 late_general UnconnectedKind words r bytes is e = ap (λ (x : Reply). x.general)
     (reply_is (reply_with (128 + 0x52) (link_status TicksSpent) (route_words_data (Some words))) r bytes (omega arith) is e)
-late_general (OpeningKind triad) words r bytes is e = failure_back (link_status TicksSpent) (failed_at triad words) r bytes is e
+late_general (OpeningKind triad) words r bytes is e = failure_back false (link_status TicksSpent) (failed_at triad words) r bytes is e
+late_general (LargeKind triad) words r bytes is e = failure_back true (link_status TicksSpent) (failed_at triad words) r bytes is e
 late_general (ClosingKind triad) words r bytes is e = ap (λ (x : Reply). x.general)
     (reply_is (reply_with 0xCE (link_status TicksSpent) (failure_data (failed_at triad words))) r bytes (omega arith) is e)
 
@@ -150,7 +156,7 @@ module _ (config : ModuleSettings) (port n : ℕ) (from : List ℕ) (oo : Open) 
 
   row_came : (event : Event) (row : RequestRow) → ((b : List ℕ) → event ≡ events.Frame port from (bodies.Request n b) → b ≡ open_bytes oo)
       → Came config event up row
-      → (row ≡ request.UnknownPortOrTooLong) ⊎ (row ≡ request.ForwardOpen (open_data oo))
+      → (row ≡ request.UnknownPortOrTooLong) ⊎ (row ≡ request.ForwardOpen oo.fields.large (open_data oo))
   row_came event row only came =
       let e : Link port from n ≡ Link came.port came.from came.number = came.up_is in
       let ports : port ≡ came.port = cc in
@@ -159,7 +165,7 @@ module _ (config : ModuleSettings) (port n : ℕ) (from : List ℕ) (oo : Open) 
       let is : event ≡ events.Frame port from (bodies.Request n came.bytes) = came.event_is
       ∙ (λ i. events.Frame (sym ports i) (sym froms i) (bodies.Request (sym numbers i) came.bytes)) in
       let bytes = only came.bytes is in
-      elim (open_row_is config came.port oo) as (λ _. (row ≡ request.UnknownPortOrTooLong) ⊎ (row ≡ request.ForwardOpen (open_data oo))) [
+      elim (open_row_is config came.port oo) as (λ _. (row ≡ request.UnknownPortOrTooLong) ⊎ (row ≡ request.ForwardOpen oo.fields.large (open_data oo))) [
         | inl u ↦ inl (sym came.meets ∙ ap (request_row config came.port) bytes ∙ u)
         | inr f ↦ inr (sym came.meets ∙ ap (request_row config came.port) bytes ∙ f)
       ]
@@ -188,11 +194,12 @@ module _ (config : ModuleSettings) (port n : ℕ) (from : List ℕ) (oo : Open) 
     -- the open that is read is the one that was sent
     pub open_asked : (o : Open) → AsksOpen config s event up o → o ≡ oo
     open_asked o (inl h) =
-        elim (row_came event (request.ForwardOpen h.asked) only h.came) as (λ _. o ≡ oo) [
+        elim (row_came event (request.ForwardOpen o.fields.large h.asked) only h.came) as (λ _. o ≡ oo) [
           | inl e ↦ absurd (cc)
           | inr e ↦
+              let large : o.fields.large ≡ oo.fields.large = cc in
               let same : h.asked ≡ open_data oo = cc in
-              open_data_read oo o (ap open_at (sym same) ∙ h.read)
+              open_data_read oo o ((λ i. open_at (sym large i) (sym same i)) ∙ h.read)
         ]
     open_asked o (inr h) = let e : Link port from n ≡ Local h.op = h.up_is in absurd (cc)
 
@@ -252,9 +259,9 @@ module _ (config : ModuleSettings) (port n : ℕ) (from : List ℕ) (oo : Open) 
       let id = f.next + cond (down_is_link o.down) 1 0 in
       (id, ap (λ (x : OwnIds). x.up) f.ids_are ∙ ap (λ b. cond b (Some id) None) link)
 
-  up_bytes : (o : Opening) (ids : OwnIds) (came : List ℕ) (done : OpenSuccess) → SentFor o ids
-      → success_up o.up ids came done ≡ open_reply_bytes (record done { ot_id = option_map_or (λ id. id) ids.up 0; to_id = oo.fields.to_id })
-  up_bytes o ids came done f = ap (λ (u : HopUp). success_up u ids came done) (ap (λ (x : Opening). x.up) f.opening_is)
+  up_bytes : (large : Bool) (o : Opening) (ids : OwnIds) (came : List ℕ) (done : OpenSuccess) → SentFor o ids
+      → success_up large o.up ids came done ≡ open_reply_bytes large (record done { ot_id = option_map_or (λ id. id) ids.up 0; to_id = oo.fields.to_id })
+  up_bytes large o ids came done f = ap (λ (u : HopUp). success_up large u ids came done) (ap (λ (x : Opening). x.up) f.opening_is)
 
   module _ (turns : List Turn) (turn : Turn) (h : IsHistory config (turn ∷ turns)) (asks : AllAsk port n from oo (turn ∷ turns)) (bytes : List ℕ)
       (reply : Reply) (success : OpenSuccess)
@@ -265,17 +272,11 @@ module _ (config : ModuleSettings) (port n : ℕ) (from : List ℕ) (oo : Open) 
     abbrev only : (b : List ℕ) → turn.event ≡ events.Frame port from (bodies.Request n b) → b ≡ open_bytes oo
     only = asks.0
 
-    fails : (status : Status) (f : ConnectionFailure) → bytes ≡ open_failure_bytes status f → (status.general ≡ 0 → ⊥) → ⊥
-    fails status f is wrong = wrong (sym (failure_back status f reply bytes is read) ∙ general)
+    fails : (large : Bool) (status : Status) (f : ConnectionFailure) → bytes ≡ open_failure_bytes large status f → (status.general ≡ 0 → ⊥) → ⊥
+    fails large status f is wrong = wrong (sym (failure_back large status f reply bytes is read) ∙ general)
 
-    unread_fails : (asked : List ℕ) (fault : DataFault) → bytes ≡ unread_open_bytes asked fault → ⊥
-    unread_fails asked fault =
-        cond_both (nat_lt (length asked) 36) (open_failure_bytes (open_status (opens.unread_row asked fault)) failed_unread)
-        (open_failure_bytes (open_status (opens.unread_row asked fault)) (record { triad = open_triad_of asked; words = open_words_of asked }))
-        (λ b. bytes ≡ b → ⊥)
-        (λ t e. fails (open_status (opens.unread_row asked fault)) failed_unread e (open_fails (opens.unread_row asked fault)))
-        (λ t e. fails (open_status (opens.unread_row asked fault)) (record { triad = open_triad_of asked; words = open_words_of asked }) e
-        (open_fails (opens.unread_row asked fault)))
+    unread_fails : (large : Bool) (asked : List ℕ) (fault : DataFault) → bytes ≡ unread_open_bytes large asked fault → ⊥
+    unread_fails large asked fault e = fails large (open_status (opens.unread_row large asked fault)) _ e (open_fails (opens.unread_row large asked fault))
 
     -- the open ended here
     ended : (o : Open) (link : EndLink) → AsksOpen config s0 turn.event up o → open_row config s0 (up_side_of up o.fields.to_id) o ≡ opens.Accepted link
@@ -291,9 +292,9 @@ module _ (config : ModuleSettings) (port n : ℕ) (from : List ℕ) (oo : Open) 
         let born_is : born config s0 turn.event ≡ Some opening =
         ap (born config s0) k.came.event_is
         ∙ ap (λ r. first_opened (request_effects config s0 v r)) k.came.meets
-        ∙ ap (λ r. first_opened (open_data_effects config s0 v k.asked r)) k.read
+        ∙ ap (λ r. first_opened (open_data_effects config s0 v o.fields.large k.asked r)) k.read
         ∙ ap (λ r. first_opened (open_effects s0 v o r)) row in
-        let id = success_back
+        let id = success_back o.fields.large
         (record { ot_id = s0.hops.next; to_id = o.fields.to_id; triad = o.fields.triad; ot_api = o.fields.ot_rpi; to_api = o.fields.to_rpi; reply = [] })
         success reply bytes is read success_is in
         record {
@@ -310,8 +311,9 @@ module _ (config : ModuleSettings) (port n : ℕ) (from : List ℕ) (oo : Open) 
     at_once (RequestFails service refusal came is) = absurd (no_refusal s0 turn.event only service refusal came)
     at_once (SendUnread asked fault came unread is) = absurd (no_unconnected s0 turn.event only asked came)
     at_once (SendFails u refusal asked meets is) = absurd (no_send_asked s0 turn.event only u asked)
-    at_once (OpenUnread asked fault came unread is) = absurd (unread_fails asked fault is)
-    at_once (OpenFails o refusal asked meets is) = absurd (fails (open_status refusal) (failed_at o.fields.triad (words_of o.path)) is (open_fails refusal))
+    at_once (OpenUnread large asked fault came unread is) = absurd (unread_fails large asked fault is)
+    at_once (OpenFails o refusal asked meets is) =
+        absurd (fails o.fields.large (open_status refusal) (failed_at o.fields.triad (words_of o.path)) is (open_fails refusal))
     at_once (OpenEnds o link asked meets is) = ended o link asked meets is
     at_once (CloseUnread asked fault came unread is) = absurd (no_close s0 turn.event only asked came)
     at_once (CloseFails sender c refusal asked meets is) = absurd (no_close_asked s0 turn.event only sender c asked)
@@ -346,7 +348,7 @@ module _ (config : ModuleSettings) (port n : ℕ) (from : List ℕ) (oo : Open) 
     opened_up : (before after : List Effect) (e : Effect) (number : ℕ) (triad : Triad) (came : List ℕ) (done : OpenSuccess) (p : Entry)
         → before ++ (e ∷ after) ≡ now.effects → Tells config s0 turn.event e
         → e ≡ Finishes number triad came done → map.get (applied config s0 before).pendings.entries number ≡ Some p → p.up ≡ up
-        → bytes ≡ succeeded (map.get (applied config s0 before).hops.held triad) came done → Below (turn ∷ turns) success
+        → bytes ≡ succeeded (is_large_kind p.kind) (map.get (applied config s0 before).hops.held triad) came done → Below (turn ∷ turns) success
     opened_up before after e number triad came done p is tells effect_is at ups bytes_are =
         let told : FinishesAs s0 turn.event number triad came done = subst (Tells config s0 turn.event) effect_is tells in
         let first : before ≡ [] = reply_alone config s0 turn.event now.effects before after e told.came.port number told.came.from came
@@ -360,10 +362,11 @@ module _ (config : ModuleSettings) (port n : ℕ) (from : List ℕ) (oo : Open) 
         (SentFor was.opening was.ids) turns asks.1 was.of
         (λ earlier t asked sent. sent_for number told.entry was.opening was.ids earlier t asked sent own) in
         let given = up_given was.opening was.ids sent in
-        let spelled : bytes ≡ open_reply_bytes (record done { ot_id = option_map_or (λ id. id) was.ids.up 0; to_id = oo.fields.to_id }) =
-        bytes_are ∙ ap (λ (es : List Effect). succeeded (map.get (applied config s0 es).hops.held triad) came done) first
-        ∙ ap (λ x. succeeded x came done) was.at ∙ up_bytes was.opening was.ids came done sent in
-        let id = success_back (record done {
+        let large = is_large_kind p.kind in
+        let spelled : bytes ≡ open_reply_bytes large (record done { ot_id = option_map_or (λ id. id) was.ids.up 0; to_id = oo.fields.to_id }) =
+        bytes_are ∙ ap (λ (es : List Effect). succeeded large (map.get (applied config s0 es).hops.held triad) came done) first
+        ∙ ap (λ x. succeeded large x came done) was.at ∙ up_bytes large was.opening was.ids came done sent in
+        let id = success_back large (record done {
           ot_id = option_map_or
               (λ id. id) was.ids.up 0;
           to_id = oo.fields.to_id;

@@ -1,5 +1,5 @@
 -- Each connection that came by a link was asked for by a connection above, under that one's down id.
-use Rattle.std.proofs.Common.{◌≡◌, ℕ, true, cond, List, [], ◌∷◌, ◌++◌, Ok, Some, None, refl, sym, ap, subst, ◌∙◌, inl, inr}
+use Rattle.std.proofs.Common.{◌≡◌, ℕ, true, cond, List, [], ◌∷◌, ◌++◌, Ok, Some, None, refl, sym, ap, subst, ◌∙◌, inl, inr, Bool}
 use Rattle.std.specs.FinMap as map
 use Rattle.cip_base.specs.declared.triad.Triad.{Triad}
 use Rattle.cip_segment.specs.Reading.{HopAt, hop_of}
@@ -80,14 +80,14 @@ pub record HasUpper (t : Chassis) (j : Journal) (here : Way) (o : Opening) (thei
   pub first_is : hop_of opening.path ≡ Some first
   pub path_is : o.path ≡ first.rest
 
-no_forward : (config there : ModuleSettings) (s : State) (event : Event) (sending : Sending) (p : ℕ) (asked : List ℕ) (kind : Kind)
+no_forward : (config there : ModuleSettings) (s : State) (event : Event) (sending : Sending) (p : ℕ) (large : Bool) (asked : List ℕ) (kind : Kind)
     → ForwardsAs config s event sending kind
-    → request_row there p sending.bytes ≡ ForwardOpen asked → ⊥
-no_forward config there s event sending p asked kind (SentOn is h) e =
-    message_no_open config there s.pendings h.u h.embedded sending.port p sending.address h.rest asked h.read h.meets
+    → request_row there p sending.bytes ≡ ForwardOpen large asked → ⊥
+no_forward config there s event sending p large asked kind (SentOn is h) e =
+    message_no_open config there s.pendings h.u h.embedded sending.port p sending.address h.rest asked large h.read h.meets
     (ap (request_row there p) (sym h.bytes_are) ∙ e)
-no_forward config there s event sending p asked kind (ClosedOn triad is h) e =
-    close_no_open there p _ asked (ap (request_row there p) (sym h.bytes_are) ∙ e)
+no_forward config there s event sending p large asked kind (ClosedOn triad is h) e =
+    close_no_open there p _ asked large (ap (request_row there p) (sym h.bytes_are) ∙ e)
 
 up_parts : (p q : ℕ) (a b : List ℕ) (c d : ℕ) → UpLink p a c ≡ UpLink q b d → (p ≡ q) × (a ≡ b) × (c ≡ d)
 up_parts p q a b c d e = (cc, cc, cc)
@@ -98,7 +98,8 @@ module _ (t : Chassis) (j : Journal) (g : ℕ) (config : ModuleSettings) (run : 
   Upper = HasUpper t j (way_in g port from) o their_id
 
   -- the request n with these bytes came by that link, and is read as this open
-  module _ (n : ℕ) (bytes asked : List ℕ) (request : OpenRequest) (row : request_row config port bytes ≡ ForwardOpen asked) (read : open_at asked ≡ Ok request)
+  module _ (n : ℕ) (bytes asked : List ℕ) (request : OpenRequest) (row : request_row config port bytes ≡ ForwardOpen request.fields.large asked)
+      (read : open_at request.fields.large asked ≡ Ok request)
       (to_id_is : request.fields.to_id ≡ their_id) (triad_is : o.triad ≡ request.fields.triad) (path_is : o.path ≡ request.path)
       (brought : Brought t j g port from (bodies.Request n bytes)) where
     abbrev above : Way
@@ -127,12 +128,14 @@ module _ (t : Chassis) (j : Journal) (g : ℕ) (config : ModuleSettings) (run : 
           → BeginsAs asker_is.0 s0 turn.event sending opening → sending.port ≡ above.port → sending.address ≡ above.address → sending.bytes ≡ bytes → Upper
       begun before after e sending opening place effect_is tells q_is a_is b_is =
           let oo : OpenRequest = lowered tells.o s0.hops.next tells.rest in
-          let whole : request_row config port (open_bytes oo) ≡ ForwardOpen asked = ap (request_row config port) (sym tells.bytes_are ∙ b_is) ∙ row in
-          let data_is : asked ≡ open_data oo = elim (open_row_is config port oo) as (λ _. asked ≡ open_data oo) [
-            | inl u ↦ let no : UnknownPortOrTooLong ≡ ForwardOpen asked = sym u ∙ whole in absurd (cc)
-            | inr f ↦ let same : ForwardOpen asked ≡ ForwardOpen (open_data oo) = sym whole ∙ f in cc
+          let large = request.fields.large in
+          let whole : request_row config port (open_bytes oo) ≡ ForwardOpen large asked = ap (request_row config port) (sym tells.bytes_are ∙ b_is) ∙ row in
+          let came : (large ≡ oo.fields.large) × (asked ≡ open_data oo) =
+          elim (open_row_is config port oo) as (λ _. (large ≡ oo.fields.large) × (asked ≡ open_data oo)) [
+            | inl u ↦ let no : UnknownPortOrTooLong ≡ ForwardOpen large asked = sym u ∙ whole in absurd (cc)
+            | inr f ↦ let same : ForwardOpen large asked ≡ ForwardOpen oo.fields.large (open_data oo) = sym whole ∙ f in (cc, cc)
           ] in
-          let same : request ≡ oo = open_data_read oo request (ap open_at (sym data_is) ∙ read) in
+          let same : request ≡ oo = open_data_read oo request ((λ i. open_at (sym came.0 i) (sym came.1 i)) ∙ read) in
           let birth_is = birth asker_is.0 earlier turn now before after e opening place (ap opened_by effect_is) in
           let link : down_is_link opening.down ≡ true = ap (λ (x : Opening). down_is_link x.down) tells.opening_is in
           record {
@@ -155,7 +158,7 @@ module _ (t : Chassis) (j : Journal) (g : ℕ) (config : ModuleSettings) (run : 
       by_sending : (e : Effect) (before after : List Effect) → before ++ (e ∷ after) ≡ now.effects
           → RequestBy asker_is.0 s0 turn.event e above.port above.address bytes → Upper
       by_sending e before after place (ByForward sending kind effect_is tells q_is a_is b_is) =
-          absurd (no_forward asker_is.0 config s0 turn.event sending port asked kind tells (ap (request_row config port) b_is ∙ row))
+          absurd (no_forward asker_is.0 config s0 turn.event sending port request.fields.large asked kind tells (ap (request_row config port) b_is ∙ row))
       by_sending e before after place
           (ByBegin sending opening effect_is tells q_is a_is b_is) = begun before after e sending opening place effect_is tells q_is a_is b_is
 

@@ -1,5 +1,5 @@
 -- The way of a reply: how it came about, step by step, down to the step that made it.
-use Rattle.std.proofs.Common.{◌≡◌, ℕ, zero, suc, ◌<◌, false, List, [], ◌∷◌, ◌++◌, Ok, Option, Some, None, refl, sym, ap, subst, ◌∙◌, inl, inr, arith}
+use Rattle.std.proofs.Common.{◌≡◌, ℕ, zero, suc, ◌<◌, false, List, [], ◌∷◌, ◌++◌, Ok, Option, Some, None, refl, sym, ap, subst, ◌∙◌, inl, inr, arith, Bool}
 use Rattle.std.specs.FinMap as map
 use Rattle.std.specs.Prelude.{slice_get}
 use Rattle.cip_base.specs.declared.triad.Triad.{Triad}
@@ -8,7 +8,7 @@ use Rattle.cip_message.specs.Reply.{Reply, reply_bytes}
 use Rattle.cip_message.specs.ReplyAt.{reply_at}
 use Rattle.cip_message.specs.Request.{Request}
 use Rattle.cip_open.specs.Success.{OpenSuccess}
-use Rattle.cip_pending.specs.Kinds.{opened_triad}
+use Rattle.cip_pending.specs.Kinds.{opened_triad, is_large_kind}
 use Rattle.cip_pending.specs.declared.entry.Entry as entries
 use Rattle.cip_pending.specs.declared.entry.UpSide.{UpSide}
 use Rattle.cip_pending.specs.declared.entry.UpSide.TheVariants.{Link, Local}
@@ -90,7 +90,8 @@ pub data Replied (t : Plan) (j : Journal) : (k : ℕ) → StepIn t j k → List 
       → (bytes : List ℕ) → Replied t j l r bytes → Replied t j k s bytes
   AsSuccess : (k : ℕ) (s : StepIn t j k) (n : ℕ) (p : entries.Entry) (put : PutAt s n p) (l : ℕ) (r : StepIn t j l) → Arrives t j k l s r n put.sending
       → (triad : Triad) → opened_triad p.kind ≡ Some triad → (came : List ℕ) (reply : Reply) → reply_at came ≡ Ok reply → reply.general ≡ 0
-      → (held : Option Held) (success : OpenSuccess) (bytes : List ℕ) → bytes ≡ succeeded held came success → Replied t j l r came → Replied t j k s bytes
+      → (large : Bool) (held : Option Held) (success : OpenSuccess) (bytes : List ℕ) → bytes ≡ succeeded large held came success → Replied t j l r came
+      → Replied t j k s bytes
 
 -- ---- frames of an entry
 
@@ -120,6 +121,7 @@ pub record CameBy (event : Event) (port n : ℕ) (from : List ℕ) : Type 0 wher
 
 command_local : (c : Command) (port n : ℕ) (from : List ℕ) → asker (events.Command c) ≡ Some (Link port from n) → ⊥
 command_local (commands.Open op timing path params) port n from e = cc
+command_local (commands.LargeOpen op timing path params) port n from e = cc
 command_local (commands.Close op of timing) port n from e = cc
 command_local (commands.Send op timing path asked) port n from e = cc
 command_local (commands.Enter of bytes) port n from e = cc
@@ -408,7 +410,7 @@ module _ (t : Chassis) (j : Journal) (run : IsRun t.plan j) (l : ℕ) (s : StepI
           replied =
               AsSuccess b.number b.step n p b.put b.below b.arrival b.arrives triad
               (ap (λ (x : entries.Entry). opened_triad x.kind) same ∙ told.kind) came told.reply told.came.read told.general
-              (map.get (applied config (state_before s) g.before).hops.held triad) success bytes bytes_are b.replied;
+              (is_large_kind p.kind) (map.get (applied config (state_before s) g.before).hops.held triad) success bytes bytes_are b.replied;
         }
     by_way g (Late n p effect_is at ups bytes_are) h =
         let told : PendingTimesOutAs (state_before s) s.taken.event n = subst (Tells config (state_before s) s.taken.event) effect_is g.tells in

@@ -1,5 +1,5 @@
 -- What an answer tells of the trail of its command.
-use Rattle.std.specs.Prelude.{◌≡◌, ◌≢◌, ℕ, ◌<◌, ◌==◌, if◌then◌else◌, List, [], ◌∷◌, ◌++◌, Option, Some, None, Result, Ok, Err, false, option_and_then, slice_index}
+use Rattle.std.specs.Prelude.{◌≡◌, ◌≢◌, ℕ, ◌<◌, ◌==◌, if◌then◌else◌, List, [], ◌∷◌, ◌++◌, Option, Some, None, Result, Ok, Err, false, option_and_then, slice_index, Bool, true}
 use Rattle.std.specs.FinMap as map
 use Rattle.std.specs.List.{list_any}
 use Rattle.cip_base.specs.Words.{Octets, OpNumber}
@@ -13,7 +13,7 @@ use Rattle.cip_message.specs.RequestAt.{request_at}
 use Rattle.cip_message.specs.declared.failure.ConnectionFailure.{ConnectionFailure}
 use Rattle.cip_message.specs.declared.fault.DataFault.{DataFault}
 use Rattle.cip_message.specs.declared.fault.RequestFault.{RequestFault}
-use Rattle.cip_open.specs.declared.request.TheConstants.{FORWARD_OPEN}
+use Rattle.cip_open.specs.declared.kinds.TheConstants.{FORWARD_OPEN, LARGE_FORWARD_OPEN}
 use Rattle.cip_open.specs.Open.{Open}
 use Rattle.cip_open.specs.OpenAt.{open_at, open_words_of}
 use Rattle.cip_pending.specs.declared.entry.Entry.{Entry as Pending}
@@ -49,7 +49,9 @@ use Rattle.cip_world.specs.Trails.{is_refusal}
 -- ---- words of a path as received
 
 abbrev pub request_words : Result Request RequestFault → Option ℕ
-request_words (Ok r) = if r.service == FORWARD_OPEN then open_words_of r.data_ else None
+request_words (Ok r) =
+    if r.service == FORWARD_OPEN then open_words_of false r.data_
+    else if r.service == LARGE_FORWARD_OPEN then open_words_of true r.data_ else None
 request_words (Err fault) = None
 
 abbrev pub body_words : Body → Option ℕ
@@ -59,13 +61,14 @@ body_words (bodies.Data id bytes) = None
 
 abbrev pub command_words : Command → Option ℕ
 command_words (commands.Open op timing path params) = Some (words_of path)
+command_words (commands.LargeOpen op timing path params) = Some (words_of path)
 command_words (commands.Close op of timing) = None
 command_words (commands.Send op timing path request) = None
 command_words (commands.Enter of bytes) = None
 command_words (commands.Set instance bytes) = None
 command_words (commands.Produce instance) = None
 
--- of an Open those of its path, of a Forward_Open that came its path size
+-- of an Open or LargeOpen those of its path, of an open that came its path size
 abbrev pub open_words : Event → Option ℕ
 open_words (events.Command command) = command_words command
 open_words (events.Frame port from body) = body_words body
@@ -109,9 +112,9 @@ pub record IsLast (k : ℕ) (ks : List ℕ) : Type 0 where
 -- a row of the open group refuses what the event asks
 pub data RefusedBy (config : ModuleSettings) (s : State) (event : Event) (refusal : OpenRefusal) :
     Type 0 where
-  Unread : (up : UpSide) (asked : Octets) (fault : DataFault)
-      → Came config event up (ForwardOpen asked) → open_at asked ≡ Err fault
-      → refusal ≡ unread_row asked fault → RefusedBy config s event refusal
+  Unread : (up : UpSide) (large : Bool) (asked : Octets) (fault : DataFault)
+      → Came config event up (ForwardOpen large asked) → open_at large asked ≡ Err fault
+      → refusal ≡ unread_row large asked fault → RefusedBy config s event refusal
   Read : (up : UpSide) (o : Open) → AsksOpen config s event up o
       → open_row config s (up_side_of up o.fields.to_id) o ≡ Refuses refusal
       → RefusedBy config s event refusal

@@ -28,6 +28,7 @@ is_refusal (outputs.Dropped reason) = false
 
 abbrev pub opens_or_sends : ℕ → Command → Bool
 opens_or_sends op (commands.Open o timing path params) = o == op
+opens_or_sends op (commands.LargeOpen o timing path params) = o == op
 opens_or_sends op (commands.Close o of timing) = false
 opens_or_sends op (commands.Send o timing path request) = o == op
 opens_or_sends op (commands.Enter of bytes) = false
@@ -39,7 +40,7 @@ asks_for op (inputs.Command command) = opens_or_sends op command
 asks_for op (inputs.Tick ms) = false
 asks_for op (inputs.Frame port from name) = false
 
--- an Open or a Send of this op at module m that is not refused
+-- an Open, a LargeOpen or a Send of this op at module m that is not refused
 abbrev pub is_command : ℕ → ℕ → Entry → Bool
 is_command m op (Step n input outs) =
     n.0 == m && asks_for op input && not (list_any is_refusal outs)
