@@ -44,6 +44,7 @@ fn opens_or_sends(command: &Command, op: u32) -> bool
 {
     match command {
         Command::Open { op: own, .. } => *own == op,
+        Command::LargeOpen { op: own, .. } => *own == op,
         Command::Send { op: own, .. } => *own == op,
         _ => false,
     }

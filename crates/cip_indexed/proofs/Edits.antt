@@ -1,5 +1,5 @@
 -- An edit of what came leaves what it becomes.
-use Rattle.std.proofs.Common.{◌≡◌, List, ℕ, sym, ◌∙◌}
+use Rattle.std.proofs.Common.{Bool, ◌≡◌, List, ℕ, sym, ◌∙◌}
 use Rattle.cip_segment.specs.Reading.{HopAt}
 use Rattle.cip_unconnected.specs.Unconnected.{Unconnected, unconnected_bytes}
 use Rattle.cip_unconnected.specs.GoesOn.{lowered, IsSendGoingOn}
@@ -24,5 +24,6 @@ module _ (came left b : List ℕ) where
   pub closed_on : ((c : Close) (hop : HopAt) → IsCloseGoingOn came c hop → left ≡ close_on c hop.rest) → Becomes came ClosedOn b → left ≡ b
   closed_on edit (c, hop, going, ticks, is) = edit c hop going ∙ sym is
 
-  pub success_up : (up their : ℕ) → ((s : OpenSuccess) → IsOpenSuccess came s → left ≡ success_with s up their) → Becomes came (SuccessUp up their) b → left ≡ b
-  success_up up their edit (s, success, is) = edit s success ∙ sym is
+  pub success_up : (up their : ℕ) → ((large : Bool) (s : OpenSuccess) → IsOpenSuccess large came s → left ≡ success_with large s up their)
+      → Becomes came (SuccessUp up their) b → left ≡ b
+  success_up up their edit (large, s, success, is) = edit large s success ∙ sym is

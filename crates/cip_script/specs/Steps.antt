@@ -11,6 +11,7 @@ use Rattle.cip_base.specs.declared.numbers.ModuleId.{ModuleId}
 use Rattle.cip_base.specs.declared.timing.Timing.{Timing}
 use Rattle.cip_event.specs.declared.event.Command.TheVariants as commands
 use Rattle.cip_event.specs.declared.event.OpenParams.{OpenParams}
+use Rattle.cip_event.specs.declared.event.LargeParams.{LargeParams}
 use Rattle.cip_world.specs.declared.journal.FrameName.{FrameName}
 use Rattle.cip_segment.specs.declared.segment.Segment.{Segment}
 use Rattle.cip_segment.specs.declared.fault.PathFault.{PathFault}
@@ -144,6 +145,36 @@ open_words names args = do
   params ← params_of args
   Ok (Feed m (commands.Open op timing path params))
 
+-- the same, with network connection parameters of 32 bits
+abbrev pub large_params_of : List (List ℕ) → Result LargeParams ScriptFault
+large_params_of args = do
+  serial ← bounded (2 ^ 16) (nth args 5)
+  multiplier ← bounded (2 ^ 8) (nth args 6)
+  transport ← bounded (2 ^ 8) (nth args 7)
+  ot_rpi ← bounded (2 ^ 32) (nth args 8)
+  ot_params ← bounded (2 ^ 32) (nth args 9)
+  to_rpi ← bounded (2 ^ 32) (nth args 10)
+  to_params ← bounded (2 ^ 32) (nth args 11)
+  Ok (record {
+    serial = serial;
+    multiplier = multiplier;
+    transport = transport;
+    ot_rpi = ot_rpi;
+    ot_params = ot_params;
+    to_rpi = to_rpi;
+    to_params = to_params;
+  })
+
+-- `large M OP TICK TICKS PATH SERIAL MULT TRANSPORT OT_RPI OT_PARAMS TO_RPI TO_PARAMS`
+abbrev pub large_words : List (List ℕ) → List (List ℕ) → Result Step ScriptFault
+large_words names args = do
+  m ← module_of names (nth args 0)
+  op ← bounded (2 ^ 32) (nth args 1)
+  timing ← timing_of (nth args 2) (nth args 3)
+  path ← path_of (nth args 4)
+  params ← large_params_of args
+  Ok (Feed m (commands.LargeOpen op timing path params))
+
 -- `close M OP OF TICK TICKS`
 abbrev pub close_words : List (List ℕ) → List (List ℕ) → Result Step ScriptFault
 close_words names args = do
@@ -241,6 +272,7 @@ abbrev pub step_by : Mode → List (List ℕ) → List ℕ → List (List ℕ) �
 step_by mode names word args =
     if bytes_eq word (codes "send") then of_words 6 args (send_words names args)
     else if bytes_eq word (codes "open") then of_words 12 args (open_words names args)
+    else if bytes_eq word (codes "large") then of_words 12 args (large_words names args)
     else if bytes_eq word (codes "close") then of_words 5 args (close_words names args)
     else if bytes_eq word (codes "enter") then of_words 3 args (enter_words names args)
     else if bytes_eq word (codes "set") then of_words 3 args (set_words names args)

@@ -39,7 +39,7 @@ pub enum Explained {
         place: usize,
         byte: u8,
     },
-    #[error("unknown word: {word}; allowed: send, open, close, enter, set, produce, tick, \
+    #[error("unknown word: {word}; allowed: send, open, large, close, enter, set, produce, tick, \
         deliver, lose, run, tables, trail, chain")]
     UnknownWord {
         word: Excerpt,
@@ -51,7 +51,8 @@ pub enum Explained {
         needed: usize,
         usage: &'static str,
     },
-    #[error("{word}: not with --threads; allowed: send, open, close, enter, set, produce, tick")]
+    #[error("{word}: not with --threads; allowed: send, open, large, close, enter, set, produce, \
+        tick")]
     NotWithThreads {
         word: Excerpt,
     },
@@ -71,7 +72,7 @@ pub enum Explained {
 fn usage_of(word: &str) -> Option<&'static str> {
     match word {
         "send" => Some("M OP TICK TICKS PATH REQUEST"),
-        "open" => {
+        "open" | "large" => {
             Some("M OP TICK TICKS PATH SERIAL MULT TRANSPORT OT_RPI OT_PARAMS TO_RPI TO_PARAMS")
         }
         "close" => Some("M OP OF TICK TICKS"),
@@ -87,9 +88,10 @@ fn usage_of(word: &str) -> Option<&'static str> {
     }
 }
 
-// The greatest number that may stand there.
-fn most_of(field: &str) -> Option<u64> {
+// The greatest number that may stand there in a line of that first word.
+fn most_of(first: &str, field: &str) -> Option<u64> {
     match field {
+        "OT_PARAMS" | "TO_PARAMS" if first == "large" => Some(4_294_967_295),
         "TICK" | "TICKS" | "MULT" | "TRANSPORT" => Some(255),
         "SERIAL" | "OT_PARAMS" | "TO_PARAMS" | "MS" => Some(65_535),
         "OP" | "OF" | "INSTANCE" | "OT_RPI" | "TO_RPI" => Some(4_294_967_295),
@@ -142,9 +144,10 @@ fn path_fault(alloc: Global, word: &str) -> Result<Option<WordFault>, NoMemory> 
     }
 }
 
-// Why the word is none that may stand there, where the line has this fault.
+// Why the word is none that may stand there, where the line, of that first word, has this fault.
 fn word_fault(
     alloc: Global,
+    first: &str,
     field: &str,
     word: &str,
     fault: ScriptFault,
@@ -152,7 +155,7 @@ fn word_fault(
     match (fault, field) {
         (ScriptFault::NoModule, "M") => Ok(Some(WordFault::NoModule)),
         (ScriptFault::BadNumber, "E.K") => Ok(Some(WordFault::NoName)),
-        (ScriptFault::BadNumber, field) => match most_of(field) {
+        (ScriptFault::BadNumber, field) => match most_of(first, field) {
             Some(most) => Ok(number_fault(field, word, most)),
             None => Ok(None),
         },
@@ -180,12 +183,13 @@ fn needed_of(alloc: Global, usage: &'static str) -> Result<usize, NoMemory> {
 // The first of the words that has the fault, its field, and why.
 fn first_fault<'a>(
     alloc: Global,
+    first: &str,
     fields: &[&'static str],
     args: &[&'a str],
     fault: ScriptFault,
 ) -> Result<Option<(&'static str, &'a str, WordFault)>, NoMemory> {
     for (field, found) in fields.iter().zip(args.iter()) {
-        if let Some(why) = word_fault(alloc, field, found, fault)? {
+        if let Some(why) = word_fault(alloc, first, field, found, fault)? {
             return Ok(Some((*field, *found, why)));
         }
     }
@@ -201,7 +205,7 @@ fn explain_words(
 ) -> Result<Explained, NoMemory> {
     let mut fields = Vec::new(alloc);
     text::words(usage, &mut fields)?;
-    match first_fault(alloc, fields.as_slice(), args, fault)? {
+    match first_fault(alloc, word, fields.as_slice(), args, fault)? {
         Some((field, found, why)) => Ok(Explained::Word {
             word: excerpt(word),
             field: excerpt(field),

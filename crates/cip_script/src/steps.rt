@@ -1,7 +1,8 @@
 //! The steps of a script, or its first faulty line.
 ghost use Rattle.std.specs.Prelude.{◌≡◌, ◌++◌, ◌∷◌, [], length, OnOk};
 ghost use Rattle.cip_script.specs.Steps.{Gives, Fails, Reads, of_words, send_words, params_of};
-ghost use Rattle.cip_script.specs.Steps.{open_words, close_words, enter_words, set_words};
+ghost use Rattle.cip_script.specs.Steps.{open_words, large_words, large_params_of};
+ghost use Rattle.cip_script.specs.Steps.{close_words, enter_words, set_words};
 ghost use Rattle.cip_script.specs.Steps.{produce_words, tick_words, deliver_words, lose_words};
 ghost use Rattle.cip_script.specs.Steps.{run_words, tables_words, trail_words, chain_words};
 ghost use Rattle.cip_script.specs.Steps.{world_step, is_world_word, not_with_threads, step_by};
@@ -15,7 +16,7 @@ use crate::words::{
     path_of, timing_of,
 };
 use cip_base::{Bytes, ModuleId, Ms};
-use cip_module::{Command, OpenParams};
+use cip_module::{Command, LargeParams, OpenParams};
 use cip_world::FrameName;
 use std::alloc::{AllocError, Global};
 use thiserror::Error;
@@ -178,6 +179,50 @@ fn open_step(alloc: Global, names: &[Bytes], args: &[&str]) -> Result<Step, Step
     let path = path_of(alloc, nth(args, 4))?;
     let params = params_at(args)?;
     let command = Command::Open {
+        op,
+        timing,
+        path,
+        params,
+    };
+    Ok(Step::Feed { module_, command })
+}
+
+// The same, with network connection parameters of 32 bits.
+fn large_params_at(args: &[&str]) -> Result<LargeParams, StepFault>
+    requires { length args.now ≡ 12 }
+    ensures { Gives result (large_params_of (texts args.now)) }
+{
+    let serial = number_u16(nth(args, 5))?;
+    let multiplier = number_u8(nth(args, 6))?;
+    let transport = number_u8(nth(args, 7))?;
+    let ot_rpi = number_u32(nth(args, 8))?;
+    let ot_params = number_u32(nth(args, 9))?;
+    let to_rpi = number_u32(nth(args, 10))?;
+    let to_params = number_u32(nth(args, 11))?;
+    Ok(LargeParams {
+        serial,
+        multiplier,
+        transport,
+        ot_rpi,
+        ot_params,
+        to_rpi,
+        to_params,
+    })
+}
+
+// `large M OP TICK TICKS PATH SERIAL MULT TRANSPORT OT_RPI OT_PARAMS TO_RPI TO_PARAMS`
+fn large_step(alloc: Global, names: &[Bytes], args: &[&str]) -> Result<Step, StepFault>
+    ensures { Gives result (of_words 12 (texts args.now) (large_words names.now (texts args.now))) }
+{
+    if args.len() != 12 {
+        return Err(StepFault::Fault(ScriptFault::Count));
+    }
+    let module_ = module_of(names, nth(args, 0))?;
+    let op = number_u32(nth(args, 1))?;
+    let timing = timing_of(nth(args, 2), nth(args, 3))?;
+    let path = path_of(alloc, nth(args, 4))?;
+    let params = large_params_at(args)?;
+    let command = Command::LargeOpen {
         op,
         timing,
         path,
@@ -380,6 +425,8 @@ fn step_of(
         send_step(alloc, names, args)
     } else if word == "open" {
         open_step(alloc, names, args)
+    } else if word == "large" {
+        large_step(alloc, names, args)
     } else if word == "close" {
         close_step(names, args)
     } else if word == "enter" {

@@ -4,7 +4,7 @@ ghost use Rattle.cip_world.specs.Journals.{Flight, event_of, frame_at};
 
 use crate::views::TakenTurn;
 use cip_base::{Bytes, Timing};
-use cip_module::{Body, Command, Event, OpenParams, Output};
+use cip_module::{Body, Command, Event, LargeParams, OpenParams, Output};
 use cip_segment::Path;
 use cip_world::{Entry, FrameName, Input, Outputs, frame_at};
 
@@ -27,6 +27,12 @@ fn is_same_timing(left: Timing, right: Timing) -> bool
 }
 
 fn is_same_params(left: OpenParams, right: OpenParams) -> bool
+    ensures { IsTrue result → left ≡ right }
+{
+    left == right
+}
+
+fn is_same_large_params(left: LargeParams, right: LargeParams) -> bool
     ensures { IsTrue result → left ≡ right }
 {
     left == right
@@ -67,6 +73,25 @@ pub(crate) fn is_same_command(left: &Command, right: &Command) -> bool
                 && is_same_timing(*timing, *other_timing)
                 && is_same_path(path, other_path)
                 && is_same_params(*params, *other_params)
+        }
+        (
+            Command::LargeOpen {
+                op,
+                timing,
+                path,
+                params,
+            },
+            Command::LargeOpen {
+                op: other_op,
+                timing: other_timing,
+                path: other_path,
+                params: other_params,
+            },
+        ) => {
+            *op == *other_op
+                && is_same_timing(*timing, *other_timing)
+                && is_same_path(path, other_path)
+                && is_same_large_params(*params, *other_params)
         }
         (
             Command::Close { op, of, timing },

@@ -89,6 +89,7 @@ frame_text f = decimal f.entry ++ codes "." ++ decimal f.output
 
 abbrev pub command_text : Command → List ℕ
 command_text (commands.Open op timing path params) = codes "open " ++ decimal op
+command_text (commands.LargeOpen op timing path params) = codes "large " ++ decimal op
 command_text (commands.Close op of timing) = codes "close " ++ decimal op
 command_text (commands.Enter of bytes) = codes "enter " ++ decimal of
 command_text (commands.Set instance bytes) = codes "set " ++ decimal instance

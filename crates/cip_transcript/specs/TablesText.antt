@@ -1,7 +1,7 @@
 -- The tables of a module as lines. Numbers are decimal; bytes are upper-case pairs, `-` for none.
 use Rattle.std.specs.Prelude.{ℕ, List, [], ◌∷◌, ◌++◌, Option, codes, decimal}
 use Rattle.cip_pending.specs.declared.entry.Kind.{Kind}
-use Rattle.cip_pending.specs.declared.entry.Kind.TheVariants.{Unconnected, Opening, Closing}
+use Rattle.cip_pending.specs.declared.entry.Kind.TheVariants.{Unconnected, Opening, OpeningLarge, Closing}
 use Rattle.cip_hops.specs.declared.opening.HopUp.{HopUp}
 use Rattle.cip_hops.specs.declared.opening.HopUp.TheVariants as ups
 use Rattle.cip_hops.specs.declared.opening.HopDown.{HopDown}
@@ -16,6 +16,7 @@ use Rattle.cip_transcript.specs.Show.{bytes_text, optional_text, triad_text}
 abbrev pub kind_text : Kind → List ℕ
 kind_text Unconnected = codes "unconnected"
 kind_text (Opening triad) = codes "opening " ++ triad_text triad
+kind_text (OpeningLarge triad) = codes "large " ++ triad_text triad
 kind_text (Closing triad) = codes "closing " ++ triad_text triad
 
 -- a request that waits: number, port, address, deadline in microseconds, words of its path

@@ -184,6 +184,7 @@ fn put_command(text: &mut Vec<u8>, command: &Command) -> Result<(), NoMemory>
 {
     match command {
         Command::Open { op, .. } => put_numbered(text, b" open ", u64::from(*op)),
+        Command::LargeOpen { op, .. } => put_numbered(text, b" large ", u64::from(*op)),
         Command::Close { op, .. } => put_numbered(text, b" close ", u64::from(*op)),
         Command::Send { op, .. } => put_numbered(text, b" send ", u64::from(*op)),
         Command::Enter { of, .. } => put_numbered(text, b" enter ", u64::from(*of)),

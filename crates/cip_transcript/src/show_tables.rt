@@ -21,6 +21,10 @@ fn put_kind(text: &mut Vec<u8>, kind: &Kind) -> Result<(), NoMemory>
             put(text, b"opening ")?;
             put_triad(text, triad)
         }
+        Kind::OpeningLarge(triad) => {
+            put(text, b"large ")?;
+            put_triad(text, triad)
+        }
         Kind::Closing(triad) => {
             put(text, b"closing ")?;
             put_triad(text, triad)

@@ -1,7 +1,7 @@
 //! The events that a script's lines ask for.
 use crate::words::Words;
 use cip_base::Ms;
-use cip_module::{Body, Command, Event, OpenParams};
+use cip_module::{Body, Command, Event, LargeParams, OpenParams};
 
 // `OP TICK TICKS PATH REQUEST`
 fn send(words: &mut Words) -> Option<Command> {
@@ -36,6 +36,29 @@ fn open(words: &mut Words) -> Option<Command> {
     })
 }
 
+// The same with network connection parameters of 32 bits.
+fn large_params(words: &mut Words) -> Option<LargeParams> {
+    Some(LargeParams {
+        serial: words.u16()?,
+        multiplier: words.u8()?,
+        transport: words.u8()?,
+        ot_rpi: words.u32()?,
+        ot_params: words.u32()?,
+        to_rpi: words.u32()?,
+        to_params: words.u32()?,
+    })
+}
+
+// `OP TICK TICKS PATH`, and the parameters.
+fn large(words: &mut Words) -> Option<Command> {
+    Some(Command::LargeOpen {
+        op: words.u32()?,
+        timing: words.timing()?,
+        path: words.path()?,
+        params: large_params(words)?,
+    })
+}
+
 // `OP OF TICK TICKS`
 fn close(words: &mut Words) -> Option<Command> {
     Some(Command::Close {
@@ -50,6 +73,7 @@ fn command(name: &str, words: &mut Words) -> Option<Command> {
     match name {
         "send" => send(words),
         "open" => open(words),
+        "large" => large(words),
         "close" => close(words),
         "enter" => Some(Command::Enter {
             of: words.u32()?,

@@ -140,6 +140,7 @@ impl fmt::Display for Asked {
         match self.0 {
             Kind::Unconnected => write!(f, "unconnected"),
             Kind::Opening(triad) => write!(f, "opening {}", Numbers(triad)),
+            Kind::OpeningLarge(triad) => write!(f, "large {}", Numbers(triad)),
             Kind::Closing(triad) => write!(f, "closing {}", Numbers(triad)),
         }
     }
