@@ -65,7 +65,7 @@ class Life:
 
     def plain_request(self):
         path = self.object()
-        service = self.one(0x01, 0x0E, 0x0E, 0x10, 0x10, 0x10, 0x4B, 0x52, 0x54, 0x4E)
+        service = self.one(0x01, 0x0E, 0x0E, 0x10, 0x10, 0x10, 0x4B, 0x52, 0x54, 0x5B, 0x4E)
         return bytes([service, len(path) // 2]) + path + self.one(b"", b"", b"ab", b"abcd", b"abcd", b"abcdef")
 
     def timing(self):
@@ -76,6 +76,10 @@ class Life:
         size = one(4, 6, 2, 0, 4, 6, 511)
         return one(0x4800, 0x4800, 0x4800, 0x4A00, 0x5C00, 0x4000, 0x2800, 0x0800, 0x6000, 0xC800) | size
 
+    def widened(self, params):
+        """Parameters of a word in a double word, the size mostly as it is."""
+        return (params & 0xFE00) << 16 | params & 0x1FF | self.one(0, 0, 0, 0, 0x200, 0xFE00, 0x10000)
+
     def triad(self):
         one = self.one
         return put(one(0x42, 0x43, 0x44)) + put(one(0x0101, 0x0101, 0x0101, 2)) + put(one(0x0A0B0C0D, 0x0A0B0C0D, 0x0A0A), 4)
@@ -84,15 +88,17 @@ class Life:
         """A request to a Connection Manager."""
         one, (tick, ticks), path = self.one, self.timing(), self.path()
         timing = bytes([tick, ticks])
-        kind = one("open", "open", "open", "close", "send")
-        if kind == "open":
+        kind = one("open", "open", "large", "close", "send")
+        if kind in ("open", "large"):
             fields = self.triad() + bytes([one(0, 0, 0, 1, 7, 8)]) + bytes(3) + put(one(10_000, 10_000, 1, 0, COUNT), 4)
             sizes = one((0x4806, 0x4804), (0x4804, 0x4802), (self.params(), self.params()))
-            fields += put(sizes[0]) + put(one(10_000, 10_000, 10_000, 0, 777), 4) + put(sizes[1])
+            width, service = (2, b"\x54") if kind == "open" else (4, b"\x5b")
+            words = sizes if kind == "open" else (self.widened(sizes[0]), self.widened(sizes[1]))
+            fields += put(words[0], width) + put(one(10_000, 10_000, 10_000, 0, 777), 4) + put(words[1], width)
             transport = one(0, 1) if sizes != (0x4804, 0x4802) else 0
             ids = put(one(0, 0, 5), 4) + put(one(0x11, 0x21, 0x31, 77), 4)
             last = bytes([one(transport, 1, 1, 0x81, 2, 3), len(path) // 2])
-            data = b"\x54" + HEADER + timing + ids + fields + last + path
+            data = service + HEADER + timing + ids + fields + last + path
         elif kind == "close":
             data = b"\x4e" + HEADER + timing + self.triad() + bytes([len(path) // 2, one(0, 0, 9)]) + path
         else:
@@ -127,19 +133,22 @@ class Life:
         op = one(*[self.op] * 9, max(1, self.op - 1))
         opened = [it["up"][1] for it in self.script.modules[name].hops.values() if it["up"][0] == "op"]
         of = one(*opened * 3, max(1, self.op - self.draw.randrange(8)))
-        kind = one(*["send"] * 2, *["open"] * 3, "close", *["enter"] * 4, "set", *["produce"] * 2)
-        if kind in ("send", "open") and not is_path(path):
+        kind = one(*["send"] * 2, *["open"] * 2, "large", "close", *["enter"] * 4, "set", *["produce"] * 2)
+        if kind in ("send", "open", "large") and not is_path(path):
             path = PATH
         if kind == "send":
             request = one(self.plain_request(), IDENTITY, b"", b"\x52", bytes(one(1_380, 1_384, 1_400)))
             return name, ("send", op, *self.timing(), path[:-8] if one(0, 1) and is_path(path[:-8]) else path, request)
-        if kind == "open":
+        if kind in ("open", "large"):
             output, params = one((b"\x65", 0x4806), (b"\x67", 0x4806), (b"\x64", 0x4802)), (0x4806, 0x4804)
             if path == PATH:
                 path, params = PATH[:11] + output[0] + PATH[12:], (output[1], 0x4804)
             opens = (one(0x42, 0x43, 0x44), one(0, 0, 0, 3), 1, one(10_000, 20_000), params[0], 10_000, params[1])
             odd = (one(0x42, 0x43), one(0, 9), one(1, 0, 3), one(10_000, 0, 777), self.params(), one(10_000, 0), self.params())
-            return name, ("open", op, *self.timing(), path, *one(opens, opens, opens, odd))
+            asked = list(one(opens, opens, opens, odd))
+            if kind == "large":
+                asked[4], asked[6] = self.widened(asked[4]), self.widened(asked[6])
+            return name, (kind, op, *self.timing(), path, *asked)
         if kind == "close":
             return name, ("close", op, of, *self.timing())
         if kind == "enter":
@@ -235,7 +244,7 @@ def broken(name, lines, seen):
     for words in pendings:
         if int(words[1]) > int(last_number):
             found.append("a pending has a number to come")
-        if "opening" in words:
+        if "opening" in words or "large" in words:
             triads.append(words[-3:])
     for line in lines:
         if line.startswith("hop"):

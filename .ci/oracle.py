@@ -10,6 +10,9 @@ from collections import Counter
 LAST, COUNT = 9_223_372_036_854_775_807, 0xFFFFFFFF
 MESSAGE, EMBEDDED, HEADER, ROOM = 66_000, 65_535, bytes.fromhex("0220062401"), 256
 CLASS, INSTANCE, MEMBER, POINT, ATTRIBUTE = range(5)
+# the bytes of network connection parameters, and what waits for the reply, of Forward_Open and Large_Forward_Open
+WIDTH, OPENING = {0x54: 2, 0x5B: 4}, {0x54: "opening", 0x5B: "large"}
+OPENS = {kind: service for service, kind in OPENING.items()}
 # last legal address of the link, own address
 CHASSIS = {
     "S": (14, 9, 0x0A0B0C0D, "SC", 0x11, {2: (0xFE, 0x01)}, {}),
@@ -18,6 +21,7 @@ CHASSIS = {
     "E": (12, 3, 0x00000E0E, "EA", 0x41, {2: (0x3F, 0x07)}, {100: 0, 101: 4, 102: 2, 103: 4}),
 }
 ODD_SIZES = {100: 3, 101: 4, 102: 2, 103: 5}
+LARGE_SIZES = {100: 0, 101: 4, 102: 2, 103: 4, 110: 600}
 # on which link a module's port stands
 LINKS = {("S", 2): "LAN", ("A", 2): "LAN", ("A", 1): "RACK", ("B", 1): "RACK", ("B", 2): "SUB", ("E", 2): "SUB"}
 STATUS = {
@@ -199,14 +203,15 @@ def frames_of(name, lines):
 
 
 class Module:
-    """A module of the chassis. `settings` are those that the driver knows: kind 2 is an adapter, sizes 1 are odd ones."""
+    """A module of the chassis. `settings` are those that the driver knows: kind 2 is an adapter, sizes 1 are odd ones, sizes 2 have
+    one of 600 bytes."""
 
     hits = Counter()
 
     def __init__(self, name, **settings):
         self.name, self.is_adapter = name, settings.get("kind", 2 if name == "E" else 0) == 2
         self.type, self.product, self.serial, self.product_name, first_id, self.ports, self.sizes = CHASSIS[name]
-        self.sizes = ODD_SIZES if settings.get("sizes") else self.sizes
+        self.sizes = [self.sizes, ODD_SIZES, LARGE_SIZES][settings.get("sizes", 0)]
         self.now, self.id = settings.get("clock", 0), settings.get("first_id", first_id) - 1
         self.number = settings.get("first_number", 1) - 1
         self.pending_room, self.hop_room = settings.get("pending_room", ROOM), settings.get("hop_room", ROOM)
@@ -281,10 +286,12 @@ class Module:
         if named[0] == 6:
             if named[1] != 1:
                 return [self.replied(up, self.refused("request", "no such Connection Manager instance", service))]
-            if service not in (0x52, 0x54, 0x4E):
+            if service not in (0x52, 0x54, 0x5B, 0x4E):
                 return [self.replied(up, self.refused("request", "service not supported", service))]
             self.hit("request", "Connection Manager")
-            return {0x52: self.unconnected, 0x54: self.forward_open, 0x4E: self.forward_close}[service](up, data)
+            if service in WIDTH:
+                return self.forward_open(up, data, service)
+            return {0x52: self.unconnected, 0x4E: self.forward_close}[service](up, data)
         self.hit("request", "target")
         return [self.replied(up, self.target(*read))]
 
@@ -360,17 +367,22 @@ class Module:
         message = b"\x52" + HEADER + fixed + bytes([len(rest) // 2, 0]) + rest if rest else embedded
         return self.sent_on(up, hop, data[:2], data[place], None, message)
 
-    def forward_open(self, up, data):
-        def no(row, status=None):
-            known = data[10:18] + data[35:36] + b"\x00" if len(data) >= 36 else b""
-            return [self.replied(up, self.refused("open", row, 0x54, known, status))]
+    def forward_open(self, up, data, service):
+        # the network connection parameters have so many bytes, and all behind them moves by as many
+        width = WIDTH[service]
+        second, size, start = 26 + width, 31 + 2 * width, 32 + 2 * width
 
-        row = self.cut(data, 35, 36)
+        def no(row, status=None):
+            known = data[10:18] + data[size:start] + b"\x00" if len(data) >= start else b""
+            return [self.replied(up, self.refused("open", row, service, known, status))]
+
+        row = self.cut(data, size, start)
         if row:
             return no(row)
-        path, triad = data[36:], (num(data, 10), num(data, 12), num(data, 14, 4))
-        params, rpis, transport = [num(data, 26), num(data, 32)], [num(data, 22, 4), num(data, 28, 4)], data[34]
-        if any(it >> 13 != 2 for it in params) or data[18] > 7:
+        path, triad = data[start:], (num(data, 10), num(data, 12), num(data, 14, 4))
+        params, rpis = [num(data, 26, width), num(data, second + 4, width)], [num(data, 22, 4), num(data, second, 4)]
+        transport = data[size - 1]
+        if any(it >> 8 * width - 3 != 2 for it in params) or data[18] > 7:
             return no("connection type not supported")
         if 0 in rpis:
             return no("RPI of zero")
@@ -380,7 +392,7 @@ class Module:
         if self.key_fault(key):
             return no("key mismatch", self.key_fault(key))
         is_full, left = len(self.hops) + len(self.openings) >= self.hop_room, COUNT - self.id
-        sizes = [it & 0x1FF for it in params]
+        sizes = [it & (0x1FF if width == 2 else 0xFFFF) for it in params]
         made = {"up": up, "path": path, "sizes": sizes, "class": transport & 15, "their_up": num(data, 6, 4)}
         made.update(consumed=None, produced=0, watch=[rpi << data[18] + 2 for rpi in rpis], link=hop and hop[:2])
         if hop:
@@ -394,9 +406,9 @@ class Module:
             made["own"] = None if up[0] == "op" else self.drawn()
             self.openings[triad] = made
             rest = hop[2]
-            fixed = bytes([data[0], data[1] - 1]) + data[2:6] + put(made["down"], 4) + data[10:19] + bytes(3) + data[22:35]
-            message = b"\x54" + HEADER + fixed + bytes([len(rest) // 2]) + rest
-            return self.sent_on(up, hop, data[:2], data[35], ("opening", triad), message)
+            fixed = bytes([data[0], data[1] - 1]) + data[2:6] + put(made["down"], 4) + data[10:19] + bytes(3) + data[22:size]
+            message = bytes([service]) + HEADER + fixed + bytes([len(rest) // 2]) + rest
+            return self.sent_on(up, hop, data[:2], data[size], (OPENING[service], triad), message)
         found = application(path)
         if up[0] == "op" or found is None:
             return no("not an application path")
@@ -417,7 +429,8 @@ class Module:
         made.update(end=(config, consume, produce), own=self.drawn(), due=[self.now + made["watch"][0], None])
         self.hops[triad] = made
         self.assemblies[config] = written[:wanted]
-        return [self.replied(up, b"\xd4\0\0\0" + put(made["own"], 4) + data[6:18] + data[22:26] + data[28:32] + b"\0\0")]
+        intervals = data[22:26] + data[second : second + 4]
+        return [self.replied(up, bytes([service | 0x80, 0, 0, 0]) + put(made["own"], 4) + data[6:18] + intervals + b"\0\0")]
 
     def drawn(self):
         self.id += 1
@@ -475,7 +488,7 @@ class Module:
         if not self.is_reply(kind, data):
             return no("malformed for its kind", "Malformed")
         del self.pendings[number]
-        opening = self.openings.pop(kind[1]) if kind and kind[0] == "opening" else None
+        opening = self.openings.pop(kind[1]) if kind and kind[0] in OPENS else None
         if opening is None or data[2] != 0:
             return self.hit("reply", "passed up", [self.replied(up, data)])
         self.hit("reply", "open succeeded")
@@ -483,7 +496,8 @@ class Module:
         opening.update(their_down=num(data, 4, 4), due=[None if up[0] == "op" else due[0], due[1]])
         self.hops[kind[1]] = opening
         if up[0] == "link":
-            data = b"\xd4\0\0\0" + put(opening["own"], 4) + put(opening["their_up"], 4) + data[12:29] + b"\0" + data[30:]
+            ids = put(opening["own"], 4) + put(opening["their_up"], 4)
+            data = data[:1] + b"\0\0\0" + ids + data[12:29] + b"\0" + data[30:]
         return [self.replied(up, data)]
 
     def is_reply(self, kind, data):
@@ -492,7 +506,7 @@ class Module:
             return False
         if kind is None:
             return True
-        service, at, fixed = (0xD4, 8, 26) if kind[0] == "opening" else (0xCE, 0, 10)
+        service, at, fixed = (OPENS[kind[0]] | 0x80, 8, 26) if kind[0] in OPENS else (0xCE, 0, 10)
         triad = put(kind[1][0]) + put(kind[1][1]) + put(kind[1][2], 4)
         rest = data[4 + 2 * data[3] :]
         if data[0] != service:
@@ -540,10 +554,10 @@ class Module:
         for number in sorted(number for number, it in self.pendings.items() if it[3] <= self.now):
             up, _, _, _, words, kind = self.pendings.pop(number)
             self.hit("tick", "pending due")
-            if kind and kind[0] == "opening":
+            if kind and kind[0] in OPENS:
                 del self.openings[kind[1]]
             triad = put(kind[1][0]) + put(kind[1][1]) + put(kind[1][2], 4) if kind else b""
-            service = 0x52 if kind is None else 0x54 if kind[0] == "opening" else 0x4E
+            service = 0x52 if kind is None else OPENS.get(kind[0], 0x4E)
             outputs.append(self.replied(up, failure(service, "0204", triad + bytes([words]) + (b"\0" if kind else b""))))
         lapsed = [triad for triad, it in self.hops.items() if any(due is not None and due <= self.now for due in it["due"])]
         for triad in sorted(lapsed):
@@ -575,14 +589,21 @@ class Module:
         self.ops.add(op)
         return self.unconnected(("op", op), data)
 
-    def open(self, op, tick, ticks, path, serial, multiplier, transport, ot_rpi, ot_params, to_rpi, to_params):
+    def open(self, *words):
+        return self.asked(0x54, *words)
+
+    def large(self, *words):
+        return self.asked(0x5B, *words)
+
+    def asked(self, service, op, tick, ticks, path, serial, multiplier, transport, ot_rpi, ot_params, to_rpi, to_params):
         if op in self.ops:
             return self.no("op used", "OpUsed")
         self.hit("command", "taken")
         self.ops.add(op)
         ids = bytes([tick, ticks]) + bytes(8) + put(serial) + put(0x0101) + put(self.serial, 4) + bytes([multiplier, 0, 0, 0])
-        asked = put(ot_rpi, 4) + put(ot_params) + put(to_rpi, 4) + put(to_params) + bytes([transport, len(path) // 2])
-        return self.forward_open(("op", op), ids + asked + path)
+        width = WIDTH[service]
+        asked = put(ot_rpi, 4) + put(ot_params, width) + put(to_rpi, 4) + put(to_params, width)
+        return self.forward_open(("op", op), ids + asked + bytes([transport, len(path) // 2]) + path, service)
 
     def close(self, op, of, tick, ticks):
         if op in self.ops:

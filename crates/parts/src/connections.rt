@@ -67,6 +67,7 @@ fn opening(alloc: Global, serial: u16, up: HopUp, down: HopDown) -> Option<Openi
         to_rpi: 20_000,
         multiplier: 0,
         class: 1,
+        large: false,
     })
 }
 

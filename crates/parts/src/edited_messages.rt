@@ -15,7 +15,7 @@ ghost use Rattle.cip_close.specs.GoesOn.{IsCloseGoingOn};
 use crate::rows::{Pairs, Part, Words, play};
 use cip_close::{FORWARD_CLOSE, read_close};
 use cip_message::{CONNECTION_MANAGER, read_reply, read_request};
-use cip_open::{FORWARD_OPEN, FORWARD_OPEN_REPLY, read_open, read_open_reply};
+use cip_open::{open_reply_service, open_service, read_open_of, read_open_reply};
 use cip_rewrite::{
     forward_close_bytes, forward_open_bytes, forward_unconnected_bytes, success_up_bytes,
     unwrap_bytes,
@@ -61,13 +61,13 @@ fn left(path: PathView<'_>) -> Option<PathView<'_>>
     }
 }
 
-// A Forward_Open that can go on.
-fn is_open(bytes: &[u8]) -> bool
+// An open, large or not, that can go on.
+fn is_open(large: bool, bytes: &[u8]) -> bool
     ensures { IsTrue result → ((o : Open) × (hop : HopAt) × IsOpenGoingOn bytes.now o hop
         × (1 ≤ o.fields.timing.ticks)) }
 {
-    match received(bytes, FORWARD_OPEN) {
-        Some(found) => match read_open(found) {
+    match received(bytes, open_service(large)) {
+        Some(found) => match read_open_of(large, found) {
             Ok(view) => match left(view.path) {
                 Some(_) => view.fields.timing.ticks >= 1,
                 None => false,
@@ -118,14 +118,14 @@ fn send_left(bytes: &[u8]) -> Option<usize>
     }
 }
 
-// The reply of a successful Forward_Open.
-fn is_success(bytes: &[u8]) -> bool
-    ensures { IsTrue result → ((s : OpenSuccess) × IsOpenSuccess bytes.now s) }
+// The reply of a successful open, large or not.
+fn is_success(large: bool, bytes: &[u8]) -> bool
+    ensures { IsTrue result → ((s : OpenSuccess) × IsOpenSuccess large bytes.now s) }
 {
     match read_reply(bytes) {
         Ok(reply) => match read_open_reply(reply.data_) {
             Ok(_) => {
-                if reply.service != FORWARD_OPEN_REPLY || reply.general != 0 {
+                if reply.service != open_reply_service(large) || reply.general != 0 {
                     return false;
                 }
                 reply.extra.is_empty()
@@ -138,23 +138,23 @@ fn is_success(bytes: &[u8]) -> bool
 
 // ---- the edits
 
-// `ID BYTES`: an open as it goes on with this id.
-fn open_on(words: &mut Words) -> Option<Vec<u8>> {
+// `ID BYTES`: an open, large or not, as it goes on with this id.
+fn open_on(large: bool, words: &mut Words) -> Option<Vec<u8>> {
     let id = words.u32()?;
     let mut bytes = words.bytes()?;
-    if !is_open(bytes.as_slice()) {
+    if !is_open(large, bytes.as_slice()) {
         return None;
     }
     forward_open_bytes(&mut bytes, id);
     Some(bytes)
 }
 
-// `UP_ID THEIR_ID BYTES`: a success as it goes up with these ids.
-fn success_up(words: &mut Words) -> Option<Vec<u8>> {
+// `UP_ID THEIR_ID BYTES`: a success of an open, large or not, as it goes up with these ids.
+fn success_up(large: bool, words: &mut Words) -> Option<Vec<u8>> {
     let up_id = words.u32()?;
     let their_id = words.u32()?;
     let mut bytes = words.bytes()?;
-    if !is_success(bytes.as_slice()) {
+    if !is_success(large, bytes.as_slice()) {
         return None;
     }
     success_up_bytes(&mut bytes, up_id, their_id);
@@ -190,8 +190,10 @@ struct Edits {
 impl Part for Edits {
     fn answer(&mut self, name: &str, words: &mut Words) -> Option<String> {
         let bytes = match name {
-            "open_on" => open_on(words),
-            "success_up" => success_up(words),
+            "open_on" => open_on(false, words),
+            "large_open_on" => open_on(true, words),
+            "success_up" => success_up(false, words),
+            "large_success_up" => success_up(true, words),
             "close_on" => close_on(words),
             "send_on" => send_on(words),
             _ => None,
@@ -218,6 +220,26 @@ fn an_open_goes_on_twice(rt: HostRuntime) -> Result<(), Fail> {
             0648_10270000_0448_01_05_0207_2004_2464_2C65_2C66 = 54_0220062401_07F7_00000000_\
             31000000_4200_0101_0D0C0B0A_00_000000_10270000_0648_10270000_0448_01_04_2004_2464_2C65_\
             2C66
+        ",
+    )
+}
+
+#[test]
+fn a_large_open_goes_on_twice(rt: HostRuntime) -> Result<(), Fail> {
+    play_edits(
+        &rt,
+        "
+        large_open_on 0x21 5B_0220062401_07F9_00000000_11000000_4200_0101_0D0C0B0A_00_000000_\
+            10270000_5A020048_10270000_04000048_01_06_0103_0207_2004_2464_2C6E_2C66 = \
+            5B_0220062401_07F8_00000000_21000000_4200_0101_0D0C0B0A_00_000000_10270000_5A020048_\
+            10270000_04000048_01_05_0207_2004_2464_2C6E_2C66
+        # Reserved bytes of any value, and the request's path in its longer forms.
+        large_open_on 0x31 5B_05_2100_0600_2500_0100_3001_07F8_00000000_21000000_4200_0101_\
+            0D0C0B0A_00_A55AFF_10270000_5A020048_10270000_04000048_01_05_0207_2004_2464_2C6E_2C66 = \
+            5B_0220062401_07F7_00000000_31000000_4200_0101_0D0C0B0A_00_000000_10270000_5A020048_\
+            10270000_04000048_01_04_2004_2464_2C6E_2C66
+        large_success_up 0x22 0x11 DB5A0000_32000000_21000000_4200_0101_0D0C0B0A_10270000_10270000_\
+            01A5_AABB = DB000000_22000000_11000000_4200_0101_0D0C0B0A_10270000_10270000_0100_AABB
         ",
     )
 }

@@ -1,5 +1,5 @@
-//! Forward_Open and its replies, by bytes from outside: an open over two port segments to three
-//! points of an Assembly.
+//! Forward_Open, Large_Forward_Open and their replies, by bytes from outside: an open over two port
+//! segments to three points of an Assembly.
 use crate::messages::play_messages;
 use std::test::Fail;
 
@@ -16,6 +16,38 @@ fn an_open_is_written_and_read(rt: HostRuntime) -> Result<(), Fail> {
         open 07F9_00000000_11000000_4200_0101_0D0C0B0A_00_000000_10270000_0648_10270000_0448_01_06_\
             0103_0207_2004_2464_2C65_2C66 = 7 249 0 17 66 257 168496141 0 10000 0x4806 10000 \
             0x4804 1 0103_0207_2004_2464_2C65_2C66
+        ",
+    )
+}
+
+#[test]
+fn a_large_open_is_written_and_read(rt: HostRuntime) -> Result<(), Fail> {
+    play_messages(
+        &rt,
+        "
+        write_large_open 7 249 0 17 66 257 168496141 0 10000 0x4800025A 10000 0x48000004 1 \
+            0103_0207_2004_2464_2C6E_2C66 = 5B_0220062401_07F9_00000000_11000000_4200_0101_\
+            0D0C0B0A_00_000000_10270000_5A020048_10270000_04000048_01_06_0103_0207_2004_2464_2C6E_\
+            2C66
+        request_head 5B_0220062401_07F9_00000000_11000000_4200_0101_0D0C0B0A_00_000000_10270000_\
+            5A020048_10270000_04000048_01_06_0103_0207_2004_2464_2C6E_2C66 = 91 2006_2401
+        large_open 07F9_00000000_11000000_4200_0101_0D0C0B0A_00_A55AFF_10270000_5A020048_10270000_\
+            04000048_01_06_0103_0207_2004_2464_2C6E_2C66 = 7 249 0 17 66 257 168496141 0 10000 \
+            0x4800025A 10000 0x48000004 1 0103_0207_2004_2464_2C6E_2C66
+        cut 0 52 large_open 07F9_00000000_11000000_4200_0101_0D0C0B0A_00_000000_10270000_5A020048_\
+            10270000_04000048_01_06_0103_0207_2004_2464_2C6E_2C66 = Short
+        over large_open 07F9_00000000_11000000_4200_0101_0D0C0B0A_00_000000_10270000_5A020048_\
+            10270000_04000048_01_06_0103_0207_2004_2464_2C6E_2C66 = Long
+        cut 18 52 open_triad 07F9_00000000_11000000_4200_0101_0D0C0B0A_00_000000_10270000_5A020048_\
+            10270000_04000048_01_06_0103_0207_2004_2464_2C6E_2C66 = 66 257 168496141
+        cut 0 40 large_words 07F9_00000000_11000000_4200_0101_0D0C0B0A_00_000000_10270000_5A020048_\
+            10270000_04000048_01_06_0103_0207_2004_2464_2C6E_2C66 = none
+        cut 40 52 large_words 07F9_00000000_11000000_4200_0101_0D0C0B0A_00_000000_10270000_\
+            5A020048_10270000_04000048_01_06_0103_0207_2004_2464_2C6E_2C66 = 6
+        write_large_reply 34 17 66 257 168496141 10000 10000 - = DB_00_00_00_22000000_11000000_\
+            4200_0101_0D0C0B0A_10270000_10270000_00_00
+        write_large_failure 1 0x0108 7 66 257 168496141 = DB_00_01_01_0801_4200_0101_0D0C0B0A_07_00
+        write_large_failure 0x13 - - = DB_00_13_00
         ",
     )
 }
@@ -170,6 +202,18 @@ fn parameters_are_split(rt: HostRuntime) -> Result<(), Fail> {
         params 0x0000 = 0 Low Null false false
         params 0x6000 = 0 Low Reserved false false
         params 0x8000 = 0 Low Null false true
+        # In double words.
+        large_params 0x4800025A = 602 Scheduled PointToPoint false false
+        large_params 0x48000004 = 4 Scheduled PointToPoint false false
+        large_params 0x2800025A = 602 Scheduled Multicast false false
+        large_params 0x0000FFFF = 65535 Low Null false false
+        large_params 0x02000000 = 0 Low Null true false
+        large_params 0x04000000 = 0 High Null false false
+        large_params 0x0C000000 = 0 Urgent Null false false
+        # Bits 24 to 16 and 28 are reserved.
+        large_params 0x11FF0000 = 0 Low Null false false
+        large_params 0x60000000 = 0 Low Reserved false false
+        large_params 0x80000000 = 0 Low Null false true
         ",
     )
 }

@@ -1,4 +1,8 @@
 //! Questions about messages: what bytes are read as, and what is written.
+ghost use Rattle.std.specs.Prelude.{◌≡◌, ◌<◌, ◌^◌, false, IfSome};
+ghost use Rattle.cip_open.specs.Open.{FitWidth};
+ghost use Rattle.cip_message.specs.Failure.{HasTriadForWords};
+
 use crate::rows::{Numbers, Pairs, Part, Words, play};
 use cip_base::{Bytes, Status, Triad};
 use cip_close::{
@@ -6,12 +10,13 @@ use cip_close::{
     read_close_reply, write_close, write_close_failure, write_close_reply,
 };
 use cip_message::{
-    ConnectionFailure, WriteFault, counted_path, put_manager_header, put_triad, read_reply,
-    read_request, write_reply, write_request,
+    ConnectionFailure, DataFault, WriteFault, counted_path, put_manager_header, put_triad,
+    read_reply, read_request, write_reply, write_request,
 };
 use cip_open::{
-    OpenFields, OpenReply, params, read_open, read_open_failure, read_open_reply, words_at,
-    write_open, write_open_failure, write_open_reply,
+    OpenFailure, OpenFields, OpenReply, OpenView, Params, large_params, large_words_at, params,
+    read_large_open, read_open, read_open_failure, read_open_reply, words_at, write_open,
+    write_open_failure, write_open_reply,
 };
 use cip_segment::view_path;
 use cip_unconnected::{inner, read_unconnected, route_words, write_unconnected};
@@ -98,7 +103,7 @@ fn unconnected(alloc: Global, bytes: &[u8]) -> Option<String> {
     }
 }
 
-/// The fixed fields of a Forward_Open.
+/// The fixed fields of an open.
 #[derive(Clone, Copy)]
 struct Asked(OpenFields);
 
@@ -120,8 +125,8 @@ impl fmt::Display for Asked {
 }
 
 // The fields and the path.
-fn open(alloc: Global, bytes: &[u8]) -> Option<String> {
-    match read_open(bytes) {
+fn open(alloc: Global, found: Result<OpenView<'_>, DataFault>) -> Option<String> {
+    match found {
         Ok(view) => {
             let fields = Asked(view.fields);
             format!(in alloc; "{fields} {}", Pairs(view.path.bytes())).ok()
@@ -155,7 +160,10 @@ fn failure(alloc: Global, failure: ConnectionFailure) -> Option<String> {
 
 fn open_failure(alloc: Global, bytes: &[u8]) -> Option<String> {
     match read_open_failure(bytes) {
-        Ok(found) => failure(alloc, found),
+        Ok(found) => {
+            let OpenFailure { triad, words, .. } = found;
+            failure(alloc, ConnectionFailure { triad, words })
+        }
         Err(fault) => fault_name(alloc, fault),
     }
 }
@@ -200,9 +208,11 @@ fn read(alloc: Global, name: &str, bytes: &[u8]) -> Option<String> {
         "counted_path" => counted(alloc, bytes),
         "unconnected" => unconnected(alloc, bytes),
         "route_words" => or_none(alloc, route_words(bytes)),
-        "open" => open(alloc, bytes),
+        "open" => open(alloc, read_open(bytes)),
+        "large_open" => open(alloc, read_large_open(bytes)),
         "open_triad" => or_none(alloc, cip_open::triad_at(bytes).map(Numbers)),
         "open_words" => or_none(alloc, words_at(bytes)),
+        "large_words" => or_none(alloc, large_words_at(bytes)),
         "open_reply" => open_reply(alloc, bytes),
         "open_failure" => open_failure(alloc, bytes),
         "close" => close(alloc, bytes),
@@ -332,8 +342,21 @@ fn new_unconnected(alloc: Global, words: &mut Words) -> Option<String> {
     )
 }
 
-// The fixed fields of a Forward_Open.
-fn open_fields(words: &mut Words) -> Option<OpenFields> {
+// The network connection parameters of one direction, of an open that is large or not.
+fn params_word(large: bool, words: &mut Words) -> Option<u32>
+    ensures { IfSome result (λ p. large ≡ false → p < 2 ^ 16) }
+{
+    if large {
+        words.u32()
+    } else {
+        Some(u32::from(words.u16()?))
+    }
+}
+
+// The fixed fields of an open, large or not.
+fn open_fields(large: bool, words: &mut Words) -> Option<OpenFields>
+    ensures { IfSome result FitWidth }
+{
     Some(OpenFields {
         timing: words.timing()?,
         ot_id: words.u32()?,
@@ -341,23 +364,24 @@ fn open_fields(words: &mut Words) -> Option<OpenFields> {
         triad: words.triad()?,
         multiplier: words.u8()?,
         ot_rpi: words.u32()?,
-        ot_params: words.u16()?,
+        ot_params: params_word(large, words)?,
         to_rpi: words.u32()?,
-        to_params: words.u16()?,
+        to_params: params_word(large, words)?,
         transport: words.u8()?,
+        large,
     })
 }
 
 // `FIELDS PATH`
-fn new_open(alloc: Global, words: &mut Words) -> Option<String> {
-    let fields = open_fields(words)?;
+fn new_open(alloc: Global, large: bool, words: &mut Words) -> Option<String> {
+    let fields = open_fields(large, words)?;
     let path = words.bytes()?;
     let path = view_path(path.as_slice()).ok()?;
     bytes_text(alloc, write_open(alloc, &fields, path).ok()?.as_slice())
 }
 
 // `OT_ID TO_ID TRIAD OT_API TO_API REPLY`
-fn new_open_reply(alloc: Global, words: &mut Words) -> Option<String> {
+fn new_open_reply(alloc: Global, large: bool, words: &mut Words) -> Option<String> {
     let ot_id = words.u32()?;
     let to_id = words.u32()?;
     let triad = words.triad()?;
@@ -374,13 +398,15 @@ fn new_open_reply(alloc: Global, words: &mut Words) -> Option<String> {
         ot_api,
         to_api,
         reply: more.as_slice(),
+        large,
     };
     bytes_text(alloc, write_open_reply(alloc, &reply).ok()?.as_slice())
 }
 
-// `WORDS TRIAD`, or a dash for neither, of a failed service.
-fn new_failure(alloc: Global, is_open: bool, words: &mut Words) -> Option<String> {
-    let status = status(words)?;
+// `WORDS TRIAD`, or a dash for neither.
+fn told(words: &mut Words) -> Option<ConnectionFailure>
+    ensures { IfSome result HasTriadForWords }
+{
     let failure = match words.u16_or_dash()? {
         Some(left) => ConnectionFailure {
             triad: Some(words.triad()?),
@@ -391,12 +417,34 @@ fn new_failure(alloc: Global, is_open: bool, words: &mut Words) -> Option<String
             words: None,
         },
     };
-    let bytes = if is_open {
-        write_open_failure(alloc, status, &failure).ok()?
-    } else {
-        write_close_failure(alloc, status, &failure).ok()?
+    Some(failure)
+}
+
+// `GENERAL EXTRA`, and what a failed open, large or not, tells.
+fn new_open_failure(alloc: Global, large: bool, words: &mut Words) -> Option<String> {
+    let status = status(words)?;
+    let ConnectionFailure { triad, words } = told(words)?;
+    let failure = OpenFailure {
+        triad,
+        words,
+        large,
     };
-    bytes_text(alloc, bytes.as_slice())
+    bytes_text(
+        alloc,
+        write_open_failure(alloc, status, &failure).ok()?.as_slice(),
+    )
+}
+
+// `GENERAL EXTRA`, and what a failed close tells.
+fn new_close_failure(alloc: Global, words: &mut Words) -> Option<String> {
+    let status = status(words)?;
+    let failure = told(words)?;
+    bytes_text(
+        alloc,
+        write_close_failure(alloc, status, &failure)
+            .ok()?
+            .as_slice(),
+    )
 }
 
 // `TIMING TRIAD PATH`
@@ -424,9 +472,8 @@ fn new_close_reply(alloc: Global, words: &mut Words) -> Option<String> {
     bytes_text(alloc, write_close_reply(alloc, &reply).ok()?.as_slice())
 }
 
-// The parts of a word of network connection parameters.
-fn split_params(alloc: Global, words: &mut Words) -> Option<String> {
-    let found = params(words.u16()?);
+// The parts of network connection parameters.
+fn split_params(alloc: Global, found: Params) -> Option<String> {
     let size = found.size;
     let priority = found.priority;
     let kind = found.kind;
@@ -451,13 +498,17 @@ impl Part for Messages {
             "manager_front" => manager_front(alloc, words),
             "triad_at" => triad_there(alloc, words),
             "write_unconnected" => new_unconnected(alloc, words),
-            "write_open" => new_open(alloc, words),
-            "write_open_reply" => new_open_reply(alloc, words),
-            "write_open_failure" => new_failure(alloc, true, words),
+            "write_open" => new_open(alloc, false, words),
+            "write_large_open" => new_open(alloc, true, words),
+            "write_open_reply" => new_open_reply(alloc, false, words),
+            "write_large_reply" => new_open_reply(alloc, true, words),
+            "write_open_failure" => new_open_failure(alloc, false, words),
+            "write_large_failure" => new_open_failure(alloc, true, words),
             "write_close" => new_close(alloc, words),
             "write_close_reply" => new_close_reply(alloc, words),
-            "write_close_failure" => new_failure(alloc, false, words),
-            "params" => split_params(alloc, words),
+            "write_close_failure" => new_close_failure(alloc, words),
+            "params" => split_params(alloc, params(words.u16()?)),
+            "large_params" => split_params(alloc, large_params(words.u32()?)),
             _ => read(alloc, name, words.bytes()?.as_slice()),
         }
     }

@@ -48,8 +48,8 @@ fn is_legal(alloc: Global, words: &mut Words) -> Option<bool> {
     }
 }
 
-// `OT_PARAMS TO_PARAMS TRANSPORT`: what a Forward_Open asks.
-fn fields(words: &mut Words) -> Option<OpenFields> {
+// `OT_PARAMS TO_PARAMS TRANSPORT`: what an open, large or not, asks.
+fn fields(large: bool, words: &mut Words) -> Option<OpenFields> {
     Some(OpenFields {
         timing: Timing {
             tick: 7,
@@ -64,10 +64,11 @@ fn fields(words: &mut Words) -> Option<OpenFields> {
         },
         multiplier: 0,
         ot_rpi: 10_000,
-        ot_params: words.u16()?,
+        ot_params: words.u32()?,
         to_rpi: 10_000,
-        to_params: words.u16()?,
+        to_params: words.u32()?,
         transport: words.u8()?,
+        large,
     })
 }
 
@@ -96,8 +97,8 @@ impl Asked {
 
     // `OT_PARAMS TO_PARAMS TRANSPORT PATH`: the additional status of an open, which is taken where
     // it fits and is to be.
-    fn open(&mut self, is_taken: bool, words: &mut Words) -> Option<String> {
-        let fields = fields(words)?;
+    fn open(&mut self, large: bool, is_taken: bool, words: &mut Words) -> Option<String> {
+        let fields = fields(large, words)?;
         let path = words.bytes()?;
         let path = view_path(path.as_slice()).ok()?;
         let asked = OpenView { fields, path };
@@ -154,8 +155,9 @@ impl Part for Asked {
             "after" => self.next(Some(words.u16()?)),
             "serial" => format!(in self.alloc; "{}", self.target.identity().serial).ok(),
             "legal" => truth(self.alloc, is_legal(self.alloc, words)?),
-            "status" => self.open(false, words),
-            "open" => self.open(true, words),
+            "status" => self.open(false, false, words),
+            "large_status" => self.open(true, false, words),
+            "open" => self.open(false, true, words),
             "consume" => self.consume(words),
             "produce" => self.produce(words),
             "release" => self.release(words),

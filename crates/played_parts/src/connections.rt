@@ -38,6 +38,7 @@ fn opening(alloc: Global, serial: u16) -> Option<Opening> {
         to_rpi: 20_000,
         multiplier: 0,
         class: 1,
+        large: false,
     })
 }
 

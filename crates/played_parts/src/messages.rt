@@ -5,7 +5,7 @@ use crate::out::{Out, Pairs};
 use cip_base::{Bytes, Status, Timing, Triad};
 use cip_close::{CloseFields, CloseReply, write_close, write_close_failure, write_close_reply};
 use cip_message::{ConnectionFailure, write_failure, write_reply, write_request};
-use cip_open::{OpenFields, OpenReply, write_open, write_open_failure, write_open_reply};
+use cip_open::{OpenFailure, OpenFields, OpenReply, write_open, write_open_failure, write_open_reply};
 use cip_segment::view_path;
 use cip_unconnected::write_unconnected;
 use std::alloc::Global;
@@ -51,6 +51,7 @@ const OPEN: OpenFields = OpenFields {
     to_rpi: 10_000,
     to_params: 0x4804,
     transport: 1,
+    large: false,
 };
 
 const OPENED: OpenReply<'static> = OpenReply {
@@ -60,6 +61,13 @@ const OPENED: OpenReply<'static> = OpenReply {
     ot_api: 10_000,
     to_api: 10_000,
     reply: &[],
+    large: false,
+};
+
+const OPEN_FAILURE: OpenFailure = OpenFailure {
+    triad: Some(TRIAD),
+    words: Some(5),
+    large: false,
 };
 
 const CLOSE: CloseFields = CloseFields {
@@ -120,7 +128,7 @@ fn made(alloc: Global, call: Call) -> Result<Bytes, Refusal> {
         }
         Call::Open => write_open(alloc, &OPEN, view_path(&ROUTE)?)?,
         Call::OpenReply => write_open_reply(alloc, &OPENED)?,
-        Call::OpenFailure => write_open_failure(alloc, PATH_REFUSED, &FAILURE)?,
+        Call::OpenFailure => write_open_failure(alloc, PATH_REFUSED, &OPEN_FAILURE)?,
         Call::Close => write_close(alloc, &CLOSE, view_path(&ROUTE)?)?,
         Call::CloseReply => write_close_reply(alloc, &CLOSED)?,
         Call::CloseFailure => write_close_failure(alloc, NO_CONNECTION, &FAILURE)?,

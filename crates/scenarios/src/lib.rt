@@ -23,6 +23,7 @@ mod moving_data;
 mod opening;
 #[cfg(test)]
 mod opening_at_the_adapter;
+mod opening_large;
 mod over_new;
 #[cfg(test)]
 mod progress_lines;

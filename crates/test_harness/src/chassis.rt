@@ -192,11 +192,37 @@ fn kind_of(number: u64) -> Option<ModuleKind> {
     }
 }
 
-// The assemblies of a module, by a number: 0 those of the adapter, 1 those of odd sizes.
+/// Assemblies of which one has more bytes than a Forward_Open can ask for.
+const LARGE_SIZES: [AssemblyConfig; 5] = [
+    AssemblyConfig {
+        instance: 100,
+        size: 0,
+    },
+    AssemblyConfig {
+        instance: 101,
+        size: 4,
+    },
+    AssemblyConfig {
+        instance: 102,
+        size: 2,
+    },
+    AssemblyConfig {
+        instance: 103,
+        size: 4,
+    },
+    AssemblyConfig {
+        instance: 110,
+        size: 600,
+    },
+];
+
+// The assemblies of a module, by a number: 0 those of the adapter, 1 those of odd sizes, 2 those of
+// which one is large.
 fn sizes_of(number: u64) -> Option<&'static [AssemblyConfig]> {
     match number {
         0 => Some(ADAPTER.assemblies),
         1 => Some(&ODD_SIZES),
+        2 => Some(&LARGE_SIZES),
         _ => None,
     }
 }

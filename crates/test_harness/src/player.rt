@@ -7,20 +7,22 @@
 //! number after them stand for so many zeros.
 //!
 //! - `M send OP TICK TICKS PATH REQUEST`, `M open OP TICK TICKS PATH SERIAL MULT TRANSPORT OT_RPI
-//! OT_PARAMS TO_RPI TO_PARAMS`, `M close OP OF TICK TICKS`, `M enter OF BYTES`, `M set INSTANCE
-//! BYTES` and `M produce INSTANCE` are the commands, `M request PORT FROM NUMBER BYTES`, `M reply
-//! PORT FROM NUMBER BYTES` and `M data PORT FROM ID BYTES` the frames, and `M tick MS` is the tick.
-//! No frame is carried from one module to another: each that arrives has a line.
+//! OT_PARAMS TO_RPI TO_PARAMS`, `M large ..` with the words of `open`, `M close OP OF TICK TICKS`,
+//! `M enter OF BYTES`, `M set INSTANCE BYTES` and `M produce INSTANCE` are the commands, `M request
+//! PORT FROM NUMBER BYTES`, `M reply PORT FROM NUMBER BYTES` and `M data PORT FROM ID BYTES` the
+//! frames, and `M tick MS` is the tick. No frame is carried from one module to another: each that
+//! arrives has a line.
 //! - `times N M EVENT ..` plays an event N times. A line `>> OUTPUT` below it is the one output of
 //! each time. `(K)` in both
 //!   stands for K and the number of times before, as two bytes, the lower first.
 //! - `M tables` has for its outputs the lines of the module's tables.
 //! - `M with SETTING NUMBER ..` makes the module anew, with these settings: `clock`, `first_id`,
 //! `first_number`, `pending_room`, `hop_room`; `kind`, which is 0 for a plain module, 1 for an
-//! indexed one and 2 for an adapter; `sizes`, which is 0 for the adapter's own and 1 for some
-//! of odd sizes.
+//! indexed one and 2 for an adapter; `sizes`, which is 0 for the adapter's own, 1 for some of odd
+//! sizes and 2 for its own and one of 600 bytes.
 //!
-//! An output is written as in a transcript. A step that did not happen has `clock full` or `no
+//! An output is written as in a transcript; a plus and a number at its end stand for so many zeros
+//! behind its bytes. A step that did not happen has `clock full` or `no
 //! memory` in its place.
 use crate::chassis::Kinds;
 use crate::harness::Harness;
@@ -92,7 +94,14 @@ impl Player {
     // An output that the script tells.
     fn tell(&mut self, line: &str) -> Option<()> {
         let line = line.replace(self.alloc, "_", "").ok()?;
-        writeln!(self.told, "{line}").ok()
+        let Some((front, zeros)) = line.as_str().rsplit_once('+') else {
+            return writeln!(self.told, "{line}").ok();
+        };
+        write!(self.told, "{front}").ok()?;
+        for _ in 0..u16::from_str_radix(zeros, 10).ok()? {
+            self.told.push_str("00").ok()?;
+        }
+        writeln!(self.told, "").ok()
     }
 
     // An output of each turn.
