@@ -15,8 +15,8 @@ const TOLD: [Explained; 24] = [
     ),
     (
         b"run 0\n tock 1",
-        "unknown word: tock; allowed: send, open, close, enter, set, produce, tick, deliver, lose, \
-            run, tables, trail, chain",
+        "unknown word: tock; allowed: send, open, large, close, enter, set, produce, tick, \
+            deliver, lose, run, tables, trail, chain",
     ),
     (
         b"send S 1",
@@ -90,8 +90,8 @@ const TOLD: [Explained; 24] = [
     (b"\nlose 7.1", "lose: E.K: 7.1 is no frame that waits"),
     (
         b"0123456789012345678901234567890123456789AND_MORE",
-        "unknown word: 0123456789012345678901234567890123456789; allowed: send, open, close, \
-            enter, set, produce, tick, deliver, lose, run, tables, trail, chain",
+        "unknown word: 0123456789012345678901234567890123456789; allowed: send, open, large, \
+            close, enter, set, produce, tick, deliver, lose, run, tables, trail, chain",
     ),
 ];
 
