@@ -14,6 +14,7 @@ use Rattle.cip_message.specs.declared.fault.DataFault.{DataFault}
 use Rattle.cip_message.proofs.ReadAgain.{ok_reply}
 use Rattle.cip_event.specs.declared.event.Command.TheVariants as commands
 use Rattle.cip_event.specs.declared.event.OpenParams.{OpenParams}
+use Rattle.cip_event.specs.Params.{widened}
 use Rattle.cip_event.specs.declared.event.Output.{Output}
 use Rattle.cip_event.specs.declared.event.Output.TheVariants as outputs
 use Rattle.cip_laws.specs.Turns.{Gave}
@@ -66,7 +67,7 @@ opened_at t j k op at timing path params outs run there unrefused =
       };
       here = refl;
       command = commands.Open op timing path params;
-      request = open_of next.config.identity timing path params;
+      request = open_of next.config.identity false timing path (widened params);
       event_is = next.given;
       asks = refl;
       path_is = refl;

@@ -1,5 +1,5 @@
 -- It is a run.
-use Rattle.std.proofs.Common.{◌≡◌, [], ◌∷◌, Some, None, refl, sym, subst}
+use Rattle.std.proofs.Common.{◌≡◌, false, [], ◌∷◌, Some, None, refl, sym, subst}
 use Rattle.std.specs.FinMap as map
 use Rattle.cip_hops.specs.declared.hop.Held.TheVariants.{Open}
 use Rattle.cip_hops.specs.declared.opening.HopUp.TheVariants.{Link as UpLink}
@@ -137,6 +137,7 @@ second_only assemblies = record {
         to_rpi = 10000;
         multiplier = 0;
         class = 1;
+        large = false;
       };
       ids = record { up = Some 66; down = None };
       their_id = None;

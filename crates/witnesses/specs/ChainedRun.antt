@@ -1,6 +1,6 @@
 -- A run through two bridges: an open, a datum that goes down the connection, and another that comes
 -- up.
-use Rattle.std.specs.Prelude.{ℕ, List, [], ◌∷◌, Some, None}
+use Rattle.std.specs.Prelude.{ℕ, false, List, [], ◌∷◌, Some, None}
 use Rattle.cip_hops.specs.declared.hop.Hop.{Hop}
 use Rattle.cip_hops.specs.declared.opening.Opening.{Opening}
 use Rattle.cip_hops.specs.declared.opening.HopUp.{HopUp}
@@ -141,6 +141,7 @@ opening up down path' = record {
   to_rpi = 10000;
   multiplier = 0;
   class = 1;
+  large = false;
 }
 
 abbrev pub of_scanner : Hop
