@@ -5,6 +5,7 @@ pub mod FailedOpen
 pub mod TimedOutOpen
 pub mod LateReply
 pub mod ChainedRun
+pub mod LargeRun
 pub mod LateClose
 pub mod OneAfterTheOther
 pub mod LapsedRun

@@ -26,6 +26,7 @@ ghost use Rattle.witnesses.specs.FailedOpen as failed;
 ghost use Rattle.witnesses.specs.TimedOutOpen as timed_out;
 ghost use Rattle.witnesses.specs.LateReply as late;
 ghost use Rattle.witnesses.specs.ChainedRun as chained;
+ghost use Rattle.witnesses.specs.LargeRun as large;
 ghost use Rattle.witnesses.specs.LateClose as closing;
 ghost use Rattle.witnesses.specs.OneAfterTheOther as twice;
 ghost use Rattle.witnesses.specs.LapsedRun as lapsed;
@@ -70,6 +71,12 @@ pub fn chained_run()
         (record { at = 0; hop = chained.of_scanner })
         (record { at = 1; hop = chained.of_first } ∷ record { at = 2; hop = chained.of_second }
         ∷ record { at = 3; hop = chained.of_adapter } ∷ []) }
+{}
+
+/// A large open through the two bridges. The chain of its connection stands in the end.
+pub fn large_run()
+    ensures run { IsRun row large.stands }
+    ensures chain { IsChain row large.stands 1 large.first_member large.members }
 {}
 
 /// A close that comes late, and takes the later connection of its triad.
