@@ -19,7 +19,7 @@ returns-else-reply-ne0 c =
     let n : length c.in-Ok.reply.extra.now ≡ 0 = eqb-true _ _ (sym c.is_empty.ensures ∙ none) in
     let d : List ℕ = c.in-Ok.reply.data_.now in
     let done = done_is (open_reply_service c.args.large) c.in-Ok.reply.service c.in-Ok.reply.general c.in-Ok.reply.extra.now d
-    (c.if-reply.false ∙ c.open_reply_service.ensures) c.if-reply-ne0.false (empty _ n) in (
+    (c.if-reply-open_reply_service.false ∙ c.open_reply_service.ensures) c.if-reply-ne0.false (empty _ n) in (
       success_of c.in-Ok-read_open_reply.field-0,
       record {
         data_ = d;
