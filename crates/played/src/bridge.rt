@@ -2,7 +2,7 @@
 ghost use Rattle.std.specs.Prelude.{◌<◌};
 
 use crate::fault::Fault;
-use crate::frames::{ANSWER, DATUM, SEND, close, closed, open, opened};
+use crate::frames::{ANSWER, SEND, close, closed, large_open, large_opened, open, opened};
 use cip_base::{Address, Bytes, PortNumber};
 use cip_module::{Body, Event, Module, Output};
 use std::alloc::Global;
@@ -109,6 +109,12 @@ impl<M: Module> Bridge<M> {
         self.reply(number, &opened(serial))
     }
 
+    /// One is opened large, with so many bytes a datum from above.
+    pub fn open_large(&mut self, serial: u16, size: u16) -> Result<(), Fault> {
+        let number = self.request(1, &large_open(serial, size))?;
+        self.reply(number, &large_opened(serial))
+    }
+
     /// It is closed.
     pub fn close(&mut self, serial: u16) -> Result<(), Fault> {
         let number = self.request(1, &close(serial))?;
@@ -116,8 +122,9 @@ impl<M: Module> Bridge<M> {
     }
 
     /// A datum from above goes on by the connection that was opened after so many others.
-    pub fn datum(&mut self, before: u16) -> Result<(), Fault> {
-        let bytes = self.bytes(&DATUM)?;
+    #[inline(always)]
+    pub fn datum(&mut self, before: u16, bytes: &[u8]) -> Result<(), Fault> {
+        let bytes = self.bytes(bytes)?;
         let id = FIRST_ID + 1 + 2 * u32::from(before);
         match self.step(from_above(Body::Data { id, bytes }))? {
             Body::Data { .. } => Ok(()),

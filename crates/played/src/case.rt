@@ -2,7 +2,7 @@
 
 use crate::bridge::Bridge;
 use crate::fault::Fault;
-use crate::frames::long_send;
+use crate::frames::{DATUM, long_datum, long_send};
 use cip_module::Module;
 use std::alloc::Global;
 use test_harness::{AnyModule, Kinds, device_of, make};
@@ -14,8 +14,12 @@ enum Turn {
     Send,
     /// A connection is opened, and the one that has been open for longest is closed.
     Open,
+    /// A connection is opened large, and closed.
+    Large,
     /// A datum goes on, by each connection in turn.
     Datum,
+    /// A datum of so many bytes goes on, by a connection that was opened large.
+    LongDatum(u16),
     /// An Unconnected_Send with so many pairs of bytes goes on, and is answered.
     Long(u16),
 }
@@ -29,7 +33,7 @@ pub struct Case {
 }
 
 /// With the tables empty, and with room in them for what the step takes alone.
-pub const CASES: [Case; 8] = [
+pub const CASES: [Case; 12] = [
     Case {
         name: "send",
         turn: Turn::Send,
@@ -59,6 +63,26 @@ pub const CASES: [Case; 8] = [
         name: "datum-full",
         turn: Turn::Datum,
         others: 255,
+    },
+    Case {
+        name: "large",
+        turn: Turn::Large,
+        others: 0,
+    },
+    Case {
+        name: "datum-4",
+        turn: Turn::LongDatum(6),
+        others: 0,
+    },
+    Case {
+        name: "datum-400",
+        turn: Turn::LongDatum(402),
+        others: 0,
+    },
+    Case {
+        name: "datum-long",
+        turn: Turn::LongDatum(65_535),
+        others: 0,
     },
     Case {
         name: "half",
@@ -110,11 +134,34 @@ fn open_turns<M: Module>(bridge: &mut Bridge<M>, others: u16, times: u32) -> Res
     Ok(())
 }
 
+fn large_turns<M: Module>(bridge: &mut Bridge<M>, times: u32) -> Result<(), Fault> {
+    for turn in 0..times {
+        let serial = (turn % 65_536) as u16;
+        bridge.open_large(serial, 6)?;
+        bridge.close(serial)?;
+    }
+    Ok(())
+}
+
 fn datum_turns<M: Module>(bridge: &mut Bridge<M>, others: u16, times: u32) -> Result<(), Fault> {
     bridge.open(others)?;
     for turn in 0..times {
         let before = (turn % (u32::from(others) + 1)) as u16;
-        bridge.datum(before)?;
+        bridge.datum(before, &DATUM)?;
+    }
+    Ok(())
+}
+
+fn long_datum_turns<M: Module>(
+    alloc: Global,
+    bridge: &mut Bridge<M>,
+    size: u16,
+    times: u32,
+) -> Result<(), Fault> {
+    let datum = long_datum(alloc, size)?;
+    bridge.open_large(0, size)?;
+    for _ in 0..times {
+        bridge.datum(0, &datum)?;
     }
     Ok(())
 }
@@ -142,7 +189,9 @@ impl Case {
         match self.turn {
             Turn::Send => send_turns(&mut bridge, self.others, times),
             Turn::Open => open_turns(&mut bridge, self.others, times),
+            Turn::Large => large_turns(&mut bridge, times),
             Turn::Datum => datum_turns(&mut bridge, self.others, times),
+            Turn::LongDatum(size) => long_datum_turns(alloc, &mut bridge, size, times),
             Turn::Long(pairs) => long_turns(alloc, &mut bridge, pairs, times),
         }
     }

@@ -11,7 +11,8 @@ use thiserror::Error;
 #[derive(Clone, Copy, Debug, PartialEq, Eq, Error)]
 pub enum Fault {
     #[error("usage: played plain|indexed|mixed, \
-        played times [send|open|datum|send-full|open-full|datum-full|half|long TIMES [indexed]]")]
+        played times [send|open|datum|send-full|open-full|datum-full|large|datum-4|datum-400|\
+        datum-long|half|long TIMES [indexed]]")]
     Usage,
     #[error("a line cannot be played")]
     Line,
