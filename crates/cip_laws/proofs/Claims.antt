@@ -22,7 +22,7 @@ use Rattle.cip_target.specs.Objects.{target_answer}
 use Rattle.cip_laws.specs.EffectLists.{takes_up}
 use Rattle.cip_config.specs.declared.config.ModuleSettings.{ModuleSettings}
 use Rattle.cip_event.specs.declared.event.Output.{Output}
-use Rattle.cip_module.specs.Effects.{Effect, Replies, Answers, Forwards, Begins, Finishes, Takes, PendingTimesOut, Passes, objects_of, entry_for, apply, output_of, reply_up, replied, timed_out_reply, timed_out_bytes, datum_up, datum_down, datum_by, passed, succeeded, waits_large, kind_for}
+use Rattle.cip_module.specs.Effects.{Effect, Replies, Answers, Forwards, Begins, Finishes, Takes, PendingTimesOut, Passes, objects_of, entry_for, apply, output_of, reply_up, replied, timed_out_reply, timed_out_bytes, datum_up, datum_down, datum_by, passed, kind_for, succeeded_at}
 use Rattle.cip_module.specs.State.{State}
 use Rattle.cip_module.proofs.Fits.{numbers_apart}
 use Rattle.cip_base.proofs.Points.{one_or_apart, gone_here, gone_apart}
@@ -114,7 +114,7 @@ claims_each config up s (Answers v request) h = let is = given up v (reply_bytes
 claims_each config up s (Forwards sending kind) h = let more = asked up s (entry_for s sending kind) h in omega (arith, more)
 claims_each config up s (Begins sending opening) h = let more = asked up s (entry_for s sending (kind_for opening)) h in omega (arith, more)
 claims_each config up s (Finishes number triad bytes success) h =
-    let all = taken up s.pendings.entries number (succeeded (waits_large (map.get s.pendings.entries number)) (map.get s.hops.held triad) bytes success) in omega (arith, all)
+    let all = taken up s.pendings.entries number (succeeded_at s number triad bytes success) in omega (arith, all)
 claims_each config up s (Takes number bytes) h = let all = taken up s.pendings.entries number bytes in omega (arith, all)
 claims_each config up s (PendingTimesOut number) h = let all = late up s.pendings.entries number in omega (arith, all)
 claims_each config up s (Passes triad side bytes) h = let none = no_reply_passed up side (hop_at s.hops triad) bytes in omega (arith, none)

@@ -25,7 +25,7 @@ use Rattle.cip_module.specs.CommandRows.{enter_row}
 use Rattle.cip_module.specs.DataRows.{DataRow, data_row}
 use Rattle.cip_module.specs.DataRows as datum
 use Rattle.cip_laws.specs.EffectLists.{gain}
-use Rattle.cip_module.specs.Effects.{Effect, Replies, Answers, Finishes, Takes, PendingTimesOut, Passes, objects_of, reply_up, replied, timed_out_reply, timed_out_bytes, datum_up, datum_down, datum_by, passed, succeeded, waits_large, apply, output_of, outputs_of}
+use Rattle.cip_module.specs.Effects.{Effect, Replies, Answers, Finishes, Takes, PendingTimesOut, Passes, objects_of, reply_up, replied, timed_out_reply, timed_out_bytes, datum_up, datum_down, datum_by, passed, apply, output_of, outputs_of, succeeded_at}
 use Rattle.cip_laws.specs.Outputs.{is_datum, DatumOf, GoesUp, Arrives, GoesDown, IsConsumed, one_datum}
 use Rattle.cip_module.specs.State.{State}
 use Rattle.cip_module.specs.Table.{datum_effects, entered_effects, enter_effects, refused_effects, decide}
@@ -73,7 +73,7 @@ given_each : (config : ModuleSettings) (s : State) (e : Effect) → weight_in on
 given_each config s (Replies v bytes) = let none = none_up v bytes in omega (arith, none)
 given_each config s (Answers v asked) = let none = none_up v (reply_bytes (target_answer (objects_of config s) asked)) in omega (arith, none)
 given_each config s (Finishes number triad bytes success) =
-    let none = none_replied (map.get s.pendings.entries number) (succeeded (waits_large (map.get s.pendings.entries number)) (map.get s.hops.held triad) bytes success) in omega (arith, none)
+    let none = none_replied (map.get s.pendings.entries number) (succeeded_at s number triad bytes success) in omega (arith, none)
 given_each config s (Takes number bytes) = let none = none_replied (map.get s.pendings.entries number) bytes in omega (arith, none)
 given_each config s (PendingTimesOut number) = let none = none_late (map.get s.pendings.entries number) in omega (arith, none)
 given_each config s (Passes triad side bytes) = let most = one_passed side (hop_at s.hops triad) bytes in omega (arith, most)

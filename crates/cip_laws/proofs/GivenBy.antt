@@ -21,7 +21,7 @@ use Rattle.cip_target.specs.Objects.{target_answer}
 use Rattle.cip_config.specs.declared.config.ModuleSettings.{ModuleSettings}
 use Rattle.cip_event.specs.declared.event.Event.{Event}
 use Rattle.cip_event.specs.declared.event.Output.{Output}
-use Rattle.cip_module.specs.Effects.{Effect, Replies, Answers, Forwards, Begins, Finishes, Takes, PendingTimesOut, HopTimesOut, Passes, RefusesCommand, Drops, objects_of, reply_up, replied, timed_out_reply, timed_out_bytes, datum_up, datum_down, datum_by, passed, succeeded, waits_large, output_of}
+use Rattle.cip_module.specs.Effects.{Effect, Replies, Answers, Forwards, Begins, Finishes, Takes, PendingTimesOut, HopTimesOut, Passes, RefusesCommand, Drops, objects_of, reply_up, replied, timed_out_reply, timed_out_bytes, datum_up, datum_down, datum_by, passed, succeeded, waits_large, output_of, succeeded_at}
 use Rattle.cip_laws.specs.Outputs.{RepliesBy, AtOnce, Here, Opened, Taken, Late, tells_end, EndedBy, ByTimeOut, ByRefusal, ByDrop}
 use Rattle.cip_module.specs.State.{State}
 use Rattle.cip_laws.specs.Tells.{Tells}
@@ -78,7 +78,7 @@ module _ (up : UpSide) (bytes : List ℕ) where
       let is = one_of v (reply_bytes (target_answer (objects_of config mid) asked)) h in
       Here asked (ap (λ (u : UpSide). Answers u asked) is.0) (subst (λ (u : UpSide). AnswersAs config s0 event u asked) is.0 tells) (sym is.1)
   answered_by config s0 event mid (Finishes number triad came success) tells h =
-      let is = replied_of (map.get mid.pendings.entries number) (succeeded (waits_large (map.get mid.pendings.entries number)) (map.get mid.hops.held triad) came success) h in
+      let is = replied_of (map.get mid.pendings.entries number) (succeeded_at mid number triad came success) h in
       let held : Option Held = map.get mid.hops.held triad in
       Opened number triad came success is.0 refl is.1 is.2 (sym is.3 ∙ ap (λ (p : Option Entry). succeeded (waits_large p) held came success) is.1)
   answered_by config s0 event mid (Takes number b) tells h =
@@ -142,7 +142,7 @@ module _ (x : Output) (ends : tells_end x ≡ 1) where
   ended_by config s event mid (Forwards sending kind) tells h = absurd (single _ refl h)
   ended_by config s event mid (Begins sending opening) tells h = absurd (single _ refl h)
   ended_by config s event mid (Finishes number triad came success) tells h =
-      absurd (replied_none (map.get mid.pendings.entries number) (succeeded (waits_large (map.get mid.pendings.entries number)) (map.get mid.hops.held triad) came success) h)
+      absurd (replied_none (map.get mid.pendings.entries number) (succeeded_at mid number triad came success) h)
   ended_by config s event mid (Takes number b) tells h = absurd (replied_none (map.get mid.pendings.entries number) b h)
   ended_by config s event mid (PendingTimesOut number) tells h = absurd (late_none (map.get mid.pendings.entries number) h)
   ended_by config s event mid (Passes triad side b) tells h = absurd (passed_none side (hop_at mid.hops triad) b h)

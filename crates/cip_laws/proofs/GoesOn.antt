@@ -38,22 +38,27 @@ manager_read : (s : ℕ) (d : List ℕ) → s < 128 → read_row (manager_bytes 
     ≡ object_row (manager_request s d) (object_of (Class 6 ∷ Instance 1 ∷ []))
 manager_read s d small = ap (read_row (manager_bytes s d)) (manager_is_read s d small) ∙ ap (object_row (manager_request s d)) manager_object
 
-pub close_no_open : (config : ModuleSettings) (port : ℕ) (c : Close) (d : List ℕ) (large : Bool) → request_row config port (close_bytes c) ≡ ForwardOpen large d → ⊥
+pub close_no_open : (config : ModuleSettings) (port : ℕ) (c : Close) (d : List ℕ) (large : Bool)
+    → request_row config port (close_bytes c) ≡ ForwardOpen large d → ⊥
 close_no_open config port c d large e = let no = sym (manager_read 0x4E (close_data c) (omega arith)) ∙ row_or config port (close_bytes c) large d e in cc
 
-pub send_no_open : (config : ModuleSettings) (port : ℕ) (u : Unconnected) (d : List ℕ) (large : Bool) → request_row config port (unconnected_bytes u) ≡ ForwardOpen large d → ⊥
-send_no_open config port u d large e = let no = sym (manager_read 0x52 (unconnected_data u) (omega arith)) ∙ row_or config port (unconnected_bytes u) large d e in cc
+pub send_no_open : (config : ModuleSettings) (port : ℕ) (u : Unconnected) (d : List ℕ) (large : Bool)
+    → request_row config port (unconnected_bytes u) ≡ ForwardOpen large d → ⊥
+send_no_open config port u d large e =
+    let no = sym (manager_read 0x52 (unconnected_data u) (omega arith)) ∙ row_or config port (unconnected_bytes u) large d e in cc
 
 -- ---- an embedded request
 
-class_row : (r : Request) (c i : ℕ) (x : Option (Option ℕ)) (large : Bool) (d : List ℕ) → eqb c 6 ≡ false → object_row r (with_attribute c i x) ≡ ForwardOpen large d → ⊥
+class_row : (r : Request) (c i : ℕ) (x : Option (Option ℕ)) (large : Bool) (d : List ℕ) → eqb c 6 ≡ false
+    → object_row r (with_attribute c i x) ≡ ForwardOpen large d → ⊥
 class_row r c i None large d other e = cc
 class_row r c i (Some a) large d other e =
     let is : object_row r (with_attribute c i (Some a)) ≡ Target r =
     ap (λ b. cond b (manager_row r (record { class_ = c; instance = i; attribute = a })) (Target r)) other in
     let no : Target r ≡ ForwardOpen large d = sym is ∙ e in cc
 
-behind_class : (r : Request) (c : ℕ) (others : List Segment) (large : Bool) (d : List ℕ) → eqb c 6 ≡ false → object_row r (instance_in c others) ≡ ForwardOpen large d → ⊥
+behind_class : (r : Request) (c : ℕ) (others : List Segment) (large : Bool) (d : List ℕ) → eqb c 6 ≡ false
+    → object_row r (instance_in c others) ≡ ForwardOpen large d → ⊥
 behind_class r c (Instance i ∷ others) large d other e = class_row r c i (attribute_in others) large d other e
 behind_class r c s large d other e = cc
 

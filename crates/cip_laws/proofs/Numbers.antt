@@ -5,7 +5,7 @@ use Rattle.cip_message.specs.Reply.{reply_bytes}
 use Rattle.cip_target.specs.Objects.{target_answer}
 use Rattle.cip_laws.specs.EffectLists.{gain}
 use Rattle.cip_config.specs.declared.config.ModuleSettings.{ModuleSettings}
-use Rattle.cip_module.specs.Effects.{Effect, Replies, Answers, Forwards, Begins, Finishes, Takes, PendingTimesOut, Passes, objects_of, apply, output_of, reply_up, replied, timed_out_reply, timed_out_bytes, datum_up, datum_down, datum_by, passed, succeeded, waits_large}
+use Rattle.cip_module.specs.Effects.{Effect, Replies, Answers, Forwards, Begins, Finishes, Takes, PendingTimesOut, Passes, objects_of, apply, output_of, reply_up, replied, timed_out_reply, timed_out_bytes, datum_up, datum_down, datum_by, passed, succeeded_at}
 use Rattle.cip_pending.specs.declared.entry.Entry.{Entry}
 use Rattle.cip_pending.specs.declared.entry.UpSide.{UpSide}
 use Rattle.cip_pending.specs.declared.entry.UpSide.TheVariants.{Link, Local}
@@ -90,7 +90,7 @@ numbers_each config n s (Answers v request) = let none = no_request_up n v (repl
 numbers_each config n s (Forwards sending kind) = let now = drawn_now s.pendings.next n in omega (arith, now)
 numbers_each config n s (Begins sending opened) = let now = drawn_now s.pendings.next n in omega (arith, now)
 numbers_each config n s (Finishes number triad bytes success) =
-    let none = no_request_taken n (map.get s.pendings.entries number) (succeeded (waits_large (map.get s.pendings.entries number)) (map.get s.hops.held triad) bytes success) in omega (arith, none)
+    let none = no_request_taken n (map.get s.pendings.entries number) (succeeded_at s number triad bytes success) in omega (arith, none)
 numbers_each config n s (Takes number bytes) = let none = no_request_taken n (map.get s.pendings.entries number) bytes in omega (arith, none)
 numbers_each config n s (PendingTimesOut number) = let none = no_request_late n (map.get s.pendings.entries number) in omega (arith, none)
 numbers_each config n s (Passes triad side bytes) = let none = no_request_passed n side (hop_at s.hops triad) bytes in omega (arith, none)

@@ -29,7 +29,7 @@ use Rattle.cip_module.specs.CommandRows as command
 use Rattle.cip_module.specs.CommandRows.{enter_row}
 use Rattle.cip_module.specs.DataRows.{DataRow, data_row}
 use Rattle.cip_module.specs.DataRows as datum
-use Rattle.cip_module.specs.Effects.{Effect, Replies, Answers, Forwards, Begins, Finishes, Takes, PendingTimesOut, HopTimesOut, Passes, RefusesCommand, Drops, objects_of, reply_up, replied, timed_out_reply, timed_out_bytes, datum_by, passed, succeeded, waits_large, output_of, applied}
+use Rattle.cip_module.specs.Effects.{Effect, Replies, Answers, Forwards, Begins, Finishes, Takes, PendingTimesOut, HopTimesOut, Passes, RefusesCommand, Drops, objects_of, reply_up, replied, timed_out_reply, timed_out_bytes, datum_by, passed, output_of, applied, succeeded_at}
 use Rattle.cip_module.specs.State.{State}
 use Rattle.cip_module.specs.Table.{counts, datum_effects, enter_effects, entered_effects, refused_effects, decide}
 use Rattle.cip_laws.specs.Tells.{PassesAs, PassedOn, Entered, Made}
@@ -86,7 +86,7 @@ module _ (x : Output) (data_ : is_datum x ≡ true) where
   passed_by config mid (Forwards sending kind) h = absurd (no_other _ refl h)
   passed_by config mid (Begins sending o) h = absurd (no_other _ refl h)
   passed_by config mid (Finishes number triad came success) h =
-      absurd (replied_no (map.get mid.pendings.entries number) (succeeded (waits_large (map.get mid.pendings.entries number)) (map.get mid.hops.held triad) came success) h)
+      absurd (replied_no (map.get mid.pendings.entries number) (succeeded_at mid number triad came success) h)
   passed_by config mid (Takes number b) h = absurd (replied_no (map.get mid.pendings.entries number) b h)
   passed_by config mid (PendingTimesOut number) h = absurd (expired_no (map.get mid.pendings.entries number) h)
   passed_by config mid (HopTimesOut triad) h = absurd (no_other _ refl h)

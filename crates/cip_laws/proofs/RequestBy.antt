@@ -15,7 +15,7 @@ use Rattle.cip_event.specs.declared.event.Body.TheVariants as bodies
 use Rattle.cip_event.specs.declared.event.Event.{Event}
 use Rattle.cip_event.specs.declared.event.Output.{Output}
 use Rattle.cip_event.specs.declared.event.Output.TheVariants as outputs
-use Rattle.cip_module.specs.Effects.{Effect, Replies, Answers, Forwards, Begins, Accepts, Finishes, Takes, PendingTimesOut, HopTimesOut, Passes, RefusesCommand, Drops, objects_of, reply_up, succeeded, waits_large, output_of}
+use Rattle.cip_module.specs.Effects.{Effect, Replies, Answers, Forwards, Begins, Accepts, Finishes, Takes, PendingTimesOut, HopTimesOut, Passes, RefusesCommand, Drops, objects_of, reply_up, output_of, succeeded_at}
 use Rattle.cip_module.specs.OpenRows.{end_down}
 use Rattle.cip_module.specs.State.{State}
 use Rattle.cip_laws.specs.Tells.{Tells, AllTell}
@@ -79,7 +79,7 @@ module _ (port n : ℕ) (to bytes : List ℕ) where
   request_by config s event mid (Replies v b) tells h = absurd (up_none v b h)
   request_by config s event mid (Answers v asked) tells h = absurd (up_none v (reply_bytes (target_answer (objects_of config mid) asked)) h)
   request_by config s event mid (Finishes number triad came success) tells h =
-      absurd (none_given _ (no_request_taken n (map.get mid.pendings.entries number) (succeeded (waits_large (map.get mid.pendings.entries number)) (map.get mid.hops.held triad) came success)) h)
+      absurd (none_given _ (no_request_taken n (map.get mid.pendings.entries number) (succeeded_at mid number triad came success)) h)
   request_by config s event mid (Takes number b) tells h = absurd (none_given _ (no_request_taken n (map.get mid.pendings.entries number) b) h)
   request_by config s event mid (PendingTimesOut number) tells h = absurd (none_given _ (no_request_late n (map.get mid.pendings.entries number)) h)
   request_by config s event mid (Passes triad side b) tells h = absurd (none_given _ (no_request_passed n side (hop_at mid.hops triad) b) h)

@@ -159,4 +159,5 @@ pub success_came : (config : ModuleSettings) (s : State) (port : ℕ) (from : Li
     → SaysSuccess (waits_large (waiting_at s.pendings number port from)) b (reply_row config s port from number b)
 unfolding reply_row
 success_came config s port from number b =
-    cond_both (is_malformed config port b) _ _ (SaysSuccess (waits_large (waiting_at s.pendings number port from)) b) (λ malformed. tt) (λ fits. by_entry b (waiting_at s.pendings number port from))
+    cond_both (is_malformed config port b) _ _ (SaysSuccess (waits_large (waiting_at s.pendings number port from)) b)
+    (λ malformed. tt) (λ fits. by_entry b (waiting_at s.pendings number port from))

@@ -228,6 +228,12 @@ succeeded large (Some x) bytes success =
 abbrev pub waits_large : Option Entry → Bool
 waits_large p = option_map_or (λ entry. is_large_kind entry.kind) p false
 
+-- the success of the request of this number as it goes up
+abbrev pub succeeded_at : State → RequestNumber → Triad → Octets → OpenSuccess → Octets
+succeeded_at s number triad bytes success =
+    succeeded (waits_large (map.get s.pendings.entries number)) (map.get s.hops.held triad)
+    bytes success
+
 abbrev pub replied : Option Entry → Octets → List Output
 replied None bytes = []
 replied (Some entry) bytes = reply_up entry.up bytes ∷ []
@@ -272,8 +278,7 @@ output_of config s (Forwards sending kind) = request_below s sending ∷ []
 output_of config s (Begins sending opening) = request_below s sending ∷ []
 output_of config s (Accepts opening open_ link) = []
 output_of config s (Finishes number triad bytes success) =
-    let asked = map.get s.pendings.entries number in
-    replied asked (succeeded (waits_large asked) (map.get s.hops.held triad) bytes success)
+    replied (map.get s.pendings.entries number) (succeeded_at s number triad bytes success)
 output_of config s (Takes number bytes) = replied (map.get s.pendings.entries number) bytes
 output_of config s (PendingTimesOut number) = timed_out_reply (map.get s.pendings.entries number)
 output_of config s (Removes triad) = []

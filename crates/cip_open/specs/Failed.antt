@@ -1,5 +1,5 @@
--- The reply of a failed open (Volume 1, chapter 3, Forward_Open and Large_Forward_Open, unsuccessful
--- response).
+-- The reply of a failed open (Volume 1, chapter 3, Forward_Open and Large_Forward_Open,
+-- unsuccessful response).
 use Rattle.std.specs.Prelude.{Bool}
 use Rattle.cip_base.specs.Words.{Octets}
 use Rattle.cip_base.specs.declared.timing.Status.{Status}

@@ -1,6 +1,6 @@
--- The two services that open a connection: Forward_Open, service 54, and Large_Forward_Open, service
--- 5B, of the Connection Manager (Volume 1, chapter 3, Forward_Open and Large_Forward_Open). A large
--- open has its network connection parameters in double words; all else is alike.
+-- The two services that open a connection: Forward_Open, service 54, and Large_Forward_Open,
+-- service 5B, of the Connection Manager (Volume 1, chapter 3, Forward_Open and Large_Forward_Open).
+-- A large open has its network connection parameters in double words; all else is alike.
 use Rattle.std.specs.Prelude.{ℕ, ◌+◌, ◌*◌, Bool, if◌then◌else◌}
 use Rattle.cip_base.specs.Fields.{word, double}
 use Rattle.cip_base.specs.Words.{Octets}

@@ -1,5 +1,5 @@
--- The network connection parameters of one direction of a connection, in a word or, of a large open,
--- in a double word (Volume 1, chapter 3, network connection parameters).
+-- The network connection parameters of one direction of a connection, in a word or, of a large
+-- open, in a double word (Volume 1, chapter 3, network connection parameters).
 use Rattle.std.specs.Prelude.{ℕ, ◌/◌, ◌%◌, ◌==◌, Bool, if◌then◌else◌}
 use Rattle.cip_open.specs.declared.parameters.Priority.{Priority}
 use Rattle.cip_open.specs.declared.parameters.Priority.TheVariants.{Low, High, Scheduled, Urgent}

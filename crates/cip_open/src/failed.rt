@@ -11,8 +11,8 @@ use cip_message::{ConnectionFailure, DataFault, read_failure, write_failure};
 use std::alloc::Global;
 
 /// What the data of a failed open says (Volume 1, chapter 3, Forward_Open and Large_Forward_Open,
-/// unsuccessful response): the connection that was asked for, and how many 16-bit words of path were
-/// left where the fault was found. Each is None where its bytes are missing.
+/// unsuccessful response): the connection that was asked for, and how many 16-bit words of path
+/// were left where the fault was found. Each is None where its bytes are missing.
 #[derive(Clone, Copy, Debug, PartialEq, Eq)]
 pub struct OpenFailure {
     pub triad: Option<Triad>,
@@ -22,8 +22,8 @@ pub struct OpenFailure {
 }
 
 /// The failure that the data of a failed open says; the data is what follows the reply's status:
-/// none, or the connection triad and then perhaps the words of path that were left; what follows the
-/// words is not kept (Volume 1, chapter 3, Forward_Open and Large_Forward_Open, unsuccessful
+/// none, or the connection triad and then perhaps the words of path that were left; what follows
+/// the words is not kept (Volume 1, chapter 3, Forward_Open and Large_Forward_Open, unsuccessful
 /// response). The data does not tell the service: `large` is false. It takes no memory.
 ///
 /// Short from 1 to 7 bytes.
@@ -42,9 +42,9 @@ pub fn read_open_failure(data_: &[u8]) -> Result<OpenFailure, DataFault>
 }
 
 /// The whole message of a failed open: the reply's header with at most one word of additional
-/// status, the connection triad if there is one, then the words and a reserved 00 if there are words.
-/// There are no words without a triad (Volume 1, chapter 3, Forward_Open and Large_Forward_Open,
-/// unsuccessful response).
+/// status, the connection triad if there is one, then the words and a reserved 00 if there are
+/// words. There are no words without a triad (Volume 1, chapter 3, Forward_Open and
+/// Large_Forward_Open, unsuccessful response).
 pub fn write_open_failure(
     alloc: Global,
     status: Status,

@@ -1,5 +1,5 @@
-//! What holds of every open, large or not: reading gives exactly what has the layout, and what is written
-//! is read back.
+//! What holds of every open, large or not: reading gives exactly what has the layout, and what is
+//! written is read back.
 ghost use Rattle.std.specs.Prelude.{◌≡◌, ◌%◌, Bool, length, Ok};
 ghost use Rattle.cip_base.specs.declared.timing.Status.{Status};
 ghost use Rattle.cip_segment.specs.Spelling.{IsReadable};

@@ -20,8 +20,8 @@ pub enum ConnectionKind {
     Reserved,
 }
 
-/// The parts of the network connection parameters, of a word or of a large open's double word (Volume
-/// 1, chapter 3, network connection parameters).
+/// The parts of the network connection parameters, of a word or of a large open's double word
+/// (Volume 1, chapter 3, network connection parameters).
 #[derive(Clone, Copy, Debug, PartialEq, Eq)]
 pub struct Params {
     /// The most bytes of a datum, its sequence count included: bits 8 to 0, or 15 to 0.

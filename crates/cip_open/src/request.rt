@@ -138,7 +138,8 @@ fn view(large: bool, data_: &[u8]) -> Result<OpenView<'_>, DataFault>
 /// Otherwise the first that fits: Short where bytes are missing, Long where bytes stand after the
 /// path, Path of the path's fault.
 pub fn read_open_of(large: bool, data_: &[u8]) -> Result<OpenView<'_>, DataFault>
-    ensures read { IsRead open_of (open_at large) (ReadsOpen large) (IsOpenFault large) data_.now result }
+    ensures read { IsRead open_of (open_at large) (ReadsOpen large) (IsOpenFault large) data_.now
+        result }
     ensures width { IfOk result (λ v. FitWidth v.fields) }
 {
     view(large, data_)
@@ -150,15 +151,16 @@ pub fn read_open_of(large: bool, data_: &[u8]) -> Result<OpenView<'_>, DataFault
 /// Otherwise the first that fits: Short where bytes are missing, Long where bytes stand after the
 /// path, Path of the path's fault.
 pub fn read_open(data_: &[u8]) -> Result<OpenView<'_>, DataFault>
-    ensures read { IsRead open_of (open_at false) (ReadsOpen false) (IsOpenFault false) data_.now result }
+    ensures read { IsRead open_of (open_at false) (ReadsOpen false) (IsOpenFault false) data_.now
+        result }
     ensures width { IfOk result (λ v. FitWidth v.fields) }
 {
     read_open_of(false, data_)
 }
 
 /// The Large_Forward_Open that the data is, all of it; the data is what follows the path of the
-/// request (Volume 1, chapter 3, Large_Forward_Open). The reserved bytes have any value. It takes no
-/// memory.
+/// request (Volume 1, chapter 3, Large_Forward_Open). The reserved bytes have any value. It takes
+/// no memory.
 ///
 /// Otherwise the first that fits: Short where bytes are missing, Long where bytes stand after the
 /// path, Path of the path's fault.
@@ -168,8 +170,8 @@ pub fn read_large_open(data_: &[u8]) -> Result<OpenView<'_>, DataFault>
     read_open_of(true, data_)
 }
 
-/// The connection triad in the data of an open, large or not; None exactly where one of its bytes is
-/// missing. The data may be cut after it.
+/// The connection triad in the data of an open, large or not; None exactly where one of its bytes
+/// is missing. The data may be cut after it.
 pub fn triad_at(data_: &[u8]) -> Option<Triad>
     ensures { result ≡ open_triad_of data_.now }
 {

@@ -61,8 +61,8 @@ pub fn params(word: u16) -> Params
 }
 
 /// The parts of a double word of network connection parameters, those of a Large_Forward_Open: bits
-/// 15 to 0 the size, bit 25 variable, bits 27 to 26 the priority, bits 30 to 29 the connection type,
-/// bit 31 redundant owner; the others are reserved and left out (Volume 1, chapter 3, network
+/// 15 to 0 the size, bit 25 variable, bits 27 to 26 the priority, bits 30 to 29 the connection
+/// type, bit 31 redundant owner; the others are reserved and left out (Volume 1, chapter 3, network
 /// connection parameters). It takes no memory.
 pub fn large_params(word: u32) -> Params
     ensures { result ≡ large_params_of word }

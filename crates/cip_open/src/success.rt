@@ -68,7 +68,8 @@ fn success(data_: &[u8]) -> Result<OpenReply<'_>, DataFault>
 /// Otherwise the first that fits: Short where bytes are missing, Long where bytes stand after the
 /// application reply.
 pub fn read_open_reply(data_: &[u8]) -> Result<OpenReply<'_>, DataFault>
-    ensures read { IsRead success_of open_reply_at ReadsOpenReply IsOpenReplyFault data_.now result }
+    ensures read { IsRead success_of open_reply_at ReadsOpenReply IsOpenReplyFault data_.now
+        result }
     ensures standard { IfOk result (λ r. r.large ≡ false) }
 {
     success(data_)

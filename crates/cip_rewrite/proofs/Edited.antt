@@ -51,7 +51,8 @@ abbrev with_id : ℕ → List ℕ → List ℕ
 with_id id m = take 12 (one_less_at 7 m) ++ (double id ++ drop 4 (drop 12 (one_less_at 7 m)))
 
 others_are : (large : Bool) (s x y z w : ℕ) (o : Open) (id words : ℕ)
-    → others (words_place large) words (with_id id (manager_bytes s (open_layout large x y z w o))) ≡ manager_bytes s (open_layout large 0 0 0 words (lowered o id o.path))
+    → others (words_place large) words (with_id id (manager_bytes s (open_layout large x y z w o)))
+    ≡ manager_bytes s (open_layout large 0 0 0 words (lowered o id o.path))
 others_are true s x y z w o id words = refl
 others_are false s x y z w o id words = refl
 

@@ -38,10 +38,10 @@ fn edit_forwarded(message: &mut [u8], large: bool, down_id: u32, words: u8)
     message[MANAGER_HEADER + words_place(large)] = words;
 }
 
-/// A Forward_Open or Large_Forward_Open as it goes on, in the buffer in which it came: the header of
-/// a request to the Connection Manager, one time-out tick less, `down_id` as T→O network connection
-/// id, reserved bytes 00, and what is left of the path behind its first hop (Volume 1, chapter 3,
-/// Forward_Open and Large_Forward_Open).
+/// A Forward_Open or Large_Forward_Open as it goes on, in the buffer in which it came: the header
+/// of a request to the Connection Manager, one time-out tick less, `down_id` as T→O network
+/// connection id, reserved bytes 00, and what is left of the path behind its first hop (Volume 1,
+/// chapter 3, Forward_Open and Large_Forward_Open).
 ///
 /// The condition is that the bytes are one of the two to the Connection Manager, in any spelling of
 /// the request's path and with an attribute or without, with at least one tick and a path that

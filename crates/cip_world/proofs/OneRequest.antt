@@ -19,7 +19,7 @@ use Rattle.cip_config.specs.declared.config.ModuleSettings.{ModuleSettings}
 use Rattle.cip_event.specs.declared.event.Event.{Event}
 use Rattle.cip_event.specs.declared.event.Output.{Output}
 use Rattle.cip_laws.specs.EffectLists.{gain, IsLight, IsBounded}
-use Rattle.cip_module.specs.Effects.{Effect, Replies, Answers, Forwards, Begins, Finishes, Takes, PendingTimesOut, Passes, objects_of, reply_up, replied, timed_out_reply, timed_out_bytes, succeeded, waits_large, datum_up, datum_down, passed, apply, output_of, outputs_of}
+use Rattle.cip_module.specs.Effects.{Effect, Replies, Answers, Forwards, Begins, Finishes, Takes, PendingTimesOut, Passes, objects_of, reply_up, replied, timed_out_reply, timed_out_bytes, datum_up, datum_down, passed, apply, output_of, outputs_of, succeeded_at}
 use Rattle.cip_module.specs.State.{State}
 use Rattle.cip_module.specs.Table.{decide}
 use Rattle.cip_laws.specs.Tells.{asker, Tells, AllTell}
@@ -107,7 +107,7 @@ given : (config : ModuleSettings) (s : State) (e : Effect) → weight_in any_req
 given config s (Replies up bytes) = let none = up_none up bytes in omega (arith, none)
 given config s (Answers up asked) = let none = up_none up (reply_bytes (target_answer (objects_of config s) asked)) in omega (arith, none)
 given config s (Finishes number triad bytes success) =
-    let none = replied_none (map.get s.pendings.entries number) (succeeded (waits_large (map.get s.pendings.entries number)) (map.get s.hops.held triad) bytes success) in omega (arith, none)
+    let none = replied_none (map.get s.pendings.entries number) (succeeded_at s number triad bytes success) in omega (arith, none)
 given config s (Takes number bytes) = let none = replied_none (map.get s.pendings.entries number) bytes in omega (arith, none)
 given config s (PendingTimesOut number) = let none = late_none (map.get s.pendings.entries number) in omega (arith, none)
 given config s (Passes triad side bytes) = let none = passed_none side (hop_at s.hops triad) bytes in omega (arith, none)

@@ -169,7 +169,8 @@ accepted_read o id bytes is =
     (record { ot_id = id; to_id = o.fields.to_id; triad = o.fields.triad; ot_api = o.fields.ot_rpi; to_api = o.fields.to_rpi; reply = [] }) bytes is
 
 -- a success that is passed on stays one
-passed_read : (large : Bool) (held : Option Held) (came : List ℕ) (success : OpenSuccess) (bytes : List ℕ) (reply : Reply) → bytes ≡ succeeded large held came success
+passed_read : (large : Bool) (held : Option Held) (came : List ℕ) (success : OpenSuccess) (bytes : List ℕ) (reply : Reply)
+    → bytes ≡ succeeded large held came success
     → reply_at came ≡ Ok reply → reply.general ≡ 0 → ReadAs (λ r. r.general ≡ 0) bytes
 passed_read large None came success bytes reply is read general = record { reply = reply; read = ap reply_at is ∙ read; has = general }
 passed_read large (Some x) came success bytes reply is read general = by_up (opening_of x).up is
@@ -188,7 +189,8 @@ late_of false triad words = refl
 pub data Outcome (t : Plan) (j : Journal) (m op at : ℕ) (path : List ℕ) (r : Reply) : Type 0 where
   Failed : (place : ℕ) (step : StepIn t j place) (o : Open) → TrailTo t j m op place step → AsksThat step.taken.config step.taken.event o
       → (large : Bool) (status : Status) (failure : ConnectionFailure)
-      → r ≡ reply_with (open_reply_service large) status (failure_data failure) → failure.words ≡ Some (words_of o.path) → HasTriadForWords failure → (status.general ≡ 0 → ⊥)
+      → r ≡ reply_with (open_reply_service large) status (failure_data failure) → failure.words ≡ Some (words_of o.path)
+      → HasTriadForWords failure → (status.general ≡ 0 → ⊥)
       → FailedAt t j place step status → Outcome t j m op at path r
   Ended : (place : ℕ) (step : StepIn t j place) (o : Open) (bytes : List ℕ) → TrailTo t j m op place step → AsksThat step.taken.config step.taken.event o
       → OpenAccepted step.taken.config (state_before step) step.taken.event o bytes → r.general ≡ 0 → walk t at path ≡ walk t step.at.0 o.path

@@ -100,7 +100,9 @@ data_long : (o : Open) → length (open_data o) ≡ open_fixed_part o.fields.lar
 data_long o = layout_long o.fields.large 0 0 0 (length o.path / 2) o
 
 long_enough : (o : Open) → nat_lt (length (open_data o)) (open_fixed_part o.fields.large) ≡ false
-long_enough o = let l : open_fixed_part o.fields.large ≤ length (open_data o) = omega (arith, data_long o) in le-ltb (length (open_data o)) (open_fixed_part o.fields.large) l
+long_enough o =
+    let l : open_fixed_part o.fields.large ≤ length (open_data o) = omega (arith, data_long o) in
+    le-ltb (length (open_data o)) (open_fixed_part o.fields.large) l
 
 -- the path size stands at its place
 words_stand : (large : Bool) (o : Open) → open_words_of large (open_layout large 0 0 0 (length o.path / 2) o) ≡ Some (words_of o.path)
@@ -168,7 +170,8 @@ frame_is p q a b k n c d e = (cc, cc, cc, cc)
 
 module _ (config : ModuleSettings) (s : State) (event : Event) (o : Open) (is : AsksThat config event o) where
   -- a request that came is this open, or dropped
-  came_row : (up : UpSide) (row : RequestRow) → Came config event up row → (row ≡ request.UnknownPortOrTooLong) ⊎ (row ≡ request.ForwardOpen o.fields.large (open_data o))
+  came_row : (up : UpSide) (row : RequestRow) → Came config event up row
+      → (row ≡ request.UnknownPortOrTooLong) ⊎ (row ≡ request.ForwardOpen o.fields.large (open_data o))
   came_row up row came = by_form is
     where
       by_form : AsksThat config event o → (row ≡ request.UnknownPortOrTooLong) ⊎ (row ≡ request.ForwardOpen o.fields.large (open_data o))

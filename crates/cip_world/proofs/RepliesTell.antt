@@ -12,7 +12,7 @@ use Rattle.cip_event.specs.declared.event.Event.{Event}
 use Rattle.cip_event.specs.declared.event.Event.TheVariants as events
 use Rattle.cip_event.specs.declared.event.Output.{Output}
 use Rattle.cip_event.specs.declared.event.Output.TheVariants as outputs
-use Rattle.cip_module.specs.Effects.{applied, outputs_of, replied, reply_up, succeeded, waits_large}
+use Rattle.cip_module.specs.Effects.{applied, outputs_of, replied, reply_up, succeeded_at}
 use Rattle.cip_module.specs.ReplyRows.{ReplyRow, reply_row}
 use Rattle.cip_module.specs.ReplyRows as reply
 use Rattle.cip_module.specs.State.{State}
@@ -57,7 +57,7 @@ row_late config s n bytes reply.UnknownPortOrTooLong h = refl
 row_late config s n bytes reply.Late h = refl
 row_late config s n bytes reply.MalformedForItsKind h = refl
 row_late config s n bytes (reply.OpenSucceeded triad success) h =
-    let out = succeeded (waits_large (map.get s.pendings.entries n)) (map.get s.hops.held triad) bytes success in
+    let out = succeeded_at s n triad bytes success in
     absurd (not_dropped (map.get s.pendings.entries n) out (has_first (replied (map.get s.pendings.entries n) out) (outputs.Dropped dropped.Late) h))
 row_late config s n bytes reply.PassedUp h =
     absurd (not_dropped (map.get s.pendings.entries n) bytes (has_first (replied (map.get s.pendings.entries n) bytes) (outputs.Dropped dropped.Late) h))

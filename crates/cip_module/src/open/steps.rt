@@ -1,4 +1,5 @@
-//! The open group: Forward_Open and Large_Forward_Open at a router, at an end and at its originator.
+//! The open group: Forward_Open and Large_Forward_Open at a router, at an end and at its
+//! originator.
 ghost use Rattle.std.specs.Prelude.{◌≡◌, ◌≤◌, ◌<◌, ◌∷◌, [], length, IfOk, OnErr, None, Some, Ok, true};
 ghost use Rattle.cip_message.specs.Received.{IsReceived};
 ghost use Rattle.cip_open.specs.Kinds.{open_service};

@@ -6,6 +6,7 @@ use Rattle.cip_module.proofs.device.Device.success_up.Goals as goal
 
 pub returns-in-Link-clause-made : goal.returns-in-Link-clause-made
 returns-in-Link-clause-made c =
-    success_made c.args.making c.args.large (map.get c.args.self.now.hops.held c.args.triad.now) c.in-Some.held.now c.in-Link.port c.in-Link.address c.in-Link.their_id
+    success_made c.args.making c.args.large (map.get c.args.self.now.hops.held c.args.triad.now) c.in-Some.held.now c.in-Link.port c.in-Link.address
+    c.in-Link.their_id
     c.unwrap_or-up_id.result c.args.bytes.now (success_of c.args.success) c.success_with.result
     (search rules) (search rules) (search rules) c.success_with.ensures.made
