@@ -1,5 +1,5 @@
 //! What holds of the messages that a module sends on, of its failures, and of data.
-ghost use Rattle.std.specs.Prelude.{◌≡◌, ℕ, ◌+◌, ◌≤◌, ◌==◌, List, [], ◌∷◌, length, slice_index, Option, Some, None, Ok, true, false, is_some, Bool};
+ghost use Rattle.std.specs.Prelude.{◌≡◌, ℕ, ◌+◌, ◌≤◌, ◌==◌, List, [], ◌∷◌, length, slice_index, Option, Some, None, Ok, true, false, is_some, Bool, ◌<◌};
 ghost use Rattle.cip_base.specs.declared.timing.Status.{Status};
 ghost use Rattle.cip_base.specs.declared.triad.Triad.{Triad};
 ghost use Rattle.cip_segment.specs.Reading.{segments_of};
@@ -28,20 +28,26 @@ ghost use Rattle.cip_module.specs.declared.refusals.CloseRefusal.{CloseRefusal};
 ghost use Rattle.cip_module.specs.Answers.{failure_bytes, route_words_data, unconnected_failed, failed_at, open_failed, close_failed};
 ghost use Rattle.cip_module.specs.CommandRows.{send_row};
 ghost use Rattle.cip_config.specs.Config.{port_of};
-ghost use Rattle.cip_module.specs.Effects.{Effect, datum_by, outputs_of};
+ghost use Rattle.cip_module.specs.Effects.{Effect, datum_by, outputs_of, timed_out_bytes};
 ghost use Rattle.cip_module.specs.Object.{begins_with_manager};
 ghost use Rattle.cip_laws.specs.Outputs.{one_datum};
 ghost use Rattle.cip_laws.specs.OwnTriads.{HasOwnTriads};
 ghost use Rattle.cip_module.specs.RequestRows.{UnconnectedSend, ForwardOpen, ForwardClose, unless_malformed, request_row};
 ghost use Rattle.cip_module.specs.State.{State};
-ghost use Rattle.cip_module.specs.Statuses.{request_status, unconnected_status, open_status, close_status};
-ghost use Rattle.cip_module.specs.Table.{decide, message_on};
+ghost use Rattle.cip_module.specs.Statuses.{request_status, unconnected_status, open_status, close_status, link_status};
+ghost use Rattle.cip_module.specs.Table.{decide, message_on, unread_open_bytes};
 ghost use Rattle.cip_module.specs.UnconnectedRows.{AnsweredHere, Forwarded, unconnected_row};
 ghost use Rattle.cip_laws.specs.Weights.{weight_in};
-ghost use Rattle.cip_open.specs.Kinds.{open_reply_service};
+ghost use Rattle.cip_open.specs.Kinds.{open_reply_service, open_fixed_part};
+ghost use Rattle.cip_open.specs.OpenAt.{open_triad_of, open_words_of};
+ghost use Rattle.cip_message.specs.declared.fault.DataFault.{DataFault};
+ghost use Rattle.cip_pending.specs.Kinds.{opening_kind};
+ghost use Rattle.cip_module.specs.declared.refusals.LinkRefusal.TheVariants.{TicksSpent};
+ghost use Rattle.cip_module.specs.OpenRows.{unread_row};
 
 /// What a module replies to a request that fails is read back as its status and what it tells of
-/// the request, whole.
+/// the request, whole: also to an open whose reply did not come in time, and to one that cannot be
+/// read, cut in its fixed part or not.
 pub fn failures_are_read_back()
     ensures requests { (service : ℕ) (status : Status)
         → reply_at (failure_bytes service status) ≡ Ok (reply_with (128 + service) status []) }
@@ -53,6 +59,20 @@ pub fn failures_are_read_back()
         ≡ Ok (reply_with (open_reply_service large) status
         (failure_data (failed_at triad words))))
         × (failure_at (failure_data (failed_at triad words)) ≡ Ok (failed_at triad words)) }
+    ensures late { (large : Bool) (triad : Triad) (words : ℕ)
+        → timed_out_bytes (opening_kind large triad) words
+        ≡ open_failed large (link_status TicksSpent) triad words }
+    ensures cut { (large : Bool) (data_ : List ℕ) (fault : DataFault)
+        → length data_ < open_fixed_part large → reply_at (unread_open_bytes large data_ fault)
+        ≡ Ok (reply_with (open_reply_service large) (open_status (unread_row large data_ fault))
+        []) }
+    ensures unread { (large : Bool) (data_ : List ℕ) (fault : DataFault)
+        → open_fixed_part large ≤ length data_ → reply_at (unread_open_bytes large data_ fault)
+        ≡ Ok (reply_with (open_reply_service large) (open_status (unread_row large data_ fault))
+        (failure_data (record {
+          triad = open_triad_of data_;
+          words = open_words_of large data_;
+        }))) }
     ensures closes { (status : Status) (triad : Triad) (words : ℕ)
         → (reply_at (close_failed status triad words)
         ≡ Ok (reply_with 0xCE status (failure_data (failed_at triad words))))

@@ -1,3 +1,4 @@
+pub mod Parts
 pub mod Services
 pub mod Opens
 pub mod Successes

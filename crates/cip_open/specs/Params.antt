@@ -39,3 +39,13 @@ large_params_of w = sized (w % 65536) (w / 65536)
 -- of an open that is large or not
 abbrev pub open_params_of : Bool → ℕ → Params
 open_params_of large w = if large then large_params_of w else params_of w
+
+-- the parameters with these parts, each as its bits say it
+abbrev pub parts : ℕ → ℕ → ℕ → ℕ → ℕ → Params
+parts size variable priority kind redundant = record {
+  size = size;
+  variable = variable == 1;
+  priority = priority_of priority;
+  kind = kind_of kind;
+  redundant = redundant == 1;
+}

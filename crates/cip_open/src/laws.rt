@@ -1,6 +1,6 @@
 //! What holds of every open, large or not: reading gives exactly what has the layout, and what is
 //! written is read back.
-ghost use Rattle.std.specs.Prelude.{◌≡◌, ◌%◌, Bool, length, Ok};
+ghost use Rattle.std.specs.Prelude.{◌≡◌, ◌<◌, ◌+◌, ◌*◌, ◌%◌, ℕ, Bool, true, false, length, Ok};
 ghost use Rattle.cip_base.specs.declared.timing.Status.{Status};
 ghost use Rattle.cip_segment.specs.Spelling.{IsReadable};
 ghost use Rattle.cip_message.specs.Exact.{ReadsEach, Decides, Refuses, RefusesBytes};
@@ -10,7 +10,8 @@ ghost use Rattle.cip_message.specs.Reply.{reply_with};
 ghost use Rattle.cip_message.specs.ReplyAt.{reply_at, IsDone};
 ghost use Rattle.cip_message.specs.RequestAt.{IsSent};
 ghost use Rattle.cip_open.specs.Failed.{open_failure_bytes};
-ghost use Rattle.cip_open.specs.Kinds.{open_service, open_reply_service};
+ghost use Rattle.cip_open.specs.Kinds.{open_service, open_reply_service, open_fixed_part};
+ghost use Rattle.cip_open.specs.Params.{parts, params_of, large_params_of};
 ghost use Rattle.cip_open.specs.Open.{Open, ReadsOpen, IsOpenFault, open_data, open_bytes};
 ghost use Rattle.cip_open.specs.OpenAt.{open_at};
 ghost use Rattle.cip_open.specs.Success.{OpenSuccess, ReadsOpenReply, IsOpenReplyFault, open_reply_data, open_reply_bytes};
@@ -58,4 +59,23 @@ pub fn written_open_failure_is_read()
     ensures { (large : Bool) (status : Status) (f : Failure)
         → reply_at (open_failure_bytes large status f)
         ≡ Ok (reply_with (open_reply_service large) status (failure_data f)) }
+{}
+
+/// The services of opens and of their replies: 54 and D4, and of large ones 5B and DB; and the bytes
+/// of their data before the path: 36, and of large ones 40.
+pub fn services_of_opens()
+    ensures small { (open_service false ≡ 0x54) × (open_reply_service false ≡ 0xD4) }
+    ensures large { (open_service true ≡ 0x5B) × (open_reply_service true ≡ 0xDB) }
+    ensures fixed { (open_fixed_part false ≡ 36) × (open_fixed_part true ≡ 40) }
+{}
+
+/// Where the network connection parameters have their parts: in a word the size in 9 bits and at bit
+/// 9 whether it varies, at bits 10, 13 and 15 the priority, the type and the redundant owner; in a
+/// double word the size in 16 bits, and the others 16 bits further up.
+pub fn parameters_have_their_parts()
+    ensures small { (s v p k r : ℕ) → s < 512 → v < 2 → p < 4 → k < 4 → r < 2
+        → params_of (s + 512 * v + 1024 * p + 8192 * k + 32768 * r) ≡ parts s v p k r }
+    ensures large { (s v p k r : ℕ) → s < 65536 → v < 2 → p < 4 → k < 4 → r < 2
+        → large_params_of (s + 65536 * (512 * v + 1024 * p + 8192 * k + 32768 * r))
+        ≡ parts s v p k r }
 {}

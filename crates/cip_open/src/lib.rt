@@ -16,8 +16,8 @@ pub use kinds::{
     open_fixed_part, open_reply_service, open_service, words_place,
 };
 pub use laws::{
-    open_is_exact, open_reply_is_exact, written_open_failure_is_read, written_open_is_read,
-    written_open_reply_is_read,
+    open_is_exact, open_reply_is_exact, parameters_have_their_parts, services_of_opens,
+    written_open_failure_is_read, written_open_is_read, written_open_reply_is_read,
 };
 pub use parameters::{ConnectionKind, Params, Priority};
 pub use request::{
