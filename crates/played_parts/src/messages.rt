@@ -5,7 +5,9 @@ use crate::out::{Out, Pairs};
 use cip_base::{Bytes, Status, Timing, Triad};
 use cip_close::{CloseFields, CloseReply, write_close, write_close_failure, write_close_reply};
 use cip_message::{ConnectionFailure, write_failure, write_reply, write_request};
-use cip_open::{OpenFailure, OpenFields, OpenReply, write_open, write_open_failure, write_open_reply};
+use cip_open::{
+    OpenFailure, OpenFields, OpenReply, write_open, write_open_failure, write_open_reply,
+};
 use cip_segment::view_path;
 use cip_unconnected::write_unconnected;
 use std::alloc::Global;
