@@ -61,17 +61,17 @@ pub fn written_open_failure_is_read()
         ≡ Ok (reply_with (open_reply_service large) status (failure_data f)) }
 {}
 
-/// The services of opens and of their replies: 54 and D4, and of large ones 5B and DB; and the bytes
-/// of their data before the path: 36, and of large ones 40.
+/// The services of opens and of their replies: 54 and D4, and of large ones 5B and DB; and the
+/// bytes of their data before the path: 36, and of large ones 40.
 pub fn services_of_opens()
     ensures small { (open_service false ≡ 0x54) × (open_reply_service false ≡ 0xD4) }
     ensures large { (open_service true ≡ 0x5B) × (open_reply_service true ≡ 0xDB) }
     ensures fixed { (open_fixed_part false ≡ 36) × (open_fixed_part true ≡ 40) }
 {}
 
-/// Where the network connection parameters have their parts: in a word the size in 9 bits and at bit
-/// 9 whether it varies, at bits 10, 13 and 15 the priority, the type and the redundant owner; in a
-/// double word the size in 16 bits, and the others 16 bits further up.
+/// Where the network connection parameters have their parts: in a word the size in 9 bits and at
+/// bit 9 whether it varies, at bits 10, 13 and 15 the priority, the type and the redundant owner;
+/// in a double word the size in 16 bits, and the others 16 bits further up.
 pub fn parameters_have_their_parts()
     ensures small { (s v p k r : ℕ) → s < 512 → v < 2 → p < 4 → k < 4 → r < 2
         → params_of (s + 512 * v + 1024 * p + 8192 * k + 32768 * r) ≡ parts s v p k r }
