@@ -7,7 +7,7 @@ under the names that they have in the document, each with its group.
 
 from collections import Counter
 
-LAST, COUNT = 9_223_372_036_854_775_807, 0xFFFFFFFF
+LAST, COUNT = 9_223_372_036_854_775_807, 0xFFFF
 MESSAGE, EMBEDDED, HEADER, ROOM = 66_000, 65_535, bytes.fromhex("0220062401"), 256
 CLASS, INSTANCE, MEMBER, POINT, ATTRIBUTE = range(5)
 # the bytes of network connection parameters, and what waits for the reply, of Forward_Open and Large_Forward_Open
@@ -266,7 +266,7 @@ class Module:
     def wait_row(self, ticks):
         if ticks < 2:
             return "time-out ticks spent"
-        return "no pending left" if len(self.pendings) >= self.pending_room or self.number >= COUNT else None
+        return "no pending left" if len(self.pendings) >= self.pending_room or self.number % 65536 >= COUNT else None
 
     # requests
 
@@ -391,7 +391,7 @@ class Module:
         key, hop = first_hop(path)
         if self.key_fault(key):
             return no("key mismatch", self.key_fault(key))
-        is_full, left = len(self.hops) + len(self.openings) >= self.hop_room, COUNT - self.id
+        is_full, left = len(self.hops) + len(self.openings) >= self.hop_room, COUNT - self.id % 65536
         sizes = [it & (0x1FF if width == 2 else 0xFFFF) for it in params]
         made = {"up": up, "path": path, "sizes": sizes, "class": transport & 15, "their_up": num(data, 6, 4)}
         made.update(consumed=None, produced=0, watch=[rpi << data[18] + 2 for rpi in rpis], link=hop and hop[:2])
