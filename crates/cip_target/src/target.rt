@@ -251,7 +251,8 @@ impl Target {
     pub fn reads_reset(&self, request: RequestView<'_>) -> bool
         ensures { result ≡ reads_reset self.now.objects (request_of request.entry) }
     {
-        matches!(self.row(request), Row::Reset)
+        // Most requests are told by their service, without a look at their path.
+        request.service == 0x05 && matches!(self.row(request), Row::Reset)
     }
 
     /// The whole reply to a request (Volume 1, chapter 2, Message Router; chapter 5, Identity and
@@ -265,7 +266,7 @@ impl Target {
     /// data, set whole. Otherwise the reply has the general status of the first `TargetRefusal`
     /// that fits. NoMemory changes nothing. The condition is that `reads_reset` is false.
     pub fn answer(&mut self, alloc: Global, request: RequestView<'_>) -> Result<Bytes, NoMemory>
-        requires { reads_reset self.old.objects (request_of request.entry) ≡ false }
+        requires { reads_reset self.old.objects (request_of request) ≡ false }
         ensures ok { IfOk result
             (λ b. b ≡ answer_bytes self.old.objects (request_of request.entry)) }
         ensures after { self.new ≡ ends_if (is_ok result) self.old (request_of request.entry) }
