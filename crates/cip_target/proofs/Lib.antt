@@ -6,3 +6,4 @@ pub mod Writes
 pub mod EndPoints
 pub mod Resets
 pub mod ReadsReset
+pub mod Sizes

@@ -7,21 +7,18 @@ use Rattle.std.specs.declared.cmp.Ordering.TheVariants.{Less, Equal, Greater}
 use Rattle.std.specs.Ordering.{nat_cmp, eq_by_cmp, is_eq, is_lt}
 use Rattle.std.specs.Cmp.{nat_cmp_total}
 use Rattle.std.specs.FinMap as map
-use Rattle.std.specs.FinMap.{nat_cmp-IsAntisymmetric}
 use Rattle.std.specs.FinMap.Entries.{find, is_sorted, below_all}
 use Rattle.std.proofs.Math.ListN.{set}
-use Rattle.std.proofs.lemmas.Bool.{eqb-true}
 use Rattle.std.proofs.lemmas.List.{length-replicate}
 use Rattle.cip_base.specs.declared.limits.TheConstants.{MAX_DATUM}
-use Rattle.cip_base.proofs.Places.{same_test}
 use Rattle.cip_base.proofs.Sorted.{first, second}
 use Rattle.cip_target.specs.declared.assembly.Assembly.{Assembly}
 use Rattle.cip_target.specs.declared.config.AssemblyConfig.{AssemblyConfig}
-use Rattle.cip_target.specs.Assemblies.{AssemblyMap, Owners, zeroed_onto, zeroed, configs_of, configs_in, size_in}
+use Rattle.cip_target.specs.Assemblies.{AssemblyMap, zeroed_onto, zeroed, configs_of, configs_in, size_in}
 use Rattle.cip_target.specs.Held.{IsHeld, Holdings, unowned, holdings, bytes_of, owners_of, cleared, all_cleared, nothing}
 use Rattle.cip_target.specs.Ends.{Ends, HasSizes, ends_with, fresh, reset}
 use Rattle.cip_target.proofs.Keeping.{Entry, the_map}
-use Rattle.cip_target.proofs.Holding.{get-bytes, get-owners}
+use Rattle.cip_target.proofs.Holding.{get-bytes, get-owners, same_bytes, same_owners, tie}
 
 -- ---- the code's loop
 
@@ -113,16 +110,14 @@ find-below : (q : ℕ) (es : List (ℕ × List ℕ)) → T (below_all nat_cmp q 
 find-below q [] h = refl
 find-below q (e ∷ es) h = ap (λ b. cond b (Some e.1) (find nat_cmp q es)) (apart _ (first _ _ h)) ∙ find-below q es (second _ _ h)
 
-tie : (q k : ℕ) → eq_by_cmp nat_cmp q k ≡ true → k ≡ q
-tie q k e = eqb-true k q (sym (same_test q k) ∙ e)
-
 get-onto : (m : AssemblyMap) (es : List (ℕ × List ℕ)) (q : ℕ) → T (is_sorted nat_cmp es)
     → map.get (zeroed_onto m (configs_of es)) q ≡ either (option_map blank (find nat_cmp q es)) (map.get m q)
 get-onto m [] q h = refl
 get-onto m (e ∷ es) q h =
     get-onto (map.insert m e.0 (blank e.1)) es q (second _ _ h)
     ∙ ap (either (option_map blank (find nat_cmp q es))) (map.get-insert nat_cmp_total m e.0 (blank e.1) q)
-    ∙ elim (eq_by_cmp nat_cmp q e.0) as (λ b. eq_by_cmp nat_cmp q e.0 ≡ b → either (option_map blank (find nat_cmp q es)) (cond b (Some (blank e.1)) (map.get m q))
+    ∙ elim (eq_by_cmp nat_cmp q e.0) as (λ b. eq_by_cmp nat_cmp q e.0 ≡ b
+    → either (option_map blank (find nat_cmp q es)) (cond b (Some (blank e.1)) (map.get m q))
     ≡ either (option_map blank (cond b (Some e.1) (find nat_cmp q es))) (map.get m q)) [
       | true ↦ λ t.
           let none : find nat_cmp q es ≡ None = subst (λ (k : ℕ). find nat_cmp k es ≡ None) (tie q e.0 t) (find-below e.0 es (first _ _ h)) in
@@ -141,12 +136,6 @@ get-zeroed m q =
     ∙ ap (either (option_map blank (find nat_cmp q (map.entries m)))) (map.get-empty nat_cmp q)
     ∙ either-none _
     ∙ ap (option_map blank) (sym (map.get-entries m q))
-
-same_bytes : (m n : AssemblyMap) → ((q : ℕ) → map.get m q ≡ map.get n q) → m ≡ n
-same_bytes m n is = map.same_map nat_cmp_total nat_cmp-IsAntisymmetric m n is
-
-same_owners : (m n : Owners) → ((q : ℕ) → map.get m q ≡ map.get n q) → m ≡ n
-same_owners m n is = map.same_map nat_cmp_total nat_cmp-IsAntisymmetric m n is
 
 -- ---- the list and the finite maps
 
@@ -188,7 +177,8 @@ Blank m = (q : ℕ) → map.get m q ≡ option_map blank (map.get m q)
 blank-insert : (m : AssemblyMap) (a : AssemblyConfig) → Blank m → Blank (map.insert m a.instance (zeros a.size))
 blank-insert m a h q =
     map.get-insert nat_cmp_total m a.instance (zeros a.size) q
-    ∙ elim (eq_by_cmp nat_cmp q a.instance) as (λ b. cond b (Some (zeros a.size)) (map.get m q) ≡ option_map blank (cond b (Some (zeros a.size)) (map.get m q))) [
+    ∙ elim (eq_by_cmp nat_cmp q a.instance) as (λ b. cond b (Some (zeros a.size)) (map.get m q)
+    ≡ option_map blank (cond b (Some (zeros a.size)) (map.get m q))) [
       | true ↦ ap (λ (n : ℕ). Some (zeros n)) (sym (length-replicate a.size 0))
       | false ↦ h q
     ]
