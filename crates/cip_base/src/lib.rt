@@ -26,7 +26,7 @@ pub use counts::{count_of, counts_given, incarnation, reborn};
 pub use fields::{put_double, put_word};
 pub use index::NumberIndex;
 pub use key::KeyFields;
-pub use laws::{triad_order, triads_are_ordered};
+pub use laws::{counts_rise_under_incarnations, triad_order, triads_are_ordered};
 pub use limits::{
     COUNTS, LAST_COUNT, LAST_INCARNATION, MAX_ADDRESS, MAX_ASSEMBLIES, MAX_DATUM, MAX_EMBEDDED,
     MAX_HOPS, MAX_MESSAGE, MAX_PATH, MAX_PENDINGS, MAX_PORTS,
