@@ -43,9 +43,11 @@ module _ (i : IdentityFields) where
       → P (commands.LargeOpen op timing path params) op (open_of i true timing path params))
       → (c : Command) (op : ℕ) (o : Open) → asked_open i c ≡ Some (op, o) → P c op o
   each_open P small large (commands.Open n timing path params) op o e =
-      subst (λ (x : ℕ × Open). P _ x.0 x.1) (one_of _ (op, o) e) (small n timing path params)
+      subst (λ (x : ℕ × Open). P (commands.Open n timing path params) x.0 x.1) (one_of (n, open_of i false timing path (widened params)) (op, o) e)
+      (small n timing path params)
   each_open P small large (commands.LargeOpen n timing path params) op o e =
-      subst (λ (x : ℕ × Open). P _ x.0 x.1) (one_of _ (op, o) e) (large n timing path params)
+      subst (λ (x : ℕ × Open). P (commands.LargeOpen n timing path params) x.0 x.1) (one_of (n, open_of i true timing path params) (op, o) e)
+      (large n timing path params)
   each_open P small large (commands.Close n of timing) op o e = absurd (cc)
   each_open P small large (commands.Send n timing path asked) op o e = absurd (cc)
   each_open P small large (commands.Enter of bytes) op o e = absurd (cc)
