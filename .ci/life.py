@@ -65,8 +65,8 @@ class Life:
 
     def plain_request(self):
         path = self.object()
-        service = self.one(0x01, 0x0E, 0x0E, 0x10, 0x10, 0x10, 0x4B, 0x52, 0x54, 0x5B, 0x4E)
-        return bytes([service, len(path) // 2]) + path + self.one(b"", b"", b"ab", b"abcd", b"abcd", b"abcdef")
+        service = self.one(0x01, 0x05, 0x0E, 0x0E, 0x10, 0x10, 0x10, 0x4B, 0x52, 0x54, 0x5B, 0x4E)
+        return bytes([service, len(path) // 2]) + path + self.one(b"", b"", b"a", b"ab", b"abcd", b"abcd", b"abcdef")
 
     def timing(self):
         return self.one(TIMING, TIMING, TIMING, (7, 1), (0, 2), (0, 60), (0xF5, 3), (15, 255), (1, 0))

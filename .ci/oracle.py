@@ -38,7 +38,7 @@ STATUS = {
               "not this sender's open triad": "0107", "path differs from the hop's": "0316"},
     "target": {"path form not supported": "05", "class not supported": "05", "no such instance": "16",
                "service not supported": "08", "no such attribute": "14", "not settable": "0E", "data short": "13",
-               "data long": "15"},
+               "data long": "15", "reset": "08"},
 }  # fmt: skip
 LINK = {"no port segment": "0315", "no such port": "0311", "link address not legal": "0312", "time-out ticks spent": "0204",
         "no pending left": "0301"}  # fmt: skip
@@ -311,8 +311,11 @@ class Module:
             return no("class not supported")
         if instance != 1 if of_class == 1 else instance not in self.assemblies:
             return no("no such instance")
-        if service not in ((0x01, 0x0E, 0x10) if of_class == 1 else (0x0E, 0x10)):
+        if service not in ((0x01, 0x05, 0x0E, 0x10) if of_class == 1 else (0x0E, 0x10)):
             return no("service not supported")
+        if service == 0x05:
+            # no module carries it out yet
+            return no("data long" if len(data) > 1 else "reset")
         if service != 0x01 and attribute not in (range(1, 8) if of_class == 1 else (3,)):
             return no("no such attribute")
         if service == 0x10 and of_class == 1:
