@@ -3,7 +3,7 @@ by themselves. What comes of an event is said by the oracle alone."""
 
 import re
 
-from oracle import CHASSIS, COUNT, HEADER, frames_of, is_path, put
+from oracle import CHASSIS, COUNT, HEADER, MOST, frames_of, is_path, put
 from worked import IDENTITY, PATH, TIMING
 
 
@@ -90,7 +90,7 @@ class Life:
         timing = bytes([tick, ticks])
         kind = one("open", "open", "large", "close", "send")
         if kind in ("open", "large"):
-            fields = self.triad() + bytes([one(0, 0, 0, 1, 7, 8)]) + bytes(3) + put(one(10_000, 10_000, 1, 0, COUNT), 4)
+            fields = self.triad() + bytes([one(0, 0, 0, 1, 7, 8)]) + bytes(3) + put(one(10_000, 10_000, 1, 0, MOST), 4)
             sizes = one((0x4806, 0x4804), (0x4804, 0x4802), (self.params(), self.params()))
             width, service = (2, b"\x54") if kind == "open" else (4, b"\x5b")
             words = sizes if kind == "open" else (self.widened(sizes[0]), self.widened(sizes[1]))
@@ -208,7 +208,7 @@ class Life:
 # how many events modules live
 ROUND = 250
 # which numbers few are left of, and how many
-SETTINGS = [("pending_room", 1, 3), ("hop_room", 1, 3), ("first_id", COUNT - 5, COUNT), ("first_number", COUNT - 3, COUNT)]
+SETTINGS = [("pending_room", 1, 3), ("hop_room", 1, 3), ("first_id", MOST - 5, MOST), ("first_number", COUNT - 3, COUNT)]
 
 
 def rooms(draw):

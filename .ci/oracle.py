@@ -7,7 +7,8 @@ under the names that they have in the document, each with its group.
 
 from collections import Counter
 
-LAST, COUNT = 9_223_372_036_854_775_807, 0xFFFF
+# the last microsecond, number of 32 bits, and count of an incarnation
+LAST, MOST, COUNT = 9_223_372_036_854_775_807, 0xFFFFFFFF, 0xFFFF
 MESSAGE, EMBEDDED, HEADER, ROOM = 66_000, 65_535, bytes.fromhex("0220062401"), 256
 CLASS, INSTANCE, MEMBER, POINT, ATTRIBUTE = range(5)
 # the bytes of network connection parameters, and what waits for the reply, of Forward_Open and Large_Forward_Open
