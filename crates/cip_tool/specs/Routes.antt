@@ -1,7 +1,8 @@
 -- Paths in words: words with commas between them.
-use Rattle.std.specs.Prelude.{◌≡◌, ℕ, ◌+◌, Bool, List, [], ◌∷◌, ◌++◌, ◌==◌, take, ◌||◌, if◌then◌else◌, codes, Result, Ok, Err, drop}
+use Rattle.std.specs.Prelude.{◌≡◌, ℕ, ◌+◌, ◌<◌, ◌≤◌, length, Bool, List, [], ◌∷◌, ◌++◌, ◌==◌, take, ◌||◌, if◌then◌else◌, codes, Result, Ok, Err, drop}
 use Rattle.std.specs.List.{slice_split, list_any}
 use Rattle.std.specs.Str.{bytes_eq}
+use denote.Ref.{Bor}
 use Rattle.cip_base.specs.Words.{Octets}
 use Rattle.cip_segment.specs.declared.segment.Segment.{Segment}
 use Rattle.cip_segment.specs.declared.segment.Segment.TheVariants as segments
@@ -13,7 +14,7 @@ use Rattle.cip_tool.specs.declared.fault.WordError.{WordError}
 use Rattle.cip_tool.specs.declared.fault.WordError.TheVariants as errors
 use Rattle.cip_tool.specs.declared.fault.RouteFault.{RouteFault}
 use Rattle.cip_tool.specs.declared.fault.RouteFault.TheVariants as route_faults
-use Rattle.cip_tool.specs.Words.{◌>>=◌, is_equals, port_of, address_of, object_of, named_of}
+use Rattle.cip_tool.specs.Words.{◌>>=◌, texts, is_equals, port_of, address_of, object_of, named_of}
 
 abbrev pub one : Segment → Result (List Segment) WordFault
 one segment = Ok (segment ∷ [])
@@ -96,6 +97,14 @@ Places n (errors.Fault found) fault = fault ≡ route_faults.Word n found
 abbrev pub Routes : {V : Type 0} → (V → List Segment) → Result V RouteFault → Routed → Type 0
 Routes view (Ok found) read = read ≡ Ok (view found)
 Routes view (Err e) read = RouteFails e read
+
+-- the segments of so many words, of which the first has number n, were put behind the others
+pub record IsTaken (n : ℕ) (words : List (Bor (List ℕ))) (count : ℕ) (old new : List Segment)
+    : Type 0 where
+  pub some : 0 < count
+  pub within : count ≤ length words
+  pub same : before old (words_from n (texts words))
+      ≡ before new (words_from (n + count) (texts (drop count words)))
 
 -- the path is the shortest spelling of what the text names, and is read as that
 pub record IsPathOf (text : List ℕ) (path : Octets) : Type 0 where

@@ -1,10 +1,10 @@
 //! The words of a path in words, one after the other.
-ghost use Rattle.std.specs.Prelude.{◌≡◌, ◌<◌, ◌^◌, ◌∷◌, [], IfOk, Some, None, drop};
+ghost use Rattle.std.specs.Prelude.{◌≡◌, ◌+◌, ◌<◌, ◌^◌, MatchResult, length, ◌++◌, ◌∷◌, [], IfOk, Some, None, drop};
 ghost use Rattle.std.specs.Prelude.{if◌then◌else◌, option_map};
 ghost use Rattle.cip_segment.specs.declared.segment.Segment.TheVariants.{Port};
 ghost use Rattle.cip_tool.specs.Words.{texts, GivesBy, port_of};
 ghost use Rattle.cip_tool.specs.Routes.{is_object, is_segment, segments_of, named_by, placed};
-ghost use Rattle.cip_tool.specs.Routes.{hop_at, lone_by, words_from, Routes, RouteFails, Places};
+ghost use Rattle.cip_tool.specs.Routes.{hop_at, lone_by, words_from, Routes, RouteFails, Places, IsTaken};
 
 use crate::fault::{RouteFault, WordError, WordFault};
 use crate::words::{address_of, named_of, object_of, parts_of, port_of};
@@ -94,7 +94,7 @@ fn hop_at(
     port: &str,
     address: &str,
 ) -> Result<Vec<Segment>, RouteFault>
-    requires { place < 2 ^ 63 }
+    requires { place + 1 < 2 ^ 64 }
     ensures { Routes (λ v. v.items) result (hop_at place port.now address.now) }
 {
     let port = match port_of(port) {
@@ -117,27 +117,61 @@ fn lone(place: usize, port: &str) -> RouteFault
     }
 }
 
+// Puts segments behind those that were found, and answers how many words they were.
+fn add(found: &mut Vec<Segment>, more: Vec<Segment>, count: usize) -> Result<usize, RouteFault>
+    ensures { MatchResult result
+        (λ n. (n ≡ count) × (found.new.items ≡ found.old.items ++ more.items))
+        (λ e. e ≡ RouteFault.NoMemory) }
+{
+    let mut more = more;
+    match found.append(&mut more) {
+        Ok(()) => Ok(count),
+        Err(_) => Err(RouteFault::NoMemory),
+    }
+}
+
+// Puts the segments of the first word, of this number, behind those that were found, or those of
+// the first two; how many words they were.
+fn take_first(
+    alloc: Global,
+    place: usize,
+    words: &[&str],
+    found: &mut Vec<Segment>,
+) -> Result<usize, RouteFault>
+    requires some { 0 < length words.now }
+    requires fits { place + length words.now < 2 ^ 64 }
+    ensures { MatchResult result
+        (λ count. IsTaken place words.now count found.old.items found.new.items)
+        (λ e. RouteFails e (words_from place (texts words.now))) }
+{
+    let Some((word, after)) = words.split_first() else {
+        unreachable!()
+    };
+    if is_segment(word) {
+        return match word_at(alloc, place, word) {
+            Ok(more) => add(found, more, 1),
+            Err(fault) => Err(fault),
+        };
+    }
+    let Some((address, _)) = after.split_first() else {
+        return Err(lone(place, word));
+    };
+    match hop_at(alloc, place, word, address) {
+        Ok(more) => add(found, more, 2),
+        Err(fault) => Err(fault),
+    }
+}
+
 /// The segments of words.
 pub(crate) fn read_words(alloc: Global, words: &[&str]) -> Result<Vec<Segment>, RouteFault>
     ensures { Routes (λ v. v.items) result (words_from 1 (texts words.now)) }
 {
     let mut found = Vec::new(alloc);
-    let mut rest = words;
-    let mut place = 1;
-    'reading: while let [word, after @ ..] = rest {
-        if is_segment(word) {
-            let mut more = word_at(alloc, place, word)?;
-            found.append(&mut more)?;
-            rest = after;
-            place += 1;
-        } else {
-            let [address, behind @ ..] = after else {
-                return Err(lone(place, word));
-            };
-            let mut more = hop_at(alloc, place, word, address)?;
-            found.append(&mut more)?;
-            rest = behind;
-            place += 2;
+    let mut at = 0;
+    'reading: while at < words.len() {
+        match take_first(alloc, at + 1, &words[at..], &mut found) {
+            Ok(count) => at += count,
+            Err(fault) => return Err(fault),
         }
     }
     Ok(found)
