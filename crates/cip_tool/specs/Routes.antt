@@ -7,6 +7,7 @@ use Rattle.cip_base.specs.Words.{Octets}
 use Rattle.cip_segment.specs.declared.segment.Segment.{Segment}
 use Rattle.cip_segment.specs.declared.segment.Segment.TheVariants as segments
 use Rattle.cip_segment.specs.Short.{short}
+use Rattle.cip_segment.specs.Reading as reading
 use Rattle.cip_segment.specs.Reading.{path_at}
 use Rattle.cip_tool.specs.declared.fault.WordFault.{WordFault}
 use Rattle.cip_tool.specs.declared.fault.WordFault.TheVariants as faults
@@ -112,3 +113,14 @@ pub record IsPathOf (text : List ℕ) (path : Octets) : Type 0 where
   pub named : route_of text ≡ Ok segments
   pub spelled : path ≡ short segments
   pub read : path_at path ≡ Ok segments
+
+-- why a text names no path
+abbrev pub IsPathFault : List ℕ → RouteFault → Type 0
+IsPathFault text route_faults.NoMemory = Unit {0}
+IsPathFault text (route_faults.Word n fault) = route_of text ≡ Err (n, fault)
+IsPathFault text route_faults.TooLong =
+    (segments : List Segment) × (route_of text ≡ Ok segments) × (510 < length (short segments))
+
+-- the text is read as the segments of the path, which are also those of its shortest spelling
+abbrev pub IsSpelling : Octets → List ℕ → Type 0
+IsSpelling path text = route_of text ≡ Ok (reading.segments_of path)

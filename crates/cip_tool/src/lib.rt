@@ -6,7 +6,9 @@ mod fault;
 mod numbers;
 mod reading;
 mod route;
+mod spelling;
 mod words;
 
 pub use fault::{RouteFault, WordFault};
-pub use route::read_route;
+pub use route::{read_route, route_path};
+pub use spelling::{SpellingFault, spell_path};

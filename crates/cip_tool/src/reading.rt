@@ -1,7 +1,8 @@
 //! The words of a path in words, one after the other.
-ghost use Rattle.std.specs.Prelude.{◌≡◌, ◌+◌, ◌<◌, ◌^◌, MatchResult, length, ◌++◌, ◌∷◌, [], IfOk, Some, None, drop};
+ghost use Rattle.std.specs.Prelude.{◌≡◌, ◌+◌, ◌<◌, ◌^◌, MatchResult, length, ◌++◌, ◌∷◌, [], All, IfOk, OnOk, Some, None, drop};
 ghost use Rattle.std.specs.Prelude.{if◌then◌else◌, option_map};
 ghost use Rattle.cip_segment.specs.declared.segment.Segment.TheVariants.{Port};
+ghost use Rattle.cip_segment.specs.Short.{IsWritable};
 ghost use Rattle.cip_tool.specs.Words.{texts, GivesBy, port_of};
 ghost use Rattle.cip_tool.specs.Routes.{is_object, is_segment, segments_of, named_by, placed};
 ghost use Rattle.cip_tool.specs.Routes.{hop_at, lone_by, words_from, Routes, RouteFails, Places, IsTaken};
@@ -36,7 +37,8 @@ fn is_segment(word: &str) -> bool
 
 // What a NAME=VALUE names.
 fn named_by(alloc: Global, parts: &[&str]) -> Result<Vec<Segment>, WordError>
-    ensures { GivesBy (λ v. v.items) result (named_by (texts parts.now)) }
+    ensures gives { GivesBy (λ v. v.items) result (named_by (texts parts.now)) }
+    ensures writable { IfOk result (λ v. All IsWritable v.items) }
 {
     match parts {
         [name, text] => {
@@ -50,7 +52,8 @@ fn named_by(alloc: Global, parts: &[&str]) -> Result<Vec<Segment>, WordError>
 
 // What the text behind @ names, or a NAME=VALUE.
 fn segments_of(alloc: Global, word: &str) -> Result<Vec<Segment>, WordError>
-    ensures { GivesBy (λ v. v.items) result (segments_of word.now) }
+    ensures gives { GivesBy (λ v. v.items) result (segments_of word.now) }
+    ensures writable { IfOk result (λ v. All IsWritable v.items) }
 {
     if let Some(text) = behind_at(word) {
         return object_of(alloc, text);
@@ -71,7 +74,8 @@ fn placed(place: usize, error: WordError) -> RouteFault
 
 // The segments of the word of this number.
 fn word_at(alloc: Global, place: usize, word: &str) -> Result<Vec<Segment>, RouteFault>
-    ensures { Routes (λ v. v.items) result (placed place (segments_of word.now)) }
+    ensures gives { Routes (λ v. v.items) result (placed place (segments_of word.now)) }
+    ensures writable { IfOk result (λ v. All IsWritable v.items) }
 {
     match segments_of(alloc, word) {
         Ok(found) => Ok(found),
@@ -80,7 +84,8 @@ fn word_at(alloc: Global, place: usize, word: &str) -> Result<Vec<Segment>, Rout
 }
 
 fn hop(alloc: Global, port: PortNumber, address: Address) -> Result<Vec<Segment>, AllocError>
-    ensures { IfOk result (λ v. v.items ≡ Port port address ∷ []) }
+    ensures gives { IfOk result (λ v. v.items ≡ Port port address ∷ []) }
+    ensures writable { IfOk result (λ v. All IsWritable v.items) }
 {
     let mut found = Vec::new(alloc);
     found.push(Segment::Port(port, address))?;
@@ -95,7 +100,8 @@ fn hop_at(
     address: &str,
 ) -> Result<Vec<Segment>, RouteFault>
     requires { place + 1 < 2 ^ 64 }
-    ensures { Routes (λ v. v.items) result (hop_at place port.now address.now) }
+    ensures gives { Routes (λ v. v.items) result (hop_at place port.now address.now) }
+    ensures writable { IfOk result (λ v. All IsWritable v.items) }
 {
     let port = match port_of(port) {
         Ok(port) => port,
@@ -119,7 +125,10 @@ fn lone(place: usize, port: &str) -> RouteFault
 
 // Puts segments behind those that were found, and answers how many words they were.
 fn add(found: &mut Vec<Segment>, more: Vec<Segment>, count: usize) -> Result<usize, RouteFault>
-    ensures { MatchResult result
+    requires { All IsWritable more.items }
+    ensures writable { OnOk result (All IsWritable found.old.items
+        → All IsWritable found.new.items) }
+    ensures added { MatchResult result
         (λ n. (n ≡ count) × (found.new.items ≡ found.old.items ++ more.items))
         (λ e. e ≡ RouteFault.NoMemory) }
 {
@@ -140,7 +149,9 @@ fn take_first(
 ) -> Result<usize, RouteFault>
     requires some { 0 < length words.now }
     requires fits { place + length words.now < 2 ^ 64 }
-    ensures { MatchResult result
+    ensures writable { OnOk result (All IsWritable found.old.items
+        → All IsWritable found.new.items) }
+    ensures taken { MatchResult result
         (λ count. IsTaken place words.now count found.old.items found.new.items)
         (λ e. RouteFails e (words_from place (texts words.now))) }
 {
@@ -164,7 +175,8 @@ fn take_first(
 
 /// The segments of words.
 pub(crate) fn read_words(alloc: Global, words: &[&str]) -> Result<Vec<Segment>, RouteFault>
-    ensures { Routes (λ v. v.items) result (words_from 1 (texts words.now)) }
+    ensures gives { Routes (λ v. v.items) result (words_from 1 (texts words.now)) }
+    ensures writable { IfOk result (λ v. All IsWritable v.items) }
 {
     let mut found = Vec::new(alloc);
     let mut at = 0;

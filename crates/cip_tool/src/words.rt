@@ -1,7 +1,8 @@
 //! The words of a path in words, one by one.
-ghost use Rattle.std.specs.Prelude.{◌≡◌, ◌==◌, ◌<◌, ◌^◌, map, IfOk, Some, None, drop};
+ghost use Rattle.std.specs.Prelude.{◌≡◌, ◌==◌, ◌<◌, ◌^◌, map, All, IfOk, Some, None, drop};
 ghost use Rattle.std.specs.Prelude.{if◌then◌else◌, option_map};
 ghost use Rattle.std.specs.List.{slice_split, list_all};
+ghost use Rattle.cip_segment.specs.Short.{IsWritable};
 ghost use Rattle.cip_tool.specs.Words.{Gives, GivesBy, texts, bounded, port_of};
 ghost use Rattle.cip_tool.specs.Words.{is_plain, is_decimal_digit};
 ghost use Rattle.cip_tool.specs.Words.{is_name, is_marked, hex_of, if_address, address_of};
@@ -99,7 +100,8 @@ fn behind_mark(word: &str) -> Option<&str>
     word.strip_prefix("0x")
 }
 
-fn is_name(word: &str) -> bool
+/// Whether a word is an address of 2 to 16 plain characters.
+pub(crate) fn is_name(word: &str) -> bool
     ensures { result ≡ is_name word.now }
 {
     let bytes = word.as_bytes();
@@ -148,7 +150,8 @@ pub(crate) fn address_of(alloc: Global, word: &str) -> Result<Address, WordError
 
 // One, two or three segments.
 fn object_by(alloc: Global, parts: &[&str]) -> Result<Vec<Segment>, WordError>
-    ensures { GivesBy (λ v. v.items) result (object_by (texts parts.now)) }
+    ensures gives { GivesBy (λ v. v.items) result (object_by (texts parts.now)) }
+    ensures writable { IfOk result (λ v. All IsWritable v.items) }
 {
     let mut found = Vec::new(alloc);
     match parts {
@@ -177,7 +180,8 @@ fn object_by(alloc: Global, parts: &[&str]) -> Result<Vec<Segment>, WordError>
 
 /// CLASS/INSTANCE/ATTRIBUTE, or the first or the first two of them.
 pub(crate) fn object_of(alloc: Global, text: &str) -> Result<Vec<Segment>, WordError>
-    ensures { GivesBy (λ v. v.items) result (object_of text.now) }
+    ensures gives { GivesBy (λ v. v.items) result (object_of text.now) }
+    ensures writable { IfOk result (λ v. All IsWritable v.items) }
 {
     let parts = parts_of(alloc, text, '/')?;
     object_by(alloc, parts.as_slice())
@@ -190,8 +194,9 @@ fn key_fields(
     major: &str,
     minor: &str,
 ) -> Result<Segment, WordError>
-    ensures { Gives result
+    ensures gives { Gives result
         (key_fields vendor.now device_type.now product.now major.now minor.now) }
+    ensures writable { IfOk result IsWritable }
 {
     let vendor = in_u16(WordFault::Key, vendor)?;
     let device_type = in_u16(WordFault::Key, device_type)?;
@@ -209,7 +214,8 @@ fn key_fields(
 
 // VENDOR/TYPE/PRODUCT/MAJOR/MINOR
 fn key_of(alloc: Global, text: &str) -> Result<Segment, WordError>
-    ensures { Gives result (key_of text.now) }
+    ensures gives { Gives result (key_of text.now) }
+    ensures writable { IfOk result IsWritable }
 {
     let parts = parts_of(alloc, text, '/')?;
     match parts.as_slice() {
@@ -222,7 +228,8 @@ fn key_of(alloc: Global, text: &str) -> Result<Segment, WordError>
 
 // Whole words of data.
 fn data_of(alloc: Global, digits: &str) -> Result<Segment, WordError>
-    ensures { Gives result (data_of digits.now) }
+    ensures gives { Gives result (data_of digits.now) }
+    ensures writable { IfOk result IsWritable }
 {
     let bytes = hex_of(alloc, WordFault::Data, digits)?;
     if bytes.len() > 510 || bytes.len() % 2 == 1 {
@@ -232,7 +239,8 @@ fn data_of(alloc: Global, digits: &str) -> Result<Segment, WordError>
 }
 
 fn if_symbol(bytes: Vec<u8>) -> Result<Segment, WordError>
-    ensures { Gives result (if_symbol bytes.items) }
+    ensures gives { Gives result (if_symbol bytes.items) }
+    ensures writable { IfOk result IsWritable }
 {
     if bytes.len() > 255 {
         return Err(WordError::Fault(WordFault::Symbol));
@@ -240,9 +248,15 @@ fn if_symbol(bytes: Vec<u8>) -> Result<Segment, WordError>
     Ok(Segment::Symbol(Bytes::of(bytes)))
 }
 
+/// Whether a symbol is written by its characters.
+pub(crate) fn is_symbol(text: &str) -> bool {
+    behind_mark(text).is_none() && are_plain(text.as_bytes()) && !text.as_bytes().contains(&b'=')
+}
+
 // Plain characters, or bytes behind 0x.
 fn symbol_of(alloc: Global, text: &str) -> Result<Segment, WordError>
-    ensures { Gives result (symbol_of text.now) }
+    ensures gives { Gives result (symbol_of text.now) }
+    ensures writable { IfOk result IsWritable }
 {
     if let Some(digits) = behind_mark(text) {
         return if_symbol(hex_of(alloc, WordFault::Symbol, digits)?);
@@ -255,7 +269,8 @@ fn symbol_of(alloc: Global, text: &str) -> Result<Segment, WordError>
 
 /// What NAME=VALUE names.
 pub(crate) fn named_of(alloc: Global, name: &str, text: &str) -> Result<Segment, WordError>
-    ensures { Gives result (named_of name.now text.now) }
+    ensures gives { Gives result (named_of name.now text.now) }
+    ensures writable { IfOk result IsWritable }
 {
     if name == "instance" {
         Ok(Segment::Instance(in_u32(WordFault::Instance, text)?))

@@ -5,5 +5,5 @@ use Rattle.cip_tool.specs.Routes.{before, words_from}
 use Rattle.cip_tool.proofs.Routed.{read_all}
 use Rattle.cip_tool.proofs.reading.read_words.Goals as goal
 
-pub returns : goal.returns
-returns c = read_all c.reading.at c.args.words.now c.reading.found.items _ (omega arith) c.reading.invariant.read
+pub returns-clause-gives : goal.returns-clause-gives
+returns-clause-gives c = read_all c.reading.at c.args.words.now c.reading.found.items _ (omega arith) c.reading.invariant.read
