@@ -4,11 +4,18 @@
 
 mod fault;
 mod numbers;
+mod parameters;
 mod reading;
 mod route;
 mod spelling;
+mod statuses;
 mod words;
 
 pub use fault::{RouteFault, WordFault};
+pub use numbers::{number_u8, number_u16, number_u32};
+pub use parameters::{
+    ParamsOptions, kind_name, params_word, priority_name, priority_named, reserved_bits,
+};
 pub use route::{read_route, route_path};
 pub use spelling::{SpellingFault, spell_path};
+pub use statuses::status_name;

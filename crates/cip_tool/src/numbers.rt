@@ -58,7 +58,7 @@ pub(crate) fn number(word: &str) -> Option<u64>
 }
 
 /// A number below 256.
-pub(crate) fn number_u8(word: &str) -> Option<u8>
+pub fn number_u8(word: &str) -> Option<u8>
     ensures { result ≡ below (2 ^ 8) (number_of word.now) }
 {
     match number(word) {
@@ -68,7 +68,7 @@ pub(crate) fn number_u8(word: &str) -> Option<u8>
 }
 
 /// A number below 65,536.
-pub(crate) fn number_u16(word: &str) -> Option<u16>
+pub fn number_u16(word: &str) -> Option<u16>
     ensures { result ≡ below (2 ^ 16) (number_of word.now) }
 {
     match number(word) {
@@ -78,7 +78,7 @@ pub(crate) fn number_u16(word: &str) -> Option<u16>
 }
 
 /// A number below 4,294,967,296.
-pub(crate) fn number_u32(word: &str) -> Option<u32>
+pub fn number_u32(word: &str) -> Option<u32>
     ensures { result ≡ below (2 ^ 32) (number_of word.now) }
 {
     match number(word) {
