@@ -1,0 +1,105 @@
+//! What the program does: it reads its options, and writes the answer.
+
+use crate::fault::Fault;
+use crate::options::{HELP, OptionsFault, Task, VERSION, read_task};
+use cip_open::Params;
+use cip_tool::{params_answer, params_of, path_answer, size_of, status_answer};
+use std::alloc::Global;
+use std::env;
+use std::env::Env;
+
+// The most bytes of one word of the command line, as Linux has it.
+const WORD_LIMIT: usize = 131_072;
+
+// The words of the command line can't be had: there is no memory, or one of them is no text.
+fn words_fault(rt: &HostRuntime, alloc: Global) -> Fault {
+    let Ok(mut word) = Vec::from_elem(alloc, 0u8, WORD_LIMIT) else {
+        return Fault::NoMemory;
+    };
+    for i in 0..usize::MAX {
+        let Ok(count) = rt.arg(i, word.as_mut_slice()) else {
+            return Fault::NoMemory;
+        };
+        if std::str::from_utf8(&word[..count]).is_err() {
+            return Fault::Argument(i);
+        }
+    }
+    Fault::NoMemory
+}
+
+// What the words after the program's name ask for.
+fn task(rt: &HostRuntime, alloc: Global) -> Result<Task, Fault> {
+    let Ok(args) = env::args(rt) else {
+        return Err(words_fault(rt, alloc));
+    };
+    let mut words = Vec::new(alloc);
+    for word in args.skip(1) {
+        if words.push(word).is_err() {
+            return Err(Fault::NoMemory);
+        }
+    }
+    match read_task(alloc, words.as_slice()) {
+        Ok(task) => Ok(task),
+        Err(OptionsFault::Wrong(text)) => Err(Fault::Usage(text)),
+        Err(OptionsFault::NoMemory) => Err(Fault::NoMemory),
+    }
+}
+
+fn say(rt: &HostRuntime, text: &str) -> Result<(), Fault> {
+    match println!(rt; "{text}") {
+        Ok(()) => Ok(()),
+        Err(_) => Err(Fault::Write),
+    }
+}
+
+fn say_version(rt: &HostRuntime) -> Result<(), Fault> {
+    match println!(rt; "ciptool {VERSION}") {
+        Ok(()) => Ok(()),
+        Err(_) => Err(Fault::Write),
+    }
+}
+
+fn answer(rt: &HostRuntime, alloc: Global, task: Task) -> Result<(), Fault> {
+    match task {
+        Task::Help => say(rt, HELP),
+        Task::Version => say_version(rt),
+        Task::Path(text) => {
+            let text = path_answer(alloc, text.as_str())?;
+            say(rt, text.as_str())
+        }
+        Task::ReadParams { large, word } => {
+            let text = params_answer(alloc, large, word.as_str())?;
+            say(rt, text.as_str())
+        }
+        Task::WriteParams {
+            large,
+            size,
+            variable,
+            priority,
+            kind,
+            redundant,
+        } => {
+            let params = Params {
+                size: size_of(alloc, size.as_str())?,
+                variable,
+                priority,
+                kind,
+                redundant,
+            };
+            let text = params_of(alloc, large, &params)?;
+            say(rt, text.as_str())
+        }
+        Task::Status(general, additional) => {
+            let additional = additional.as_ref().map(|text| text.as_str());
+            let text = status_answer(alloc, general.as_str(), additional)?;
+            say(rt, text.as_str())
+        }
+    }
+}
+
+/// The whole program, but for what it says of a fault and for its exit status.
+pub fn run_program(rt: &HostRuntime) -> Result<(), Fault> {
+    let alloc = rt.alloc();
+    let task = task(rt, alloc)?;
+    answer(rt, alloc, task)
+}
