@@ -45,9 +45,9 @@ port_of word =
     else if bytes_eq word (codes "enet") then Ok 2
     else bounded faults.Port (2 ^ 16) word >>= not_zero
 
--- a character that stands for itself: printable, no space and no comma
+-- a character that stands for itself: printable, and no space, comma, equals sign or @
 abbrev pub is_plain : ℕ → Bool
-is_plain b = nat_lt 32 b && nat_lt b 127 && not (b == 44)
+is_plain b = nat_lt 32 b && nat_lt b 127 && not (b == 44) && not (b == 61) && not (b == 64)
 
 abbrev pub is_decimal_digit : ℕ → Bool
 is_decimal_digit b = nat_lt 47 b && nat_lt b 58
@@ -151,7 +151,7 @@ numbered segment (Ok n) = Ok (segment n)
 numbered segment (Err e) = Err e
 
 -- what NAME=VALUE names
-abbrev pub named_of : List ℕ → List ℕ → Result Segment WordFault
+unfoldable pub named_of : List ℕ → List ℕ → Result Segment WordFault
 named_of name text =
     if bytes_eq name (codes "instance") then
     numbered segments.Instance (bounded faults.Instance (2 ^ 32) text)

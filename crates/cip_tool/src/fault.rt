@@ -14,7 +14,7 @@ pub enum WordFault {
     Port,
     #[error("a port with no address behind it; needed: PORT,ADDRESS")]
     NoAddress,
-    #[error("no address; allowed: 0 to 255, 2 to 16 characters that are not digits alone, \
+    #[error("no address; allowed: 0 to 255, 2 to 16 characters, not digits alone, without @ and =, \
         or 0x and 1 to 16 pairs of hexadecimal digits")]
     Address,
     #[error("no object; allowed: @CLASS, @CLASS/INSTANCE, @CLASS/INSTANCE/ATTRIBUTE")]

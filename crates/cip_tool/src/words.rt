@@ -81,9 +81,9 @@ pub(crate) fn port_of(word: &str) -> Result<PortNumber, WordError>
 fn are_plain(bytes: &[u8]) -> bool
     ensures { result ≡ list_all is_plain bytes.now }
 {
-    bytes
-        .iter()
-        .all(|byte| 32 < *byte && *byte < 127 && *byte != b',')
+    bytes.iter().all(|byte| {
+        32 < *byte && *byte < 127 && *byte != b',' && *byte != b'=' && *byte != b'@'
+    })
 }
 
 fn are_digits(bytes: &[u8]) -> bool
@@ -250,7 +250,7 @@ fn if_symbol(bytes: Vec<u8>) -> Result<Segment, WordError>
 
 /// Whether a symbol is written by its characters.
 pub(crate) fn is_symbol(text: &str) -> bool {
-    behind_mark(text).is_none() && are_plain(text.as_bytes()) && !text.as_bytes().contains(&b'=')
+    behind_mark(text).is_none() && are_plain(text.as_bytes())
 }
 
 // Plain characters, or bytes behind 0x.
@@ -268,6 +268,7 @@ fn symbol_of(alloc: Global, text: &str) -> Result<Segment, WordError>
 }
 
 /// What NAME=VALUE names.
+#[tactic(auto, unfolding(crate::specs::Words::named_of))]
 pub(crate) fn named_of(alloc: Global, name: &str, text: &str) -> Result<Segment, WordError>
     ensures gives { Gives result (named_of name.now text.now) }
     ensures writable { IfOk result IsWritable }

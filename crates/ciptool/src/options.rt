@@ -226,13 +226,22 @@ fn task_of(alloc: Global, name: &str, matches: &ArgMatches<'_>) -> Result<Task, 
     }
 }
 
-// The first line of what the parser says, without the word `error` in front.
+// What the parser says before its usage, in one line and without the word `error` in front.
 fn said(alloc: Global, error: &clap::Error) -> Result<OptionsFault, AllocError> {
+    let mut whole = String::new(alloc);
+    write!(whole, "{error}")?;
     let mut text = String::new(alloc);
-    write!(text, "{error}")?;
-    let line = text.as_str().lines().next().unwrap_or("");
-    let line = line.strip_prefix("error: ").unwrap_or(line);
-    Ok(wrong(alloc, line))
+    for line in whole.as_str().lines() {
+        if line.is_empty() {
+            break;
+        }
+        if !text.is_empty() {
+            text.push_str(" ")?;
+        }
+        text.push_str(line.trim())?;
+    }
+    let said = text.as_str();
+    Ok(wrong(alloc, said.strip_prefix("error: ").unwrap_or(said)))
 }
 
 fn task_for(alloc: Global, error: &clap::Error) -> Result<Task, OptionsFault> {
