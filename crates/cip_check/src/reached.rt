@@ -1,17 +1,21 @@
 //! Modules that no path reaches.
 
 use crate::report::Report;
-use cip_module::ModuleConfig;
+use cip_config::ModuleConfig;
 use cip_topology::Topology;
 use std::alloc::{AllocError, Global};
 use std::fmt;
 
+#[derive(Clone, Copy)]
 struct Lonely<'a>(&'a [u8]);
 
 impl fmt::Display for Lonely<'_> {
     fn fmt<W: fmt::Write>(&self, f: &mut fmt::Formatter<W>) -> fmt::Result {
         let name = std::str::from_utf8(self.0).unwrap_or("");
-        write!(f, "no other module stands on a link of {name}: no path reaches it")
+        write!(
+            f,
+            "no other module stands on a link of {name}: no path reaches it"
+        )
     }
 }
 

@@ -3,13 +3,14 @@
 use crate::report::Report;
 use cip_topology::{Name, Place};
 use std::alloc::{AllocError, Global};
-use std::fmt;
 use strsim::levenshtein;
 use toml::{Table, Value};
 
-const FILE: [&str; 2] = ["link", "module"];
-const LINK: [&str; 5] = ["name", "kind", "first", "last", "longest"];
-const MODULE: [&str; 17] = [
+const FILE: [&'static str; 2] = ["link", "module"];
+
+const LINK: [&'static str; 5] = ["name", "kind", "first", "last", "longest"];
+
+const MODULE: [&'static str; 17] = [
     "name",
     "kind",
     "vendor",
@@ -28,44 +29,52 @@ const MODULE: [&str; 17] = [
     "port",
     "assembly",
 ];
-const PORT: [&str; 3] = ["number", "link", "address"];
-const ASSEMBLY: [&str; 2] = ["instance", "size"];
+
+const PORT: [&'static str; 3] = ["number", "link", "address"];
+
+const ASSEMBLY: [&'static str; 2] = ["instance", "size"];
 
 // The most edits from a key to the nearest one that is told.
 const NEAR: usize = 3;
 
-// A key that a table does not have: the nearest that it has, and the tables that have it.
-struct Stranger<'a> {
-    place: &'a Place,
-    key: &'a str,
-    nearest: Option<&'a str>,
-    home: Option<&'a str>,
+// A key that a table does not have, the table that has it, or else the nearest that this one has.
+fn told(
+    alloc: Global,
+    place: &Place,
+    key: &str,
+    home: Option<&'static str>,
+    nearest: Option<&'static str>,
+) -> Result<String, AllocError> {
+    let mut text = String::new(alloc);
+    write!(text, "{place}: unknown key {key:?}")?;
+    match (home, nearest) {
+        (Some(home), _) => write!(text, ", which stands in {home}")?,
+        (None, Some(nearest)) => write!(text, "; the nearest is `{nearest}`")?,
+        (None, None) => {}
+    }
+    Ok(text)
 }
 
-impl fmt::Display for Stranger<'_> {
-    fn fmt<W: fmt::Write>(&self, f: &mut fmt::Formatter<W>) -> fmt::Result {
-        write!(f, "{}: unknown key {:?}", self.place, self.key)?;
-        if let Some(home) = self.home {
-            return write!(f, ", which stands in {home}");
+fn is_known(known: &[&'static str], key: &str) -> bool {
+    for other in known {
+        if *other == key {
+            return true;
         }
-        if let Some(nearest) = self.nearest {
-            return write!(f, "; the nearest is `{nearest}`");
-        }
-        Ok(())
     }
+    false
 }
 
 // The tables that have a key.
 fn home_of(key: &str) -> Option<&'static str> {
-    if PORT.contains(&key) {
+    if is_known(&PORT, key) {
         Some("[[module.port]]")
-    } else if ASSEMBLY.contains(&key) {
+    } else if is_known(&ASSEMBLY, key) {
         Some("[[module.assembly]]")
-    } else if FILE.contains(&key) {
+    } else if is_known(&FILE, key) {
         Some("the file itself")
-    } else if MODULE.contains(&key) {
+    } else if is_known(&MODULE, key) {
         Some("[[module]]")
-    } else if LINK.contains(&key) {
+    } else if is_known(&LINK, key) {
         Some("[[link]]")
     } else {
         None
@@ -73,11 +82,11 @@ fn home_of(key: &str) -> Option<&'static str> {
 }
 
 // The nearest of the keys, if one is near.
-fn nearest_of<'a>(
+fn nearest_of(
     alloc: Global,
     key: &str,
-    known: &[&'a str],
-) -> Result<Option<&'a str>, AllocError> {
+    known: &[&'static str],
+) -> Result<Option<&'static str>, AllocError> {
     let mut nearest = None;
     let mut least = NEAR + 1;
     for other in known {
@@ -94,21 +103,14 @@ fn keys_of(
     alloc: Global,
     table: &Table,
     place: &Place,
-    known: &[&str],
+    known: &[&'static str],
     report: &mut Report,
 ) -> Result<(), AllocError> {
     for key in table.keys() {
-        let key = key.as_str();
-        if !known.contains(&key) {
-            let nearest = nearest_of(alloc, key, known)?;
-            let home = home_of(key);
-            let stranger = Stranger {
-                place,
-                key,
-                nearest,
-                home,
-            };
-            report.fault(alloc, &stranger)?;
+        if !is_known(known, key.as_str()) {
+            let nearest = nearest_of(alloc, key.as_str(), known)?;
+            let home = home_of(key.as_str());
+            report.fault(alloc, &told(alloc, place, key.as_str(), home, nearest)?)?;
         }
     }
     Ok(())
@@ -130,11 +132,7 @@ fn name_of(table: &Table) -> Option<Name> {
     }
 }
 
-fn strange_links(
-    alloc: Global,
-    document: &Table,
-    report: &mut Report,
-) -> Result<(), AllocError> {
+fn strange_links(alloc: Global, document: &Table, report: &mut Report) -> Result<(), AllocError> {
     for (i, entry) in entries_of(document, "link").iter().enumerate() {
         if let Value::Table(table) = entry {
             let place = Place::Link {
@@ -200,11 +198,7 @@ fn strange_module(
     strange_assemblies(alloc, number, module_, report)
 }
 
-fn strange_modules(
-    alloc: Global,
-    document: &Table,
-    report: &mut Report,
-) -> Result<(), AllocError> {
+fn strange_modules(alloc: Global, document: &Table, report: &mut Report) -> Result<(), AllocError> {
     for (i, entry) in entries_of(document, "module").iter().enumerate() {
         if let Value::Table(table) = entry {
             strange_module(alloc, i.saturating_add(1), table, report)?;

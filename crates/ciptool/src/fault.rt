@@ -16,6 +16,14 @@ pub enum Fault {
     /// There is no answer.
     #[error("{0}")]
     Answer(AnswerFault),
+    /// A file can't be read.
+    #[error("{0}: can't be read, or has more than 1,048,576 bytes")]
+    Read(String),
+    #[error("{0}: not UTF-8")]
+    NotText(String),
+    /// A topology file has so many faults, which were told.
+    #[error("{0}: {1} faults")]
+    Topology(String, usize),
     #[error("standard output can't be written")]
     Write,
     #[error("out of memory")]
@@ -23,14 +31,17 @@ pub enum Fault {
 }
 
 impl Fault {
-    /// The exit status: 1 where what was asked for has no answer, 2 for the options, 4 for writing,
-    /// 5 where memory ran out.
+    /// The exit status: 1 where what was asked for has no answer, 2 for the options, 3 for a
+    /// topology file, 4 for reading and writing, 5 where memory ran out.
     pub fn status(&self) -> u8 {
         match self {
             Fault::Answer(AnswerFault::NoMemory) => 5,
             Fault::Answer(_) => 1,
             Fault::Usage(_) => 2,
             Fault::Argument(_) => 2,
+            Fault::NotText(_) => 3,
+            Fault::Topology(..) => 3,
+            Fault::Read(_) => 4,
             Fault::Write => 4,
             Fault::NoMemory => 5,
         }

@@ -29,6 +29,8 @@ pub enum Task {
     },
     /// A general status, and perhaps an additional one.
     Status(String, Option<String>),
+    /// A topology file.
+    Check(String),
 }
 
 /// Why there is no task.
@@ -54,6 +56,7 @@ usage: ciptool path PATH
        ciptool params [--large] NUMBER
        ciptool params [--large] --size SIZE TYPE [--priority PRIORITY] [--variable] [--redundant]
        ciptool status GENERAL [ADDITIONAL]
+       ciptool check FILE
 `ciptool --help` says more";
 
 /// What the program does, and its options.
@@ -64,6 +67,7 @@ usage: ciptool path PATH
        ciptool params [--large] NUMBER
        ciptool params [--large] --size SIZE TYPE [--priority PRIORITY] [--variable] [--redundant]
        ciptool status GENERAL [ADDITIONAL]
+       ciptool check FILE
 
   path     a path in words as hexadecimal, in its shortest spelling; or a path in hexadecimal
            in words
@@ -77,13 +81,15 @@ usage: ciptool path PATH
              TYPE                    --point-to-point, --multicast, --null or --reserved
              PRIORITY                low, high, scheduled or urgent; without it low
   status   the name of a status of a reply: GENERAL, or ADDITIONAL behind 01
+  check    every fault of a topology file, keys that mean nothing, and modules that no path
+           reaches
   -h, --help      this text
   -V, --version   the version
 
 A number is decimal, or hexadecimal behind 0x.
 
-exit status: 0 done, 1 there is no answer, 2 wrong options, 4 output that can't be written,
-5 no memory";
+exit status: 0 done, 1 there is no answer, 2 wrong options, 3 a faulty topology, 4 a file that
+can't be read or output that can't be written, 5 no memory";
 
 fn flag<'a>(alloc: Global, name: &'a str) -> Arg<'a> {
     Arg::new(alloc, name).long(name).action(ArgAction::SetTrue)
@@ -121,6 +127,10 @@ fn status_command<'a>(alloc: Global) -> Result<Command<'a>, AllocError> {
         .arg(word(alloc, "ADDITIONAL"))
 }
 
+fn check_command<'a>(alloc: Global) -> Result<Command<'a>, AllocError> {
+    Command::new(alloc, "check").arg(word(alloc, "FILE").required(true))
+}
+
 fn command<'a>(alloc: Global) -> Result<Command<'a>, AllocError> {
     Command::new(alloc, "ciptool")
         .version(VERSION)
@@ -128,7 +138,8 @@ fn command<'a>(alloc: Global) -> Result<Command<'a>, AllocError> {
         .disable_help_subcommand(true)
         .subcommand(path_command(alloc)?)?
         .subcommand(params_command(alloc)?)?
-        .subcommand(status_command(alloc)?)
+        .subcommand(status_command(alloc)?)?
+        .subcommand(check_command(alloc)?)
 }
 
 fn wrong(alloc: Global, text: &str) -> OptionsFault {
@@ -219,6 +230,7 @@ fn task_of(alloc: Global, name: &str, matches: &ArgMatches<'_>) -> Result<Task, 
     match name {
         "path" => Ok(Task::Path(needed_at(alloc, matches, "PATH")?)),
         "params" => params_task(alloc, matches),
+        "check" => Ok(Task::Check(needed_at(alloc, matches, "FILE")?)),
         _ => Ok(Task::Status(
             needed_at(alloc, matches, "GENERAL")?,
             text_at(alloc, matches, "ADDITIONAL")?,
@@ -259,7 +271,7 @@ pub fn read_task(alloc: Global, words: &[String]) -> Result<Task, OptionsFault> 
     match command(alloc)?.try_get_matches_from(words) {
         Ok(matches) => match matches.subcommand() {
             Some((name, matches)) => task_of(alloc, name, matches),
-            None => Err(wrong(alloc, "what is asked for? path, params or status")),
+            None => Err(wrong(alloc, "what is asked for? path, params, status or check")),
         },
         Err(error) => task_for(alloc, &error),
     }

@@ -2,11 +2,14 @@
 
 use crate::fault::Fault;
 use crate::options::{HELP, OptionsFault, Task, VERSION, read_task};
+use cip_check::check;
 use cip_open::Params;
 use cip_tool::{params_answer, params_of, path_answer, size_of, status_answer};
 use std::alloc::Global;
 use std::env;
 use std::env::Env;
+use std::fs::File;
+use std::io::Read;
 
 // The most bytes of one word of the command line, as Linux has it.
 const WORD_LIMIT: usize = 131_072;
@@ -59,10 +62,60 @@ fn say_version(rt: &HostRuntime) -> Result<(), Fault> {
     }
 }
 
+// The most bytes of a topology file.
+const FILE_LIMIT: usize = 1_048_576;
+
+// The bytes of a file, one more than is allowed at the most.
+fn bytes_of(alloc: Global, file: &mut File) -> Option<Vec<u8>> {
+    let mut bytes = Vec::new(alloc);
+    let mut piece = [0u8; 4096];
+    for _ in 0..FILE_LIMIT + 2 {
+        let count = file.read(&mut piece).ok()?;
+        if count == 0 {
+            return Some(bytes);
+        }
+        if count > FILE_LIMIT - bytes.len() {
+            return None;
+        }
+        bytes.extend_from_slice(&piece[..count]).ok()?;
+    }
+    None
+}
+
+fn say_report(rt: &HostRuntime, alloc: Global, name: String, text: &str) -> Result<(), Fault> {
+    let Ok(report) = check(alloc, text) else {
+        return Err(Fault::NoMemory);
+    };
+    for line in report.lines() {
+        if println!(rt; "{name}: {line}").is_err() {
+            return Err(Fault::Write);
+        }
+    }
+    match report.faults() {
+        0 => Ok(()),
+        count => Err(Fault::Topology(name, count)),
+    }
+}
+
+// Checks a topology file.
+fn check_file(rt: &HostRuntime, alloc: Global, name: String) -> Result<(), Fault> {
+    let Ok(mut file) = File::open(rt, name.as_str()) else {
+        return Err(Fault::Read(name));
+    };
+    let Some(bytes) = bytes_of(alloc, &mut file) else {
+        return Err(Fault::Read(name));
+    };
+    match std::str::from_utf8(bytes.as_slice()) {
+        Ok(text) => say_report(rt, alloc, name, text),
+        Err(_) => Err(Fault::NotText(name)),
+    }
+}
+
 fn answer(rt: &HostRuntime, alloc: Global, task: Task) -> Result<(), Fault> {
     match task {
         Task::Help => say(rt, HELP),
         Task::Version => say_version(rt),
+        Task::Check(name) => check_file(rt, alloc, name),
         Task::Path(text) => {
             let text = path_answer(alloc, text.as_str())?;
             say(rt, text.as_str())
