@@ -5,7 +5,7 @@ use crate::options::{HELP, OptionsFault, Task, VERSION, read_task};
 use cip_check::check;
 use cip_open::Params;
 use cip_tool::{params_answer, params_of, path_answer, size_of, status_answer};
-use std::alloc::Global;
+use std::alloc::{AllocError, Global};
 use std::env;
 use std::env::Env;
 use std::fs::File;
@@ -65,21 +65,26 @@ fn say_version(rt: &HostRuntime) -> Result<(), Fault> {
 // The most bytes of a topology file.
 const FILE_LIMIT: usize = 1_048_576;
 
-// The bytes of a file, one more than is allowed at the most.
-fn bytes_of(alloc: Global, file: &mut File) -> Option<Vec<u8>> {
+// How often a file is read at most: once for each byte, and once for the end.
+const ASKS: usize = 1_048_577;
+
+// The bytes of a file; None where it can't be read, or has more than are allowed.
+fn bytes_of(alloc: Global, file: &mut File) -> Result<Option<Vec<u8>>, AllocError> {
     let mut bytes = Vec::new(alloc);
     let mut piece = [0u8; 4096];
-    for _ in 0..FILE_LIMIT + 2 {
-        let count = file.read(&mut piece).ok()?;
+    for _ in 0..ASKS {
+        let Ok(count) = file.read(&mut piece) else {
+            return Ok(None);
+        };
         if count == 0 {
-            return Some(bytes);
+            return Ok(Some(bytes));
         }
-        if count > FILE_LIMIT - bytes.len() {
-            return None;
+        if bytes.len().saturating_add(count) > FILE_LIMIT {
+            return Ok(None);
         }
-        bytes.extend_from_slice(&piece[..count]).ok()?;
+        bytes.extend_from_slice(&piece[..count])?;
     }
-    None
+    Ok(None)
 }
 
 fn say_report(rt: &HostRuntime, alloc: Global, name: String, text: &str) -> Result<(), Fault> {
@@ -102,8 +107,10 @@ fn check_file(rt: &HostRuntime, alloc: Global, name: String) -> Result<(), Fault
     let Ok(mut file) = File::open(rt, name.as_str()) else {
         return Err(Fault::Read(name));
     };
-    let Some(bytes) = bytes_of(alloc, &mut file) else {
-        return Err(Fault::Read(name));
+    let bytes = match bytes_of(alloc, &mut file) {
+        Ok(Some(bytes)) => bytes,
+        Ok(None) => return Err(Fault::Read(name)),
+        Err(_) => return Err(Fault::NoMemory),
     };
     match std::str::from_utf8(bytes.as_slice()) {
         Ok(text) => say_report(rt, alloc, name, text),
