@@ -13,6 +13,28 @@ kind = "text"
 longest = 16
 "#;
 
+const SPARE_MODULE: &str = r#"
+name = "spare-module"
+kind = "plain"
+vendor = 65535
+device_type = 0
+product = 0
+major = 1
+minor = 0
+serial = 0
+product_name = ""
+
+[[port]]
+number = 1
+link = "spare-link"
+address = "21"
+"#;
+
+const SPARE_PORT: &str = r#"
+number = 1
+link = "spare-link"
+"#;
+
 // A number that no other repair took.
 fn fresh(turn: usize) -> i64 {
     60_000i64.saturating_add(i64::try_from(turn).unwrap_or(0))
@@ -22,14 +44,14 @@ fn text(alloc: Global, text: &str) -> Result<Value, AllocError> {
     Ok(Value::String(String::from_str(alloc, text)?))
 }
 
-// A name, or the bytes of an address in hexadecimal, that no other repair took: digits alone.
+// A name, or the bytes of an address in hexadecimal, that no other repair took: the four digits of
+// the turn as characters.
 fn fresh_text(alloc: Global, turn: usize) -> Result<Value, AllocError> {
     let mut text = String::new(alloc);
-    write!(
-        text,
-        "{}",
-        30_313_233i64.saturating_add(i64::try_from(turn).unwrap_or(0))
-    )?;
+    for tens in [1000, 100, 10, 1] {
+        let digit = turn / tens % 10;
+        write!(text, "3{digit}")?;
+    }
     Ok(Value::String(text))
 }
 
@@ -43,9 +65,12 @@ fn empty_array(alloc: Global) -> Value {
     Value::Array(Vec::new(alloc))
 }
 
-fn one_table(alloc: Global) -> Result<Value, AllocError> {
+// The one table of a text.
+fn one_table(alloc: Global, text: &str) -> Result<Value, AllocError> {
     let mut entries = Vec::new(alloc);
-    entries.push(Value::Table(Table::new(alloc)))?;
+    if let Ok(table) = toml::table_from_str(alloc, text) {
+        entries.push(Value::Table(table))?;
+    }
     Ok(Value::Array(entries))
 }
 
@@ -153,25 +178,45 @@ fn link_kind(alloc: Global, table: &mut Table) -> Result<(), AllocError> {
     set(alloc, table, "kind", text(alloc, "text")?)
 }
 
-// The ports of a module that has too many, none, or what is no array.
-fn set_ports(alloc: Global, table: &mut Table) -> Result<(), AllocError> {
+// The ports of a module that has too many.
+fn cut_ports(table: &mut Table) -> bool {
     if let Some(Value::Array(entries)) = table.get_mut("port") {
         if !entries.is_empty() {
             entries.truncate(1);
-            return Ok(());
+            return true;
         }
     }
-    set(alloc, table, "port", one_table(alloc)?)
+    false
+}
+
+// The ports of a module that has too many, none, or what is no array.
+fn set_ports(
+    alloc: Global,
+    document: &mut Table,
+    place: &Place,
+    turn: usize,
+) -> Result<(), AllocError> {
+    let Some(table) = table_at(document, place) else {
+        return Ok(());
+    };
+    if cut_ports(table) {
+        return Ok(());
+    }
+    set(alloc, table, "port", one_table(alloc, SPARE_PORT)?)?;
+    if let Some(port) = table_in(table, "port", 1) {
+        set(alloc, port, "address", fresh_text(alloc, turn)?)?;
+    }
+    add_spare_link(alloc, document)
 }
 
 // What is always right at a key that stands by itself.
 fn value_for(alloc: Global, key: Key, turn: usize) -> Result<Value, AllocError> {
     match key {
-        Key::Link | Key::Module => one_table(alloc),
+        Key::Link | Key::Module => one_table(alloc, SPARE_LINK),
         Key::Assembly => Ok(empty_array(alloc)),
         Key::Name => fresh_text(alloc, turn),
         Key::ProductName => text(alloc, ""),
-        Key::Serial | Key::Number | Key::Instance => Ok(Value::Integer(fresh(turn))),
+        Key::Vendor | Key::Serial | Key::Number | Key::Instance => Ok(Value::Integer(fresh(turn))),
         Key::Last => Ok(Value::Integer(255)),
         Key::Longest => Ok(Value::Integer(16)),
         Key::FirstId | Key::FirstNumber | Key::PendingRoom | Key::HopRoom | Key::Major => {
@@ -195,7 +240,11 @@ fn set_key(
     match (key, place) {
         (Key::Kind, Place::Link { .. }) => link_kind(alloc, table),
         (Key::Kind, _) => set(alloc, table, "kind", text(alloc, "plain")?),
-        (Key::Port, _) => set_ports(alloc, table),
+        (Key::Port, _) => set_ports(alloc, document, place, turn),
+        (Key::Module, Place::File) => {
+            set(alloc, table, "module", one_table(alloc, SPARE_MODULE)?)?;
+            add_spare_link(alloc, document)
+        }
         (Key::Link, Place::Port { .. }) | (Key::Address, _) => {
             move_port(alloc, document, place, turn)
         }
