@@ -1,0 +1,55 @@
+//! Why the program ends with an exit status above 0.
+
+use crate::options::USAGE;
+use cip_tool::AnswerFault;
+use thiserror::Error;
+
+/// Why the program ends before its work is done.
+#[derive(Debug, Drop, Error)]
+pub enum Fault {
+    /// What is wrong with the words of the command line.
+    #[error("{0}\n{USAGE}")]
+    Usage(String),
+    /// A word of the command line, from 1, is no text.
+    #[error("argument {0}: not UTF-8\n{USAGE}")]
+    Argument(usize),
+    /// There is no answer.
+    #[error("{0}")]
+    Answer(AnswerFault),
+    /// A file can't be read.
+    #[error("{0}: can't be read, or has more than 1,048,576 bytes")]
+    Read(String),
+    #[error("{0}: not UTF-8")]
+    NotText(String),
+    /// A topology file has so many faults, which were told.
+    #[error("{0}: {1} faults")]
+    Topology(String, usize),
+    #[error("standard output can't be written")]
+    Write,
+    #[error("out of memory")]
+    NoMemory,
+}
+
+impl Fault {
+    /// The exit status: 1 where what was asked for has no answer, 2 for the options, 3 for a
+    /// topology file, 4 for reading and writing, 5 where memory ran out.
+    pub fn status(&self) -> u8 {
+        match self {
+            Fault::Answer(AnswerFault::NoMemory) => 5,
+            Fault::Answer(_) => 1,
+            Fault::Usage(_) => 2,
+            Fault::Argument(_) => 2,
+            Fault::NotText(_) => 3,
+            Fault::Topology(..) => 3,
+            Fault::Read(_) => 4,
+            Fault::Write => 4,
+            Fault::NoMemory => 5,
+        }
+    }
+}
+
+impl From<AnswerFault> for Fault {
+    fn from(fault: AnswerFault) -> Fault {
+        Fault::Answer(fault)
+    }
+}

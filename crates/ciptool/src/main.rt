@@ -1,0 +1,18 @@
+//! Answers what engineers ask beside a run: paths, network connection parameters, statuses.
+#![tactic(auto)]
+
+mod fault;
+mod options;
+mod program;
+
+use std::process::ExitCode;
+
+fn main(rt: HostRuntime) -> ExitCode {
+    match program::run_program(&rt) {
+        Ok(()) => ExitCode::SUCCESS,
+        Err(fault) => {
+            let _ = eprintln!(rt; "ciptool: {fault}");
+            ExitCode::from(fault.status())
+        }
+    }
+}
