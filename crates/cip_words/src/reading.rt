@@ -87,6 +87,8 @@ pub fn bytes(alloc: Global, word: &str) -> Result<Option<Vec<u8>>, AllocError>
     match hex::decode(alloc, word) {
         Ok(bytes) => Ok(Some(bytes)),
         Err(FromHexError::OutOfMemory) => Err(AllocError),
-        Err(_) => Ok(None),
+        Err(FromHexError::InvalidHexCharacter { .. }) => Ok(None),
+        Err(FromHexError::OddLength) => Ok(None),
+        Err(FromHexError::InvalidStringLength) => Ok(None),
     }
 }
