@@ -4,7 +4,8 @@ use Rattle.std.specs.Prelude.{map, slice_index_or, Option, Some, None, Result, O
 use Rattle.std.specs.List.{position, slice_split}
 use Rattle.std.specs.Str.{bytes_eq}
 use Rattle.cip_base.specs.declared.numbers.ModuleId.{ModuleId}
-use Rattle.cip_world.specs.declared.journal.FrameName.{FrameName}
+use Rattle.cip_read.specs.declared.line.FrameName.{FrameName}
+use Rattle.cip_topology.specs.Plan.{Plan}
 use Rattle.cip_words.specs.Shown.{below, number_of, bytes_of, is_dot}
 use Rattle.cip_read.specs.declared.fault.LineFault.{LineFault}
 use Rattle.cip_read.specs.declared.fault.LineFault.TheVariants.{Word, NotText, NoMemory}
@@ -66,6 +67,6 @@ abbrev pub frame_of : List ℕ → Option FrameName
 frame_of word = frame_by (slice_split is_dot word)
 
 -- the module of a name
-abbrev pub module_of : List (List ℕ) → List ℕ → Option ModuleId
-module_of names word = option_map (λ place. record { 0 = place })
-    (position (λ name. bytes_eq name word) names)
+abbrev pub module_of : Plan → List ℕ → Option ModuleId
+module_of t word = option_map (λ place. record { 0 = place })
+    (position (λ c. bytes_eq c.name word) t.modules)

@@ -1,6 +1,7 @@
 -- What the line of an entry shows, before those of its outputs.
 use Rattle.std.specs.Prelude.{ℕ, ◌^◌, ◌==◌, if◌then◌else◌, List, length, Option, Some, None, codes}
 use Rattle.std.specs.Str.{bytes_eq}
+use Rattle.cip_topology.specs.Plan.{Plan}
 use Rattle.cip_words.specs.Shown.{below, number_of}
 use Rattle.cip_read.specs.Fields.{◌>>=◌, nth, of_words, ms_of, frame_of, module_of}
 use Rattle.cip_read.specs.declared.line.CommandWord.{CommandWord}
@@ -35,10 +36,10 @@ given_of word number =
     else by_command word number
 
 -- `ENTRY M WORD NUMBER`
-abbrev pub step_of : List (List ℕ) → List (List ℕ) → Option Line
-step_of names w = do
+abbrev pub step_of : Plan → List (List ℕ) → Option Line
+step_of t w = do
   entry ← below (2 ^ 64) (number_of (nth w 0))
-  m ← module_of names (nth w 1)
+  m ← module_of t (nth w 1)
   given ← given_of (nth w 2) (nth w 3)
   Some (Step entry m given)
 
@@ -52,5 +53,5 @@ abbrev pub lost_of : List (List ℕ) → Option Line
 lost_of w = below (2 ^ 64) (number_of (nth w 0)) >>= λ entry. loss_of entry w
 
 -- of three words it is a loss
-abbrev pub head_of : List (List ℕ) → List (List ℕ) → Option Line
-head_of names w = if length w == 3 then lost_of w else of_words 4 w (step_of names w)
+abbrev pub head_of : Plan → List (List ℕ) → Option Line
+head_of t w = if length w == 3 then lost_of w else of_words 4 w (step_of t w)

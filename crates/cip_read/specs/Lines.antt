@@ -1,6 +1,7 @@
 -- What a line of a transcript shows, where it is part of an entry.
 use Rattle.std.specs.Prelude.{◌≡◌, ℕ, ◌^◌, ◌==◌, ◌&&◌, Bool, nat_lt, if◌then◌else◌, List, length}
 use Rattle.std.specs.Prelude.{Option, Some, None, Result, Ok, Err, is_some}
+use Rattle.cip_topology.specs.Plan.{Plan}
 use Rattle.cip_words.specs.Shown.{words_of, below, number_of}
 use Rattle.cip_read.specs.declared.fault.LineFault.{LineFault}
 use Rattle.cip_read.specs.declared.line.Line.{Line}
@@ -22,16 +23,16 @@ is_indented w = nat_lt 3 (length w) && (length (nth w 0) == 0) && (length (nth w
 abbrev pub is_head : List (List ℕ) → Bool
 is_head w = is_some (below (2 ^ 64) (number_of (nth w 0)))
 
-abbrev pub words_line : List (List ℕ) → List (List ℕ) → Option Line
-words_line names w =
+abbrev pub words_line : Plan → List (List ℕ) → Option Line
+words_line t w =
     if is_indented w then numbered_of w
-    else if is_head w then head_of names w
+    else if is_head w then head_of t w
     else None
 
--- of modules of these names, the line of an entry or of one of its outputs; any other line shows
+-- over a topology, the line of an entry or of one of its outputs; any other line shows
 -- no part of an entry
-unfoldable pub line_of : List (List ℕ) → List ℕ → Option Line
-line_of names line = words_line names (words_of line)
+unfoldable pub line_of : Plan → List ℕ → Option Line
+line_of t line = words_line t (words_of line)
 
 -- what was read is what the line shows, and no part of an entry where it shows none
 abbrev pub IsShown : Line → Option Line → Type 0

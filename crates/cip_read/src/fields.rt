@@ -1,15 +1,14 @@
 //! The words of a line, one by one.
 ghost use Rattle.std.specs.Prelude.{◌≡◌, ◌<◌, ◌^◌, length, map, IfOk};
-ghost use Rattle.std.specs.List.{position};
-ghost use Rattle.std.specs.Str.{bytes_eq};
 ghost use Rattle.cip_words.specs.Shown.{below, number_of, bytes_of};
 ghost use Rattle.cip_read.specs.Fields.{Gives, nth, texts, port_of, ms_of, address_of, frame_of};
 ghost use Rattle.cip_read.specs.Fields.{module_of, frame_by, if_address};
 
 use crate::fault::{Expected, LineFault};
+use crate::line::FrameName;
 use cip_base::{Address, Bytes, ModuleId, Ms, PortNumber};
+use cip_topology::Topology;
 use cip_words::{bytes, dotted, number, number_u16, number_u32};
-use cip_world::FrameName;
 use std::alloc::Global;
 
 /// The word at this place.
@@ -143,21 +142,17 @@ pub(crate) fn frame_at(alloc: Global, words: &[&str], k: usize) -> Result<FrameN
     frame_in(parts.as_slice(), k)
 }
 
-fn place_of(names: &[Bytes], word: &str) -> Option<usize>
-    ensures { result ≡ position (λ name. bytes_eq name word.now) names.now }
-{
-    names
-        .iter()
-        .position(|name| name.as_slice() == word.as_bytes())
-}
-
 /// A module by its name.
-pub(crate) fn module_at(names: &[Bytes], words: &[&str], k: usize) -> Result<ModuleId, LineFault>
+pub(crate) fn module_at(
+    topology: &Topology,
+    words: &[&str],
+    k: usize,
+) -> Result<ModuleId, LineFault>
     requires { k < length words.now }
-    ensures { Gives result (module_of names.now (nth (texts words.now) k)) }
+    ensures { Gives result (module_of topology.now (nth (texts words.now) k)) }
 {
-    match place_of(names, nth(words, k)) {
-        Some(place) => Ok(ModuleId(place)),
+    match topology.by_name(nth(words, k).as_bytes()) {
+        Some(place) => Ok(place),
         None => Err(LineFault::Word(k, Expected::Module)),
     }
 }

@@ -6,7 +6,7 @@ ghost use Rattle.cip_read.specs.Heads.{command_of, given_of, step_of, lost_of, h
 use crate::fault::{Expected, LineFault};
 use crate::fields::{frame_at, module_at, ms_at, nth, u32_at, usize_at};
 use crate::line::{CommandWord, Given, Line};
-use cip_base::Bytes;
+use cip_topology::Topology;
 use std::alloc::Global;
 
 // The word of a command, at place 2.
@@ -53,15 +53,15 @@ fn given_at(alloc: Global, words: &[&str]) -> Result<Given, LineFault>
 }
 
 // `ENTRY M WORD NUMBER`
-fn step_line(alloc: Global, names: &[Bytes], words: &[&str]) -> Result<Line, LineFault>
-    ensures { Gives result (of_words 4 (texts words.now) (step_of names.now (texts words.now))) }
+fn step_line(alloc: Global, topology: &Topology, words: &[&str]) -> Result<Line, LineFault>
+    ensures { Gives result (of_words 4 (texts words.now) (step_of topology.now (texts words.now))) }
 {
     if words.len() != 4 {
         let usage = "ENTRY M send|open|large|close|enter|set|produce|tick|frame NUMBER";
         return Err(LineFault::Word(words.len(), Expected::Usage(usage)));
     }
     let entry = usize_at(words, 0)?;
-    let at = module_at(names, words, 1)?;
+    let at = module_at(topology, words, 1)?;
     let given = given_at(alloc, words)?;
     Ok(Line::Step { entry, at, given })
 }
@@ -80,11 +80,11 @@ fn lost_line(alloc: Global, words: &[&str]) -> Result<Line, LineFault>
 }
 
 /// The line of an entry.
-pub(crate) fn head_at(alloc: Global, names: &[Bytes], words: &[&str]) -> Result<Line, LineFault>
-    ensures { Gives result (head_of names.now (texts words.now)) }
+pub(crate) fn head_at(alloc: Global, topology: &Topology, words: &[&str]) -> Result<Line, LineFault>
+    ensures { Gives result (head_of topology.now (texts words.now)) }
 {
     if words.len() == 3 {
         return lost_line(alloc, words);
     }
-    step_line(alloc, names, words)
+    step_line(alloc, topology, words)
 }

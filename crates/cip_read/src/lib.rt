@@ -10,7 +10,7 @@ mod outputs;
 mod reader;
 
 pub use fault::{Expected, LineFault, ReadFault};
-pub use line::{CommandWord, Given, Line, Note};
+pub use line::{CommandWord, FrameName, Given, Line, Note};
 pub use reader::{Reader, read_line};
 
 #[cfg(test)]

@@ -1,7 +1,14 @@
 //! What a line of a transcript shows.
 use cip_base::{ModuleId, Ms};
 use cip_event::Output;
-use cip_world::FrameName;
+
+/// The name of a frame: the entry that sent it, and its place among that entry's outputs, both from
+/// 0. Frames are ordered by entry, then by place.
+#[derive(Clone, Copy, Debug, PartialEq, Eq, PartialOrd, Ord)]
+pub struct FrameName {
+    pub entry: usize,
+    pub output: usize,
+}
 
 /// The word by which an entry's line names a command.
 #[derive(Clone, Copy, Debug, PartialEq, Eq)]

@@ -3,7 +3,7 @@
 use crate::fault::{Expected, LineFault};
 use crate::fields::{bytes_at, module_at, nth, u16_at, u32_at, u64_at};
 use crate::line::Note;
-use cip_base::Bytes;
+use cip_topology::Topology;
 use cip_words::number;
 use std::alloc::Global;
 
@@ -100,7 +100,7 @@ fn check_optional(word: &str, k: usize) -> Result<(), LineFault> {
 // The word at a place is what it must be.
 fn check_field(
     alloc: Global,
-    names: &[Bytes],
+    topology: &Topology,
     words: &[&str],
     k: usize,
     field: Field,
@@ -115,20 +115,20 @@ fn check_field(
         Field::Wide => u64_at(words, k).map(|_| ()),
         Field::Optional => check_optional(nth(words, k), k),
         Field::Bytes => bytes_at(alloc, words, k).map(|_| ()),
-        Field::Module => module_at(names, words, k).map(|_| ()),
+        Field::Module => module_at(topology, words, k).map(|_| ()),
     }
 }
 
 // The words from a place on are those of a pattern; the place behind them.
 fn check_fields(
     alloc: Global,
-    names: &[Bytes],
+    topology: &Topology,
     words: &[&str],
     start: usize,
     fields: &[Field],
 ) -> Result<usize, LineFault> {
     for (i, field) in fields.iter().enumerate() {
-        check_field(alloc, names, words, start.saturating_add(i), *field)?;
+        check_field(alloc, topology, words, start.saturating_add(i), *field)?;
     }
     Ok(start.saturating_add(fields.len()))
 }
@@ -151,24 +151,24 @@ fn check_numbers(words: &[&str], start: usize) -> Result<(), LineFault> {
 
 // Each word between two places is a module.
 fn check_modules(
-    names: &[Bytes],
+    topology: &Topology,
     words: &[&str],
     start: usize,
     end: usize,
 ) -> Result<(), LineFault> {
     for k in start..end.min(words.len()) {
-        module_at(names, words, k)?;
+        module_at(topology, words, k)?;
     }
     Ok(())
 }
 
 // `chain`, at least one module, and two instances.
-fn check_chain(names: &[Bytes], words: &[&str]) -> Result<(), LineFault> {
+fn check_chain(topology: &Topology, words: &[&str]) -> Result<(), LineFault> {
     let count = words.len();
     if count < 4 {
         return Err(LineFault::Word(count, Expected::Usage("chain M .. OT TO")));
     }
-    check_modules(names, words, 1, count - 2)?;
+    check_modules(topology, words, 1, count - 2)?;
     u32_at(words, count - 2)?;
     u32_at(words, count - 1)?;
     Ok(())
@@ -177,7 +177,7 @@ fn check_chain(names: &[Bytes], words: &[&str]) -> Result<(), LineFault> {
 // A line whose first word is not a number.
 pub(crate) fn note_at(
     alloc: Global,
-    names: &[Bytes],
+    topology: &Topology,
     words: &[&str],
 ) -> Result<Note, LineFault> {
     let first = words.first().copied().unwrap_or("");
@@ -189,7 +189,7 @@ pub(crate) fn note_at(
             (Note::Trail, words.len())
         }
         "chain" => {
-            check_chain(names, words)?;
+            check_chain(topology, words)?;
             (Note::Chain, words.len())
         }
         "not" => {
@@ -197,10 +197,10 @@ pub(crate) fn note_at(
             (Note::Chain, 2)
         }
         "broken" => {
-            check_field(alloc, names, words, 1, Module)?;
+            check_field(alloc, topology, words, 1, Module)?;
             (Note::Chain, 2)
         }
-        "tables" => (Note::Tables, check_fields(alloc, names, words, 0, TABLES)?),
+        "tables" => (Note::Tables, check_fields(alloc, topology, words, 0, TABLES)?),
         _ => {
             let allowed = "a number, quiet, limit, trail, chain, not, broken or tables";
             return Err(LineFault::Word(0, Expected::Words(allowed)));
@@ -213,7 +213,7 @@ pub(crate) fn note_at(
 // What was sent on: `unconnected`, or a word and a triad.
 fn check_kind(
     alloc: Global,
-    names: &[Bytes],
+    topology: &Topology,
     words: &[&str],
     k: usize,
 ) -> Result<usize, LineFault> {
@@ -221,7 +221,7 @@ fn check_kind(
         return Ok(k.saturating_add(1));
     }
     if is_word(words, k, "opening") || is_word(words, k, "large") || is_word(words, k, "closing") {
-        return check_fields(alloc, names, words, k.saturating_add(1), TRIAD);
+        return check_fields(alloc, topology, words, k.saturating_add(1), TRIAD);
     }
     let allowed = "unconnected, opening, large or closing";
     Err(LineFault::Word(k, Expected::Words(allowed)))
@@ -230,7 +230,7 @@ fn check_kind(
 // Where a connection comes from.
 fn check_up(
     alloc: Global,
-    names: &[Bytes],
+    topology: &Topology,
     words: &[&str],
     k: usize,
 ) -> Result<usize, LineFault> {
@@ -239,13 +239,13 @@ fn check_up(
     } else {
         UP_LINK
     };
-    check_fields(alloc, names, words, k, fields)
+    check_fields(alloc, topology, words, k, fields)
 }
 
 // Where a connection goes to.
 fn check_down(
     alloc: Global,
-    names: &[Bytes],
+    topology: &Topology,
     words: &[&str],
     k: usize,
 ) -> Result<usize, LineFault> {
@@ -254,26 +254,26 @@ fn check_down(
     } else {
         DOWN_LINK
     };
-    check_fields(alloc, names, words, k, fields)
+    check_fields(alloc, topology, words, k, fields)
 }
 
 // A connection that is open.
-fn check_hop(alloc: Global, names: &[Bytes], words: &[&str]) -> Result<usize, LineFault> {
-    let triad = check_fields(alloc, names, words, 3, TRIAD)?;
-    let up = check_up(alloc, names, words, triad)?;
-    let down = check_down(alloc, names, words, up)?;
-    check_fields(alloc, names, words, down, WATCH)
+fn check_hop(alloc: Global, topology: &Topology, words: &[&str]) -> Result<usize, LineFault> {
+    let triad = check_fields(alloc, topology, words, 3, TRIAD)?;
+    let up = check_up(alloc, topology, words, triad)?;
+    let down = check_down(alloc, topology, words, up)?;
+    check_fields(alloc, topology, words, down, WATCH)
 }
 
 // A row of the tables, whose first word stands at place 2, behind the two spaces.
-pub(crate) fn row_at(alloc: Global, names: &[Bytes], words: &[&str]) -> Result<Note, LineFault> {
+pub(crate) fn row_at(alloc: Global, topology: &Topology, words: &[&str]) -> Result<Note, LineFault> {
     let end = if is_word(words, 2, "pending") {
-        let k = check_fields(alloc, names, words, 2, PENDING)?;
-        check_kind(alloc, names, words, k)?
+        let k = check_fields(alloc, topology, words, 2, PENDING)?;
+        check_kind(alloc, topology, words, k)?
     } else if is_word(words, 2, "hop") {
-        check_hop(alloc, names, words)?
+        check_hop(alloc, topology, words)?
     } else if is_word(words, 2, "assembly") {
-        check_fields(alloc, names, words, 2, ASSEMBLY)?
+        check_fields(alloc, topology, words, 2, ASSEMBLY)?
     } else {
         let allowed = "the number of an output, pending, hop or assembly";
         return Err(LineFault::Word(2, Expected::Words(allowed)));

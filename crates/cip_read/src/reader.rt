@@ -10,9 +10,7 @@ use crate::heads::head_at;
 use crate::line::Line;
 use crate::notes::{note_at, row_at};
 use crate::outputs::output_at;
-use cip_base::{Bytes, NoMemory};
 use cip_topology::{Excerpt, Topology};
-use cip_transcript::names_of;
 use cip_words::{ascii, number, words};
 use std::alloc::Global;
 
@@ -42,45 +40,45 @@ fn is_head(words: &[&str]) -> bool
 }
 
 // What the words of a line show.
-fn words_line(alloc: Global, names: &[Bytes], words: &[&str]) -> Result<Line, LineFault>
-    ensures { Reads result (words_line names.now (texts words.now)) }
+fn words_line(alloc: Global, topology: &Topology, words: &[&str]) -> Result<Line, LineFault>
+    ensures { Reads result (words_line topology.now (texts words.now)) }
 {
     if is_indented(words) {
         if number(nth(words, 2)).is_some() {
             return numbered_line(alloc, words);
         }
-        return match row_at(alloc, names, words) {
+        return match row_at(alloc, topology, words) {
             Ok(note) => Ok(Line::Note(note)),
             Err(fault) => Err(fault),
         };
     }
     if is_head(words) {
-        return head_at(alloc, names, words);
+        return head_at(alloc, topology, words);
     }
-    match note_at(alloc, names, words) {
+    match note_at(alloc, topology, words) {
         Ok(note) => Ok(Line::Note(note)),
         Err(fault) => Err(fault),
     }
 }
 
-/// What a line shows, without its end, over modules of these names. Word is its first faulty word;
+/// What a line shows, without its end, over the modules of a topology. Word is its first faulty word;
 /// NotText where a byte is not ASCII; NoMemory where an allocation is refused.
-pub fn read_line(alloc: Global, names: &[Bytes], line: &[u8]) -> Result<Line, LineFault>
-    ensures { IsAscii line.now → Reads result (line_of names.now line.now) }
+pub fn read_line(alloc: Global, topology: &Topology, line: &[u8]) -> Result<Line, LineFault>
+    ensures { IsAscii line.now → Reads result (line_of topology.now line.now) }
 {
     let Some(text) = ascii(line) else {
         return Err(LineFault::NotText);
     };
     let words = words(alloc, text)?;
-    words_line(alloc, names, words.as_slice())
+    words_line(alloc, topology, words.as_slice())
 }
 
 /// Reads the lines of a transcript, one after the other: each entry has the number behind that of the
 /// one before, and each output likewise within its entry. What is read may begin with any entry, or
 /// within one.
 #[derive(Drop)]
-pub struct Reader {
-    names: Vec<Bytes>,
+pub struct Reader<'a> {
+    topology: &'a Topology,
     // how many lines were read
     lines: usize,
     // the numbers that come next, where they are known
@@ -141,15 +139,15 @@ fn told(alloc: Global, line: usize, text: &[u8], fault: LineFault) -> ReadFault 
     }
 }
 
-impl Reader {
-    /// A reader of transcripts of a topology; NoMemory where an allocation is refused.
-    pub fn new(alloc: Global, topology: &Topology) -> Result<Reader, NoMemory> {
-        Ok(Reader {
-            names: names_of(alloc, topology)?,
+impl<'a> Reader<'a> {
+    /// A reader of transcripts of a topology.
+    pub fn new(topology: &'a Topology) -> Reader<'a> {
+        Reader {
+            topology,
             lines: 0,
             next_entry: None,
             next_output: None,
-        })
+        }
     }
 
     /// How many lines were read.
@@ -190,7 +188,7 @@ impl Reader {
     }
 
     fn read_next(&mut self, alloc: Global, text: &[u8]) -> Result<Line, LineFault> {
-        let line = read_line(alloc, self.names.as_slice(), text)?;
+        let line = read_line(alloc, self.topology, text)?;
         self.take(&line)?;
         Ok(line)
     }
