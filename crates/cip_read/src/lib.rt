@@ -12,11 +12,3 @@ mod reader;
 pub use fault::{Expected, LineFault, ReadFault};
 pub use line::{CommandWord, FrameName, Given, Line, Note};
 pub use reader::{Reader, read_line};
-
-#[cfg(test)]
-mod tests {
-    #[test]
-    fn reads() {
-        prove!(true);
-    }
-}

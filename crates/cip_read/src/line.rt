@@ -60,9 +60,15 @@ pub enum Line {
         given: Given,
     },
     /// The line of an entry: a frame was lost.
-    Lost { entry: usize, frame: FrameName },
+    Lost {
+        entry: usize,
+        frame: FrameName,
+    },
     /// An output of the entry above.
-    Output { index: usize, output: Output },
+    Output {
+        index: usize,
+        output: Output,
+    },
     /// No part of an entry.
     Note(Note),
 }

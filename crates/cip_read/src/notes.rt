@@ -200,7 +200,10 @@ pub(crate) fn note_at(
             check_field(alloc, topology, words, 1, Module)?;
             (Note::Chain, 2)
         }
-        "tables" => (Note::Tables, check_fields(alloc, topology, words, 0, TABLES)?),
+        "tables" => (
+            Note::Tables,
+            check_fields(alloc, topology, words, 0, TABLES)?,
+        ),
         _ => {
             let allowed = "a number, quiet, limit, trail, chain, not, broken or tables";
             return Err(LineFault::Word(0, Expected::Words(allowed)));
@@ -266,7 +269,11 @@ fn check_hop(alloc: Global, topology: &Topology, words: &[&str]) -> Result<usize
 }
 
 // A row of the tables, whose first word stands at place 2, behind the two spaces.
-pub(crate) fn row_at(alloc: Global, topology: &Topology, words: &[&str]) -> Result<Note, LineFault> {
+pub(crate) fn row_at(
+    alloc: Global,
+    topology: &Topology,
+    words: &[&str],
+) -> Result<Note, LineFault> {
     let end = if is_word(words, 2, "pending") {
         let k = check_fields(alloc, topology, words, 2, PENDING)?;
         check_kind(alloc, topology, words, k)?

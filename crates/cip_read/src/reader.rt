@@ -101,12 +101,7 @@ fn byte_fault(line: usize, text: &[u8]) -> ReadFault {
 }
 
 // A faulty word of a line; two empty words stand before those of an indented line.
-fn word_fault(
-    line: usize,
-    words: &[&str],
-    k: usize,
-    expected: Expected,
-) -> ReadFault {
+fn word_fault(line: usize, words: &[&str], k: usize, expected: Expected) -> ReadFault {
     let shift = if is_indented(words) { 2 } else { 0 };
     let word = k.saturating_sub(shift).saturating_add(1);
     match words.get(k) {

@@ -276,4 +276,12 @@ impl<'a> Book<'a> {
         };
         self.of_found(found)
     }
+
+    /// What is known of the connection of what a frame holds that goes to a module.
+    pub fn of_body(&self, to: Option<ModuleId>, body: &Body) -> Known {
+        match body {
+            Body::Data { id, .. } => self.of_id(to, *id),
+            _ => self.of_found(None),
+        }
+    }
 }

@@ -175,12 +175,7 @@ impl<'a> JsonView<'a> {
         Ok(())
     }
 
-    fn take_lost(
-        &mut self,
-        alloc: Global,
-        entry: usize,
-        frame: FrameName,
-    ) -> Result<(), NoMemory> {
+    fn take_lost(&mut self, alloc: Global, entry: usize, frame: FrameName) -> Result<(), NoMemory> {
         self.put_entry(alloc)?;
         let sent = self.book.lose(frame);
         let frame = frame_json(alloc, frame)?;

@@ -6,6 +6,7 @@ mod json;
 mod label;
 mod pieces;
 mod reasons;
+mod says;
 mod text;
 mod view;
 
@@ -13,13 +14,7 @@ pub use book::{Book, Known, Sent};
 pub use json::JsonView;
 pub use label::{Kind, Label, NameText, label_of};
 pub use pieces::Pieces;
+pub use reasons::{command_word, drop_reason, drop_word, refusal_reason, refusal_word};
+pub use says::{BodyText, DatumText, ReplyText, RequestText};
 pub use text::TextView;
 pub use view::{Ending, View, feed, finish};
-
-#[cfg(test)]
-mod tests {
-    #[test]
-    fn reads() {
-        prove!(true);
-    }
-}

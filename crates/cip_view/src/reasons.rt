@@ -1,19 +1,21 @@
 //! The words of a transcript in plain sentences.
 use cip_event::{Dropped, Refused};
+use cip_read::CommandWord;
 
 /// Why a command was refused.
-pub(crate) fn refusal_reason(fault: Refused) -> &'static str {
+pub fn refusal_reason(fault: Refused) -> &'static str {
     match fault {
         Refused::OpUsed => "the op was used before",
         Refused::NotOpen => "no connection of that op is open here",
-        Refused::WrongSize => "the size is not that of the connection or the assembly, or is too large",
+        Refused::WrongSize =>
+            "the size is not that of the connection or the assembly, or is too large",
         Refused::ReservedService => "an Unconnected_Send does not go into an Unconnected_Send",
         Refused::NoInstance => "the module has no such assembly",
     }
 }
 
 /// The word of a refusal.
-pub(crate) fn refusal_word(fault: Refused) -> &'static str {
+pub fn refusal_word(fault: Refused) -> &'static str {
     match fault {
         Refused::OpUsed => "OpUsed",
         Refused::NotOpen => "NotOpen",
@@ -24,7 +26,7 @@ pub(crate) fn refusal_word(fault: Refused) -> &'static str {
 }
 
 /// Why a frame was dropped.
-pub(crate) fn drop_reason(reason: Dropped) -> &'static str {
+pub fn drop_reason(reason: Dropped) -> &'static str {
     match reason {
         Dropped::Malformed => "it is no request and no reply, is too long, or came by no port",
         Dropped::Late => "nobody waits for this reply any more",
@@ -34,11 +36,24 @@ pub(crate) fn drop_reason(reason: Dropped) -> &'static str {
 }
 
 /// The word of a drop.
-pub(crate) fn drop_word(reason: Dropped) -> &'static str {
+pub fn drop_word(reason: Dropped) -> &'static str {
     match reason {
         Dropped::Malformed => "Malformed",
         Dropped::Late => "Late",
         Dropped::UnknownId => "UnknownId",
         Dropped::WrongSize => "WrongSize",
+    }
+}
+
+/// The word of a command.
+pub fn command_word(word: CommandWord) -> &'static str {
+    match word {
+        CommandWord::Send => "send",
+        CommandWord::Open => "open",
+        CommandWord::Large => "large",
+        CommandWord::Close => "close",
+        CommandWord::Enter => "enter",
+        CommandWord::Set => "set",
+        CommandWord::Produce => "produce",
     }
 }

@@ -1,94 +1,15 @@
 //! A transcript with what each message says on a line of its own below the entry.
 use crate::book::{Book, Known, Sent};
 use crate::label::NameText;
-use crate::reasons::{drop_reason, refusal_reason};
+use crate::reasons::{command_word, drop_reason, refusal_reason};
+use crate::says::{BodyText, DatumText, OfText, ReplyText};
 use crate::view::{Ending, View};
-use cip_base::{Address, ModuleId, NoMemory, PortNumber, Triad};
-use cip_decode::{Pairs, decode_reply, decode_request};
+use cip_base::{Address, ModuleId, NoMemory, PortNumber};
+use cip_decode::{Pairs, decode_reply};
 use cip_event::{Body, Output};
-use cip_read::{CommandWord, FrameName, Given, Line};
+use cip_read::{FrameName, Given, Line};
 use cip_topology::Topology;
 use std::alloc::Global;
-use std::fmt;
-
-// A request, decoded, or why it can't be.
-#[derive(Clone, Copy)]
-struct RequestText<'a>(&'a [u8]);
-
-impl fmt::Display for RequestText<'_> {
-    fn fmt<W: fmt::Write>(&self, f: &mut fmt::Formatter<W>) -> fmt::Result {
-        match decode_request(self.0) {
-            Ok(request) => write!(f, "{request}"),
-            Err(fault) => write!(f, "unreadable request: {fault}"),
-        }
-    }
-}
-
-// A reply, decoded, or why it can't be.
-#[derive(Clone, Copy)]
-struct ReplyText<'a>(&'a [u8]);
-
-impl fmt::Display for ReplyText<'_> {
-    fn fmt<W: fmt::Write>(&self, f: &mut fmt::Formatter<W>) -> fmt::Result {
-        match decode_reply(self.0) {
-            Ok(reply) => write!(f, "{reply}"),
-            Err(fault) => write!(f, "unreadable reply: {fault}"),
-        }
-    }
-}
-
-// A datum, with its sequence count where its connection is known to have one.
-#[derive(Clone, Copy)]
-struct DatumText<'a> {
-    known: Known,
-    bytes: &'a [u8],
-}
-
-impl fmt::Display for DatumText<'_> {
-    fn fmt<W: fmt::Write>(&self, f: &mut fmt::Formatter<W>) -> fmt::Result {
-        match (self.known.class_, self.bytes) {
-            (Some(1), [low, high, rest @ ..]) => {
-                let count = u16::from_le_bytes([*low, *high]);
-                let length = rest.len();
-                write!(f, "count {count}, {length} bytes {}", Pairs(rest))
-            }
-            _ => {
-                let length = self.bytes.len();
-                write!(f, "{length} bytes {}", Pairs(self.bytes))
-            }
-        }
-    }
-}
-
-// The connection of a datum, where it is known.
-#[derive(Clone, Copy)]
-struct OfText(Known);
-
-impl fmt::Display for OfText {
-    fn fmt<W: fmt::Write>(&self, f: &mut fmt::Formatter<W>) -> fmt::Result {
-        match self.0.triad {
-            Some(Triad {
-                serial,
-                vendor,
-                originator,
-            }) => write!(f, " of triad {serial} {vendor} {originator}"),
-            None => Ok(()),
-        }
-    }
-}
-
-// The word of a command.
-fn command_word(word: CommandWord) -> &'static str {
-    match word {
-        CommandWord::Send => "send",
-        CommandWord::Open => "open",
-        CommandWord::Large => "large",
-        CommandWord::Close => "close",
-        CommandWord::Enter => "enter",
-        CommandWord::Set => "set",
-        CommandWord::Produce => "produce",
-    }
-}
 
 /// The transcript as it is, and below each line of an output what its message says.
 #[derive(Drop)]
@@ -134,16 +55,8 @@ impl<'a> TextView<'a> {
     }
 
     fn put_body(&mut self, body: &Body, to: Option<ModuleId>) -> Result<(), NoMemory> {
-        match body {
-            Body::Request { bytes, .. } => write!(self.out, "{}", RequestText(bytes.as_slice()))?,
-            Body::Reply { bytes, .. } => write!(self.out, "{}", ReplyText(bytes.as_slice()))?,
-            Body::Data { id, bytes } => {
-                let known = self.book.of_id(to, *id);
-                let bytes = bytes.as_slice();
-                let datum = DatumText { known, bytes };
-                write!(self.out, "datum{}: {datum}", OfText(known))?;
-            }
-        }
+        let known = self.book.of_body(to, body);
+        write!(self.out, "{}", BodyText { body, known })?;
         Ok(())
     }
 
@@ -271,7 +184,10 @@ impl View for TextView<'_> {
         self.put_ops()?;
         let waiting = self.book.waiting();
         if waiting > 0 {
-            writeln!(self.out, "# frames that have not arrived at the end: {waiting}")?;
+            writeln!(
+                self.out,
+                "# frames that have not arrived at the end: {waiting}"
+            )?;
         }
         Ok(())
     }

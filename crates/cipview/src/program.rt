@@ -4,14 +4,14 @@ use crate::fault::Fault;
 use crate::files::topology;
 use crate::options::{Options, OptionsFault, Shape, Usage, read_options};
 use crate::terminal::Terminal;
+use cip_chart::{ChartView, Cut};
 use cip_read::Reader;
 use cip_topology::Topology;
 use cip_view::{JsonView, Pieces, TextView, View, feed, finish};
-use std::alloc::Global;
-use std::env;
+use std::alloc::{AllocError, Global};
 use std::env::Env;
-use std::io;
 use std::io::{Read, Write};
+use std::{env, io};
 
 // The bytes of one read.
 const PIECE: usize = 65_536;
@@ -75,12 +75,38 @@ fn show<V: View>(
     write_out(rt, view)
 }
 
+// The part of the run that a chart shows.
+fn cut_of(alloc: Global, topology: &Topology, options: &Options) -> Result<Cut, Fault> {
+    let mut cut = Cut::whole(alloc);
+    cut.from = options.from;
+    cut.to = options.to;
+    for name in &options.modules {
+        match topology.by_name(name.as_bytes()) {
+            Some(id) => cut.modules.push(id).map_err(AllocError::from)?,
+            None => return Err(Fault::Module(String::from_str(alloc, name.as_str())?)),
+        }
+    }
+    Ok(cut)
+}
+
+fn show_chart(
+    rt: &HostRuntime,
+    alloc: Global,
+    topology: &Topology,
+    options: &Options,
+) -> Result<(), Fault> {
+    let cut = cut_of(alloc, topology, options)?;
+    let mut view = ChartView::new(alloc, topology, cut, options.html)?;
+    show(rt, alloc, topology, &mut view)
+}
+
 // What the program does once it knows what is asked for.
 fn run_with(rt: &HostRuntime, options: &Options) -> Result<(), Fault> {
     let alloc = rt.alloc();
     let topology = topology(rt, alloc, options)?;
     match options.shape {
         Shape::Text => show(rt, alloc, &topology, &mut TextView::new(alloc, &topology)),
+        Shape::Chart => show_chart(rt, alloc, &topology, options),
         Shape::Json => show(rt, alloc, &topology, &mut JsonView::new(alloc, &topology)),
     }
 }

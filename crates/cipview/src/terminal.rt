@@ -5,6 +5,7 @@ use std::time::Instant;
 // How long the reading goes on before it is first told, and from one telling to the next, in
 // milliseconds.
 const FIRST: u64 = 1_000;
+
 const AGAIN: u64 = 100;
 
 /// Tells how many lines were read where the standard error is a terminal and the standard output is
