@@ -424,6 +424,10 @@ pub(crate) fn put_svg(
         "<title>A sequence chart of a run of cipbridge</title><style>{STYLE}</style>\n"
     )?;
     out.push_str(HEADS)?;
+    write!(
+        out,
+        "<rect class=\"paper\" width=\"{width}\" height=\"{height}\"/>\n"
+    )?;
     put_lives(chart, body, end, out)?;
     put_rows(chart.rows.as_slice(), heights.as_slice(), width, out)?;
     put_arrows(chart, heights.as_slice(), is_link, out)?;

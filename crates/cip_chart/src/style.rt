@@ -2,27 +2,30 @@
 
 /// The style of a chart, light and dark.
 pub(crate) const STYLE: &str = "\
-:root{color-scheme:light dark}\
-svg{--paper:#fff;--ink:#1b1f24;--soft:#5b6470;--life:#c3c9d1;--box:#eef1f5;--request:#0b5cad;\
---reply:#1a7f37;--bad:#c0182b;--data:#7a5195;background:var(--paper)}\
-@media (prefers-color-scheme:dark){svg{--paper:#15181c;--ink:#e6e9ee;--soft:#9aa4b1;--life:#454d57;\
---box:#232930;--request:#6cb3ff;--reply:#5ad07a;--bad:#ff7b86;--data:#c9a3e6}}\
-text{font:11px ui-sans-serif,system-ui,Segoe UI,Helvetica,Arial,sans-serif;fill:var(--ink)}\
+text{font:11px ui-sans-serif,system-ui,Segoe UI,Helvetica,Arial,sans-serif}\
 .name{font-weight:700;font-size:13px;text-anchor:middle}\
-.port,.entry,.note,.time{fill:var(--soft);font-size:10px}\
-.port{text-anchor:middle}.entry,.time{text-anchor:end}\
-.box{fill:var(--box);stroke:var(--life)}\
-.life{stroke:var(--life);stroke-dasharray:2 3}\
-.dot{fill:var(--ink)}.command{font-weight:700}.bad{fill:var(--bad)}\
+.port,.entry,.note,.time{font-size:10px}.port{text-anchor:middle}.entry,.time{text-anchor:end}\
+.life{stroke-dasharray:2 3}.command{font-weight:700}.foldtext{font-style:italic}\
 .line{fill:none;stroke-width:1.5}.hit{fill:none;stroke:transparent;stroke-width:9}\
-.request{stroke:var(--request)}.reply{stroke:var(--reply);stroke-dasharray:6 3}\
-.failure{stroke:var(--bad);stroke-dasharray:6 3}.data{stroke:var(--data);stroke-width:.8}\
-.cross{stroke:var(--bad);stroke-width:2;fill:none}\
-.label{text-anchor:middle;paint-order:stroke;stroke:var(--paper);stroke-width:3px}\
-.fold{fill:var(--box)}.foldtext{fill:var(--soft);font-style:italic}\
-#request path{fill:var(--request)}#reply path{fill:var(--reply)}\
-#failure path{fill:var(--bad)}#data path{fill:var(--data)}\
-a:hover .line,a:focus .line{stroke-width:3}a:focus{outline:none}";
+.reply,.failure{stroke-dasharray:6 3}.data{stroke-width:.8}.cross{stroke-width:2;fill:none}\
+.label{text-anchor:middle;paint-order:stroke;stroke-width:3px}\
+a:hover .line,a:focus .line{stroke-width:3}a:focus{outline:none}\
+.paper{fill:#fff}text,.dot{fill:#1b1f24}\
+.port,.entry,.note,.time,.foldtext{fill:#5b6470}\
+.box,.fold{fill:#eef1f5}.box,.life{stroke:#c3c9d1}.label{stroke:#fff}\
+.request{stroke:#0b5cad}#request path{fill:#0b5cad}\
+.reply{stroke:#1a7f37}#reply path{fill:#1a7f37}\
+.failure,.cross{stroke:#c0182b}#failure path,.bad{fill:#c0182b}\
+.data{stroke:#7a5195}#data path{fill:#7a5195}\
+@media (prefers-color-scheme:dark){\
+.paper{fill:#15181c}text,.dot{fill:#e6e9ee}\
+.port,.entry,.note,.time,.foldtext{fill:#9aa4b1}\
+.box,.fold{fill:#232930}.box,.life{stroke:#454d57}.label{stroke:#15181c}\
+.request{stroke:#6cb3ff}#request path{fill:#6cb3ff}\
+.reply{stroke:#5ad07a}#reply path{fill:#5ad07a}\
+.failure,.cross{stroke:#ff7b86}#failure path,.bad{fill:#ff7b86}\
+.data{stroke:#c9a3e6}#data path{fill:#c9a3e6}\
+}";
 
 /// The style of a page around a chart.
 pub(crate) const PAGE_STYLE: &str = "\

@@ -1,6 +1,7 @@
 -- The words of a line of a transcript, one by one.
 use Rattle.std.specs.Prelude.{◌≡◌, ℕ, ◌^◌, ◌==◌, ◌&&◌, nat_le, if◌then◌else◌, List, [], ◌∷◌, length}
-use Rattle.std.specs.Prelude.{map, slice_index_or, Option, Some, None, Result, Ok, Err, option_map, Bor}
+use Rattle.std.specs.Prelude.{map, slice_index_or, Option, Some, None, Result, Ok, Err, option_map}
+use denote.Ref.{Bor}
 use Rattle.std.specs.List.{position, slice_split}
 use Rattle.std.specs.Str.{bytes_eq}
 use Rattle.cip_base.specs.declared.numbers.ModuleId.{ModuleId}

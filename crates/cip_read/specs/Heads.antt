@@ -31,8 +31,8 @@ by_command word number = do
 -- a frame by its name, a tick, or a command
 abbrev pub given_of : List ℕ → List ℕ → Option Given
 given_of word number =
-    if bytes_eq word (codes "frame") then frame_of number >>= λ frame. Some (Frame frame)
-    else if bytes_eq word (codes "tick") then ms_of number >>= λ ms. Some (Tick ms)
+    if bytes_eq word (codes "frame") then (frame_of number >>= λ frame. Some (Frame frame))
+    else if bytes_eq word (codes "tick") then (ms_of number >>= λ ms. Some (Tick ms))
     else by_command word number
 
 -- `ENTRY M WORD NUMBER`
@@ -45,8 +45,8 @@ step_of t w = do
 
 abbrev pub loss_of : ℕ → List (List ℕ) → Option Line
 loss_of entry w =
-    if bytes_eq (nth w 1) (codes "lost") then frame_of (nth w 2) >>= λ frame. Some (Lost entry frame)
-    else None
+    if bytes_eq (nth w 1) (codes "lost") then
+    (frame_of (nth w 2) >>= λ frame. Some (Lost entry frame)) else None
 
 -- `ENTRY lost E.K`
 abbrev pub lost_of : List (List ℕ) → Option Line

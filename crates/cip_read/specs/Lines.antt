@@ -21,7 +21,7 @@ is_indented w = nat_lt 3 (length w) && (length (nth w 0) == 0) && (length (nth w
 
 -- the line begins with a number
 abbrev pub is_head : List (List ℕ) → Bool
-is_head w = is_some (below (2 ^ 64) (number_of (nth w 0)))
+is_head w = nat_lt 0 (length w) && is_some (below (2 ^ 64) (number_of (nth w 0)))
 
 abbrev pub words_line : Plan → List (List ℕ) → Option Line
 words_line t w =

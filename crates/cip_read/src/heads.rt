@@ -2,6 +2,7 @@
 ghost use Rattle.std.specs.Prelude.{◌≡◌, ◌<◌, ◌≤◌, length, map};
 ghost use Rattle.cip_read.specs.Fields.{Gives, nth, texts, of_words};
 ghost use Rattle.cip_read.specs.Heads.{command_of, given_of, step_of, lost_of, head_of};
+ghost use Rattle.cip_read.specs.Lines.{Reads};
 
 use crate::fault::{Expected, LineFault};
 use crate::fields::{frame_at, module_at, ms_at, nth, u32_at, usize_at};
@@ -44,8 +45,10 @@ fn given_at(alloc: Global, words: &[&str]) -> Result<Given, LineFault>
         return Ok(Given::Frame(frame));
     }
     if word == "tick" {
-        let ms = ms_at(words, 3)?;
-        return Ok(Given::Tick(ms));
+        return match ms_at(words, 3) {
+            Ok(ms) => Ok(Given::Tick(ms)),
+            Err(fault) => Err(fault),
+        };
     }
     let command = command_of(word)?;
     let number = u32_at(words, 3)?;
@@ -54,7 +57,7 @@ fn given_at(alloc: Global, words: &[&str]) -> Result<Given, LineFault>
 
 // `ENTRY M WORD NUMBER`
 fn step_line(alloc: Global, topology: &Topology, words: &[&str]) -> Result<Line, LineFault>
-    ensures { Gives result (of_words 4 (texts words.now) (step_of topology.now (texts words.now))) }
+    ensures { Reads result (of_words 4 (texts words.now) (step_of topology.now (texts words.now))) }
 {
     if words.len() != 4 {
         let usage = "ENTRY M send|open|large|close|enter|set|produce|tick|frame NUMBER";
@@ -62,14 +65,16 @@ fn step_line(alloc: Global, topology: &Topology, words: &[&str]) -> Result<Line,
     }
     let entry = usize_at(words, 0)?;
     let at = module_at(topology, words, 1)?;
-    let given = given_at(alloc, words)?;
-    Ok(Line::Step { entry, at, given })
+    match given_at(alloc, words) {
+        Ok(given) => Ok(Line::Step { entry, at, given }),
+        Err(fault) => Err(fault),
+    }
 }
 
 // `ENTRY lost E.K`
 fn lost_line(alloc: Global, words: &[&str]) -> Result<Line, LineFault>
     requires { length words.now ≡ 3 }
-    ensures { Gives result (lost_of (texts words.now)) }
+    ensures { Reads result (lost_of (texts words.now)) }
 {
     let entry = usize_at(words, 0)?;
     if nth(words, 1) != "lost" {
@@ -81,7 +86,7 @@ fn lost_line(alloc: Global, words: &[&str]) -> Result<Line, LineFault>
 
 /// The line of an entry.
 pub(crate) fn head_at(alloc: Global, topology: &Topology, words: &[&str]) -> Result<Line, LineFault>
-    ensures { Gives result (head_of topology.now (texts words.now)) }
+    ensures { Reads result (head_of topology.now (texts words.now)) }
 {
     if words.len() == 3 {
         return lost_line(alloc, words);

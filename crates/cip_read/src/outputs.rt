@@ -35,7 +35,10 @@ fn send_output(alloc: Global, words: &[&str]) -> Result<Output, LineFault>
         let usage = "K send PORT ADDRESS request|reply|data NUMBER BYTES";
         return Err(LineFault::Word(words.len(), Expected::Usage(usage)));
     }
-    let port = port_at(words, 4)?;
+    let port = match port_at(words, 4) {
+        Ok(port) => port,
+        Err(fault) => return Err(fault),
+    };
     let to = address_at(alloc, words, 5)?;
     let number = u32_at(words, 7)?;
     let bytes = bytes_at(alloc, words, 8)?;

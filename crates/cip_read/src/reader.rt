@@ -1,7 +1,7 @@
 //! Reading a transcript, line by line.
 ghost use Rattle.std.specs.Prelude.{◌≡◌, ◌<◌, ◌^◌, length, map, true};
 ghost use Rattle.std.specs.Str.{IsAscii};
-ghost use Rattle.cip_read.specs.Fields.{Gives, nth, texts};
+ghost use Rattle.cip_read.specs.Fields.{nth, texts};
 ghost use Rattle.cip_read.specs.Lines.{numbered_of, is_indented, is_head, words_line, line_of, Reads};
 
 use crate::fault::{Expected, LineFault, ReadFault};
@@ -17,7 +17,7 @@ use std::alloc::Global;
 // `  K` and the words of an output.
 fn numbered_line(alloc: Global, words: &[&str]) -> Result<Line, LineFault>
     requires { 3 < length words.now }
-    ensures { Gives result (numbered_of (texts words.now)) }
+    ensures { Reads result (numbered_of (texts words.now)) }
 {
     let index = usize_at(words, 2)?;
     let output = output_at(alloc, words)?;
@@ -33,10 +33,7 @@ fn is_indented(words: &[&str]) -> bool
 fn is_head(words: &[&str]) -> bool
     ensures { result ≡ is_head (texts words.now) }
 {
-    match words.first() {
-        Some(first) => number(first).is_some(),
-        None => false,
-    }
+    0 < words.len() && number(nth(words, 0)).is_some()
 }
 
 // What the words of a line show.
@@ -63,6 +60,7 @@ fn words_line(alloc: Global, topology: &Topology, words: &[&str]) -> Result<Line
 
 /// What a line shows, without its end, over the modules of a topology. Word is its first faulty word;
 /// NotText where a byte is not ASCII; NoMemory where an allocation is refused.
+#[tactic(auto, unfolding(crate::specs::Lines::line_of))]
 pub fn read_line(alloc: Global, topology: &Topology, line: &[u8]) -> Result<Line, LineFault>
     ensures { IsAscii line.now → Reads result (line_of topology.now line.now) }
 {
