@@ -156,7 +156,7 @@ impl<'a> ChartView<'a> {
         self.entry = entry;
         self.row = None;
         let time = match given {
-            Given::Tick(ms) => Some(self.tick(at, u64::from(ms.get()))?),
+            Given::Tick(ms) => Some(self.tick(at, u64::from(ms))?),
             _ => None,
         };
         let column = self.column(at);

@@ -62,6 +62,13 @@ fn put_ports(topology: &Topology, id: ModuleId, x: u64, out: &mut String) -> Res
     Ok(())
 }
 
+fn name_of(topology: &Topology, id: ModuleId) -> &[u8] {
+    match topology.name_of(id) {
+        Some(name) => name,
+        None => b"?",
+    }
+}
+
 // The box and the lifeline of a module.
 fn put_life(
     topology: &Topology,
@@ -74,7 +81,7 @@ fn put_life(
     let x = x_of(column);
     let left = x.saturating_sub(60);
     let base = TOP.saturating_add(16);
-    let name = NameText(topology.name_of(id).unwrap_or(b"?"));
+    let name = NameText(name_of(topology, id));
     write!(
         out,
         "<rect class=\"box\" x=\"{left}\" y=\"{TOP}\" width=\"120\" height=\"{BOX}\" "
@@ -111,7 +118,6 @@ fn put_given(given: Given, x: u64, y: u64, out: &mut String) -> Result<(), NoMem
             )?;
         }
         Given::Tick(ms) => {
-            let ms = ms.get();
             write!(out, "<text x=\"{right}\" y=\"{text}\">tick {ms} ms</text>")?;
         }
         Given::Frame(_) => {}
@@ -359,7 +365,7 @@ fn put_arrow(arrow: &Arrow, line: Line, is_link: bool, out: &mut String) -> Resu
     put_line(arrow, line, out)?;
     let shift = if line.x1 == line.x2 { 60 } else { 0 };
     let x = between(line.x1, line.x2, 50).saturating_add(shift);
-    let y = between(line.y1, line.y2, 50).saturating_sub(4);
+    let y = between(line.y1, line.y2, 50).saturating_sub(9);
     let word = fate_word(arrow.fate);
     write!(
         out,
@@ -411,7 +417,9 @@ pub(crate) fn put_svg(
     let heights = heights(alloc, chart.rows.as_slice(), body)?;
     let end = heights.as_slice().last().copied().unwrap_or(body);
     let count = column_count(chart.columns.as_slice());
-    let width = LEFT.saturating_add(SPACING.saturating_mul(count));
+    let width = LEFT
+        .saturating_add(SPACING.saturating_mul(count))
+        .saturating_add(30);
     let notes = MARK.saturating_mul(chart.notes.len() as u64);
     let height = end.saturating_add(20).saturating_add(notes);
     write!(

@@ -12,7 +12,7 @@ pub(crate) const BOX: u64 = 24;
 /// The height of a port's line.
 pub(crate) const PORT: u64 = 13;
 /// The height of a row, and of each mark more.
-pub(crate) const ROW: u64 = 30;
+pub(crate) const ROW: u64 = 34;
 
 pub(crate) const MARK: u64 = 14;
 

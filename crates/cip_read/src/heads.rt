@@ -46,7 +46,7 @@ fn given_at(alloc: Global, words: &[&str]) -> Result<Given, LineFault>
     }
     if word == "tick" {
         return match ms_at(words, 3) {
-            Ok(ms) => Ok(Given::Tick(ms)),
+            Ok(ms) => Ok(Given::Tick(ms.get())),
             Err(fault) => Err(fault),
         };
     }
@@ -65,10 +65,8 @@ fn step_line(alloc: Global, topology: &Topology, words: &[&str]) -> Result<Line,
     }
     let entry = usize_at(words, 0)?;
     let at = module_at(topology, words, 1)?;
-    match given_at(alloc, words) {
-        Ok(given) => Ok(Line::Step { entry, at, given }),
-        Err(fault) => Err(fault),
-    }
+    let given = given_at(alloc, words)?;
+    Ok(Line::Step { entry, at, given })
 }
 
 // `ENTRY lost E.K`

@@ -1,5 +1,5 @@
 //! What a line of a transcript shows.
-use cip_base::{ModuleId, Ms};
+use cip_base::ModuleId;
 use cip_event::Output;
 
 /// The name of a frame: the entry that sent it, and its place among that entry's outputs, both from
@@ -28,7 +28,8 @@ pub enum Given {
     /// A command, with its op; the op of the open of an `enter`; the instance of a `set` or a
     /// `produce`.
     Command(CommandWord, u32),
-    Tick(Ms),
+    /// So many milliseconds went by, at least one.
+    Tick(u16),
     /// The frame of this name.
     Frame(FrameName),
 }

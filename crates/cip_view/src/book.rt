@@ -78,7 +78,10 @@ impl<'a> Book<'a> {
 
     /// The name of a module.
     pub fn name(&self, id: ModuleId) -> &[u8] {
-        self.topology.name_of(id).unwrap_or(b"?")
+        match self.topology.name_of(id) {
+            Some(name) => name,
+            None => b"?",
+        }
     }
 
     /// The module that takes the step under way.

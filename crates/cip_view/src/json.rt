@@ -81,7 +81,7 @@ fn command_json(alloc: Global, word: CommandWord, number: u32) -> Result<Value, 
 fn given_json(alloc: Global, given: Given) -> Result<Value, AllocError> {
     match given {
         Given::Command(word, number) => command_json(alloc, word, number),
-        Given::Tick(ms) => json!(in alloc; {"tick_ms": ms.get()}),
+        Given::Tick(ms) => json!(in alloc; {"tick_ms": ms}),
         Given::Frame(frame) => {
             let frame = frame_json(alloc, frame)?;
             json!(in alloc; {"frame": frame})

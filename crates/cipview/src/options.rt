@@ -10,6 +10,7 @@ pub enum Shape {
     Text,
     Json,
     Chart,
+    Capture,
 }
 
 /// What the program is asked for.
@@ -30,8 +31,8 @@ pub struct Options {
 #[derive(Clone, Copy, Debug, PartialEq, Eq, Error)]
 pub enum Usage {
     /// Nothing that the program has: a word is none of its options, or its value is no such value.
-    #[error("usage: cipview text|json|chart [--topology FILE] [--from N] [--to N] [--module M].. \
-        [--html]; `cipview --help` says more")]
+    #[error("usage: cipview text|json|capture|chart [--topology FILE], and of a chart [--from N] \
+        [--to N] [--module M].. [--html]; `cipview --help` says more")]
     Wrong,
     /// What the program does.
     #[error("{HELP}")]
@@ -65,11 +66,12 @@ pub const VERSION: &str = "0.1.0";
 pub const HELP: &str = "\
 cipview reads a transcript of cipbridge from the standard input and shows it.
 
-usage: cipview text|json [--topology FILE]
+usage: cipview text|json|capture [--topology FILE]
        cipview chart [--topology FILE] [--from N] [--to N] [--module M].. [--html]
 
   text              the transcript, and below each output what its message says
   json              one JSON object for each entry, with its messages decoded
+  capture           a packet for each frame, as a pcapng file
   chart             a sequence chart, as SVG
   --from N --to N   the first and the last entry that the chart shows
   --module M        a module that the chart shows, as often as there are some; without it all
@@ -138,6 +140,7 @@ fn shape_at(matches: &ArgMatches<'_>) -> Result<Shape, OptionsFault> {
         Some("text") => Ok(Shape::Text),
         Some("json") => Ok(Shape::Json),
         Some("chart") => Ok(Shape::Chart),
+        Some("capture") => Ok(Shape::Capture),
         _ => Err(OptionsFault::Usage(Usage::Wrong)),
     }
 }

@@ -4,6 +4,7 @@ use crate::fault::Fault;
 use crate::files::topology;
 use crate::options::{Options, OptionsFault, Shape, Usage, read_options};
 use crate::terminal::Terminal;
+use cip_capture::CaptureView;
 use cip_chart::{ChartView, Cut};
 use cip_read::Reader;
 use cip_topology::Topology;
@@ -107,6 +108,12 @@ fn run_with(rt: &HostRuntime, options: &Options) -> Result<(), Fault> {
     match options.shape {
         Shape::Text => show(rt, alloc, &topology, &mut TextView::new(alloc, &topology)),
         Shape::Chart => show_chart(rt, alloc, &topology, options),
+        Shape::Capture => show(
+            rt,
+            alloc,
+            &topology,
+            &mut CaptureView::new(alloc, &topology)?,
+        ),
         Shape::Json => show(rt, alloc, &topology, &mut JsonView::new(alloc, &topology)),
     }
 }
