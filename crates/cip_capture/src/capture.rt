@@ -41,6 +41,12 @@ fn front(bytes: &[u8]) -> &[u8] {
     front
 }
 
+// The session of an asker and the one that it asks.
+fn session_of(asker: usize, asked: usize) -> u32 {
+    let [high, low] = [(asker % 256) as u8, (asked % 256) as u8];
+    u32::from(high) * 256 + u32::from(low) + 1
+}
+
 // The place of a module; the address that no module has is behind all.
 fn place_of(id: Option<ModuleId>) -> usize {
     match id {
@@ -134,9 +140,7 @@ impl<'a> CaptureView<'a> {
             }
         };
         self.flows.insert((asker, asked), next)?;
-        let session = u32::try_from(asker % 256).unwrap_or(0) * 256
-            + u32::try_from(asked % 256).unwrap_or(0)
-            + 1;
+        let session = session_of(asker, asked);
         Ok((session, segment))
     }
 

@@ -32,8 +32,8 @@ fn short(count: usize) -> u16 {
 fn sum_of(bytes: &[u8], before: u64) -> u64 {
     let mut sum = before;
     for (i, byte) in bytes.iter().enumerate() {
-        let weight = if i % 2 == 0 { 256 } else { 1 };
-        sum = sum.saturating_add(u64::from(*byte) * weight);
+        let weight: u64 = if i % 2 == 0 { 256 } else { 1 };
+        sum = sum.saturating_add(weight.saturating_mul(u64::from(*byte)));
     }
     sum
 }

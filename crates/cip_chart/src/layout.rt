@@ -43,14 +43,17 @@ pub(crate) fn heights(alloc: Global, rows: &[Row], top: u64) -> Result<Vec<u64>,
     Ok(heights)
 }
 
+// So many hundredths of a way.
+fn share(way: u64, hundredths: u64) -> u64 {
+    let whole = (way / 100).saturating_mul(hundredths);
+    whole.saturating_add((way % 100).saturating_mul(hundredths) / 100)
+}
+
 /// A point so many hundredths of the way from one place to another.
 pub(crate) fn between(from: u64, to: u64, hundredths: u64) -> u64 {
-    let share = hundredths.min(100);
     if from <= to {
-        from.saturating_add((to - from) / 100 * share)
-            .saturating_add((to - from) % 100 * share / 100)
+        from.saturating_add(share(to - from, hundredths))
     } else {
-        from.saturating_sub((from - to) / 100 * share)
-            .saturating_sub((from - to) % 100 * share / 100)
+        from.saturating_sub(share(from - to, hundredths))
     }
 }

@@ -2,7 +2,7 @@
 use cip_base::NoMemory;
 use cip_decode::decode_reply;
 use cip_event::Output;
-use cip_view::{drop_word, label_of, refusal_word};
+use cip_view::{drop_word, refusal_word};
 use std::alloc::{AllocError, Global};
 
 // The end of an op: how it ended.
@@ -20,10 +20,7 @@ fn done_text(alloc: Global, op: u32, reply: &[u8]) -> Result<(String, bool), All
 /// The text of a mark, and whether it tells of something bad; None for a frame that goes out.
 pub(crate) fn mark_of(alloc: Global, output: &Output) -> Result<Option<(String, bool)>, NoMemory> {
     let found = match output {
-        Output::Send { body, .. } => {
-            let _ = label_of(body);
-            return Ok(None);
-        }
+        Output::Send { .. } => return Ok(None),
         Output::Done { op, reply } => done_text(alloc, *op, reply.as_slice())?,
         Output::Refused(fault) => {
             let word = refusal_word(*fault);
