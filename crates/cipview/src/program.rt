@@ -36,11 +36,12 @@ fn options(rt: &HostRuntime, alloc: Global) -> Result<Options, Fault> {
 
 // What is to be written goes out.
 fn write_out<V: View>(rt: &HostRuntime, view: &mut V) -> Result<(), Fault> {
-    if view.written().is_empty() {
+    let bytes = view.written();
+    if bytes.is_empty() {
         return Ok(());
     }
     let mut out = io::writer(rt);
-    if out.write_all(view.written()).is_err() {
+    if out.write_all(bytes).is_err() {
         return Err(Fault::Write);
     }
     view.clear();
@@ -101,20 +102,30 @@ fn show_chart(
     show(rt, alloc, topology, &mut view)
 }
 
+fn show_capture(rt: &HostRuntime, alloc: Global, topology: &Topology) -> Result<(), Fault> {
+    let mut view = CaptureView::new(alloc, topology)?;
+    show(rt, alloc, topology, &mut view)
+}
+
+fn show_text(rt: &HostRuntime, alloc: Global, topology: &Topology) -> Result<(), Fault> {
+    let mut view = TextView::new(alloc, topology);
+    show(rt, alloc, topology, &mut view)
+}
+
+fn show_json(rt: &HostRuntime, alloc: Global, topology: &Topology) -> Result<(), Fault> {
+    let mut view = JsonView::new(alloc, topology);
+    show(rt, alloc, topology, &mut view)
+}
+
 // What the program does once it knows what is asked for.
 fn run_with(rt: &HostRuntime, options: &Options) -> Result<(), Fault> {
     let alloc = rt.alloc();
     let topology = topology(rt, alloc, options)?;
     match options.shape {
-        Shape::Text => show(rt, alloc, &topology, &mut TextView::new(alloc, &topology)),
+        Shape::Text => show_text(rt, alloc, &topology),
+        Shape::Json => show_json(rt, alloc, &topology),
         Shape::Chart => show_chart(rt, alloc, &topology, options),
-        Shape::Capture => show(
-            rt,
-            alloc,
-            &topology,
-            &mut CaptureView::new(alloc, &topology)?,
-        ),
-        Shape::Json => show(rt, alloc, &topology, &mut JsonView::new(alloc, &topology)),
+        Shape::Capture => show_capture(rt, alloc, &topology),
     }
 }
 

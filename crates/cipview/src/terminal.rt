@@ -36,7 +36,8 @@ impl Terminal<'_> {
     }
 
     fn elapsed(&self) -> Option<u64> {
-        let elapsed = self.begun?.elapsed(self.rt).ok()?;
+        let begun = self.begun?;
+        let elapsed = begun.elapsed(self.rt).ok()?;
         Some(u64::try_from(elapsed.as_millis()).unwrap_or(u64::MAX))
     }
 
