@@ -1,4 +1,5 @@
-//! The packets of a capture: Ethernet, IPv4, and TCP with EtherNet/IP or UDP with a sequenced datum.
+//! The packets of a capture: Ethernet, IPv4, and TCP with EtherNet/IP or UDP with a sequenced
+//! datum.
 use crate::addresses::{ip_of, mac_of};
 use cip_base::{ModuleId, NoMemory, put_double, put_word};
 use std::alloc::Global;
@@ -98,8 +99,8 @@ fn tcp_front(segment: Segment) -> [u8; 16] {
     ]
 }
 
-/// An EtherNet/IP message that carries a request or a reply: SendRRData with the request's number as
-/// its context.
+/// An EtherNet/IP message that carries a request or a reply: SendRRData with the request's number
+/// as its context.
 pub(crate) fn message(
     alloc: Global,
     session: u32,

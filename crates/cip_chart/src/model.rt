@@ -31,8 +31,8 @@ pub(crate) struct Row {
     pub look: Option<Look>,
     /// The row stands in one that is shown in its place.
     pub is_folded: bool,
-    /// How many rows behind this one are folded into it and those before it, and how often they stand
-    /// there.
+    /// How many rows behind this one are folded into it and those before it, and how often they
+    /// stand there.
     pub repeats: usize,
 }
 

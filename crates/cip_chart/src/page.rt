@@ -21,8 +21,8 @@ fn put_message(arrow: &Arrow, out: &mut String) -> Result<(), NoMemory> {
     Ok(())
 }
 
-/// One page without anything from outside: the chart, and beside it what the message says of the arrow
-/// that one points at, or reaches by the keyboard.
+/// One page without anything from outside: the chart, and beside it what the message says of the
+/// arrow that one points at, or reaches by the keyboard.
 pub(crate) fn put_page(
     alloc: Global,
     chart: &ChartView<'_>,

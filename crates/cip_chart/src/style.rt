@@ -37,10 +37,11 @@ border-left:1px solid #c3c9d1;overflow-wrap:anywhere}\
 section{display:none}section:target,section.shown{display:block}\
 aside:has(.shown) section:target:not(.shown){display:none}\
 h1,h2{font-size:1em}\
-@media (prefers-color-scheme:dark){body{background:#15181c;color:#e6e9ee}aside{border-color:#454d57}}";
+@media (prefers-color-scheme:dark){body{background:#15181c;color:#e6e9ee}\
+aside{border-color:#454d57}}";
 
-/// What makes the message of an arrow appear that one points at or reaches by the keyboard. Without it
-/// a click or the Enter key does.
+/// What makes the message of an arrow appear that one points at or reaches by the keyboard. Without
+/// it a click or the Enter key does.
 pub(crate) const SCRIPT: &str = "\
 (function(){var shown=null;function show(e){var a=e.target.closest('a[href]');if(!a)return;\
 var s=document.getElementById(a.getAttribute('href').slice(1));if(!s)return;\
@@ -50,12 +51,16 @@ document.addEventListener('mouseover',show);document.addEventListener('focusin',
 /// The heads of the arrows.
 pub(crate) const HEADS: &str = "\
 <defs>\
-<marker id=\"request\" viewBox=\"0 0 8 8\" refX=\"8\" refY=\"4\" markerWidth=\"8\" markerHeight=\"8\" \
-markerUnits=\"userSpaceOnUse\" orient=\"auto\"><path d=\"M0 0L8 4L0 8z\"/></marker>\
-<marker id=\"reply\" viewBox=\"0 0 8 8\" refX=\"8\" refY=\"4\" markerWidth=\"8\" markerHeight=\"8\" \
-markerUnits=\"userSpaceOnUse\" orient=\"auto\"><path d=\"M0 0L8 4L0 8z\"/></marker>\
-<marker id=\"failure\" viewBox=\"0 0 8 8\" refX=\"8\" refY=\"4\" markerWidth=\"8\" markerHeight=\"8\" \
-markerUnits=\"userSpaceOnUse\" orient=\"auto\"><path d=\"M0 0L8 4L0 8z\"/></marker>\
-<marker id=\"data\" viewBox=\"0 0 8 8\" refX=\"8\" refY=\"4\" markerWidth=\"7\" markerHeight=\"7\" \
-markerUnits=\"userSpaceOnUse\" orient=\"auto\"><path d=\"M0 0L8 4L0 8z\"/></marker>\
+<marker id=\"request\" viewBox=\"0 0 8 8\" refX=\"8\" refY=\"4\" markerWidth=\"8\" \
+markerHeight=\"8\" markerUnits=\"userSpaceOnUse\" orient=\"auto\">\
+<path d=\"M0 0L8 4L0 8z\"/></marker>\
+<marker id=\"reply\" viewBox=\"0 0 8 8\" refX=\"8\" refY=\"4\" markerWidth=\"8\" \
+markerHeight=\"8\" markerUnits=\"userSpaceOnUse\" orient=\"auto\">\
+<path d=\"M0 0L8 4L0 8z\"/></marker>\
+<marker id=\"failure\" viewBox=\"0 0 8 8\" refX=\"8\" refY=\"4\" markerWidth=\"8\" \
+markerHeight=\"8\" markerUnits=\"userSpaceOnUse\" orient=\"auto\">\
+<path d=\"M0 0L8 4L0 8z\"/></marker>\
+<marker id=\"data\" viewBox=\"0 0 8 8\" refX=\"8\" refY=\"4\" markerWidth=\"7\" \
+markerHeight=\"7\" markerUnits=\"userSpaceOnUse\" orient=\"auto\">\
+<path d=\"M0 0L8 4L0 8z\"/></marker>\
 </defs>\n";

@@ -12,7 +12,8 @@ use Rattle.cip_close.specs.SuccessAt.{close_reply_at}
 use Rattle.cip_close.specs.Reading as closes
 use Rattle.cip_decode.specs.declared.request.Asked.{Asked}
 use Rattle.cip_decode.specs.declared.request.Asked.TheVariants.{UnconnectedSend, ForwardOpen}
-use Rattle.cip_decode.specs.declared.request.Asked.TheVariants.{LargeForwardOpen, ForwardClose, Other}
+use Rattle.cip_decode.specs.declared.request.Asked.TheVariants.{LargeForwardOpen, ForwardClose}
+use Rattle.cip_decode.specs.declared.request.Asked.TheVariants.{Other}
 use Rattle.cip_decode.specs.declared.reply.Answer.{Answer}
 use Rattle.cip_decode.specs.declared.reply.Answer.TheVariants.{Opened, Closed, Failed, RouteLeft}
 use Rattle.cip_decode.specs.declared.reply.Answer.TheVariants.{Unread, Data}

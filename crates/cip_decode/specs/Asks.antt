@@ -1,12 +1,14 @@
 -- What a request asks the Connection Manager for.
-use Rattle.std.specs.Prelude.{ℕ, Bool, false, ◌==◌, ◌&&◌, is_none, if◌then◌else◌, Option, Some, None}
+use Rattle.std.specs.Prelude.{ℕ, Bool, false, ◌==◌, ◌&&◌, is_none, if◌then◌else◌}
+use Rattle.std.specs.Prelude.{Option, Some, None}
 use Rattle.cip_base.specs.Words.{Octets}
 use Rattle.cip_segment.specs.Reading.{segments_of}
 use Rattle.cip_target.specs.declared.object.ObjectPath.{ObjectPath}
 use Rattle.cip_target.specs.Object.{object_of}
 use Rattle.cip_decode.specs.declared.request.Asked.{Asked}
 use Rattle.cip_decode.specs.declared.request.Asked.TheVariants.{UnconnectedSend, ForwardOpen}
-use Rattle.cip_decode.specs.declared.request.Asked.TheVariants.{LargeForwardOpen, ForwardClose, Other}
+use Rattle.cip_decode.specs.declared.request.Asked.TheVariants.{LargeForwardOpen, ForwardClose}
+use Rattle.cip_decode.specs.declared.request.Asked.TheVariants.{Other}
 
 -- class 6, instance 1 and no attribute
 abbrev pub is_manager : Option ObjectPath → Bool

@@ -1,4 +1,4 @@
--- What the data of a request says is what reading it gives: a record where it is one, else the fault.
+-- What the data of a request says is what reading it gives: a record, or else the fault.
 use Rattle.std.specs.Prelude.{◌≡◌, false, true, Result, Ok, Err}
 use Rattle.cip_base.specs.Words.{Octets}
 use Rattle.cip_message.specs.declared.fault.DataFault.{DataFault}
@@ -15,7 +15,8 @@ use Rattle.cip_close.specs.CloseAt.{close_at}
 use Rattle.cip_close.specs.Reading.{close_of}
 use Rattle.cip_decode.specs.declared.request.Asked.{Asked}
 use Rattle.cip_decode.specs.declared.request.Asked.TheVariants.{UnconnectedSend, ForwardOpen}
-use Rattle.cip_decode.specs.declared.request.Asked.TheVariants.{LargeForwardOpen, ForwardClose, Other}
+use Rattle.cip_decode.specs.declared.request.Asked.TheVariants.{LargeForwardOpen, ForwardClose}
+use Rattle.cip_decode.specs.declared.request.Asked.TheVariants.{Other}
 use Rattle.cip_decode.specs.declared.request.Meaning.{Meaning}
 use Rattle.cip_decode.specs.declared.request.Meaning.TheVariants.{Unconnected, Open, Close}
 use Rattle.cip_decode.specs.declared.request.Meaning.TheVariants.{UnreadUnconnected, Unread, Data}

@@ -220,8 +220,8 @@ fn meaning_json(alloc: Global, meaning: &Meaning<'_>) -> Result<Value, AllocErro
     }
 }
 
-/// A request: `code` and `service`, `path`, `data`, and in `means` what its data says: an object with
-/// `unconnected_send`, `open` or `close`, one with the fault in `unreadable`, or null.
+/// A request: `code` and `service`, `path`, `data`, and in `means` what its data says: an object
+/// with `unconnected_send`, `open` or `close`, one with the fault in `unreadable`, or null.
 pub fn request_json(alloc: Global, request: &Request<'_>) -> Result<Value, AllocError> {
     let view = request.view;
     let service = name(alloc, service_name(view.service))?;
@@ -295,8 +295,8 @@ fn status_json(alloc: Global, status: Status) -> Result<Value, AllocError> {
     json!(in alloc; {"general": status.general, "extra": extra, "name": named})
 }
 
-/// A reply: `code` and `service`, `status`, `data`, and in `means` what its data says: an object with
-/// `opened`, `closed` or `failed`, one with the fault in `unreadable`, or null.
+/// A reply: `code` and `service`, `status`, `data`, and in `means` what its data says: an object
+/// with `opened`, `closed` or `failed`, one with the fault in `unreadable`, or null.
 pub fn reply_json(alloc: Global, reply: &Reply<'_>) -> Result<Value, AllocError> {
     let view = reply.view;
     let service = name(alloc, service_name(view.service))?;

@@ -1,5 +1,6 @@
-//! Messages decoded: what a request or a reply says, as a record of what reading its bytes gives, and
-//! that record as a text and as JSON. Bytes that can't be read give a fault in place of a record.
+//! Messages decoded: what a request or a reply says, as a record of what reading its bytes gives,
+//! and that record as a text and as JSON. Bytes that can't be read give a fault in place of a
+//! record.
 #![tactic(auto)]
 
 mod bytes;

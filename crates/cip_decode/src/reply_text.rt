@@ -10,8 +10,8 @@ use cip_message::ConnectionFailure;
 use cip_open::OpenReply;
 use std::fmt;
 
-/// A status by its digits and its name: two digits of a general status, four of an additional status
-/// beside the general status 01; `success` alone.
+/// A status by its digits and its name: two digits of a general status, four of an additional
+/// status beside the general status 01; `success` alone.
 #[derive(Clone, Copy)]
 pub struct StatusText(pub Status);
 

@@ -138,8 +138,8 @@ fn meaning_of(asked: Asked, data_: &[u8]) -> Meaning<'_>
     }
 }
 
-/// The request that the bytes are, and what its data says: the record that `read_request` gives, and
-/// behind it that of the service's own reader where the Connection Manager is asked (Volume 1,
+/// The request that the bytes are, and what its data says: the record that `read_request` gives,
+/// and behind it that of the service's own reader where the Connection Manager is asked (Volume 1,
 /// chapters 2 and 3). The fault is that of `read_request`. It takes no memory.
 pub fn decode_request(bytes: &[u8]) -> Result<Request<'_>, RequestFault>
     ensures read { Gives (λ request. request_of request.view) result (request_at bytes.now) }

@@ -11,8 +11,8 @@ fn is_printable(bytes: &[u8]) -> bool {
         .all(|byte| 0x21 <= *byte && *byte <= 0x7E && *byte != 0x22)
 }
 
-/// A link address or a symbol: one byte as its digits, more of them as a text in quotation marks where
-/// each is a visible character.
+/// A link address or a symbol: one byte as its digits, more of them as a text in quotation marks
+/// where each is a visible character.
 #[derive(Clone, Copy)]
 pub(crate) struct Characters<'a>(pub &'a [u8]);
 

@@ -36,8 +36,8 @@ pub enum Expected {
     Output(usize),
 }
 
-/// What is wrong with a line: the place of the first faulty word, from 0, and what is expected there;
-/// or a byte that is not ASCII.
+/// What is wrong with a line: the place of the first faulty word, from 0, and what is expected
+/// there; or a byte that is not ASCII.
 #[derive(Clone, Copy, Debug, PartialEq, Eq)]
 pub enum LineFault {
     Word(usize, Expected),

@@ -173,8 +173,8 @@ fn dropped_output(words: &[&str]) -> Result<Output, LineFault>
     Ok(Output::Dropped(reason))
 }
 
-/// The output of a line, by its word at place 3. Two empty words stand before its number, for the two
-/// spaces.
+/// The output of a line, by its word at place 3. Two empty words stand before its number, for the
+/// two spaces.
 pub(crate) fn output_at(alloc: Global, words: &[&str]) -> Result<Output, LineFault>
     requires { 4 ≤ length words.now }
     ensures { Gives result (output_of (texts words.now)) }

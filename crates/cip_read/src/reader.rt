@@ -2,7 +2,8 @@
 ghost use Rattle.std.specs.Prelude.{◌≡◌, ◌<◌, ◌^◌, length, map, true};
 ghost use Rattle.std.specs.Str.{IsAscii};
 ghost use Rattle.cip_read.specs.Fields.{nth, texts};
-ghost use Rattle.cip_read.specs.Lines.{numbered_of, is_indented, is_head, words_line, line_of, Reads};
+ghost use Rattle.cip_read.specs.Lines.{numbered_of, is_indented, is_head, words_line};
+ghost use Rattle.cip_read.specs.Lines.{line_of, Reads};
 
 use crate::fault::{Expected, LineFault, ReadFault};
 use crate::fields::{nth, usize_at};
@@ -58,8 +59,8 @@ fn words_line(alloc: Global, topology: &Topology, words: &[&str]) -> Result<Line
     }
 }
 
-/// What a line shows, without its end, over the modules of a topology. Word is its first faulty word;
-/// NotText where a byte is not ASCII; NoMemory where an allocation is refused.
+/// What a line shows, without its end, over the modules of a topology. Word is its first faulty
+/// word; NotText where a byte is not ASCII; NoMemory where an allocation is refused.
 #[tactic(auto, unfolding(crate::specs::Lines::line_of))]
 pub fn read_line(alloc: Global, topology: &Topology, line: &[u8]) -> Result<Line, LineFault>
     ensures { IsAscii line.now → Reads result (line_of topology.now line.now) }
@@ -71,9 +72,9 @@ pub fn read_line(alloc: Global, topology: &Topology, line: &[u8]) -> Result<Line
     words_line(alloc, topology, words.as_slice())
 }
 
-/// Reads the lines of a transcript, one after the other: each entry has the number behind that of the
-/// one before, and each output likewise within its entry. What is read may begin with any entry, or
-/// within one.
+/// Reads the lines of a transcript, one after the other: each entry has the number behind that of
+/// the one before, and each output likewise within its entry. What is read may begin with any
+/// entry, or within one.
 #[derive(Drop)]
 pub struct Reader<'a> {
     topology: &'a Topology,

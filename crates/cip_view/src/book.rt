@@ -1,5 +1,5 @@
-//! What is known of a run while its transcript is read: the frames on their way, the connections that
-//! were opened, and the ops that have not ended.
+//! What is known of a run while its transcript is read: the frames on their way, the connections
+//! that were opened, and the ops that have not ended.
 use crate::label::{Kind, Label, label_of};
 use cip_base::{Address, ModuleId, NoMemory, PortNumber, Triad};
 use cip_decode::{Answer, Meaning, decode_reply, decode_request};
@@ -9,8 +9,8 @@ use cip_topology::Topology;
 use std::alloc::Global;
 use std::collections::BTreeMap;
 
-/// A frame on its way: who sent it, where it goes, what it holds in short, and of a failure the module
-/// that made it.
+/// A frame on its way: who sent it, where it goes, what it holds in short, and of a failure the
+/// module that made it.
 #[derive(Clone, Copy, Debug)]
 pub struct Sent {
     pub from: ModuleId,
@@ -177,8 +177,8 @@ impl<'a> Book<'a> {
         }
     }
 
-    /// The module that made a failure which the step under way passes on or makes: that of the reply
-    /// which it was given, or else its own.
+    /// The module that made a failure which the step under way passes on or makes: that of the
+    /// reply which it was given, or else its own.
     pub fn made_at(&self) -> Option<ModuleId> {
         let step = self.step?;
         match step.arrived {
@@ -191,8 +191,8 @@ impl<'a> Book<'a> {
         }
     }
 
-    /// A frame goes out of the module of the step under way: what is known of it. None where the step
-    /// is not known.
+    /// A frame goes out of the module of the step under way: what is known of it. None where the
+    /// step is not known.
     pub fn send(
         &mut self,
         index: usize,

@@ -1,4 +1,5 @@
-//! A transcript as JSON: one object for each entry, on a line of its own, and one for each other line.
+//! A transcript as JSON: one object for each entry, on a line of its own, and one for each other
+//! line.
 use crate::book::{Book, Known, Sent};
 use crate::label::NameText;
 use crate::reasons::{drop_word, refusal_word};

@@ -12,8 +12,8 @@ pub enum Kind {
     Data,
 }
 
-/// A frame in short: its kind, its number or connection id, and where it can be read its service and
-/// status.
+/// A frame in short: its kind, its number or connection id, and where it can be read its service
+/// and status.
 #[derive(Clone, Copy, Debug, PartialEq, Eq)]
 pub struct Label {
     pub kind: Kind,

@@ -22,7 +22,8 @@ words_of line = slice_split is_space line
 -- the number that decimal digits write, at least one of them
 unfoldable pub number_of : List ℕ → Option ℕ
 number_of word =
-    if nat_lt 0 (length word) && list_all is_ascii_digit word then Some (digits_value 10 word) else None
+    if nat_lt 0 (length word) && list_all is_ascii_digit word then Some (digits_value 10 word)
+    else None
 
 -- a number below a bound
 abbrev pub below : ℕ → Option ℕ → Option ℕ

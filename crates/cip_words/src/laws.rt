@@ -1,11 +1,13 @@
 //! What a transcript shows of numbers and bytes is read back.
 ghost use Rattle.std.specs.Prelude.{◌≡◌, ℕ, ◌<◌, ◌^◌, ◌++◌, ◌∷◌, List, Some, decimal, All, false};
 ghost use Rattle.hex.specs.Hex.{IsBytes};
-ghost use Rattle.cip_words.specs.Shown.{below, number_of, bytes_of, bytes_shown, is_space, words_of};
+ghost use Rattle.cip_words.specs.Shown.{below, number_of, bytes_of, bytes_shown};
+ghost use Rattle.cip_words.specs.Shown.{is_space, words_of};
 
 /// The digits of a number are read as that number, where it is within the bound.
 pub fn shown_numbers_are_read()
-    ensures { (bound n : ℕ) → n < bound → n < 2 ^ 64 → below bound (number_of (decimal n)) ≡ Some n }
+    ensures { (bound n : ℕ) → n < bound → n < 2 ^ 64
+        → below bound (number_of (decimal n)) ≡ Some n }
 {}
 
 /// Bytes that are shown as pairs of digits, or as a dash, are read as those bytes.

@@ -1,6 +1,6 @@
 //! Words, numbers and bytes as they stand in a line.
-ghost use Rattle.std.specs.Prelude.{◌≡◌, ◌^◌, ◌↔◌, map, IfOk, IfSome, IsSome, option_map, Some, None};
-ghost use Rattle.std.specs.Prelude.{true, false};
+ghost use Rattle.std.specs.Prelude.{◌≡◌, ◌^◌, ◌↔◌, map, IfOk, IfSome, IsSome, option_map};
+ghost use Rattle.std.specs.Prelude.{Some, None, true, false};
 ghost use Rattle.std.specs.Str.{IsAscii};
 ghost use Rattle.std.specs.List.{list_all, slice_split};
 ghost use Rattle.std.specs.Char.{is_ascii_digit};

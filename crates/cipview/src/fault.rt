@@ -33,8 +33,8 @@ pub enum Fault {
 }
 
 impl Fault {
-    /// The exit status: 1 for the transcript, 2 for the options, 3 for the topology, 4 for reading and
-    /// writing, 5 where memory ran out; 0 for a text that was asked for.
+    /// The exit status: 1 for the transcript, 2 for the options, 3 for the topology, 4 for reading
+    /// and writing, 5 where memory ran out; 0 for a text that was asked for.
     pub fn status(&self) -> u8 {
         match self {
             Fault::Options(OptionsFault::Usage(Usage::Help)) => 0,
