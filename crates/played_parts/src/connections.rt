@@ -1,5 +1,6 @@
 //! The table of connections, with room and without.
 ghost use Rattle.std.specs.Prelude.{◌≡◌, ◌<◌, None};
+ghost use Rattle.cip_base.specs.Counts.{count_of};
 ghost use Rattle.cip_hops.specs.Sides.{op_of};
 
 use crate::fault::Fault;
@@ -104,7 +105,7 @@ impl Part for Beginning {
 
 // Begins openings of these serials in a table of so much room, one after the other.
 fn play_table(out: &mut Out, room: usize, first: u32, serials: &[u16]) -> Result<(), Fault>
-    requires { 0 < first }
+    requires { 0 < count_of first }
 {
     let alloc = out.alloc();
     let table = HopTable::with_room(alloc, room, first)?;

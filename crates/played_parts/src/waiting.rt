@@ -1,5 +1,6 @@
 //! The table of requests that wait, with room and without.
 ghost use Rattle.std.specs.Prelude.{◌<◌};
+ghost use Rattle.cip_base.specs.Counts.{count_of};
 
 use crate::fault::Fault;
 use crate::guarded::{Part, Refusal, guarded};
@@ -79,7 +80,7 @@ impl Part for Adding {
 
 // Adds entries to a table of so much room, one after the other.
 fn play_table(out: &mut Out, room: usize, first: u32) -> Result<(), Fault>
-    requires { 0 < first }
+    requires { 0 < count_of first }
 {
     let table = PendingTable::with_room(out.alloc(), room, first)?;
     let mut adding = Adding {

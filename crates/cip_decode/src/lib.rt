@@ -1,0 +1,22 @@
+//! Messages decoded: what a request or a reply says, as a record of what reading its bytes gives,
+//! and that record as a text and as JSON. Bytes that can't be read give a fault in place of a
+//! record.
+#![tactic(auto)]
+
+mod bytes;
+mod fields;
+mod json;
+mod names;
+mod reply;
+mod reply_text;
+mod request;
+mod request_text;
+mod segments;
+
+pub use bytes::Pairs;
+pub use json::{path_json, reply_json, request_json, triad_json};
+pub use names::{connection_status, general_status, service_name, status_name};
+pub use reply::{Answer, Reply, decode_reply};
+pub use reply_text::StatusText;
+pub use request::{Asked, Meaning, Request, decode_request};
+pub use segments::PathText;

@@ -1,0 +1,4 @@
+pub mod Fields
+pub mod Heads
+pub mod Lines
+pub mod Outputs

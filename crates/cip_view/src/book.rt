@@ -1,0 +1,290 @@
+//! What is known of a run while its transcript is read: the frames on their way, the connections
+//! that were opened, and the ops that have not ended.
+use crate::label::{Kind, Label, label_of};
+use cip_base::{Address, ModuleId, NoMemory, PortNumber, Triad};
+use cip_decode::{Answer, Meaning, decode_reply, decode_request};
+use cip_event::Body;
+use cip_read::{CommandWord, FrameName, Given};
+use cip_topology::Topology;
+use std::alloc::Global;
+use std::collections::BTreeMap;
+
+/// A frame on its way: who sent it, where it goes, what it holds in short, and of a failure the
+/// module that made it.
+#[derive(Clone, Copy, Debug)]
+pub struct Sent {
+    pub from: ModuleId,
+    /// None where no module has the address.
+    pub to: Option<ModuleId>,
+    pub label: Label,
+    /// Of a reply that tells of a failure, the module that made it, where that is known.
+    pub made_at: Option<ModuleId>,
+}
+
+/// What is known of the datum of a connection.
+#[derive(Clone, Copy, Debug)]
+pub struct Known {
+    pub triad: Option<Triad>,
+    /// The transport class, bits 3 to 0 of the transport byte.
+    pub class_: Option<u8>,
+}
+
+/// The step that is under way.
+#[derive(Clone, Copy, Debug)]
+struct Step {
+    entry: usize,
+    at: ModuleId,
+    given: Given,
+    arrived: Option<Sent>,
+}
+
+/// What is known of a run.
+#[derive(Drop)]
+pub struct Book<'a> {
+    topology: &'a Topology,
+    frames: BTreeMap<FrameName, Sent>,
+    // the transport class of each connection
+    classes: BTreeMap<Triad, u8>,
+    // the connection under an id, at the module that chose the id
+    ids: BTreeMap<(usize, u32), Triad>,
+    // the connection that an op of a module opened
+    opened: BTreeMap<(usize, u32), Triad>,
+    // the ops that have not ended
+    ops: BTreeMap<(usize, u32), CommandWord>,
+    step: Option<Step>,
+}
+
+// Whether a command's number is an op of its own.
+fn is_op(word: CommandWord) -> bool {
+    match word {
+        CommandWord::Send | CommandWord::Open | CommandWord::Large | CommandWord::Close => true,
+        CommandWord::Enter | CommandWord::Set | CommandWord::Produce => false,
+    }
+}
+
+impl<'a> Book<'a> {
+    /// Nothing is known yet of a run over this topology.
+    pub fn new(alloc: Global, topology: &'a Topology) -> Book<'a> {
+        Book {
+            topology,
+            frames: BTreeMap::new(alloc),
+            classes: BTreeMap::new(alloc),
+            ids: BTreeMap::new(alloc),
+            opened: BTreeMap::new(alloc),
+            ops: BTreeMap::new(alloc),
+            step: None,
+        }
+    }
+
+    /// The name of a module.
+    pub fn name(&self, id: ModuleId) -> &[u8] {
+        match self.topology.name_of(id) {
+            Some(name) => name,
+            None => b"?",
+        }
+    }
+
+    /// The module that takes the step under way.
+    pub fn at(&self) -> Option<ModuleId> {
+        match self.step {
+            Some(step) => Some(step.at),
+            None => None,
+        }
+    }
+
+    /// The frame that the step under way was given, where it is known.
+    pub fn arrived(&self) -> Option<Sent> {
+        match self.step {
+            Some(step) => step.arrived,
+            None => None,
+        }
+    }
+
+    /// The frames that are still on their way to a module.
+    pub fn waiting(&self) -> usize {
+        self.frames.len()
+    }
+
+    /// The ops that have not ended: the place of the module, the op, and its command.
+    pub fn ops(&self) -> &BTreeMap<(usize, u32), CommandWord> {
+        &self.ops
+    }
+
+    /// A module takes a step.
+    pub fn begin(&mut self, entry: usize, at: ModuleId, given: Given) -> Result<(), NoMemory> {
+        let arrived = match given {
+            Given::Frame(name) => self.frames.remove(&name),
+            _ => None,
+        };
+        self.step = Some(Step {
+            entry,
+            at,
+            given,
+            arrived,
+        });
+        if let Given::Command(word, op) = given {
+            if is_op(word) && !self.ops.contains_key(&(at.0, op)) {
+                self.ops.insert((at.0, op), word)?;
+            }
+        }
+        Ok(())
+    }
+
+    /// A frame is lost: what is known of it.
+    pub fn lose(&mut self, frame: FrameName) -> Option<Sent> {
+        self.step = None;
+        self.frames.remove(&frame)
+    }
+
+    // The connection that a request opens.
+    fn open(&mut self, at: ModuleId, triad: Triad, to_id: u32, class: u8) -> Result<(), NoMemory> {
+        self.classes.insert(triad, class)?;
+        self.ids.insert((at.0, to_id), triad)?;
+        if let Some(step) = self.step {
+            if let Given::Command(_, op) = step.given {
+                self.opened.insert((at.0, op), triad)?;
+            }
+        }
+        Ok(())
+    }
+
+    // What a request that goes out tells of connections.
+    fn learn_request(&mut self, at: ModuleId, bytes: &[u8]) -> Result<(), NoMemory> {
+        if let Ok(request) = decode_request(bytes) {
+            if let Meaning::Open(view) = request.meaning {
+                let fields = view.fields;
+                self.open(at, fields.triad, fields.to_id, fields.transport % 16)?;
+            }
+        }
+        Ok(())
+    }
+
+    // What a reply that goes out tells of connections.
+    fn learn_reply(&mut self, at: ModuleId, bytes: &[u8]) -> Result<(), NoMemory> {
+        if let Ok(reply) = decode_reply(bytes) {
+            if let Answer::Opened(opened) = reply.answer {
+                self.ids.insert((at.0, opened.ot_id), opened.triad)?;
+            }
+        }
+        Ok(())
+    }
+
+    fn learn(&mut self, at: ModuleId, body: &Body) -> Result<(), NoMemory> {
+        match body {
+            Body::Request { bytes, .. } => self.learn_request(at, bytes.as_slice()),
+            Body::Reply { bytes, .. } => self.learn_reply(at, bytes.as_slice()),
+            Body::Data { .. } => Ok(()),
+        }
+    }
+
+    /// The module that made a failure which the step under way passes on or makes: that of the
+    /// reply which it was given, or else its own.
+    pub fn made_at(&self) -> Option<ModuleId> {
+        let step = self.step?;
+        match step.arrived {
+            Some(sent) if sent.label.kind == Kind::Reply => sent.made_at,
+            Some(_) => Some(step.at),
+            None => match step.given {
+                Given::Frame(_) => None,
+                _ => Some(step.at),
+            },
+        }
+    }
+
+    /// A frame goes out of the module of the step under way: what is known of it. None where the
+    /// step is not known.
+    pub fn send(
+        &mut self,
+        index: usize,
+        port: PortNumber,
+        to: &Address,
+        body: &Body,
+    ) -> Result<Option<Sent>, NoMemory> {
+        let Some(step) = self.step else {
+            return Ok(None);
+        };
+        self.learn(step.at, body)?;
+        let label = label_of(body);
+        let made_at = if label.is_failure() {
+            self.made_at()
+        } else {
+            None
+        };
+        let sent = Sent {
+            from: step.at,
+            to: self.topology.node_at(step.at, port, to),
+            label,
+            made_at,
+        };
+        if sent.to.is_some() {
+            let name = FrameName {
+                entry: step.entry,
+                output: index,
+            };
+            self.frames.insert(name, sent)?;
+        }
+        Ok(Some(sent))
+    }
+
+    /// An op of the module of the step under way came to its end.
+    pub fn done(&mut self, op: u32) {
+        if let Some(step) = self.step {
+            self.ops.remove(&(step.at.0, op));
+        }
+    }
+
+    /// The command of the step under way was refused.
+    pub fn refused(&mut self) {
+        if let Some(step) = self.step {
+            if let Given::Command(word, op) = step.given {
+                if is_op(word) {
+                    self.ops.remove(&(step.at.0, op));
+                }
+            }
+        }
+    }
+
+    /// What is known of a connection.
+    pub fn of_triad(&self, triad: Triad) -> Known {
+        Known {
+            triad: Some(triad),
+            class_: self.classes.get(&triad).copied(),
+        }
+    }
+
+    fn of_found(&self, found: Option<Triad>) -> Known {
+        match found {
+            Some(triad) => self.of_triad(triad),
+            None => Known {
+                triad: None,
+                class_: None,
+            },
+        }
+    }
+
+    /// What is known of the connection under an id at the module that a frame goes to.
+    pub fn of_id(&self, to: Option<ModuleId>, id: u32) -> Known {
+        let found = match to {
+            Some(to) => self.ids.get(&(to.0, id)).copied(),
+            None => None,
+        };
+        self.of_found(found)
+    }
+
+    /// What is known of the connection that an op of the module of the step under way opened.
+    pub fn of_op(&self, op: u32) -> Known {
+        let found = match self.step {
+            Some(step) => self.opened.get(&(step.at.0, op)).copied(),
+            None => None,
+        };
+        self.of_found(found)
+    }
+
+    /// What is known of the connection of what a frame holds that goes to a module.
+    pub fn of_body(&self, to: Option<ModuleId>, body: &Body) -> Known {
+        match body {
+            Body::Data { id, .. } => self.of_id(to, *id),
+            _ => self.of_found(None),
+        }
+    }
+}

@@ -1,0 +1,135 @@
+//! What a frame holds, in short.
+use cip_base::Status;
+use cip_decode::{decode_reply, decode_request, service_name};
+use cip_event::Body;
+use std::fmt;
+
+/// What kind of frame it is.
+#[derive(Clone, Copy, Debug, PartialEq, Eq)]
+pub enum Kind {
+    Request,
+    Reply,
+    Data,
+}
+
+/// A frame in short: its kind, its number or connection id, and where it can be read its service
+/// and status.
+#[derive(Clone, Copy, Debug, PartialEq, Eq)]
+pub struct Label {
+    pub kind: Kind,
+    pub number: u32,
+    pub service: Option<u8>,
+    pub status: Option<Status>,
+}
+
+impl Label {
+    /// Whether it is a reply that tells of a failure.
+    pub fn is_failure(&self) -> bool {
+        match self.status {
+            Some(status) => status.general != 0,
+            None => false,
+        }
+    }
+
+    /// Whether it is a request or a reply that can't be read.
+    pub fn is_unreadable(&self) -> bool {
+        self.kind != Kind::Data && self.service.is_none()
+    }
+}
+
+fn request_label(number: u32, bytes: &[u8]) -> Label {
+    let service = match decode_request(bytes) {
+        Ok(request) => Some(request.view.service),
+        Err(_) => None,
+    };
+    Label {
+        kind: Kind::Request,
+        number,
+        service,
+        status: None,
+    }
+}
+
+fn reply_label(number: u32, bytes: &[u8]) -> Label {
+    let (service, status) = match decode_reply(bytes) {
+        Ok(reply) => (Some(reply.view.service), Some(reply.view.status())),
+        Err(_) => (None, None),
+    };
+    Label {
+        kind: Kind::Reply,
+        number,
+        service,
+        status,
+    }
+}
+
+/// What a frame holds, in short.
+pub fn label_of(body: &Body) -> Label {
+    match body {
+        Body::Request { number, bytes } => request_label(*number, bytes.as_slice()),
+        Body::Reply { number, bytes } => reply_label(*number, bytes.as_slice()),
+        Body::Data { id, .. } => Label {
+            kind: Kind::Data,
+            number: *id,
+            service: None,
+            status: None,
+        },
+    }
+}
+
+// A service by its name, or by its number; without one, that it can't be read.
+#[derive(Clone, Copy)]
+struct ServiceText(Option<u8>);
+
+impl fmt::Display for ServiceText {
+    fn fmt<W: fmt::Write>(&self, f: &mut fmt::Formatter<W>) -> fmt::Result {
+        let Some(service) = self.0 else {
+            return f.write_str("unreadable");
+        };
+        let plain = service % 128;
+        match service_name(service) {
+            Some(name) => f.write_str(name),
+            None => write!(f, "service {plain:02X}"),
+        }
+    }
+}
+
+// The digits of a status, or `ok`.
+#[derive(Clone, Copy)]
+struct ShortStatus(Status);
+
+impl fmt::Display for ShortStatus {
+    fn fmt<W: fmt::Write>(&self, f: &mut fmt::Formatter<W>) -> fmt::Result {
+        let Status { general, extra } = self.0;
+        match extra {
+            Some(word) if general == 1 => write!(f, "{word:04X}"),
+            _ if general == 0 => f.write_str("ok"),
+            _ => write!(f, "{general:02X}"),
+        }
+    }
+}
+
+impl fmt::Display for Label {
+    fn fmt<W: fmt::Write>(&self, f: &mut fmt::Formatter<W>) -> fmt::Result {
+        let service = ServiceText(self.service);
+        match (self.kind, self.status) {
+            (Kind::Data, _) => write!(f, "data {}", self.number),
+            (Kind::Request, _) => write!(f, "{service}"),
+            (Kind::Reply, Some(status)) => write!(f, "{service} {}", ShortStatus(status)),
+            (Kind::Reply, None) => write!(f, "{service} reply"),
+        }
+    }
+}
+
+/// The name of a module, of ASCII characters.
+#[derive(Clone, Copy)]
+pub struct NameText<'a>(pub &'a [u8]);
+
+impl fmt::Display for NameText<'_> {
+    fn fmt<W: fmt::Write>(&self, f: &mut fmt::Formatter<W>) -> fmt::Result {
+        for byte in self.0 {
+            write!(f, "{}", char::from(*byte))?;
+        }
+        Ok(())
+    }
+}

@@ -1,0 +1,9 @@
+use Rattle.std.proofs.Common.{lit<}
+use Rattle.std.proofs.lemmas.Iterator.Consumers.{map_from_collect}
+use Rattle.std.proofs.lemmas.Iterator.Splits.{YieldsList-from_str_split}
+use Rattle.cip_words.proofs.reading.dotted.Goals as goal
+
+pub returns : goal.returns
+returns c =
+    let s = c.split.ensures in
+    map_from_collect _ c.collect.ensures.ran (YieldsList-from_str_split 46 c.args.word.now (lit< tt) s.text s.has_more s.pattern)

@@ -1,0 +1,20 @@
+//! Shows a transcript of cipbridge: decoded, as JSON, as a chart, or as a capture.
+#![tactic(auto)]
+
+mod fault;
+mod files;
+mod options;
+mod program;
+mod terminal;
+
+use std::process::ExitCode;
+
+fn main(rt: HostRuntime) -> ExitCode {
+    match program::run_program(&rt) {
+        Ok(()) => ExitCode::SUCCESS,
+        Err(fault) => {
+            let _ = eprintln!(rt; "cipview: {fault}");
+            ExitCode::from(fault.status())
+        }
+    }
+}
