@@ -1,0 +1,5 @@
+pub mod Shown
+pub mod Handle
+pub mod Outputs
+pub mod Settings
+pub mod Given
