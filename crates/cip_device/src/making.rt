@@ -6,7 +6,7 @@ ghost use Rattle.cip_device.specs.Given.{timing_of, params_of, large_params_of, 
 use crate::numbers::{BAD_ARGUMENT, NO_MEMORY};
 use cip_base::{Address, Bytes, NoMemory, PortNumber, Timing};
 use cip_module::{LargeParams, OpenParams};
-use cip_segment::{Path, PathFault, read_path};
+use cip_segment::{Path, view_path};
 use std::alloc::Global;
 
 /// The priority and tick time byte, and the ticks (Volume 1, chapter 3, Unconnected_Send).
@@ -112,9 +112,11 @@ pub(crate) fn path_of(alloc: Global, bytes: &[u8]) -> Result<Path, u32>
     ensures fault { IfErr result
         (λ status. ((status ≡ 4) × (IsReadable bytes.now → ⊥)) ⊎ ((status ≡ 5) × IsReadable bytes.now)) }
 {
-    match read_path(alloc, bytes) {
+    let Ok(path) = view_path(bytes) else {
+        return Err(BAD_ARGUMENT);
+    };
+    match path.to_path(alloc) {
         Ok(path) => Ok(path),
-        Err(PathFault::NoMemory) => Err(NO_MEMORY),
-        Err(_) => Err(BAD_ARGUMENT),
+        Err(_) => Err(NO_MEMORY),
     }
 }

@@ -24,7 +24,7 @@ use Rattle.core.proofs.atomic.Steps.{Ptr-Good}
 use Rattle.core.proofs.cell.Inside.{Good}
 use Rattle.core.proofs.option.Made.{Some-of, none_of}
 use Rattle.std.specs.contracts.impls.GlobalAllocator.TheImpl.{ghosts}
-use Rattle.std_alloc.proofs.ResultParts.{and_tt}
+use Rattle.std_alloc.proofs.ResultValues.{and_tt}
 use Rattle.std.proofs.raw_atomic.Walks.{proved_at, leaves}
 use Rattle.cip_device.proofs.Parts.{both, BareRow, Device, Z, LZ, R, bare_good, null_good, bare_in, device_out}
 use Rattle.cip_device.specs.contracts.handle.CipDevice.into_bare.{ended, clauses}
