@@ -3,3 +3,4 @@ pub mod Handle
 pub mod Outputs
 pub mod Settings
 pub mod Given
+pub mod Reads

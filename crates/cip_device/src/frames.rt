@@ -1,9 +1,9 @@
 //! What a device is given from outside: ticks and frames.
-ghost use Rattle.std.specs.Prelude.{◌≡◌};
+ghost use Rattle.std.specs.Prelude.{◌≡◌, ◌≢◌};
 ghost use Rattle.cip_event.specs.declared.event.Body.TheVariants as bodies;
 ghost use Rattle.cip_event.specs.declared.event.Event.TheVariants as events;
 ghost use Rattle.cip_device.specs.Given.{IsBadLink};
-ghost use Rattle.cip_device.specs.Shown.{shown, IsStepAnswer};
+ghost use Rattle.cip_device.specs.Shown.{shown, IsFull, IsReady, IsStepAnswer};
 
 use crate::handle::CipDevice;
 use crate::making::{Link, bytes_of, link_of};
@@ -16,7 +16,9 @@ use std::alloc::Global;
 /// So many milliseconds went by: from 1.
 #[unsafe(no_mangle)]
 pub extern "C" fn cip_tick(alloc: Global, device: &mut CipDevice, milliseconds: u16) -> u32
-    ensures { IsStepAnswer result (shown device.old.held) (milliseconds ≡ 0)
+    ensures full { IsReady (shown device.old.held) → milliseconds ≢ 0
+        → IsFull (shown device.old.held) (events.Tick milliseconds) → result ≡ 6 }
+    ensures answer { IsStepAnswer result (shown device.old.held) (milliseconds ≡ 0)
         (events.Tick milliseconds) (shown device.new.held) }
 {
     let status = ready(alloc, device);

@@ -1,17 +1,18 @@
 //! What lies on the heap behind a handle.
-ghost use Rattle.std.specs.Prelude.{◌≡◌, ◌≢◌, ◌↔◌, ◌<◌, [], true, length, Some, IfOk};
+ghost use Rattle.std.specs.Prelude.{◌≡◌, ◌≢◌, ◌↔◌, ◌<◌, [], true, length, find, option_map, Some, IfOk};
 ghost use Rattle.cip_indexed.specs.NewModules.{config_of_new, state_of_new};
 ghost use Rattle.cip_module.specs.State.{initial_state};
 ghost use Rattle.cip_module.specs.Steps.{IsStep, IsStepFault};
-ghost use Rattle.cip_module.specs.Table.{table_step};
-ghost use Rattle.cip_device.specs.Shown.{shown_of, IsDeviceStep, IsWhy};
+ghost use Rattle.cip_module.specs.Views.{ShowsState};
+ghost use Rattle.cip_device.specs.Shown.{shown_of, IsDeviceStep, IsFull, IsReady, IsWhy};
 ghost use Rattle.cip_device.specs.Outputs.{IsNext};
+ghost use Rattle.cip_device.specs.Reads.{is_row_of, IsRead, HasNone};
 
 use crate::numbers::{CLOCK_FULL, DONE, NO_MEMORY, NOTHING, SHORT, UNREAD};
 use crate::output::{CipOutput, outline, payload};
 use cip_base::NoMemory;
 use cip_indexed::NewModule;
-use cip_module::{Event, Module, ModuleConfig, Output, StepFault};
+use cip_module::{AssemblyRow, Event, Module, ModuleConfig, Output, StepFault, Tables};
 use std::alloc::Global;
 use std::collections::VecDeque;
 
@@ -28,6 +29,23 @@ fn module_step(module_: &mut NewModule, event: Event) -> Result<Vec<Output>, Ste
         NewModule::Adapter(inner) => inner.as_mut().step(event),
         NewModule::Indexed(inner) => inner.as_mut().step(event),
     }
+}
+
+// The state of a module of any kind.
+fn module_tables(module_: &NewModule) -> Result<Tables, NoMemory>
+    ensures { IfOk result (ShowsState (state_of_new module_.now)) }
+{
+    match module_ {
+        NewModule::Plain(inner) => inner.as_ref().tables(),
+        NewModule::Adapter(inner) => inner.as_ref().tables(),
+        NewModule::Indexed(inner) => inner.as_ref().tables(),
+    }
+}
+
+fn row_of(rows: &[AssemblyRow], instance: u16) -> Option<&AssemblyRow>
+    ensures { option_map (λ row. row.now) result ≡ find (is_row_of instance) rows.now }
+{
+    rows.iter().find(|row| row.instance == instance)
 }
 
 /// A module, and what its last step put out and nobody has read yet.
@@ -64,6 +82,8 @@ impl Held {
         ensures kept { result ≢ 0 → shown_of self.new ≡ shown_of self.old }
         ensures why { IsWhy result (Some (shown_of self.old)) event }
         ensures known { result ≢ 4 }
+        ensures full { IsReady (Some (shown_of self.old)) → IsFull (Some (shown_of self.old)) event
+            → result ≡ 6 }
     {
         if !self.outputs.is_empty() {
             return UNREAD;
@@ -98,6 +118,29 @@ impl Held {
         }
         buffer[..bytes.len()].copy_from_slice(bytes);
         self.outputs.pop_front();
+        DONE
+    }
+
+    /// The bytes of an assembly: NOTHING where it has none of this instance, SHORT where they do not
+    /// fit, NO_MEMORY.
+    pub(crate) fn assembly(&self, instance: u16, count: &mut usize, buffer: &mut [u8]) -> u32
+        ensures done { result ≡ 0 → IsRead (shown_of self.now) instance count.new buffer.new }
+        ensures known { result ≢ 1 }
+        ensures nothing { result ≡ 7 → HasNone (shown_of self.now) instance }
+        ensures short { result ≡ 8 → length buffer.old < count.new }
+    {
+        let Ok(tables) = module_tables(&self.module_) else {
+            return NO_MEMORY;
+        };
+        let Some(row) = row_of(tables.assemblies.as_slice(), instance) else {
+            return NOTHING;
+        };
+        let bytes = row.bytes.as_slice();
+        *count = bytes.len();
+        if bytes.len() > buffer.len() {
+            return SHORT;
+        }
+        buffer[..bytes.len()].copy_from_slice(bytes);
         DONE
     }
 }

@@ -1,12 +1,13 @@
 //! Devices are made, told of and freed.
 ghost use Rattle.std.specs.Prelude.{◌≡◌, ◌≢◌, ◌↔◌, ◌<◌, length, None};
 ghost use Rattle.cip_device.specs.Outputs.{IsNextAnswer};
+ghost use Rattle.cip_device.specs.Reads.{IsReadAnswer};
 ghost use Rattle.cip_device.specs.Settings.{IsNew};
-ghost use Rattle.cip_device.specs.Shown.{shown, IsReady};
+ghost use Rattle.cip_device.specs.Shown.{shown};
 
 use crate::handle::CipDevice;
 use crate::held::Held;
-use crate::numbers::{DONE, IN_USE, NO_DEVICE, NO_MEMORY};
+use crate::numbers::{DONE, IN_USE, NO_DEVICE, NO_MEMORY, VERSION};
 use crate::output::CipOutput;
 use crate::settings::{CipAssembly, CipConfig, CipPort, config_of};
 use std::alloc::Global;
@@ -72,4 +73,33 @@ pub extern "C" fn cip_next(
     let status = held.next(output, buffer);
     *device = CipDevice::of(held);
     status
+}
+
+/// Reads the assembly of this instance into the buffer, and says how many bytes it has.
+#[unsafe(no_mangle)]
+pub extern "C" fn cip_assembly(
+    alloc: Global,
+    device: &mut CipDevice,
+    instance: u16,
+    count: &mut usize,
+    buffer: &mut [u8],
+) -> u32
+    ensures kept { shown device.new.held ≡ shown device.old.held }
+    ensures answer { IsReadAnswer result (shown device.old.held) instance count.new
+        (length buffer.old) buffer.new }
+{
+    let Some(held) = replace(device, CipDevice::empty(alloc)).into_box() else {
+        return NO_DEVICE;
+    };
+    let status = held.as_ref().assembly(instance, count, buffer);
+    *device = CipDevice::of(held);
+    status
+}
+
+/// The version of what C sees: a program that was compiled with a header of another cannot use it.
+#[unsafe(no_mangle)]
+pub extern "C" fn cip_version() -> u32
+    ensures { result ≡ 1 }
+{
+    VERSION
 }

@@ -1,5 +1,8 @@
 //! The numbers that stand for something in C.
 
+/// The version of what C sees.
+pub const VERSION: u32 = 1;
+
 /// It was done.
 pub const DONE: u32 = 0;
 /// The handle has no device.

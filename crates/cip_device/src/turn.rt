@@ -1,6 +1,6 @@
 //! One call at the device of a handle.
 ghost use Rattle.std.specs.Prelude.{◌≡◌, ◌≢◌, ◌↔◌, Some, None};
-ghost use Rattle.cip_device.specs.Shown.{shown, IsDeviceStep, IsReady, HasUnread, IsWhy};
+ghost use Rattle.cip_device.specs.Shown.{shown, IsDeviceStep, IsFull, IsReady, HasUnread, IsWhy};
 
 use crate::handle::CipDevice;
 use crate::numbers::{DONE, NO_DEVICE, UNREAD};
@@ -30,6 +30,8 @@ pub(crate) fn step(alloc: Global, device: &mut CipDevice, event: Event) -> u32
     ensures kept { result ≢ 0 → shown device.new.held ≡ shown device.old.held }
     ensures why { IsWhy result (shown device.old.held) event }
     ensures known { result ≢ 4 }
+    ensures full { IsReady (shown device.old.held) → IsFull (shown device.old.held) event
+        → result ≡ 6 }
 {
     let Some(mut held) = replace(device, CipDevice::empty(alloc)).into_box() else {
         return NO_DEVICE;
