@@ -51,24 +51,21 @@ def function(name, parameters, result):
     return f"{plain(result) if result else 'void'} {name}({', '.join(types)});"
 
 
-def main():
-    print('#include "cip_device.h"')
+def header_check():
+    """The text of that file."""
     text = {path.name: path.read_text() for path in sorted(SOURCE.glob("*.rt"))}
-    count = 0
+    lines = ['#include "cip_device.h"']
     for name, value in re.findall(r"^pub const (\w+): u32 = (\d+);$", text["numbers.rt"], re.M):
-        print(f'_Static_assert(CIP_{name} == {value}, "{name}");')
-        count += 1
+        lines.append(f'_Static_assert(CIP_{name} == {value}, "{name}");')
     for source in text.values():
         for name, body in re.findall(r"^#\[repr\(C\)\]\n(?:#\[.*\]\n)*pub struct (\w+) \{\n(.*?)^\}", source, re.M | re.S):
-            for line in struct(name, body):
-                print(line)
-                count += 1
+            lines += struct(name, body)
         for name, parameters, result in re.findall(
                 r"^pub extern \"C\" fn (\w+)\((.*?)\)(?: -> (\w+))?\n", source, re.M | re.S):
-            print(f"enum {{ declared_{name} = sizeof(&{name}) }};")
-            print(function(name, parameters, result))
-            count += 1
-    print(f"/* {count} lines */")
+            lines.append(f"enum {{ declared_{name} = sizeof(&{name}) }};")
+            lines.append(function(name, parameters, result))
+    return "\n".join(lines) + "\n"
 
 
-main()
+if __name__ == "__main__":
+    print(header_check(), end="")

@@ -26,6 +26,9 @@
 extern "C" {
 #endif
 
+/* What cip_version answers, where the library has these functions. */
+#define CIP_VERSION 1
+
 typedef struct cip_device { void *at; } cip_device;
 #define CIP_DEVICE_EMPTY { 0 }
 
@@ -37,8 +40,8 @@ enum cip_status {
     CIP_BAD_ARGUMENT = 4, /* an argument is out of its range: each call says which */
     CIP_NO_MEMORY = 5,    /* an allocation was refused: the same call may succeed later */
     CIP_CLOCK_FULL = 6,   /* cip_tick: exactly where the clock would pass 2^63 - 1 microseconds */
-    CIP_NOTHING = 7,      /* cip_next: exactly where no output waits */
-    CIP_SHORT = 8         /* cip_next: the buffer is shorter than output->length */
+    CIP_NOTHING = 7,      /* cip_next: exactly where no output waits; cip_get: no such assembly */
+    CIP_SHORT = 8         /* the buffer is shorter than output->length, or *length, which is told */
 };
 
 enum cip_kind {
@@ -160,6 +163,8 @@ uint32_t cip_open(cip_device *device, uint32_t op, cip_timing timing,
 uint32_t cip_large_open(cip_device *device, uint32_t op, cip_timing timing,
     const uint8_t *path, size_t path_length, const cip_large_params *params);
 uint32_t cip_close(cip_device *device, uint32_t op, uint32_t of, cip_timing timing);
+
+/* A datum by an open connection; an assembly is written, and sent by each connection that has it. */
 uint32_t cip_enter(cip_device *device, uint32_t of, const uint8_t *bytes, size_t length);
 uint32_t cip_set(cip_device *device, uint32_t instance, const uint8_t *bytes, size_t length);
 uint32_t cip_produce(cip_device *device, uint32_t instance);
@@ -167,6 +172,14 @@ uint32_t cip_produce(cip_device *device, uint32_t instance);
 /* The next output of the last step. After DONE it is told, its bytes are in the buffer, and it waits
  * no more; after SHORT output->length says how long the buffer must be. */
 uint32_t cip_next(cip_device *device, cip_output *output, uint8_t *buffer, size_t room);
+
+/* The bytes of an assembly go to the buffer, and their count to *length. Nothing changes, and outputs
+ * may wait. */
+uint32_t cip_get(cip_device *device, uint16_t instance, size_t *length, uint8_t *buffer,
+    size_t room);
+
+/* CIP_VERSION of the header that the library belongs to. */
+uint32_t cip_version(void);
 
 #ifdef __cplusplus
 }

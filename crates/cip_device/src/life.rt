@@ -77,7 +77,7 @@ pub extern "C" fn cip_next(
 
 /// Reads the assembly of this instance into the buffer, and says how many bytes it has.
 #[unsafe(no_mangle)]
-pub extern "C" fn cip_assembly(
+pub extern "C" fn cip_get(
     alloc: Global,
     device: &mut CipDevice,
     instance: u16,
