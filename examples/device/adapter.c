@@ -271,7 +271,7 @@ int main(int count, char **words) {
         address = words[1];
     uint32_t status = make_device();
     if (status != CIP_DONE) {
-        fprintf(stderr, "no device: status %u\n", status);
+        fprintf(stderr, "no device: %s\n", cip_error_text(status));
         return 1;
     }
     for (int i = 0; i < MOST_PEERS; i++)

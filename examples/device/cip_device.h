@@ -129,10 +129,10 @@ typedef struct cip_output {
 #define CIP_MOST_BYTES 66000
 
 /* A device in its initial state; time begins at config->clock, with no connection and assemblies of
- * zeros. Only into an empty handle. BAD_ARGUMENT: a setting is out of the range that is given above;
- * the name has other than 1 to 16 letters, digits, _ or -; the product name more than 32 characters
- * from 20 to 7E; there are no ports, more than 8 (an adapter: 1) or two of one number; there are
- * more than 64 assemblies or two of one instance. */
+ * zeros. Only into an empty handle. BAD_ARGUMENT: a setting is out of the range that is given
+ * above; the name has other than 1 to 16 letters, digits, _ or -; the product name has more than 32
+ * characters, or one outside 20 to 7E; there are no ports, more than 8 (an adapter: 1) or two of
+ * one number; there are more than 64 assemblies or two of one instance. */
 uint32_t cip_new(cip_device *device, const cip_config *config,
     const uint8_t *name, size_t name_length,
     const uint8_t *product_name, size_t product_name_length,
@@ -164,22 +164,33 @@ uint32_t cip_large_open(cip_device *device, uint32_t op, cip_timing timing,
     const uint8_t *path, size_t path_length, const cip_large_params *params);
 uint32_t cip_close(cip_device *device, uint32_t op, uint32_t of, cip_timing timing);
 
-/* A datum by an open connection; an assembly is written, and sent by each connection that has it. */
+/* A datum goes by an open connection; an assembly is written; it is sent by each connection that
+ * takes its data from it. */
 uint32_t cip_enter(cip_device *device, uint32_t of, const uint8_t *bytes, size_t length);
 uint32_t cip_set(cip_device *device, uint32_t instance, const uint8_t *bytes, size_t length);
 uint32_t cip_produce(cip_device *device, uint32_t instance);
 
-/* The next output of the last step. After DONE it is told, its bytes are in the buffer, and it waits
- * no more; after SHORT output->length says how long the buffer must be. */
+/* The next output of the last step. After DONE it is told, its bytes are in the buffer, and it
+ * waits no more; after SHORT output->length says how long the buffer must be. */
 uint32_t cip_next(cip_device *device, cip_output *output, uint8_t *buffer, size_t room);
 
-/* The bytes of an assembly go to the buffer, and their count to *length. Nothing changes, and outputs
- * may wait. */
+/* The bytes of an assembly go to the buffer, and their count to *length. Nothing changes, and
+ * outputs may wait. */
 uint32_t cip_get(cip_device *device, uint16_t instance, size_t *length, uint8_t *buffer,
     size_t room);
 
 /* CIP_VERSION of the header that the library belongs to. */
 uint32_t cip_version(void);
+
+/* A status in words. */
+static inline const char *cip_error_text(uint32_t status) {
+    static const char *const texts[] = {
+        "done", "the handle has no device", "the handle has a device", "outputs wait to be read",
+        "an argument is out of its range", "an allocation was refused",
+        "the clock would pass its last time", "there is nothing", "the buffer is too short"
+    };
+    return status < sizeof texts / sizeof *texts ? texts[status] : "no status";
+}
 
 #ifdef __cplusplus
 }

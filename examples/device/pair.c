@@ -49,6 +49,8 @@ int main(void) {
     const cip_port port = {.number = 2, .last = 0xFE, .address_length = 1, .address = {5}};
     static const cip_assembly none[1];
     cip_device scanner = CIP_DEVICE_EMPTY, adapter = CIP_DEVICE_EMPTY;
+    if (cip_version() != CIP_VERSION)
+        return 4;
     if (cip_new(&scanner, &config, (const uint8_t *)"S", 1, (const uint8_t *)"SC", 2, &port, 1,
                 none, 0) != CIP_DONE)
         return 1;
@@ -103,6 +105,15 @@ int main(void) {
             outputs(f.to == 7 ? "E" : "S", to, f.to);
         }
     }
+    uint8_t assembly[8];
+    size_t length;
+    if (cip_get(&adapter, 102, &length, assembly, sizeof assembly) != CIP_DONE)
+        return 3;
+    printf("assembly 102:");
+    for (size_t i = 0; i < length; i++)
+        printf(" %02X", assembly[i]);
+    printf("\nassembly 104: %s\n",
+           cip_error_text(cip_get(&adapter, 104, &length, assembly, sizeof assembly)));
     cip_free(&scanner);
     cip_free(&adapter);
     return 0;
