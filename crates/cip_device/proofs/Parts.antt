@@ -61,7 +61,8 @@ module _ (R Z : RattleType) (L : Laws Z) (g : Ghosts Z.Denot) where
     bare_out t d vs next =
         fsplit t $ fpick t (λ vss. fsplit t $ feq_l t (λ whole. fsplit t $ feq_l t (λ first. fsplit t $ handle_tells owner t d.alloc vss.1.0 (λ h second fits.
         -- [the handle; nothing; the box's memory]
-        move t (2 ∷ 1 ∷ []) $ in_a_block t d.at (λ p. box_owns (g.dealloc_token d.alloc) R p d.held) (fst∗ 𝓤 (never 𝓤) (sem 𝓛 (g.dealloc_token d.alloc (bits (lone R.mir)) null_ptr))) (λ b o at_is.
+        move t (2 ∷ 1 ∷ []) $ in_a_block t d.at
+        (λ p. box_owns (g.dealloc_token d.alloc) R p d.held) (fst∗ 𝓤 (never 𝓤) (sem 𝓛 (g.dealloc_token d.alloc (bits (lone R.mir)) null_ptr))) (λ b o at_is.
         move t (1 ∷ []) $ drop t $
         next b o h at_is (whole ∙ (λ i. vstruct (of_list (first i ++ (second i ++ []))) ∷ []) ∙ ap (λ (p : Ptr). both (ptr_val p) h ∷ []) at_is) fits)))))
 
@@ -69,8 +70,16 @@ module _ (R Z : RattleType) (L : Laws Z) (g : Ghosts Z.Denot) where
         → Step K 𝓛 (‵ (BareRow.own_val (record { at = block_ptr b o; alloc = a; held = x }) (both (vptr b o) h ∷ [])) ∷ Γ) G
         (‵ (box_owns (g.dealloc_token a) R (block_ptr b o) x) ∷ ‵ (Z.own_val a (h ∷ [])) ∷ Γ) G
     bare_in t b o h a x = step (λ next.
-        nothing t $ move t (2 ∷ 0 ∷ []) $ fjoin t $ feq_i t (List Val) (vptr b o ∷ []) _ refl $ fjoin t $ feq_i t (List Val) (both (vptr b o) h ∷ []) _ refl $ fjoin t $
-        fpack t (Valss (RawPtr ∷ Z ∷ [])) (within (shape (bare.the_type R Z g)) (block_ptr b o, (a, tt)) (both (vptr b o) h ∷ [])) (vptr b o ∷ [], (h ∷ [], tt)) $ fjoin t $ next)
+        nothing t $ move t (2 ∷ 0 ∷ []) $ fjoin t $ feq_i t (List Val) (vptr b o ∷ []) _ refl $ fjoin t $
+        feq_i t (List Val) (both (vptr b o) h ∷ []) _ refl $ fjoin t $
+        fpack t (Valss (RawPtr ∷ Z ∷ [])) (within (shape (bare.the_type R Z g)) (block_ptr b o, (a, tt)) (both (vptr b o) h ∷ [])) (
+          vptr b o ∷ [],
+          (
+            h
+                ∷ [],
+            tt,
+          ),
+        ) $ fjoin t $ next)
 
 -- ---- a device
 abbrev pub Device : RattleType
@@ -103,7 +112,8 @@ module _ {M : Type 1} {𝓤 : Ura M} {𝓛 : Logic 𝓤} {K : Type 0} {Γ : List
   by_pointer t a (block_ptr b o) None none some = fpick t (λ wrong. absurd wrong)
   by_pointer t a (block_ptr b o) (Some x) none some =
       let token = ghosts.dealloc_token a (bits (lone R.mir)) (block_ptr b o) in let φ = Testable (block_ptr b o) in
-      fsplit t $ move t (1 ∷ []) $ use1 𝓛 (given φ (‵ token)) (fact_use 𝓤 φ (dealloc_token-Testable 𝓛 a (bits (lone R.mir)) (block_ptr b o)) (λ f. guard_i 𝓤 φ (sem 𝓛 token) f)) $
+      fsplit t $ move t (1 ∷ []) $
+      use1 𝓛 (given φ (‵ token)) (fact_use 𝓤 φ (dealloc_token-Testable 𝓛 a (bits (lone R.mir)) (block_ptr b o)) (λ f. guard_i 𝓤 φ (sem 𝓛 token) f)) $
       learn t (λ testable. move t (1 ∷ 0 ∷ []) $ fjoin t $ some b o x refl refl testable)
 
 module _ {M : Type 1} {𝓤 : Ura M} {𝓛 : Logic 𝓤} {K : Type 0} {Γ : List (Item 𝓤)} {G : Goal 𝓤 𝓛.H} where
@@ -114,7 +124,8 @@ module _ {M : Type 1} {𝓤 : Ura M} {𝓛 : Logic 𝓤} {K : Type 0} {Γ : List
       → Seq K 𝓛 (‵ (Device.own_val d vs) ∷ Γ) G
   device_out t d vs none some =
       fsplit t $ fpick t (λ vss. fsplit t $ feq_l t (λ whole. fsplit t $ feq_l t (λ first. fsplit t $ handle_tells of_heap t d.alloc vss.1.0 (λ h second fits.
-      let told = λ (q : Ptr) (at_is : d.at ≡ q). whole ∙ (λ i. vstruct (of_list (first i ++ (second i ++ []))) ∷ []) ∙ ap (λ (p : Ptr). both (ptr_val p) h ∷ []) at_is in
+      let told = λ (q : Ptr) (at_is : d.at ≡ q). whole ∙ (λ i. vstruct (of_list (first i ++ (second i ++ []))) ∷ []) ∙ ap
+      (λ (p : Ptr). both (ptr_val p) h ∷ []) at_is in
       -- [the handle; nothing; what is held]
       move t (1 ∷ []) $ drop t $ move t (1 ∷ []) $ by_pointer t d.alloc d.at d.held
       (λ at_is held_is. none h at_is held_is (told null_ptr at_is) fits)
@@ -124,11 +135,17 @@ module _ {M : Type 1} {𝓤 : Ura M} {𝓛 : Logic 𝓤} {K : Type 0} {Γ : List
       → Step K 𝓛 (‵ (Device.own_val (record { at = block_ptr b o; alloc = a; held = Some x }) (both (vptr b o) h ∷ [])) ∷ Γ) G
       (‵ (box_owns (ghosts.dealloc_token a) R (block_ptr b o) x) ∷ ‵ (Z.own_val a (h ∷ [])) ∷ Γ) G
   device_in t b o h a x = step (λ next.
-      nothing t $ move t (2 ∷ 0 ∷ []) $ fjoin t $ feq_i t (List Val) (vptr b o ∷ []) _ refl $ fjoin t $ feq_i t (List Val) (both (vptr b o) h ∷ []) _ refl $ fjoin t $
-      fpack t (Valss (RawPtr ∷ Z ∷ [])) (within (shape device.the_type) (to device.the_type (record { at = block_ptr b o; alloc = a; held = Some x })) (both (vptr b o) h ∷ [])) (vptr b o ∷ [], (h ∷ [], tt)) $ fjoin t $ next)
+      nothing t $ move t (2 ∷ 0 ∷ []) $ fjoin t $ feq_i t (List Val) (vptr b o ∷ []) _ refl $ fjoin t $ feq_i t (List Val) (both (vptr b o) h ∷ []) _ refl $
+      fjoin t $
+      fpack t (Valss (RawPtr ∷ Z
+      ∷ [])) (within (shape device.the_type) (to device.the_type (record { at = block_ptr b o; alloc = a; held = Some x })) (both (vptr b o) h
+      ∷ [])) (vptr b o ∷ [], (h ∷ [], tt)) $ fjoin t $ next)
 
   pub device_null : K → (h : Val) (a : Global)
       → Step K 𝓛 (‵ (Device.own_val (record { at = null_ptr; alloc = a; held = None }) (both (ptr_val null_ptr) h ∷ [])) ∷ Γ) G (‵ (Z.own_val a (h ∷ [])) ∷ Γ) G
   device_null t h a = step (λ next.
-      nothing t $ nothing t $ move t (2 ∷ 0 ∷ []) $ fjoin t $ feq_i t (List Val) (ptr_val null_ptr ∷ []) _ refl $ fjoin t $ feq_i t (List Val) (both (ptr_val null_ptr) h ∷ []) _ refl $ fjoin t $
-      fpack t (Valss (RawPtr ∷ Z ∷ [])) (within (shape device.the_type) (to device.the_type (record { at = null_ptr; alloc = a; held = None })) (both (ptr_val null_ptr) h ∷ [])) (ptr_val null_ptr ∷ [], (h ∷ [], tt)) $ fjoin t $ next)
+      nothing t $ nothing t $ move t (2 ∷ 0 ∷ []) $ fjoin t $ feq_i t (List Val) (ptr_val null_ptr ∷ []) _ refl $ fjoin t $
+      feq_i t (List Val) (both (ptr_val null_ptr) h ∷ []) _ refl $ fjoin t $
+      fpack t (Valss (RawPtr ∷ Z
+      ∷ [])) (within (shape device.the_type) (to device.the_type (record { at = null_ptr; alloc = a; held = None })) (both (ptr_val null_ptr) h
+      ∷ [])) (ptr_val null_ptr ∷ [], (h ∷ [], tt)) $ fjoin t $ next)

@@ -1,5 +1,4 @@
 //! What a device is given by its own application: commands.
-ghost use Rattle.std.specs.Prelude.{◌≡◌};
 ghost use Rattle.cip_event.specs.declared.event.Event.TheVariants as events;
 ghost use Rattle.cip_event.specs.declared.event.Command.TheVariants as commands;
 ghost use Rattle.cip_segment.specs.Spelling.{IsReadable};
@@ -27,7 +26,8 @@ pub extern "C" fn cip_send(
     request: &[u8],
 ) -> u32
     ensures { IsStepAnswer result (shown device.old.held) (IsReadable path.now → ⊥)
-        (events.Command (commands.Send op (timing_of timing) path.now request.now)) (shown device.new.held) }
+        (events.Command (commands.Send op (timing_of timing) path.now request.now))
+        (shown device.new.held) }
 {
     let status = ready(alloc, device);
     if status != DONE {
@@ -61,7 +61,8 @@ pub extern "C" fn cip_open(
     params: &CipOpenParams,
 ) -> u32
     ensures { IsStepAnswer result (shown device.old.held) (IsReadable path.now → ⊥)
-        (events.Command (commands.Open op (timing_of timing) path.now (params_of params.now))) (shown device.new.held) }
+        (events.Command (commands.Open op (timing_of timing) path.now (params_of params.now)))
+        (shown device.new.held) }
 {
     let status = ready(alloc, device);
     if status != DONE {
@@ -93,7 +94,8 @@ pub extern "C" fn cip_large_open(
     params: &CipLargeParams,
 ) -> u32
     ensures { IsStepAnswer result (shown device.old.held) (IsReadable path.now → ⊥)
-        (events.Command (commands.LargeOpen op (timing_of timing) path.now (large_params_of params.now))) (shown device.new.held) }
+        (events.Command (commands.LargeOpen op (timing_of timing) path.now
+        (large_params_of params.now))) (shown device.new.held) }
 {
     let status = ready(alloc, device);
     if status != DONE {

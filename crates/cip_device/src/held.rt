@@ -121,8 +121,8 @@ impl Held {
         DONE
     }
 
-    /// The bytes of an assembly: NOTHING where it has none of this instance, SHORT where they do not
-    /// fit, NO_MEMORY.
+    /// The bytes of an assembly: NOTHING where it has none of this instance, SHORT where they do
+    /// not fit, NO_MEMORY.
     pub(crate) fn assembly(&self, instance: u16, count: &mut usize, buffer: &mut [u8]) -> u32
         ensures done { result ≡ 0 → IsRead (shown_of self.now) instance count.new buffer.new }
         ensures known { result ≢ 1 }

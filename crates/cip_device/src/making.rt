@@ -1,5 +1,5 @@
 //! Events of what C gives.
-ghost use Rattle.std.specs.Prelude.{◌≡◌, ◌≢◌, ◌↔◌, ◌⊎◌, None, IfOk, IfErr, IfSome, IsOk};
+ghost use Rattle.std.specs.Prelude.{◌≡◌, ◌↔◌, ◌⊎◌, None, IfOk, IfErr, IfSome, IsOk};
 ghost use Rattle.cip_segment.specs.Spelling.{IsReadable};
 ghost use Rattle.cip_device.specs.Given.{timing_of, params_of, large_params_of, IsBadLink};
 
@@ -110,7 +110,8 @@ pub(crate) fn path_of(alloc: Global, bytes: &[u8]) -> Result<Path, u32>
     ensures value { IfOk result (λ path. path ≡ bytes.now) }
     ensures readable { IsOk result → IsReadable bytes.now }
     ensures fault { IfErr result
-        (λ status. ((status ≡ 4) × (IsReadable bytes.now → ⊥)) ⊎ ((status ≡ 5) × IsReadable bytes.now)) }
+        (λ status. ((status ≡ 4) × (IsReadable bytes.now → ⊥))
+        ⊎ ((status ≡ 5) × IsReadable bytes.now)) }
 {
     let Ok(path) = view_path(bytes) else {
         return Err(BAD_ARGUMENT);

@@ -1,5 +1,5 @@
 //! What a device does, in the form in which it crosses to C.
-ghost use Rattle.std.specs.Prelude.{◌≡◌, ◌≤◌, length, take};
+ghost use Rattle.std.specs.Prelude.{◌≡◌, length, take};
 ghost use Rattle.cip_device.specs.Outputs.{payload_of, reason_of_refused, reason_of_dropped, IsOutline};
 
 use crate::numbers::{

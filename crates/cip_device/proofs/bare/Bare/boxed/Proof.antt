@@ -6,7 +6,8 @@ use mir.Val.{Val, vptr}
 use base.Logic.{SProp, ent, id⊢}
 use base.Fml.{ftrue, flft}
 use prog.Wp.{WpFn}
-use types.Kit.{‵, raw, ◌⊛◌, some, later, at_ret, ◌$◌, ◌∵◌, !, qed, by, move, keep, drop, split, split3, join, fsplit, fjoin, feq_i, pick, suffices, use1, await, rewrite}
+use types.Kit.{‵, raw, ◌⊛◌, some, later, at_ret, ◌$◌, ◌∵◌, !, qed, by, move}
+use types.Kit.{keep, drop, split, split3, join, fsplit, fjoin, feq_i, pick, suffices, use1, await, rewrite}
 use types.Run.{enter, of_opd, stop, fld, no_more, and_then, first, blocks, exec, returns}
 use types.ByLocal.{alloc_all, pass_all, free_all, look_at, get, get_in, sets, lands_last, env}
 use types.Part.{sub, whole}
@@ -43,12 +44,17 @@ pub boxed_spec : {M : Type 1} → statement M
 boxed_spec 𝓤 𝓛 𝓜 𝓡 wired T A LT LA g allocates drops_T drops_A allocator glue_T glue_A =
     let X : RattleType = param 0 T in let Z : RattleType = param 1 A in let LZ = param_laws 1 A LA in let Parts : RattleType = BareRow X Z LZ g in
     let E : Bx = record { row = T; laws = LT; al = record { row = A; laws = LA; g = g; d = allocates; drops = drops_A } } in
-    let at_types : Args = bounded (a_type ∷ a_type ∷ []) (T, (A, tt)) (dcons allocates (dcons drops_T (dcons drops_A dnil))) in let fn = inst_fn at_types code.function in
+    let at_types : Args = bounded (a_type ∷ a_type ∷ []) (T, (A, tt)) (dcons allocates (dcons drops_T (dcons drops_A dnil))) in
+    let fn = inst_fn at_types code.function in
     let F = ended T A g allocates drops_T drops_A in let c = clauses T A g allocates drops_T drops_A 𝓛 𝓜.mem 𝓡.returns in
     let C = triple_of 𝓛 (together.signature T A g allocates drops_A) (together.spec T A g allocates drops_A 𝓛 𝓜.mem 𝓡.returns) in
     let 𝓣 = tables 𝓤 𝓛.H 𝓜 𝓡 𝓡.env in
     let stayed : Stays F.signature.params F.kept = (stay_dropped (plain (λ _. Parts)) no, tt) in
-    proved_at 𝓛 F stayed c 𝓜 𝓡 (Goes-blank 𝓛 2 (plain (λ _. Parts)) no (λ κs x f. tt), tt) (#self at_types) fn (code.unfolded 𝓤 𝓛.H 𝓜 𝓡 wired (T, (A, tt)) allocates drops_T drops_A) (λ y are.
+    proved_at 𝓛 F stayed c 𝓜 𝓡 (
+      Goes-blank 𝓛 2 (plain (λ _. Parts)) no
+          (λ κs x f. tt),
+      tt,
+    ) (#self at_types) fn (code.unfolded 𝓤 𝓛.H 𝓜 𝓡 wired (T, (A, tt)) allocates drops_T drops_A) (λ y are.
     let κs = y.0.0 in let qs = y.0.1 in let parts = y.0.3.0 in let a = parts.alloc in
     let ends : Val → SProp 𝓤 = (walk_of 𝓛 F stayed c).post y in let runs : List Val → SProp 𝓤 = λ vs. WpFn 𝓤 𝓛.H 𝓣.C 𝓣.Λ fn vs ends in
     let alive = ‵ (flft κs.0 qs.0) ⊛ ‵ (flft κs.1.0 qs.1.0) ⊛ ‵ ftrue in
@@ -61,7 +67,8 @@ boxed_spec 𝓤 𝓛 𝓜 𝓡 wired T A LT LA g allocates drops_T drops_A alloc
     move ! (4 ∷ []) $ use1 𝓛 (raw (fact 𝓤 (κs.0 ⊑ T.lives)) ⊛ raw (fact 𝓤 (κs.1.0 ⊑ A.lives)) ⊛ ‵ ftrue) (id⊢ 𝓤 _) $ split3 ! $ move ! (2 ∷ []) $ drop ! $
     -- [the two facts; the box's memory; the handle; no more parameters; the tokens]
     move ! (1 ∷ 2 ∷ []) $ join ! $ move ! (1 ∷ 0 ∷ []) $ join ! $
-    move ! (2 ∷ []) $ feq_i ! (List Val) (vptr b o ∷ []) (vptr b o ∷ []) refl $ fjoin ! $ move ! (2 ∷ 0 ∷ []) $ fjoin ! $ move ! (2 ∷ 0 ∷ []) $ join ! $ join ! $
+    move ! (2 ∷ []) $ feq_i ! (List Val) (vptr b o ∷ []) (vptr b o ∷ []) refl $ fjoin ! $ move ! (2 ∷ 0 ∷ []) $ fjoin ! $ move ! (2 ∷ 0 ∷ []) $ join ! $
+    join ! $
     use1 𝓛 (raw (C.pre z)) (id⊢ 𝓤 _) $
     suffices ! (runs (w ∷ [])) (subst (λ (vs : List Val). ent 𝓤 (runs (w ∷ [])) (runs vs)) (sym (λ i. vs_are i ++ [])) (id⊢ 𝓤 (runs (w ∷ [])))) $
     enter ! 𝓣.C 𝓣.Λ fn (w ∷ []) ends $ alloc_all ! (λ l. pass_all ! refl (typed, tt) $
@@ -76,7 +83,8 @@ boxed_spec 𝓤 𝓛 𝓜 𝓡 wired T A LT LA g allocates drops_T drops_A alloc
     await ! tt $ pick ! (λ r. split ! $ move ! (1 ∷ []) $ pick ! (λ _. split3 ! $ drop ! $
     -- [what it held; whose memory; the tokens with the box]
     move ! (2 ∷ []) $ split ! $ move ! (1 ∷ []) $
-    box_out E ! r (v ∷ []) (λ b' o' h' r_is v_is fits'. box_in E ! r b' o' r.value r_is refl $ rewrite ! 0 (λ (vs : List Val). ‵ ((B E).own_val r vs)) (sym v_is) refl $
+    box_out E ! r (v ∷ []) (λ b' o' h' r_is v_is fits'. box_in E ! r b' o' r.value r_is refl $
+    rewrite ! 0 (λ (vs : List Val). ‵ ((B E).own_val r vs)) (sym v_is) refl $
     let good : Good (layout (B E)) v = subst (Good (layout (B E))) (sym (ap only v_is)) (bare_good X Z LZ g b' o' h' fits') in
     lands_last ! refl good $ exec ! 𝓣.C 𝓣.Λ (env fn.locals l) (after 3 fn.body) (at_ret (env fn.locals l) ends) $
     sets ! (of_opd ! (get ! refl)) refl good $ nothing ! $ nothing ! $ fjoin ! $

@@ -8,7 +8,8 @@ use base.Logic.{SProp, ent, emp, never, fst∗, id⊢}
 use base.Fml.{ftrue, fsep, flft}
 use prog.Wp.{WpFn}
 use types.Logic.{sem}
-use types.Kit.{‵, raw, ◌⊛◌, some, later, ◌$◌, ◌∵◌, !, qed, by, move, keep, drop, split, split3, join, fsplit, fjoin, fpick, feq_l, pick, suffices, use0, use1, await, rewrite}
+use types.Kit.{‵, raw, ◌⊛◌, some, later, ◌$◌, ◌∵◌, !, qed, by, move, keep, drop}
+use types.Kit.{split, split3, join, fsplit, fjoin, fpick, feq_l, pick, suffices, use0, use1, await, rewrite}
 use types.Run.{enter, of_opd, stop, fld, no_more, and_then, returns}
 use types.ByLocal.{alloc_all, pass_all, free_all, look_at, get, get_in, sets, lands_as}
 use types.Part.{agg, sub, whole}
@@ -44,12 +45,17 @@ pub of_spec : {M : Type 1} → statement M
 of_spec 𝓤 𝓛 𝓜 𝓡 wired T A LT LA g allocates drops_T drops_A allocator glue_T glue_A =
     let X : RattleType = param 0 T in let Z : RattleType = param 1 A in let LZ = param_laws 1 A LA in let Pair = Tuple (RawPtr ∷ Z ∷ []) in
     let E : Bx = record { row = T; laws = LT; al = record { row = A; laws = LA; g = g; d = allocates; drops = drops_A } } in
-    let at_types : Args = bounded (a_type ∷ a_type ∷ []) (T, (A, tt)) (dcons allocates (dcons drops_T (dcons drops_A dnil))) in let fn = inst_fn at_types code.function in
+    let at_types : Args = bounded (a_type ∷ a_type ∷ []) (T, (A, tt)) (dcons allocates (dcons drops_T (dcons drops_A dnil))) in
+    let fn = inst_fn at_types code.function in
     let F = ended T A g allocates drops_T drops_A in let c = clauses T A g allocates drops_T drops_A 𝓛 𝓜.mem 𝓡.returns in
     let C = triple_of 𝓛 (apart.signature T A g allocates drops_A drops_T) (apart.spec T A g allocates drops_A drops_T 𝓛 𝓜.mem 𝓡.returns) in
     let 𝓣 = tables 𝓤 𝓛.H 𝓜 𝓡 𝓡.env in
     let stayed : Stays F.signature.params F.kept = (stay_dropped (plain (λ _. B E)) no, tt) in
-    proved_at 𝓛 F stayed c 𝓜 𝓡 (Goes-blank 𝓛 2 (plain (λ _. B E)) no (λ κs x f. tt), tt) (#self at_types) fn (code.unfolded 𝓤 𝓛.H 𝓜 𝓡 wired (T, (A, tt)) allocates drops_T drops_A) (λ y are.
+    proved_at 𝓛 F stayed c 𝓜 𝓡 (
+      Goes-blank 𝓛 2 (plain (λ _. B E)) no
+          (λ κs x f. tt),
+      tt,
+    ) (#self at_types) fn (code.unfolded 𝓤 𝓛.H 𝓜 𝓡 wired (T, (A, tt)) allocates drops_T drops_A) (λ y are.
     let κs = y.0.0 in let qs = y.0.1 in let box = y.0.3.0 in let a = box.alloc in
     let ends : Val → SProp 𝓤 = (walk_of 𝓛 F stayed c).post y in let runs : List Val → SProp 𝓤 = λ vs. WpFn 𝓤 𝓛.H 𝓣.C 𝓣.Λ fn vs ends in
     let alive = ‵ (flft κs.0 qs.0) ⊛ ‵ (flft κs.1.0 qs.1.0) ⊛ ‵ ftrue in
