@@ -1,5 +1,6 @@
 -- The settings that C gives.
-use Rattle.std.specs.Prelude.{◌≡◌, ℕ, List, [], map, take, Option, Some, None, if◌then◌else◌, ◌==◌}
+use Rattle.std.specs.Prelude.{◌≡◌, ℕ, Bool, true, ◌&&◌, nat_lt, nat_le, IsTrue, List, [], map, take, Option, Some, None, if◌then◌else◌, ◌==◌}
+use Rattle.std.specs.List.{list_all}
 use Rattle.cip_base.specs.Words.{Octets}
 use Rattle.cip_target.specs.declared.config.AssemblyConfig.{AssemblyConfig}
 use Rattle.cip_target.specs.declared.identity.IdentityFields.{IdentityFields}
@@ -9,7 +10,9 @@ use Rattle.cip_config.specs.declared.config.ModuleKind.{ModuleKind}
 use Rattle.cip_config.specs.declared.config.ModuleKind.TheVariants.{Plain, Adapter, Indexed}
 use Rattle.cip_config.specs.declared.config.ModuleSettings.{ModuleSettings}
 use Rattle.cip_config.specs.declared.config.PortConfig.{PortConfig}
+use Rattle.cip_config.specs.Config.{is_settings}
 use Rattle.cip_module.specs.State.{initial_state}
+use Rattle.cip_target.specs.Identity.{is_identity}
 use Rattle.cip_device.specs.Shown.{Shown}
 use Rattle.cip_device.specs.declared.settings.CipAssembly.{CipAssembly}
 use Rattle.cip_device.specs.declared.settings.CipConfig.{CipConfig}
@@ -32,6 +35,11 @@ port_of p = record {
   legal = legal_of p;
   address = take p.address_length p.address;
 }
+
+-- it has a number, and an address of 1 to 16 bytes
+abbrev pub is_given_port : CipPort → Bool
+is_given_port p =
+    nat_lt 0 p.number && (nat_lt 0 p.address_length && nat_le p.address_length 16)
 
 abbrev pub assembly_of : CipAssembly → AssemblyConfig
 assembly_of a = record { instance = a.instance; size = a.size }
@@ -65,6 +73,13 @@ IsConfigOf config name product_name ports assemblies settings =
       ports = map port_of ports;
       assemblies = map assembly_of assemblies;
     })
+
+-- they are in their ranges
+abbrev pub AreLegal : CipConfig → Octets → Octets → List CipPort → List CipAssembly → Type 0
+AreLegal config name product_name ports assemblies =
+    (list_all is_given_port ports ≡ true) × IsTrue (is_identity (identity_of config product_name))
+    × ((settings : ModuleSettings) × IsConfigOf config name product_name ports assemblies settings
+    × IsTrue (is_settings settings))
 
 -- a device of these settings, as it begins, where there was none
 abbrev pub IsNew : CipConfig → Octets → Octets → List CipPort → List CipAssembly

@@ -2,7 +2,7 @@
 ghost use Rattle.std.specs.Prelude.{◌≡◌, ◌≢◌, ◌↔◌, ◌<◌, length, None};
 ghost use Rattle.cip_device.specs.Outputs.{IsNextAnswer};
 ghost use Rattle.cip_device.specs.Reads.{IsReadAnswer};
-ghost use Rattle.cip_device.specs.Settings.{IsNew};
+ghost use Rattle.cip_device.specs.Settings.{AreLegal, IsNew};
 ghost use Rattle.cip_device.specs.Shown.{shown};
 
 use crate::handle::CipDevice;
@@ -28,6 +28,10 @@ pub extern "C" fn cip_new(
         assemblies.now (shown device.old.held) (shown device.new.held) }
     ensures kept { result ≢ 0 → shown device.new.held ≡ shown device.old.held }
     ensures in_use { (result ≡ 2) ↔ (shown device.old.held ≢ None) }
+    ensures legal { result ≡ 0 → AreLegal config.now name.now product_name.now ports.now
+        assemblies.now }
+    ensures bad { result ≡ 4 → AreLegal config.now name.now product_name.now ports.now
+        assemblies.now → ⊥ }
     ensures known { result < 6 }
 {
     if let Some(held) = replace(device, CipDevice::empty(alloc)).into_box() {

@@ -1,6 +1,8 @@
 //! The settings of a device, in the form in which they come from C.
-ghost use Rattle.std.specs.Prelude.{◌≡◌, ◌⊎◌, IfOk, IfErr, IfSome, Some, map};
-ghost use Rattle.cip_device.specs.Settings.{kind_of, port_of, assembly_of, identity_of, IsConfigOf};
+ghost use Rattle.std.specs.Prelude.{◌≡◌, ◌⊎◌, ◌↔◌, false, true, IfOk, IsOk, IfErr, IfSome, IsSome, IsTrue, Some, map};
+ghost use Rattle.std.specs.List.{list_all};
+ghost use Rattle.cip_target.specs.Identity.{is_identity};
+ghost use Rattle.cip_device.specs.Settings.{kind_of, port_of, assembly_of, identity_of, is_given_port, AreLegal, IsConfigOf};
 
 use crate::making::bytes_of;
 use crate::numbers::{ADAPTER, BAD_ARGUMENT, INDEXED, NO_MEMORY, PLAIN};
@@ -68,7 +70,8 @@ fn kind_of(kind: u32) -> Option<ModuleKind>
 
 // Which link it is on says nothing to the module itself.
 fn port_of(port: &CipPort) -> Option<PortConfig>
-    ensures { IfSome result (λ p. p ≡ port_of port.now) }
+    ensures value { IfSome result (λ p. p ≡ port_of port.now) }
+    ensures given { IsSome result ↔ (is_given_port port.now ≡ true) }
 {
     let number = PortNumber::new(port.number)?;
     let length = usize::from(port.address_length);
@@ -94,7 +97,9 @@ fn port_of(port: &CipPort) -> Option<PortConfig>
 
 fn ports_of(alloc: Global, ports: &[CipPort]) -> Result<Ports, u32>
     ensures value { IfOk result (λ made. made ≡ map port_of ports.now) }
-    ensures fault { IfErr result (λ status. (status ≡ 4) ⊎ (status ≡ 5)) }
+    ensures given { IsOk result → list_all is_given_port ports.now ≡ true }
+    ensures fault { IfErr result (λ status.
+        ((status ≡ 4) × (list_all is_given_port ports.now ≡ false)) ⊎ (status ≡ 5)) }
 {
     let mut made = Vec::new(alloc);
     for port in ports {
@@ -110,7 +115,7 @@ fn ports_of(alloc: Global, ports: &[CipPort]) -> Result<Ports, u32>
 
 fn assemblies_of(alloc: Global, assemblies: &[CipAssembly]) -> Result<Assemblies, u32>
     ensures value { IfOk result (λ made. made ≡ map assembly_of assemblies.now) }
-    ensures fault { IfErr result (λ status. (status ≡ 4) ⊎ (status ≡ 5)) }
+    ensures fault { IfErr result (λ status. status ≡ 5) }
 {
     let mut made = Vec::new(alloc);
     for assembly in assemblies {
@@ -126,7 +131,9 @@ fn assemblies_of(alloc: Global, assemblies: &[CipAssembly]) -> Result<Assemblies
 }
 
 fn identity_of(alloc: Global, config: &CipConfig, product_name: &[u8]) -> Result<Identity, u32>
-    ensures fault { IfErr result (λ status. (status ≡ 4) ⊎ (status ≡ 5)) }
+    ensures fault { IfErr result (λ status. ((status ≡ 4)
+        × (IsTrue (is_identity (identity_of config.now product_name.now)) → ⊥)) ⊎ (status ≡ 5)) }
+    ensures legal { IsOk result → IsTrue (is_identity (identity_of config.now product_name.now)) }
     ensures value { IfOk result (λ i. i ≡ identity_of config.now product_name.now) }
 {
     let Ok(name) = bytes_of(alloc, product_name) else {
@@ -159,7 +166,10 @@ pub(crate) fn config_of(
 ) -> Result<ModuleConfig, u32>
     ensures value { IfOk result (IsConfigOf config.now name.now product_name.now ports.now
         assemblies.now) }
-    ensures fault { IfErr result (λ status. (status ≡ 4) ⊎ (status ≡ 5)) }
+    ensures legal { IsOk result → AreLegal config.now name.now product_name.now ports.now
+        assemblies.now }
+    ensures fault { IfErr result (λ status. ((status ≡ 4) × (AreLegal config.now name.now
+        product_name.now ports.now assemblies.now → ⊥)) ⊎ (status ≡ 5)) }
 {
     let Some(kind) = kind_of(config.kind) else {
         return Err(BAD_ARGUMENT);
