@@ -1,0 +1,6 @@
+pub mod Shown
+pub mod Handle
+pub mod Outputs
+pub mod Settings
+pub mod Given
+pub mod Reads

@@ -1,0 +1,146 @@
+//! What lies on the heap behind a handle.
+ghost use Rattle.std.specs.Prelude.{◌≡◌, ◌≢◌, ◌↔◌, ◌<◌, [], true, length, find, option_map, Some, IfOk};
+ghost use Rattle.cip_indexed.specs.NewModules.{config_of_new, state_of_new};
+ghost use Rattle.cip_module.specs.State.{initial_state};
+ghost use Rattle.cip_module.specs.Steps.{IsStep, IsStepFault};
+ghost use Rattle.cip_module.specs.Views.{ShowsState};
+ghost use Rattle.cip_device.specs.Shown.{shown_of, IsDeviceStep, IsFull, IsReady, IsWhy};
+ghost use Rattle.cip_device.specs.Outputs.{IsNext};
+ghost use Rattle.cip_device.specs.Reads.{is_row_of, IsRead, HasNone};
+
+use crate::numbers::{CLOCK_FULL, DONE, NO_MEMORY, NOTHING, SHORT, UNREAD};
+use crate::output::{CipOutput, outline, payload};
+use cip_base::NoMemory;
+use cip_indexed::NewModule;
+use cip_module::{AssemblyRow, Event, Module, ModuleConfig, Output, StepFault, Tables};
+use std::alloc::Global;
+use std::collections::VecDeque;
+
+// One event, to a module of any kind.
+fn module_step(module_: &mut NewModule, event: Event) -> Result<Vec<Output>, StepFault>
+    ensures ok { IfOk result (λ outputs. IsStep (config_of_new module_.old)
+        (state_of_new module_.old) event (state_of_new module_.new) outputs.items) }
+    ensures fault { IsStepFault (config_of_new module_.old) (state_of_new module_.old) event
+        (state_of_new module_.new) result }
+    ensures config { config_of_new module_.new ≡ config_of_new module_.old }
+{
+    match module_ {
+        NewModule::Plain(inner) => inner.as_mut().step(event),
+        NewModule::Adapter(inner) => inner.as_mut().step(event),
+        NewModule::Indexed(inner) => inner.as_mut().step(event),
+    }
+}
+
+// The state of a module of any kind.
+fn module_tables(module_: &NewModule) -> Result<Tables, NoMemory>
+    ensures { IfOk result (ShowsState (state_of_new module_.now)) }
+{
+    match module_ {
+        NewModule::Plain(inner) => inner.as_ref().tables(),
+        NewModule::Adapter(inner) => inner.as_ref().tables(),
+        NewModule::Indexed(inner) => inner.as_ref().tables(),
+    }
+}
+
+fn row_of(rows: &[AssemblyRow], instance: u16) -> Option<&AssemblyRow>
+    ensures { option_map (λ row. row.now) result ≡ find (is_row_of instance) rows.now }
+{
+    rows.iter().find(|row| row.instance == instance)
+}
+
+/// A module, and what its last step put out and nobody has read yet.
+#[derive(Drop)]
+pub struct Held {
+    pub(crate) module_: NewModule,
+    pub(crate) outputs: VecDeque<Output>,
+}
+
+impl Held {
+    /// The module of a config, in its initial state.
+    pub(crate) fn new(alloc: Global, config: ModuleConfig) -> Result<Held, NoMemory>
+        ensures { IfOk result (λ h. shown_of h ≡ record
+            { config = config; state = initial_state config; outputs = [] }) }
+    {
+        let module_ = NewModule::new(alloc, config)?;
+        Ok(Held {
+            module_,
+            outputs: VecDeque::new(alloc),
+        })
+    }
+
+    /// Whether no output waits.
+    pub(crate) fn is_ready(&self) -> bool
+        ensures { (result ≡ true) ↔ ((shown_of self.now).outputs ≡ []) }
+    {
+        self.outputs.is_empty()
+    }
+
+    /// Takes one event; UNREAD where outputs of the step before wait.
+    pub(crate) fn step(&mut self, event: Event) -> u32
+        ensures done { result ≡ 0 → IsDeviceStep (Some (shown_of self.old)) event
+            (Some (shown_of self.new)) }
+        ensures kept { result ≢ 0 → shown_of self.new ≡ shown_of self.old }
+        ensures why { IsWhy result (Some (shown_of self.old)) event }
+        ensures known { result ≢ 4 }
+        ensures full { IsReady (Some (shown_of self.old)) → IsFull (Some (shown_of self.old)) event
+            → result ≡ 6 }
+    {
+        if !self.outputs.is_empty() {
+            return UNREAD;
+        }
+        match module_step(&mut self.module_, event) {
+            Ok(outputs) => {
+                self.outputs = VecDeque::from_vec(outputs);
+                DONE
+            }
+            Err(StepFault::NoMemory(_)) => NO_MEMORY,
+            Err(StepFault::ClockFull(_)) => CLOCK_FULL,
+        }
+    }
+
+    /// Tells the next output, and takes it off: NOTHING where there is none, SHORT where its bytes
+    /// do not fit.
+    pub(crate) fn next(&mut self, output: &mut CipOutput, buffer: &mut [u8]) -> u32
+        ensures done { result ≡ 0 → IsNext (shown_of self.old) output.new buffer.new
+            (shown_of self.new) }
+        ensures kept { result ≢ 0 → shown_of self.new ≡ shown_of self.old }
+        ensures known { result ≢ 1 }
+        ensures nothing { (result ≡ 7) ↔ ((shown_of self.old).outputs ≡ []) }
+        ensures short { result ≡ 8 → length buffer.old < output.new.length }
+    {
+        let Some(next) = self.outputs.front() else {
+            return NOTHING;
+        };
+        *output = outline(next);
+        let bytes = payload(next);
+        if bytes.len() > buffer.len() {
+            return SHORT;
+        }
+        buffer[..bytes.len()].copy_from_slice(bytes);
+        self.outputs.pop_front();
+        DONE
+    }
+
+    /// The bytes of an assembly: NOTHING where it has none of this instance, SHORT where they do
+    /// not fit, NO_MEMORY.
+    pub(crate) fn assembly(&self, instance: u16, count: &mut usize, buffer: &mut [u8]) -> u32
+        ensures done { result ≡ 0 → IsRead (shown_of self.now) instance count.new buffer.new }
+        ensures known { result ≢ 1 }
+        ensures nothing { result ≡ 7 → HasNone (shown_of self.now) instance }
+        ensures short { result ≡ 8 → length buffer.old < count.new }
+    {
+        let Ok(tables) = module_tables(&self.module_) else {
+            return NO_MEMORY;
+        };
+        let Some(row) = row_of(tables.assemblies.as_slice(), instance) else {
+            return NOTHING;
+        };
+        let bytes = row.bytes.as_slice();
+        *count = bytes.len();
+        if bytes.len() > buffer.len() {
+            return SHORT;
+        }
+        buffer[..bytes.len()].copy_from_slice(bytes);
+        DONE
+    }
+}
