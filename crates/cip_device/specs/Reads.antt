@@ -29,8 +29,8 @@ HasNoneThere (Some s) instance = HasNone s instance
 HasNoneThere None instance = ⊥
 
 -- what is answered to who reads an assembly into a buffer of so many bytes: 0 it was read; 1
--- exactly where there is no device, 7 only where it has no such assembly, 8 only where the buffer is
--- shorter than the count that is told
+-- exactly where there is no device, 7 only where it has no such assembly, 8 only where the buffer
+-- is shorter than the count that is told
 abbrev pub IsReadAnswer : ℕ → Option Shown → ℕ → ℕ → ℕ → Octets → Type 0
 IsReadAnswer result old instance count room buffer =
     (result ≡ 0 → IsDeviceRead old instance count buffer) × ((result ≡ 1) ↔ (old ≡ None))

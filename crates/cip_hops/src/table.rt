@@ -100,8 +100,8 @@ impl HopTable {
 
     /// Keeps an opening under the next ids, one for each side that is a link and that of the down
     /// side first. Duplicate where its triad is opening or open, else Full where the room is used
-    /// up, else IdsSpent where fewer counts up to 65,535 are left in this incarnation than it draws:
-    /// the opening then comes back, and nothing changes.
+    /// up, else IdsSpent where fewer counts up to 65,535 are left in this incarnation than it
+    /// draws: the opening then comes back, and nothing changes.
     pub fn begin(&mut self, opening: Opening) -> Result<OwnIds, BeginFault>
         requires multiplier { opening.multiplier < 8 }
         requires op { IsOpFree self.old (op_of opening.up) }

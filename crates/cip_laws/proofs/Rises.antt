@@ -12,7 +12,8 @@ abbrev pub drawn_from : ModuleSettings → (State → Effect → ℕ) → State 
 drawn_from config d s [] = 0
 drawn_from config d s (e ∷ es) = d s e + drawn_from config d (apply config s e) es
 
-pub numbers_after : (config : ModuleSettings) (s : State) (es : List Effect) → (applied config s es).pendings.next ≡ s.pendings.next + drawn_from config numbers_drawn s es
+pub numbers_after : (config : ModuleSettings) (s : State) (es : List Effect)
+    → (applied config s es).pendings.next ≡ s.pendings.next + drawn_from config numbers_drawn s es
 numbers_after config s [] = omega arith
 numbers_after config s (e ∷ es) = let here = next_number config s e in let there = numbers_after config (apply config s e) es in omega (arith, here, there)
 

@@ -45,7 +45,8 @@ module _ (t : Inside) (h : IsKept t) where
 
   pub room_left : refusal (pendings t) ≡ None → (map.len t.order.keys < t.room) × ((t.next - 1) % 65536 + 1 ≤ 65535)
   room_left e =
-      let is : (if nat_le t.room (map.len t.order.keys) then Some Full else (if nat_lt 65535 ((t.next - 1) % 65536 + 1) then Some NumbersSpent else None)) ≡ None =
+      let is : (if nat_le t.room (map.len t.order.keys) then Some Full
+      else (if nat_lt 65535 ((t.next - 1) % 65536 + 1) then Some NumbersSpent else None)) ≡ None =
       sym (refusal_by (pendings t) _ len_is) ∙ e in
       grind (arith, nat_tests)
 

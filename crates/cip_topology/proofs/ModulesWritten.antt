@@ -96,7 +96,8 @@ counts_are : (place : Place) (links : List Link) (c : ModuleSettings) (m : Membe
 counts_are place links c m w f h =
     let (clock, h1) = and_parts (nat_lt c.clock (2 ^ 63)) (nat_le 1 (count_of c.first_id)
     && (nat_le 1 (count_of c.first_number) && (is_room 256 c.pending_room && is_room 256 c.hop_room))) h in
-    let (id, h2) = and_parts (nat_le 1 (count_of c.first_id)) (nat_le 1 (count_of c.first_number) && (is_room 256 c.pending_room && is_room 256 c.hop_room)) h1 in
+    let (id, h2) = and_parts (nat_le 1 (count_of c.first_id))
+    (nat_le 1 (count_of c.first_number) && (is_room 256 c.pending_room && is_room 256 c.hop_room)) h1 in
     let (number, h3) = and_parts (nat_le 1 (count_of c.first_number)) (is_room 256 c.pending_room && is_room 256 c.hop_room) h2 in
     let (pending, hop) = and_parts (is_room 256 c.pending_room) (is_room 256 c.hop_room) h3 in
     let pendings = and_parts (nat_le 1 c.pending_room) (nat_le c.pending_room 256) pending in

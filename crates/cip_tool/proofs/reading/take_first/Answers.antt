@@ -12,12 +12,14 @@ pub returns-in-Ok-clause-taken : goal.returns-in-Ok-clause-taken
 returns-in-Ok-clause-taken c =
     let e = c.in-Some.ensures.cases.0 in
     added c.add.result 1 _ _ _ _ _ c.add.ensures.added
-    (λ sum. taken_one c.args.place c.args.words.now c.in-Some.word.now c.in-Some.after.now _ _ _ e (sym c.is_segment.ensures ∙ c.if-is_segment.true) c.in-Ok.ensures.gives sum)
+    (λ sum. taken_one c.args.place c.args.words.now c.in-Some.word.now c.in-Some.after.now _ _ _ e (sym c.is_segment.ensures ∙ c.if-is_segment.true)
+    c.in-Ok.ensures.gives sum)
 
 pub returns-in-Err-clause-taken : goal.returns-in-Err-clause-taken
 returns-in-Err-clause-taken c =
     let e = c.in-Some.ensures.cases.0 in
-    fails_one c.args.place c.args.words.now c.in-Some.word.now c.in-Some.after.now c.in-Err.fault e (sym c.is_segment.ensures ∙ c.if-is_segment.true) c.in-Err.ensures.gives
+    fails_one c.args.place c.args.words.now c.in-Some.word.now c.in-Some.after.now c.in-Err.fault e (sym c.is_segment.ensures ∙ c.if-is_segment.true)
+    c.in-Err.ensures.gives
 
 pub returns-in_default-split_first-clause-taken : goal.returns-in_default-split_first-clause-taken
 returns-in_default-split_first-clause-taken c =

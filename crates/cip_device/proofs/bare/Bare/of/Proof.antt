@@ -69,10 +69,12 @@ of_spec 𝓤 𝓛 𝓜 𝓡 wired T A LT LA g allocates drops_T drops_A allocato
     suffices ! (runs (w ∷ [])) (subst (λ (vs : List Val). ent 𝓤 (runs (w ∷ [])) (runs vs)) (sym (λ i. vs_are i ++ [])) (id⊢ 𝓤 (runs (w ∷ [])))) $
     enter ! 𝓣.C 𝓣.Λ fn (w ∷ []) ends $ alloc_all ! (λ l. pass_all ! refl (typed, tt) $
     sets ! (of_opd ! (get ! refl)) refl typed $
-    calls_at ! (fm 𝓛 𝓜 𝓡) C (met 𝓤 𝓛 𝓜 𝓡 (code.calls-std_alloc::boxed::Box::into_raw_with_allocator 𝓡.env wired) T A LT LA g allocates drops_A drops_T allocator glue_A glue_T) z
+    calls_at ! (fm 𝓛 𝓜 𝓡) C (met 𝓤 𝓛 𝓜 𝓡 (code.calls-std_alloc::boxed::Box::into_raw_with_allocator 𝓡.env wired) T A LT LA g allocates
+    drops_A drops_T allocator glue_A glue_T) z
     (and_then ! (get ! refl) (no_more !)) (λ v.
     use1 𝓛 (later (some (λ (r : Ptr × A.Denot). (alive ⊛ ‵ (Pair.own_val r (v ∷ []))) ⊛
-    some (λ (_ : (Unit {0} × (Unit {0} × Unit {0})) × Unit {0}). ‵ (fsep (fsep ftrue (fsep ftrue ftrue)) ftrue) ⊛ (raw (fact 𝓤 (r.1 ≡ a)) ⊛ ‵ (box_owns (g.dealloc_token a) X r.0 box.value)))))) (id⊢ 𝓤 _) $
+    some (λ (_ : (Unit {0} × (Unit {0} × Unit {0})) × Unit {0}). ‵ (fsep (fsep ftrue (fsep ftrue ftrue)) ftrue)
+    ⊛ (raw (fact 𝓤 (r.1 ≡ a)) ⊛ ‵ (box_owns (g.dealloc_token a) X r.0 box.value)))))) (id⊢ 𝓤 _) $
     await ! tt $ pick ! (λ r. split ! $ move ! (1 ∷ []) $ pick ! (λ _. split3 ! $ drop ! $ heard ! (r.1 ≡ a) (λ same_handle.
     in_a_block ! r.0 (λ p. box_owns (g.dealloc_token a) X p box.value) (fst∗ 𝓤 (never 𝓤) (sem 𝓛 (g.dealloc_token a (bits (layout T)) null_ptr))) (λ b' o' r_is.
     -- [the box's memory; the tokens with the pair]

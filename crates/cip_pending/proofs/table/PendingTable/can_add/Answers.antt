@@ -9,8 +9,10 @@ returns-then-len-self c =
 
 pub returns-then-counts_given-gt-LAST_COUNT : goal.returns-then-counts_given-gt-LAST_COUNT
 returns-then-counts_given-gt-LAST_COUNT c =
-    sym (refusal_spent c.self.inside c.self.invariant (omega (arith, c.len.ensures, c.if-len-self.false)) (omega (arith, c.counts_given.ensures))) ∙ ap refusal c.self.view_is
+    sym (refusal_spent c.self.inside c.self.invariant (omega (arith, c.len.ensures, c.if-len-self.false)) (omega (arith, c.counts_given.ensures)))
+    ∙ ap refusal c.self.view_is
 
 pub returns-else-counts_given-gt-LAST_COUNT : goal.returns-else-counts_given-gt-LAST_COUNT
 returns-else-counts_given-gt-LAST_COUNT c =
-    sym (refusal_none c.self.inside c.self.invariant (omega (arith, c.len.ensures, c.if-len-self.false)) (omega (arith, c.counts_given.ensures))) ∙ ap refusal c.self.view_is
+    sym (refusal_none c.self.inside c.self.invariant (omega (arith, c.len.ensures, c.if-len-self.false)) (omega (arith, c.counts_given.ensures)))
+    ∙ ap refusal c.self.view_is
