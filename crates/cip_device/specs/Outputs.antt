@@ -88,8 +88,8 @@ IsDeviceNext (Some old) out buffer None = ⊥
 IsDeviceNext None out buffer new = ⊥
 
 -- what is answered to who asks for the next output, with a buffer of so many bytes: 0 it was told,
--- and else nothing has changed; 1 exactly where there is no device, 7 exactly where no output waits,
--- 8 only where the buffer is shorter than the length that is told
+-- and else nothing has changed; 1 exactly where there is no device, 7 exactly where no output
+-- waits, 8 only where the buffer is shorter than the length that is told
 abbrev pub IsNextAnswer : ℕ → Option Shown → CipOutput → ℕ → Octets → Option Shown → Type 0
 IsNextAnswer result old out room buffer new =
     (result ≡ 0 → IsDeviceNext old out buffer new) × (result ≢ 0 → new ≡ old)
