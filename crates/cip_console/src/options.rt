@@ -161,7 +161,12 @@ fn said(alloc: Global, error: &clap::Error) -> Result<String, AllocError> {
 /// an allocation is refused.
 pub fn explain_options(alloc: Global, words: &[String]) -> Result<String, NoMemory> {
     match command(alloc)?.try_get_matches_from(words) {
-        Ok(_) => Ok(String::from_str(alloc, "--turns: allowed: 1 to 1000000")?),
+        Ok(matches) => {
+            let turns = matches.get_str("turns").unwrap_or("");
+            let mut text = String::new(alloc);
+            write!(text, "--turns: {turns:?} is none of 1 to {MOST_TURNS}")?;
+            Ok(text)
+        }
         Err(error) => Ok(said(alloc, &error)?),
     }
 }

@@ -6,6 +6,9 @@ use cip_topology::LoadFault;
 use std::fmt;
 use thiserror::Error;
 
+// What stands behind a fault of the options.
+const WRONG: Usage = Usage::Wrong;
+
 /// Why a file gives no bytes.
 #[derive(Clone, Copy, Debug, PartialEq, Eq, Error)]
 pub enum Unread {
@@ -44,25 +47,25 @@ pub enum Fault {
     #[error("{0}")]
     Options(OptionsFault),
     /// A word of the command line asks for nothing that the program has, and why.
-    #[error("{0}\n{}", Usage::Wrong)]
+    #[error("{0}\n{WRONG}")]
     Usage(String),
     /// A word of the command line, from 1, is no text.
     #[error("argument {0}: not UTF-8")]
     Argument(usize),
     /// The topology file, or the chassis that stands where none is given, breaks a rule.
-    #[error("{}: {1}", Escaped(.0))]
+    #[error("{}: {}", Escaped(.0), .1)]
     Topology(String, LoadFault),
     /// The topology file is no text.
     #[error("{}: not UTF-8", Escaped(.0))]
     NotText(String),
     /// A file can't be read, or is too long.
-    #[error("{}: {1}", Escaped(.0))]
+    #[error("{}: {}", Escaped(.0), .1)]
     Read(String, Unread),
     /// A line of the script, and what is wrong with it.
-    #[error("{}:{1}: {2}", Escaped(.0))]
+    #[error("{}:{}: {}", Escaped(.0), .1, .2)]
     Script(String, usize, Explained),
     /// A line of the script that names no module, and the modules that there are.
-    #[error("{}:{1}: {2}; allowed: {3}", Escaped(.0))]
+    #[error("{}:{}: {}; allowed: {}", Escaped(.0), .1, .2, .3)]
     NoModule(String, usize, Explained, String),
     /// A text that was asked for can't be written.
     #[error("standard output can't be written")]
