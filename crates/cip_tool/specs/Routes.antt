@@ -83,7 +83,8 @@ is_comma b = b == 44
 
 -- the segments of a path in words; a dash is the empty path
 abbrev pub route_of : List ℕ → Routed
-route_of text = if bytes_eq text (codes "-") then Ok [] else words_from 1 (slice_split is_comma text)
+route_of text = if bytes_eq text (codes "-") then Ok []
+    else words_from 1 (slice_split is_comma text)
 
 abbrev pub RouteFails : RouteFault → Routed → Type 0
 RouteFails route_faults.NoMemory read = Unit {0}

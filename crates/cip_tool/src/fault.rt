@@ -37,7 +37,8 @@ pub enum WordFault {
     Data,
     #[error("no symbol; allowed: at most 255 characters, or 0x and pairs of hexadecimal digits")]
     Symbol,
-    #[error("no name; allowed: instance=, attribute=, member=, point=, inhibit=, key=, data=, symbol=")]
+    #[error("no name; allowed: instance=, attribute=, member=, point=, inhibit=, key=, data=, \
+        symbol=")]
     Name,
 }
 
