@@ -3,7 +3,7 @@ by themselves. What comes of an event is said by the oracle alone."""
 
 import re
 
-from oracle import CHASSIS, COUNT, HEADER, frames_of, is_path, put
+from oracle import CHASSIS, COUNT, HEADER, MOST, frames_of, is_path, put
 from worked import IDENTITY, PATH, TIMING
 
 
@@ -65,8 +65,8 @@ class Life:
 
     def plain_request(self):
         path = self.object()
-        service = self.one(0x01, 0x0E, 0x0E, 0x10, 0x10, 0x10, 0x4B, 0x52, 0x54, 0x5B, 0x4E)
-        return bytes([service, len(path) // 2]) + path + self.one(b"", b"", b"ab", b"abcd", b"abcd", b"abcdef")
+        service = self.one(0x01, 0x05, 0x0E, 0x0E, 0x10, 0x10, 0x10, 0x4B, 0x52, 0x54, 0x5B, 0x4E)
+        return bytes([service, len(path) // 2]) + path + self.one(b"", b"", b"a", b"ab", b"abcd", b"abcd", b"abcdef")
 
     def timing(self):
         return self.one(TIMING, TIMING, TIMING, (7, 1), (0, 2), (0, 60), (0xF5, 3), (15, 255), (1, 0))
@@ -90,7 +90,7 @@ class Life:
         timing = bytes([tick, ticks])
         kind = one("open", "open", "large", "close", "send")
         if kind in ("open", "large"):
-            fields = self.triad() + bytes([one(0, 0, 0, 1, 7, 8)]) + bytes(3) + put(one(10_000, 10_000, 1, 0, COUNT), 4)
+            fields = self.triad() + bytes([one(0, 0, 0, 1, 7, 8)]) + bytes(3) + put(one(10_000, 10_000, 1, 0, MOST), 4)
             sizes = one((0x4806, 0x4804), (0x4804, 0x4802), (self.params(), self.params()))
             width, service = (2, b"\x54") if kind == "open" else (4, b"\x5b")
             words = sizes if kind == "open" else (self.widened(sizes[0]), self.widened(sizes[1]))
@@ -208,7 +208,7 @@ class Life:
 # how many events modules live
 ROUND = 250
 # which numbers few are left of, and how many
-SETTINGS = [("pending_room", 1, 3), ("hop_room", 1, 3), ("first_id", COUNT - 5, COUNT), ("first_number", COUNT - 3, COUNT)]
+SETTINGS = [("pending_room", 1, 3), ("hop_room", 1, 3), ("first_id", MOST - 5, MOST), ("first_number", COUNT - 3, COUNT)]
 
 
 def rooms(draw):

@@ -7,7 +7,8 @@ under the names that they have in the document, each with its group.
 
 from collections import Counter
 
-LAST, COUNT = 9_223_372_036_854_775_807, 0xFFFFFFFF
+# the last microsecond, number of 32 bits, and count of an incarnation
+LAST, MOST, COUNT = 9_223_372_036_854_775_807, 0xFFFFFFFF, 0xFFFF
 MESSAGE, EMBEDDED, HEADER, ROOM = 66_000, 65_535, bytes.fromhex("0220062401"), 256
 CLASS, INSTANCE, MEMBER, POINT, ATTRIBUTE = range(5)
 # the bytes of network connection parameters, and what waits for the reply, of Forward_Open and Large_Forward_Open
@@ -38,7 +39,7 @@ STATUS = {
               "not this sender's open triad": "0107", "path differs from the hop's": "0316"},
     "target": {"path form not supported": "05", "class not supported": "05", "no such instance": "16",
                "service not supported": "08", "no such attribute": "14", "not settable": "0E", "data short": "13",
-               "data long": "15"},
+               "data long": "15", "reset": "08"},
 }  # fmt: skip
 LINK = {"no port segment": "0315", "no such port": "0311", "link address not legal": "0312", "time-out ticks spent": "0204",
         "no pending left": "0301"}  # fmt: skip
@@ -266,7 +267,7 @@ class Module:
     def wait_row(self, ticks):
         if ticks < 2:
             return "time-out ticks spent"
-        return "no pending left" if len(self.pendings) >= self.pending_room or self.number >= COUNT else None
+        return "no pending left" if len(self.pendings) >= self.pending_room or self.number % 65536 >= COUNT else None
 
     # requests
 
@@ -311,8 +312,11 @@ class Module:
             return no("class not supported")
         if instance != 1 if of_class == 1 else instance not in self.assemblies:
             return no("no such instance")
-        if service not in ((0x01, 0x0E, 0x10) if of_class == 1 else (0x0E, 0x10)):
+        if service not in ((0x01, 0x05, 0x0E, 0x10) if of_class == 1 else (0x0E, 0x10)):
             return no("service not supported")
+        if service == 0x05:
+            # no module carries it out yet
+            return no("data long" if len(data) > 1 else "reset")
         if service != 0x01 and attribute not in (range(1, 8) if of_class == 1 else (3,)):
             return no("no such attribute")
         if service == 0x10 and of_class == 1:
@@ -391,7 +395,7 @@ class Module:
         key, hop = first_hop(path)
         if self.key_fault(key):
             return no("key mismatch", self.key_fault(key))
-        is_full, left = len(self.hops) + len(self.openings) >= self.hop_room, COUNT - self.id
+        is_full, left = len(self.hops) + len(self.openings) >= self.hop_room, COUNT - self.id % 65536
         sizes = [it & (0x1FF if width == 2 else 0xFFFF) for it in params]
         made = {"up": up, "path": path, "sizes": sizes, "class": transport & 15, "their_up": num(data, 6, 4)}
         made.update(consumed=None, produced=0, watch=[rpi << data[18] + 2 for rpi in rpis], link=hop and hop[:2])

@@ -16,3 +16,7 @@ noted m (Some name) key = record { room = m.room; keys = map.insert m.keys name 
 abbrev pub forgot : {K : Type 0} {R : K → K → Ordering} → Index R → Option K → Index R
 forgot m None = m
 forgot m (Some name) = record { room = m.room; keys = map.remove m.keys name }
+
+-- without a name
+abbrev pub emptied : {K : Type 0} {R : K → K → Ordering} → Index R → Index R
+emptied m = record { room = m.room; keys = map.empty }

@@ -1,4 +1,5 @@
 pub mod Behind
+pub mod Counts
 pub mod Fields
 pub mod Index
 pub mod Joined

@@ -3,7 +3,7 @@ ghost use Rattle.std.specs.Prelude.{◌≡◌, ◌<◌, None, IfOk, IfSome, IsSo
 ghost use Rattle.std.specs.Ordering.{nat_cmp};
 ghost use Rattle.std.specs.FinMap as map;
 ghost use Rattle.cip_base.specs.Rising.{IsRising, IsPlaceOf};
-ghost use Rattle.cip_base.specs.Index.{noted, forgot};
+ghost use Rattle.cip_base.specs.Index.{noted, forgot, emptied};
 
 use crate::row::Row;
 use std::alloc::{AllocError, Global};
@@ -94,6 +94,13 @@ impl NumberIndex {
             };
             self.pairs.remove(at);
         }
+    }
+
+    /// Forgets all numbers. The room stays reserved.
+    pub fn clear(&mut self)
+        ensures { self.new ≡ emptied self.old }
+    {
+        self.pairs.clear();
     }
 }
 

@@ -8,6 +8,7 @@ use std::alloc::{AllocError, Allocator};
 
 mod address;
 mod bytes;
+mod counts;
 mod fields;
 mod index;
 mod key;
@@ -21,13 +22,14 @@ mod triad;
 
 pub use address::{Address, AddressFault};
 pub use bytes::Bytes;
+pub use counts::{count_of, counts_given, incarnation, reborn};
 pub use fields::{put_double, put_word};
 pub use index::NumberIndex;
 pub use key::KeyFields;
-pub use laws::{triad_order, triads_are_ordered};
+pub use laws::{counts_rise_under_incarnations, triad_order, triads_are_ordered};
 pub use limits::{
-    LAST_COUNT, MAX_ADDRESS, MAX_ASSEMBLIES, MAX_DATUM, MAX_EMBEDDED, MAX_HOPS, MAX_MESSAGE,
-    MAX_PATH, MAX_PENDINGS, MAX_PORTS,
+    COUNTS, LAST_COUNT, LAST_INCARNATION, MAX_ADDRESS, MAX_ASSEMBLIES, MAX_DATUM, MAX_EMBEDDED,
+    MAX_HOPS, MAX_MESSAGE, MAX_PATH, MAX_PENDINGS, MAX_PORTS,
 };
 pub use memory::NoMemory;
 pub use numbers::{ModuleId, Ms, PortNumber};

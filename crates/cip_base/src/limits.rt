@@ -14,8 +14,12 @@ pub const MAX_DATUM: usize = 65_535;
 pub const MAX_PORTS: usize = 8;
 /// The most assemblies of a module.
 pub const MAX_ASSEMBLIES: usize = 64;
-/// The last connection id and the last request number of a module: neither comes back.
-pub const LAST_COUNT: u64 = 4_294_967_295;
+/// A connection id or a request number has a count of 16 bits, from 1, under an incarnation.
+pub const COUNTS: u64 = 65_536;
+/// The last count of an incarnation: none comes back before the next incarnation.
+pub const LAST_COUNT: u64 = 65_535;
+/// The last incarnation of a module: no reset follows it.
+pub const LAST_INCARNATION: u64 = 65_535;
 /// The most requests of one module that wait for their replies.
 pub const MAX_PENDINGS: usize = 256;
 /// The most connections of one module, open and opening together.

@@ -83,6 +83,14 @@ impl<T: Copy> Row<T> {
             self.items.remove(self.gone + at);
         }
     }
+
+    /// Takes all items out. The room stays reserved.
+    pub fn clear(&mut self)
+        ensures { self.new ≡ record { room = self.old.room; items = [] } }
+    {
+        self.items.clear();
+        self.gone = 0;
+    }
 }
 
 // So many from the front on make place for those behind them.

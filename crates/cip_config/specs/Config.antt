@@ -2,6 +2,7 @@
 use Rattle.std.specs.Prelude.{ℕ, ◌^◌, Bool, true, false, not, ◌&&◌, ◌||◌, ◌==◌, nat_lt, nat_le, List, [], ◌∷◌, length, slice_index, find}
 use Rattle.std.specs.Prelude.{Option}
 use Rattle.std.specs.List.{list_all, list_any}
+use Rattle.cip_base.specs.Counts.{count_of}
 use Rattle.cip_config.specs.declared.config.ModuleKind.{ModuleKind}
 use Rattle.cip_config.specs.declared.config.ModuleKind.TheVariants.{Plain, Adapter, Indexed}
 use Rattle.cip_config.specs.declared.config.LegalAddresses.{LegalAddresses}
@@ -67,10 +68,10 @@ are_assemblies as' = nat_le (length as') 64 && (list_all is_assembly as' && inst
 abbrev pub is_room : ℕ → ℕ → Bool
 is_room most n = nat_le 1 n && nat_le n most
 
--- the clock below 2^63, the first id and number from 1, the rooms from 1 to 256
+-- the clock below 2^63, counts of the first id and number from 1, the rooms from 1 to 256
 abbrev pub are_counts : ModuleSettings → Bool
 are_counts s = nat_lt s.clock (2 ^ 63)
-    && (nat_le 1 s.first_id && (nat_le 1 s.first_number
+    && (nat_le 1 (count_of s.first_id) && (nat_le 1 (count_of s.first_number)
     && (is_room 256 s.pending_room && is_room 256 s.hop_room)))
 
 -- the settings that a module can have

@@ -48,9 +48,10 @@ pub struct ModuleSettings {
     pub identity: Identity,
     /// The time at which the module begins, in microseconds, below 2^63.
     pub clock: u64,
-    /// The first connection id, from 1.
+    /// The first connection id: its incarnation in the high half, and in the low half its count,
+    /// from 1.
     pub first_id: u32,
-    /// The first pending number, from 1.
+    /// The first pending number, in two halves as well.
     pub first_number: u32,
     /// How many requests may wait at once, 1 to 256.
     pub pending_room: usize,

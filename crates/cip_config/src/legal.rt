@@ -5,7 +5,9 @@ ghost use Rattle.cip_target.specs.Assemblies.{is_assembly};
 ghost use Rattle.cip_config.specs.Config.{is_name_byte, is_name, is_text_byte, is_range, is_legal, is_port, has_number, numbers_differ, most_ports, are_ports, has_instance, instances_differ, are_assemblies, is_room, are_counts, is_settings};
 
 use crate::config::{LegalAddresses, ModuleKind, ModuleSettings, PortConfig};
-use cip_base::{MAX_ASSEMBLIES, MAX_DATUM, MAX_HOPS, MAX_PENDINGS, MAX_PORTS, PortNumber};
+use cip_base::{
+    MAX_ASSEMBLIES, MAX_DATUM, MAX_HOPS, MAX_PENDINGS, MAX_PORTS, PortNumber, count_of,
+};
 use cip_target::AssemblyConfig;
 
 fn is_name_byte(byte: u8) -> bool
@@ -181,8 +183,8 @@ fn are_counts(settings: &ModuleSettings) -> bool
     ensures { result ≡ are_counts settings.now }
 {
     settings.clock < 1 << 63
-        && settings.first_id >= 1
-        && settings.first_number >= 1
+        && count_of(settings.first_id) >= 1
+        && count_of(settings.first_number) >= 1
         && is_room(settings.pending_room, MAX_PENDINGS)
         && is_room(settings.hop_room, MAX_HOPS)
 }

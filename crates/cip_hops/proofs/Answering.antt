@@ -19,6 +19,7 @@ use Rattle.cip_hops.specs.declared.hop.Held.TheVariants.{Opening as IsOpening}
 use Rattle.cip_hops.specs.declared.table.HopTable.TheInside.{Inside}
 use Rattle.cip_hops.specs.Hops.{Hops, refusal, triad_of, up_id_of, down_id_of, held_op_of}
 use Rattle.cip_hops.specs.Kept.{Indexes, names, hops, IsKept}
+use Rattle.cip_base.specs.Counts.{counts_given}
 use Rattle.cip_base.specs.Joined.{Finds}
 use Rattle.cip_base.proofs.Views.{len-view}
 use Rattle.cip_hops.proofs.Counts.{tally-le}
@@ -29,40 +30,42 @@ if_some P None h = tt
 if_some P (Some n) h = h n refl
 
 abbrev reason : Bool → ℕ → ℕ → ℕ → Option BeginReason
-reason used room len next =
-    if used then Some Duplicate else (if nat_le room len then Some Full else (if nat_lt 4294967296 next then Some IdsSpent else None))
+reason used room len given =
+    if used then Some Duplicate else (if nat_le room len then Some Full else (if nat_lt 65535 given then Some IdsSpent else None))
 
 same_some : (found : ℕ → Option Held) (o : Option ℕ) → ((k : ℕ) → o ≡ Some k → IsSome (found k)) → is_some (option_and_then found o) ≡ is_some o
 same_some found None h = refl
 same_some found (Some k) h = h k refl
 
 module _ (t : Inside) (h : IsKept t) (triad : Triad) (ids : ℕ) where
-  refusal_by : refusal (hops t) triad ids ≡ reason (is_some (map.get t.triads.keys triad)) t.room (map.len t.triads.keys) (t.next + ids)
+  refusal_by : refusal (hops t) triad ids ≡ reason (is_some (map.get t.triads.keys triad)) t.room (map.len t.triads.keys) (counts_given t.next + ids)
   refusal_by =
       let used : is_some (map.get (hops t).held triad) ≡ is_some (map.get t.triads.keys triad) = ap is_some (held_is t h triad)
       ∙ same_some (get t.records) (map.get t.triads.keys triad) (finds t h triad) in
-      λ i. reason (used i) t.room (len_is t h i) (t.next + ids)
+      λ i. reason (used i) t.room (len_is t h i) (counts_given t.next + ids)
 
   pub refusal_used : is_some (map.get t.triads.keys triad) ≡ true → refusal (hops t) triad ids ≡ Some Duplicate
-  refusal_used e = refusal_by ∙ ap (λ b. reason b t.room (map.len t.triads.keys) (t.next + ids)) e
+  refusal_used e = refusal_by ∙ ap (λ b. reason b t.room (map.len t.triads.keys) (counts_given t.next + ids)) e
 
   pub refusal_full : is_some (map.get t.triads.keys triad) ≡ false → t.room ≤ map.len t.triads.keys → refusal (hops t) triad ids ≡ Some Full
-  refusal_full e full = refusal_by ∙ ap (λ b. reason b t.room (map.len t.triads.keys) (t.next + ids)) e ∙ grind (arith, nat_tests)
+  refusal_full e full = refusal_by ∙ ap (λ b. reason b t.room (map.len t.triads.keys) (counts_given t.next + ids)) e ∙ grind (arith, nat_tests)
 
-  pub refusal_spent : is_some (map.get t.triads.keys triad) ≡ false → map.len t.triads.keys < t.room → 4294967296 < t.next + ids
+  pub refusal_spent : is_some (map.get t.triads.keys triad) ≡ false → map.len t.triads.keys < t.room → 65535 < counts_given t.next + ids
       → refusal (hops t) triad ids ≡ Some IdsSpent
-  refusal_spent e room spent = refusal_by ∙ ap (λ b. reason b t.room (map.len t.triads.keys) (t.next + ids)) e ∙ grind (arith, nat_tests)
+  refusal_spent e room spent = refusal_by ∙ ap (λ b. reason b t.room (map.len t.triads.keys) (counts_given t.next + ids)) e ∙ grind (arith, nat_tests)
 
-  pub refusal_none : is_some (map.get t.triads.keys triad) ≡ false → map.len t.triads.keys < t.room → t.next + ids ≤ 4294967296
+  pub refusal_none : is_some (map.get t.triads.keys triad) ≡ false → map.len t.triads.keys < t.room → counts_given t.next + ids ≤ 65535
       → refusal (hops t) triad ids ≡ None
-  refusal_none e room left = refusal_by ∙ ap (λ b. reason b t.room (map.len t.triads.keys) (t.next + ids)) e ∙ grind (arith, nat_tests)
+  refusal_none e room left = refusal_by ∙ ap (λ b. reason b t.room (map.len t.triads.keys) (counts_given t.next + ids)) e ∙ grind (arith, nat_tests)
 
-  taken : (o : Option ℕ) (room len next : ℕ) → reason (is_some o) room len next ≡ None → (o ≡ None) × (len < room) × (next ≤ 4294967296)
-  taken None room len next e = (refl, grind (arith, nat_tests), grind (arith, nat_tests))
-  taken (Some k) room len next e = absurd (cc)
+  taken : (o : Option ℕ) (room len given : ℕ) → reason (is_some o) room len given ≡ None → (o ≡ None) × (len < room) × (given ≤ 65535)
+  taken None room len given e = (refl, grind (arith, nat_tests), grind (arith, nat_tests))
+  taken (Some k) room len given e = absurd (cc)
 
   pub accepted : refusal (hops t) triad ids ≡ None → (map.get t.triads.keys triad ≡ None) × (map.len t.triads.keys < t.room) × (t.next + ids ≤ 4294967296)
-  accepted e = taken (map.get t.triads.keys triad) t.room (map.len t.triads.keys) (t.next + ids) (sym refusal_by ∙ e)
+  accepted e =
+      let (free, room, left) = taken (map.get t.triads.keys triad) t.room (map.len t.triads.keys) (counts_given t.next + ids) (sym refusal_by ∙ e) in
+      (free, room, omega (arith, left, h.some, h.spent))
 
 -- what `can_begin` tells by None
 pub accepted_at : (t : Inside) (h : IsKept t) (p : Hops) → hops t ≡ p → (triad : Triad) (ids : ℕ) (answer : Option BeginReason)

@@ -1,12 +1,13 @@
 -- What a table of hops is: a room, the next id, and a finite map from triads to openings and hops.
-use Rattle.std.specs.Prelude.{◌≡◌, ℕ, ◌+◌, ◌<◌, ◌≤◌, Bool, true, false, not, ◌&&◌, ◌||◌, ◌==◌, List, Option, Some, None, Result, Ok, Err, nat_le, nat_lt, is_some, MatchOption, if◌then◌else◌, find, filter, filter_map, option_and_then}
+use Rattle.std.specs.Prelude.{◌≡◌, ℕ, ◌+◌, ◌^◌, ◌<◌, ◌≤◌, Bool, true, false, not, ◌&&◌, ◌||◌, ◌==◌, List, Option, Some, None, Result, Ok, Err, nat_le, nat_lt, is_some, MatchOption, if◌then◌else◌, find, filter, filter_map, option_and_then}
 use Rattle.std.specs.Option.{option_map_or}
 use Rattle.std.specs.Ordering.{is_lt}
 use Rattle.std.specs.FinMap as map
 use Rattle.cip_base.specs.Triads.{triad_cmp}
 use Rattle.cip_base.specs.Words.{LinkAddress, PortIdentifier, ConnectionId, OpNumber, Microseconds}
 use Rattle.cip_base.specs.declared.triad.Triad.{Triad}
-use Rattle.cip_base.specs.declared.limits.TheConstants.{LAST_COUNT}
+use Rattle.cip_base.specs.declared.limits.TheConstants.{LAST_COUNT, LAST_INCARNATION}
+use Rattle.cip_base.specs.Counts.{counts_given, incarnation, reborn}
 use Rattle.cip_clock.specs.Times.{watchdog_us}
 use Rattle.cip_hops.specs.declared.opening.Opening.{Opening}
 use Rattle.cip_hops.specs.declared.opening.OwnIds.{OwnIds}
@@ -71,12 +72,12 @@ without_if goes h triad = if goes then without h triad else h
 
 -- ---- an opening
 
--- why an opening is not taken, in this order
+-- why an opening is not taken, in this order: spent are the counts of this incarnation
 abbrev pub refusal : Hops → Triad → ℕ → Option BeginReason
 refusal h triad ids =
     if is_some (map.get h.held triad) then Some Duplicate
     else (if nat_le h.room (map.len h.held) then Some Full
-    else (if nat_lt (LAST_COUNT + 1) (h.next + ids) then Some IdsSpent else None))
+    else (if nat_lt LAST_COUNT (counts_given h.next + ids) then Some IdsSpent else None))
 
 abbrev pub fault_of : BeginReason → Opening → BeginFault
 fault_of Duplicate o = DuplicateOf o
@@ -101,6 +102,16 @@ begun h o = record {
 pub record IsOpFree (h : Hops) (up : Option OpNumber) : Type 0 where
   pub differs : (triad : Triad) (x : Held) (op : OpNumber)
       → map.get h.held triad ≡ Some x → up ≡ Some op → held_op_of x ≡ Some op → ⊥
+
+-- ---- a reset
+
+-- there is an incarnation after this
+abbrev pub has_next_incarnation : Hops → Bool
+has_next_incarnation h = nat_lt (incarnation h.next) LAST_INCARNATION
+
+-- without openings and hops, at count 1 of the next incarnation
+abbrev pub reset : Hops → Hops
+reset h = record { room = h.room; next = reborn h.next; held = map.empty }
 
 -- ---- a hop
 
@@ -280,7 +291,7 @@ AreOwnTriads h =
 -- each stands under its own triad, below the next id, and shares no id and no op with another
 pub record IsWithin (h : Hops) : Type 0 where
   pub some : 0 < h.next
-  pub spent : h.next ≤ LAST_COUNT + 1
+  pub spent : h.next ≤ 2 ^ 32
   pub fits : map.len h.held ≤ h.room
   pub triads : AreOwnTriads h
   pub each : (triad : Triad) (x : Held) → map.get h.held triad ≡ Some x → IsHeld h.next x

@@ -1,5 +1,5 @@
 -- What is true of the records and the indexes in which the hops are kept.
-use Rattle.std.specs.Prelude.{◌≡◌, ℕ, ◌<◌, ◌≤◌, Option, Some, is_some, count_by, ◌+◌}
+use Rattle.std.specs.Prelude.{◌≡◌, ℕ, ◌^◌, ◌<◌, ◌≤◌, Option, Some, is_some, count_by, ◌+◌}
 use Rattle.std.specs.FinMap as map
 use Rattle.std.specs.declared.cmp.Ordering.{Ordering}
 use Rattle.slab.specs.Slab.{get, slab_len}
@@ -9,7 +9,6 @@ use Rattle.cip_hops.specs.declared.hop.Held.{Held}
 use Rattle.cip_hops.specs.declared.table.HopTable.TheInside.{Inside}
 use Rattle.cip_hops.specs.Hops.{Hops, triad_of, up_id_of, down_id_of, held_op_of, IsHeld}
 use Rattle.cip_base.specs.Joined.{joined_map}
-use Rattle.cip_base.specs.declared.limits.TheConstants.{LAST_COUNT}
 
 -- the record under a key has this name
 pub record HasName {K : Type 0} (name_of : Held → Option K) (found : ℕ → Option Held)
@@ -45,7 +44,7 @@ pub record IsKept (t : Inside) : Type 0 where
   pub count : slab_len t.records ≡ map.len t.triads.keys
   pub fits : map.len t.triads.keys ≤ t.room
   pub some : 0 < t.next
-  pub spent : t.next ≤ LAST_COUNT + 1
+  pub spent : t.next ≤ 2 ^ 32
   pub by_triad : Indexes (λ x. Some (triad_of x)) t.triads.keys (get t.records)
   pub by_up : Indexes up_id_of t.ups.keys (get t.records)
   pub by_down : Indexes down_id_of t.downs.keys (get t.records)

@@ -1,6 +1,5 @@
 //! A connection that is being opened, and why one is not taken.
-ghost use Rattle.std.specs.Prelude.{◌≡◌, ◌+◌, ◌≤◌};
-ghost use Rattle.cip_base.specs.declared.limits.TheConstants.{LAST_COUNT};
+ghost use Rattle.std.specs.Prelude.{◌≡◌, ◌+◌, ◌^◌, ◌≤◌};
 ghost use Rattle.cip_hops.specs.Sides.{up_is_link, down_is_link, op_of, up_is, ids_drawn, own_ids};
 
 use cip_base::{Address, PortNumber, Triad};
@@ -187,7 +186,7 @@ impl Opening {
 
     // Its ids from `next` on, that of the down side first.
     pub(crate) fn own_ids(&self, next: u64) -> OwnIds
-        requires { next + ids_drawn self.now ≤ LAST_COUNT + 1 }
+        requires { next + ids_drawn self.now ≤ 2 ^ 32 }
         ensures { result ≡ own_ids next self.now }
     {
         let mut free = next;

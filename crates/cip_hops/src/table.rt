@@ -6,28 +6,33 @@ ghost use Rattle.std.specs.Option.{option_copied, option_to_list, option_map_or}
 ghost use Rattle.std.specs.FinMap as map;
 ghost use Rattle.slab.specs.Slab.{get as get_record};
 ghost use Rattle.cip_base.specs.Joined.{passes};
+ghost use Rattle.cip_base.specs.Counts.{count_of};
 ghost use Rattle.cip_base.specs.declared.triad.Triad.{Triad as Triads};
 ghost use Rattle.cip_hops.specs.declared.hop.Side.TheVariants.{Up, Down};
 ghost use Rattle.cip_hops.specs.Sides.{op_of};
 ghost use Rattle.cip_hops.specs.Changes.{Suits, IsChanged};
-ghost use Rattle.cip_hops.specs.Hops.{refusal, begin_gives, begun, IsOpFree, opening_at, hop_at, without, without_if, IsWithout, finished, changed, is_link, ends_here, touched, counted, hop_by_up, hop_by_down, hop_by_op, HasId, up_id_of, down_id_of, first_due, due, rest, first_after, as_hop, is_hop_due, is_entry_due, is_entry_open, IsWithin};
+ghost use Rattle.cip_hops.specs.Hops.{has_next_incarnation, reset, refusal, begin_gives, begun, IsOpFree, opening_at, hop_at, without, without_if, IsWithout, finished, changed, is_link, ends_here, touched, counted, hop_by_up, hop_by_down, hop_by_op, HasId, up_id_of, down_id_of, first_due, due, rest, first_after, as_hop, is_hop_due, is_entry_due, is_entry_open, IsWithin};
 ghost use Rattle.cip_hops.specs.Onwards.{on_side, hop_by, onward_of, after_onward};
 
 use crate::hop::{Change, Held, Hop, Side};
 use crate::onward::Onward;
 use crate::opening::{BeginFault, BeginReason, Opening, OwnIds};
 use crate::triads::{TriadIndex, place_after};
-use cip_base::{Address, LAST_COUNT, NoMemory, NumberIndex, PortNumber, Triad};
+use cip_base::{
+    Address, LAST_COUNT, LAST_INCARNATION, NoMemory, NumberIndex, PortNumber, Triad, counts_given,
+    incarnation, reborn,
+};
 use slab::Slab;
 use std::alloc::Global;
 use std::marker::Model;
 
-/// The connections of a module, opening and open, each under its triad. Ids rise and never come
-/// back. All memory is taken by `with_room`.
+/// The connections of a module, opening and open, each under its triad. An id has a count in its
+/// low half, under an incarnation: counts rise, and a reset begins the next incarnation, so that no
+/// id comes back. All memory is taken by `with_room`.
 #[derive(Drop)]
 pub struct HopTable {
     room: usize,
-    // Up to one past the last id of 32 bits.
+    // One past the last that was drawn: up to 2^32.
     next: u64,
     triads: TriadIndex,
     ups: NumberIndex,
@@ -56,9 +61,9 @@ impl Model for HopTable {
 
 impl HopTable {
     /// An empty table with room for `room` connections, opening and open together, whose first id
-    /// is `first`, above 0. NoMemory where the room is refused.
+    /// is `first`: an incarnation, and a count above 0. NoMemory where the room is refused.
     pub fn with_room(alloc: Global, room: usize, first: u32) -> Result<HopTable, NoMemory>
-        requires { 0 < first }
+        requires { 0 < count_of first }
         ensures { IfOk result (λ t. t ≡ record { room = room; next = first; held = map.empty }) }
     {
         let triads = TriadIndex::with_room(alloc, room)?;
@@ -86,7 +91,7 @@ impl HopTable {
             Some(BeginReason::Duplicate)
         } else if self.triads.len() >= self.room {
             Some(BeginReason::Full)
-        } else if self.next + u64::from(ids) > LAST_COUNT + 1 {
+        } else if counts_given(self.next) + u64::from(ids) > LAST_COUNT {
             Some(BeginReason::IdsSpent)
         } else {
             None
@@ -95,8 +100,8 @@ impl HopTable {
 
     /// Keeps an opening under the next ids, one for each side that is a link and that of the down
     /// side first. Duplicate where its triad is opening or open, else Full where the room is used
-    /// up, else IdsSpent where fewer ids up to 0xFFFF_FFFF are left than it draws: the opening then
-    /// comes back, and nothing changes.
+    /// up, else IdsSpent where fewer counts up to 65,535 are left in this incarnation than it draws:
+    /// the opening then comes back, and nothing changes.
     pub fn begin(&mut self, opening: Opening) -> Result<OwnIds, BeginFault>
         requires multiplier { opening.multiplier < 8 }
         requires op { IsOpFree self.old (op_of opening.up) }
@@ -320,6 +325,27 @@ impl HopTable {
         let from = place_after(pairs, after);
         let at = hop_place(&pairs[from..], &self.records)?;
         self.records.get(pairs[from + at].1)?.hop()
+    }
+
+    /// Whether a reset can follow: an incarnation is left after this one.
+    pub fn can_reset(&self) -> bool
+        ensures { result ≡ has_next_incarnation self.now }
+    {
+        incarnation(self.next) < LAST_INCARNATION
+    }
+
+    /// Removes all openings and hops, and begins the next incarnation with count 1. The room stays,
+    /// and no memory is taken: it takes time that is linear in what the table held.
+    pub fn reset(&mut self)
+        requires { IsTrue (has_next_incarnation self.old) }
+        ensures { self.new ≡ reset self.old }
+    {
+        self.triads.clear();
+        self.ups.clear();
+        self.downs.clear();
+        self.ops.clear();
+        self.records.clear();
+        self.next = reborn(self.next);
     }
 
     /// One less than the next id: the last that was drawn, or one less than the first.

@@ -5,7 +5,7 @@ ghost use Rattle.std.specs.FinMap as map;
 ghost use Rattle.cip_base.specs.Triads.{triad_cmp};
 ghost use Rattle.cip_hops.specs.Hops.{is_after};
 ghost use Rattle.cip_base.specs.Rising.{IsRising, IsPlaceOf, Divides};
-ghost use Rattle.cip_base.specs.Index.{noted, forgot};
+ghost use Rattle.cip_base.specs.Index.{noted, forgot, emptied};
 
 use cip_base::{Row, Triad};
 use std::alloc::{AllocError, Global};
@@ -90,6 +90,13 @@ impl TriadIndex {
             unreachable!()
         };
         self.pairs.remove(at);
+    }
+
+    /// Forgets all triads. The room stays reserved.
+    pub(crate) fn clear(&mut self)
+        ensures { self.new ≡ emptied self.old }
+    {
+        self.pairs.clear();
     }
 }
 

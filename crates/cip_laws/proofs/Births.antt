@@ -25,7 +25,7 @@ use Rattle.cip_laws.specs.Births.{opened_by, or_else, first_opened, Past, IsBirt
 use Rattle.cip_laws.specs.Histories.{Turn, state_after, IsHistory}
 use Rattle.cip_laws.proofs.Light.{light_once}
 use Rattle.cip_laws.proofs.Puts.{drawn_ids}
-use Rattle.cip_laws.proofs.Rises.{ids_after, ids_rise}
+use Rattle.cip_laws.proofs.Rises.{drawn_from, ids_after, ids_rise}
 use Rattle.cip_laws.proofs.Stands.{same_opening, same_ids, HeldCase, Stands, Begun, Ended, Finished, held_cases}
 use Rattle.cip_laws.proofs.Turns.{Turned, newest, by_places}
 
@@ -81,14 +81,15 @@ unborn_opens (Begins sending opening) h = absurd (omega (arith, h))
 unborn_opens (Accepts opening open_ link) h = absurd (omega (arith, h))
 unborn_opens e h = refl
 
-unborn_draws : (e : Effect) → births e ≡ 0 → drawn_ids e ≡ 0
-unborn_draws (Begins sending opening) h = absurd (omega (arith, h))
-unborn_draws (Accepts opening open_ link) h = absurd (omega (arith, h))
-unborn_draws e h = refl
+unborn_draws : (s : State) (e : Effect) → births e ≡ 0 → drawn_ids s e ≡ 0
+unborn_draws s (Begins sending opening) h = absurd (omega (arith, h))
+unborn_draws s (Accepts opening open_ link) h = absurd (omega (arith, h))
+unborn_draws s e h = refl
 
-none_drawn : (es : List Effect) → gain births es ≡ 0 → gain drawn_ids es ≡ 0
-none_drawn [] h = refl
-none_drawn (e ∷ es) h = let here = unborn_draws e (omega (arith, h)) in let there = none_drawn es (omega (arith, h)) in omega (arith, here, there)
+none_drawn : (config : ModuleSettings) (s : State) (es : List Effect) → gain births es ≡ 0 → drawn_from config drawn_ids s es ≡ 0
+none_drawn config s [] h = refl
+none_drawn config s (e ∷ es) h =
+    let here = unborn_draws s e (omega (arith, h)) in let there = none_drawn config (apply config s e) es (omega (arith, h)) in omega (arith, here, there)
 
 first_is : (before after : List Effect) (e : Effect) (o : Opening) → opened_by e ≡ Some o → gain births (before ++ (e ∷ after)) ≤ 1
     → first_opened (before ++ (e ∷ after)) ≡ Some o
@@ -119,7 +120,7 @@ module _ (config : ModuleSettings) (turns : List Turn) (turn : Turn)
       (born_once_a_turn config s0 turn.event now.effects now.decided) in
       let one = opened_births e o h in
       let sum = gain-append births before (e ∷ after) in
-      let none = none_drawn before (omega (arith, once, one, sum)) in
+      let none = none_drawn config s0 before (omega (arith, once, one, sum)) in
       let next = ids_after config s0 before in
       let same : (applied config s0 before).hops.next ≡ s0.hops.next = omega (arith, none, next) in
       record {
@@ -171,19 +172,21 @@ pub own_range : (next id : ℕ) (o : Opening) → HasId (own_ids next o) id → 
 own_range next id o (inl e) = up_range next id (up_is_link o.up) (down_is_link o.down) e
 own_range next id o (inr e) = down_range next id (up_is_link o.up) (down_is_link o.down) e
 
-opened_draws : (e : Effect) (o : Opening) → opened_by e ≡ Some o → drawn_ids e ≡ ids_drawn o
-opened_draws (Begins sending opening) o h = let same : opening ≡ o = cc in ap ids_drawn same
-opened_draws (Accepts opening open_ link) o h = let same : opening ≡ o = cc in ap ids_drawn same
-opened_draws e o h = absurd (cc)
+opened_draws : (s : State) (e : Effect) (o : Opening) → opened_by e ≡ Some o → drawn_ids s e ≡ ids_drawn o
+opened_draws s (Begins sending opening) o h = let same : opening ≡ o = cc in ap ids_drawn same
+opened_draws s (Accepts opening open_ link) o h = let same : opening ≡ o = cc in ap ids_drawn same
+opened_draws s e o h = absurd (cc)
 
-by_first : (e : Effect) (es : List Effect) (o : Opening) (x : Option Opening) → opened_by e ≡ x → or_else x (first_opened es) ≡ Some o
-    → (first_opened es ≡ Some o → ids_drawn o ≤ gain drawn_ids es) → ids_drawn o ≤ drawn_ids e + gain drawn_ids es
-by_first e es o None t r later = let rest = later r in omega (arith, rest)
-by_first e es o (Some p) t r later = let same : p ≡ o = cc in let here = opened_draws e o (t ∙ ap (λ (y : Opening). Some y) same) in omega (arith, here)
+by_first : (s : State) (e : Effect) (es : List Effect) (o : Opening) (n : ℕ) (x : Option Opening) → opened_by e ≡ x → or_else x (first_opened es) ≡ Some o
+    → (first_opened es ≡ Some o → ids_drawn o ≤ n) → ids_drawn o ≤ drawn_ids s e + n
+by_first s e es o n None t r later = let rest = later r in omega (arith, rest)
+by_first s e es o n (Some p) t r later = let same : p ≡ o = cc in let here = opened_draws s e o (t ∙ ap (λ (y : Opening). Some y) same) in omega (arith, here)
 
-first_draws : (es : List Effect) (o : Opening) → first_opened es ≡ Some o → ids_drawn o ≤ gain drawn_ids es
-first_draws [] o h = absurd (cc)
-first_draws (e ∷ es) o h = by_first e es o (opened_by e) refl h (λ r. first_draws es o r)
+first_draws : (config : ModuleSettings) (s : State) (es : List Effect) (o : Opening) → first_opened es ≡ Some o
+    → ids_drawn o ≤ drawn_from config drawn_ids s es
+first_draws config s [] o h = absurd (cc)
+first_draws config s (e ∷ es) o h =
+    by_first s e es o (drawn_from config drawn_ids (apply config s e) es) (opened_by e) refl h (λ r. first_draws config (apply config s e) es o r)
 
 -- the ids of a birth are from the next before it, and below the next after it
 pub birth_range : (config : ModuleSettings) (o : Opening) (ids : OwnIds) (turns : List Turn) (turn : Turn) (id : ℕ) → IsHistory config (turn ∷ turns)
@@ -192,7 +195,7 @@ pub birth_range : (config : ModuleSettings) (o : Opening) (ids : OwnIds) (turns 
 birth_range config o ids turns turn id h b has =
     let now = newest config turn turns h in
     let first : first_opened now.effects ≡ Some o = sym (ap (option_and_then first_opened) now.decided) ∙ b.is in
-    let drawn = first_draws now.effects o first in
+    let drawn = first_draws config (state_after config turns) now.effects o first in
     let next = ids_after config (state_after config turns) now.effects in
     let same = ap (λ (s : State). s.hops.next) now.state in
     let range = own_range (state_after config turns).hops.next id o (subst (λ (i : OwnIds). HasId i id) b.ids_are has) in

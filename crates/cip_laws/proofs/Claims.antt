@@ -1,5 +1,5 @@
--- Replies given and requests that wait, together: one for each request that was taken up.
-use Rattle.std.proofs.Common.{◌≡◌, ℕ, ◌+◌, Bool, true, false, List, [], ◌∷◌, Option, Some, None, refl, sym, ap, ◌∙◌, inl, inr, arith}
+-- Replies given and requests that wait, together: one at most for each request that was taken up.
+use Rattle.std.proofs.Common.{◌≡◌, ℕ, ◌+◌, ◌≤◌, Bool, true, false, List, [], ◌∷◌, Option, Some, None, refl, sym, ap, ◌∙◌, inl, inr, arith}
 use Rattle.std.specs.FinMap as map
 use Rattle.std.specs.FinMap.{FinMap, same_map}
 use Rattle.std.specs.Cmp.{nat_cmp_total}
@@ -106,9 +106,9 @@ asked up s p h =
     let one = marked (same_up p.up up) in
     omega (arith, more, one)
 
--- what an effect replies to an up side, and what waits for it, grow by what it takes up
+-- what an effect replies to an up side, and what waits for it, grow by what it takes up at most
 pub claims_each : (config : ModuleSettings) (up : UpSide) (s : State) (e : Effect) → AreBelow s
-    → weight_in (is_reply up) (output_of config s e) + waits_for up (apply config s e) ≡ waits_for up s + takes_up up e
+    → weight_in (is_reply up) (output_of config s e) + waits_for up (apply config s e) ≤ waits_for up s + takes_up up e
 claims_each config up s (Replies v bytes) h = let is = given up v bytes in omega (arith, is)
 claims_each config up s (Answers v request) h = let is = given up v (reply_bytes (target_answer (objects_of config s) request)) in omega (arith, is)
 claims_each config up s (Forwards sending kind) h = let more = asked up s (entry_for s sending kind) h in omega (arith, more)

@@ -84,7 +84,7 @@ no_request_late n (Some p) = let none = no_request_up n p.up (timed_out_bytes p.
 -- ---- each effect
 
 numbers_each : (config : ModuleSettings) (n : ℕ) (s : State) (e : Effect)
-    → weight_in (is_request n) (output_of config s e) + undrawn n (apply config s e) ≡ undrawn n s + 0
+    → weight_in (is_request n) (output_of config s e) + undrawn n (apply config s e) ≤ undrawn n s + 0
 numbers_each config n s (Replies v bytes) = let none = no_request_up n v bytes in omega (arith, none)
 numbers_each config n s (Answers v request) = let none = no_request_up n v (reply_bytes (target_answer (objects_of config s) request)) in omega (arith, none)
 numbers_each config n s (Forwards sending kind) = let now = drawn_now s.pendings.next n in omega (arith, now)
@@ -110,10 +110,11 @@ mark_none : (b : Bool) → mark b ≡ 0 → b ≡ false
 mark_none true h = absurd (omega (arith, h))
 mark_none false h = refl
 
-drawn_once : (e : Effect) → numbers_drawn e ≤ 1
-drawn_once (Forwards sending kind) = omega arith
-drawn_once (Begins sending opened) = omega arith
-drawn_once e = omega arith
+-- what sends a request draws one number
+drawn_once : (config : ModuleSettings) (n : ℕ) (s : State) (e : Effect) → 1 ≤ weight_in (is_request n) (output_of config s e) → numbers_drawn s e ≤ 1
+drawn_once config n s (Forwards sending kind) h = omega arith
+drawn_once config n s (Begins sending opened) h = omega arith
+drawn_once config n s e h = omega arith
 
 -- it is the one that was next
 pub request_number : (config : ModuleSettings) (mid : State) (e : Effect) (port n : ℕ) (to bytes : List ℕ)
@@ -126,7 +127,7 @@ request_number config mid e port n to bytes h =
     let from = leb-true mid.pendings.next n (mark_one (leb mid.pendings.next n) (omega (arith, some, one, sum))) in
     let to_ = leb-false (apply config mid e).pendings.next n (mark_none (leb (apply config mid e).pendings.next n) (omega (arith, some, one, sum, small))) in
     let drawn = next_number config mid e in
-    let most = drawn_once e in
+    let most = drawn_once config n mid e (omega (arith, some, one)) in
     omega (arith, from, to_, drawn, most)
 
 -- ---- a history

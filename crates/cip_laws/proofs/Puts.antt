@@ -38,12 +38,12 @@ pending_cases config s e n p h = inl h
 
 -- ---- numbers
 
-pub next_number : (config : ModuleSettings) (s : State) (e : Effect) → (apply config s e).pendings.next ≡ s.pendings.next + numbers_drawn e
+pub next_number : (config : ModuleSettings) (s : State) (e : Effect) → (apply config s e).pendings.next ≡ s.pendings.next + numbers_drawn s e
 next_number config s (Forwards sending kind) = refl
 next_number config s (Begins sending opening) = refl
 next_number config s e = omega arith
 
-put_draws : (s : State) (e : Effect) (p : Entry) → puts s e ≡ Some p → numbers_drawn e ≡ 1
+put_draws : (s : State) (e : Effect) (p : Entry) → puts s e ≡ Some p → numbers_drawn s e ≡ 1
 put_draws s (Forwards sending kind) p h = refl
 put_draws s (Begins sending opening) p h = refl
 put_draws s e p h = absurd (cc)
@@ -97,7 +97,7 @@ given_next h (Some p) = elim (opened_triad p.kind) as (λ (opened : Option Triad
   | Some triad ↦ abandoned_next h triad
 ]
 
-pub next_id : (config : ModuleSettings) (s : State) (e : Effect) → (apply config s e).hops.next ≡ s.hops.next + drawn_ids e
+pub next_id : (config : ModuleSettings) (s : State) (e : Effect) → (apply config s e).hops.next ≡ s.hops.next + drawn_ids s e
 next_id config s (Begins sending opening) = refl
 next_id config s (Accepts opening open_ link) = finished_next (begun s.hops opening) opening.triad 0 s.now
 next_id config s (Finishes number triad bytes success) = let same = finished_next s.hops triad success.ot_id s.now in omega (arith, same)

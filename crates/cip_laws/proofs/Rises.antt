@@ -1,6 +1,5 @@
 -- What is held has a number or an id below the next, and the next never falls.
-use Rattle.std.proofs.Common.{◌≡◌, ◌+◌, ◌≤◌, List, [], ◌∷◌, ap, arith}
-use Rattle.cip_laws.specs.EffectLists.{gain}
+use Rattle.std.proofs.Common.{◌≡◌, ℕ, ◌+◌, ◌≤◌, List, [], ◌∷◌, ap, arith}
 use Rattle.cip_config.specs.declared.config.ModuleSettings.{ModuleSettings}
 use Rattle.cip_module.specs.Effects.{Effect, apply, applied}
 use Rattle.cip_module.specs.State.{State}
@@ -8,11 +7,16 @@ use Rattle.cip_laws.specs.Histories.{Turn, state_after, IsHistory}
 use Rattle.cip_laws.proofs.Puts.{numbers_drawn, next_number, drawn_ids, next_id}
 use Rattle.cip_laws.proofs.Turns.{newest}
 
-pub numbers_after : (config : ModuleSettings) (s : State) (es : List Effect) → (applied config s es).pendings.next ≡ s.pendings.next + gain numbers_drawn es
+-- what effects in turn draw, each in the state where it is applied
+abbrev pub drawn_from : ModuleSettings → (State → Effect → ℕ) → State → List Effect → ℕ
+drawn_from config d s [] = 0
+drawn_from config d s (e ∷ es) = d s e + drawn_from config d (apply config s e) es
+
+pub numbers_after : (config : ModuleSettings) (s : State) (es : List Effect) → (applied config s es).pendings.next ≡ s.pendings.next + drawn_from config numbers_drawn s es
 numbers_after config s [] = omega arith
 numbers_after config s (e ∷ es) = let here = next_number config s e in let there = numbers_after config (apply config s e) es in omega (arith, here, there)
 
-pub ids_after : (config : ModuleSettings) (s : State) (es : List Effect) → (applied config s es).hops.next ≡ s.hops.next + gain drawn_ids es
+pub ids_after : (config : ModuleSettings) (s : State) (es : List Effect) → (applied config s es).hops.next ≡ s.hops.next + drawn_from config drawn_ids s es
 ids_after config s [] = omega arith
 ids_after config s (e ∷ es) = let here = next_id config s e in let there = ids_after config (apply config s e) es in omega (arith, here, there)
 

@@ -1,4 +1,4 @@
--- Weights of outputs, and what a turn conserves.
+-- Weights of outputs, and what a turn gives and keeps at most.
 use Rattle.std.proofs.Common.{◌≡◌, ℕ, ◌+◌, ◌≤◌, List, [], ◌∷◌, ◌++◌, Some, zero, suc, inl, inr, refl, ap, subst, arith}
 use Rattle.std.specs.Prelude.{slice_get}
 use Rattle.cip_laws.specs.EffectLists.{gain}
@@ -44,15 +44,15 @@ one_place w (x ∷ os) (suc i) zero o p l a b e f =
     let same : x ≡ p = cc in let here = ap w same in let there = weight_at w os i o e in absurd (omega (arith, here, there))
 one_place w (x ∷ os) (suc i) (suc k) o p l a b e f = ap suc (one_place w os i k o p (omega arith) a b e f)
 
--- Where each effect conserves what is given and what is kept, beside what it gains, so does a turn.
+-- Where what each effect gives, and what is kept after it, is at most what was kept and what it gains, so it is of a turn.
 module _ (config : ModuleSettings) (w : Output → ℕ) (kept : State → ℕ) (d : Effect → ℕ) (Good : State → Type 0)
     (good : (s : State) (e : Effect) → Good s → Good (apply config s e))
-    (each : (s : State) (e : Effect) → Good s → weight_in w (output_of config s e) + kept (apply config s e) ≡ kept s + d e) where
+    (each : (s : State) (e : Effect) → Good s → weight_in w (output_of config s e) + kept (apply config s e) ≤ kept s + d e) where
   pub good_effects : (s : State) (es : List Effect) → Good s → Good (applied config s es)
   good_effects s [] h = h
   good_effects s (e ∷ es) h = good_effects (apply config s e) es (good s e h)
 
-  pub conserved : (s : State) (es : List Effect) → Good s → weight_in w (outputs_of config s es) + kept (applied config s es) ≡ kept s + gain d es
+  pub conserved : (s : State) (es : List Effect) → Good s → weight_in w (outputs_of config s es) + kept (applied config s es) ≤ kept s + gain d es
   conserved s [] h = omega arith
   conserved s (e ∷ es) h =
       let join = weight_in-append w (output_of config s e) (outputs_of config (apply config s e) es) in

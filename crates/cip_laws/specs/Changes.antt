@@ -25,17 +25,17 @@ puts s (Forwards sending kind) = Some (entry_for s sending kind)
 puts s (Begins sending opening) = Some (entry_for s sending (kind_for opening))
 puts s e = None
 
-abbrev pub numbers_drawn : Effect → ℕ
-numbers_drawn (Forwards sending kind) = 1
-numbers_drawn (Begins sending opening) = 1
-numbers_drawn e = 0
+abbrev pub numbers_drawn : State → Effect → ℕ
+numbers_drawn s (Forwards sending kind) = 1
+numbers_drawn s (Begins sending opening) = 1
+numbers_drawn s e = 0
 
 -- ---- the connections
 
-abbrev pub drawn_ids : Effect → ℕ
-drawn_ids (Begins sending opening) = ids_drawn opening
-drawn_ids (Accepts opening o link) = ids_drawn opening
-drawn_ids e = 0
+abbrev pub drawn_ids : State → Effect → ℕ
+drawn_ids s (Begins sending opening) = ids_drawn opening
+drawn_ids s (Accepts opening o link) = ids_drawn opening
+drawn_ids s e = 0
 
 -- what never changes: what was opened, the own ids, and of a connection that is open the other's id
 abbrev pub SameCore : Held → Held → Type 0

@@ -62,9 +62,9 @@ pub fn effects_change_the_tables()
     ensures connections { (config : Settings) (s : State) (e : Effect) (q : Triad) (x : Held)
         → map.get (apply config s e).hops.held q ≡ Some x → HeldCase s e q x }
     ensures numbers { (config : Settings) (s : State) (e : Effect)
-        → (apply config s e).pendings.next ≡ s.pendings.next + numbers_drawn e }
+        → (apply config s e).pendings.next ≡ s.pendings.next + numbers_drawn s e }
     ensures ids { (config : Settings) (s : State) (e : Effect)
-        → (apply config s e).hops.next ≡ s.hops.next + drawn_ids e }
+        → (apply config s e).hops.next ≡ s.hops.next + drawn_ids s e }
 {}
 
 /// Which effect each output of an event comes from, and what that tells of the event and of the

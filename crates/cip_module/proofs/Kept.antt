@@ -9,6 +9,7 @@ use Rattle.cip_base.specs.declared.triad.Triad.{Triad}
 use Rattle.cip_pending.specs.Kinds.{opened_triad}
 use Rattle.cip_pending.specs.declared.entry.Entry.{Entry}
 use Rattle.cip_pending.specs.Pendings.{Pendings, added, without, IsWithin as IsPendings}
+use Rattle.cip_base.specs.Counts.{counts_given}
 use Rattle.cip_hops.specs.declared.opening.Opening.{Opening}
 use Rattle.cip_hops.specs.declared.hop.Held.{Held}
 use Rattle.cip_hops.specs.declared.hop.Held.TheVariants.{Opening as IsOpening, Open}
@@ -114,7 +115,7 @@ fit_forwards config p after h t ops entry f w e other = record {
 
 pub free_if : (h : Hops) (triad : Triad) (ids : ℕ) → refusal h triad ids ≡ None → map.get h.held triad ≡ None
 free_if h triad ids e = elim (map.get h.held triad) as (λ g. cond (is_some g) (Some Duplicate)
-    (cond (nat_le h.room (map.len h.held)) (Some Full) (cond (nat_lt 4294967296 (h.next + ids)) (Some IdsSpent) None)) ≡ None → g ≡ None) [
+    (cond (nat_le h.room (map.len h.held)) (Some Full) (cond (nat_lt 65535 (counts_given h.next + ids)) (Some IdsSpent) None)) ≡ None → g ≡ None) [
       | None ↦ λ s. refl
       | Some x ↦ λ s. absurd (cc)
     ] e

@@ -8,6 +8,7 @@ pub mod Outputs
 pub mod Fits
 pub mod Kept
 pub mod Removed
+pub mod ResetRefused
 pub mod DatumRows
 pub mod KeysRead
 pub mod Sends

@@ -11,7 +11,7 @@ use Rattle.cip_hops.specs.Hops.{Hops}
 use Rattle.cip_target.specs.declared.config.AssemblyConfig.{AssemblyConfig}
 use Rattle.cip_target.specs.Assemblies.{AssemblyMap, size_in, config_in, config_with, written_over}
 use Rattle.cip_target.specs.Ends.{Ends, ends_after, consumed}
-use Rattle.cip_target.specs.Rows.{TargetRow, target_row, assemblies_after, Refused, Read, Written}
+use Rattle.cip_target.specs.Rows.{TargetRow, target_row, assemblies_after, Refused, Read, Written, Reset}
 use Rattle.cip_target.proofs.Writes.{IsThere, target_there}
 use Rattle.cip_config.specs.declared.config.ModuleSettings.{ModuleSettings}
 use Rattle.cip_module.specs.Code.Fit.{Fit}
@@ -41,6 +41,7 @@ written_sizes m i b long j =
 row_sizes : (m : AssemblyMap) (row : TargetRow) → IsThere m row → (j : ℕ) → size_in (assemblies_after m row) j ≡ size_in m j
 row_sizes m (Refused refusal) there j = refl
 row_sizes m (Read found) there j = refl
+row_sizes m Reset there j = refl
 row_sizes m (Written i d) there j =
     elim (map.get m i) as (λ (o : Option (List ℕ)). map.get m i ≡ o → IsSomeAnd o (λ held. length d ≡ length held)
     → size_in (map.insert m i d) j ≡ size_in m j) [

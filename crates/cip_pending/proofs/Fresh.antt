@@ -16,7 +16,7 @@ use Rattle.cip_pending.specs.Kept.{IsKept, pendings}
 abbrev pub fresh : ℕ → ℕ → Slab Entry → Index nat_cmp → Inside
 fresh room next records order = record { room = room; next = next; order = order; records = records }
 
-abbrev none_noted : ℕ → Index nat_cmp
+abbrev pub none_noted : ℕ → Index nat_cmp
 none_noted room = record { room = room; keys = map.empty }
 
 module _ (room next : ℕ) (s : Slab Entry) (empty : s.slots ≡ []) where

@@ -1,5 +1,5 @@
 -- What each change of the table is in the finite map.
-use Rattle.std.proofs.Common.{◌≡◌, ◌≢◌, ℕ, ◌+◌, ◌<◌, ◌≤◌, Bool, true, false, cond, List, length, get_or, refl, sym, ap, subst, ◌∙◌, arith, Option, Some, None, IsSome, nat_le, nat_lt, if◌then◌else◌, find}
+use Rattle.std.proofs.Common.{◌≡◌, ◌≢◌, ℕ, ◌+◌, ◌-◌, ◌%◌, ◌<◌, ◌≤◌, Bool, true, false, cond, List, length, get_or, refl, sym, ap, subst, ◌∙◌, arith, Option, Some, None, IsSome, nat_le, nat_lt, if◌then◌else◌, find}
 use Rattle.std.specs.Option.{option_and_then, option_map_or}
 use Rattle.std.specs.List.{position}
 use Rattle.std.specs.List.Sorted.{IsPartitionPoint}
@@ -23,7 +23,7 @@ use Rattle.cip_pending.specs.Pendings.{Pendings, refusal, added, without, waitin
 use Rattle.cip_pending.specs.Kept.{IsKept, pendings}
 
 refusal_by : (p : Pendings) (n : ℕ) → map.len p.entries ≡ n
-    → refusal p ≡ (if nat_le p.room n then Some Full else (if nat_lt 4294967295 p.next then Some NumbersSpent else None))
+    → refusal p ≡ (if nat_le p.room n then Some Full else (if nat_lt 65535 ((p.next - 1) % 65536 + 1) then Some NumbersSpent else None))
 refusal_by p n e = rw e refl
 
 module _ (t : Inside) (h : IsKept t) where
@@ -37,15 +37,15 @@ module _ (t : Inside) (h : IsKept t) where
   pub refusal_full : t.room ≤ map.len t.order.keys → refusal (pendings t) ≡ Some Full
   refusal_full full = refusal_by (pendings t) _ len_is ∙ grind (arith, nat_tests)
 
-  pub refusal_spent : map.len t.order.keys < t.room → 4294967295 < t.next → refusal (pendings t) ≡ Some NumbersSpent
+  pub refusal_spent : map.len t.order.keys < t.room → 65535 < (t.next - 1) % 65536 + 1 → refusal (pendings t) ≡ Some NumbersSpent
   refusal_spent room spent = refusal_by (pendings t) _ len_is ∙ grind (arith, nat_tests)
 
-  pub refusal_none : map.len t.order.keys < t.room → t.next ≤ 4294967295 → refusal (pendings t) ≡ None
+  pub refusal_none : map.len t.order.keys < t.room → (t.next - 1) % 65536 + 1 ≤ 65535 → refusal (pendings t) ≡ None
   refusal_none room more = refusal_by (pendings t) _ len_is ∙ grind (arith, nat_tests)
 
-  pub room_left : refusal (pendings t) ≡ None → (map.len t.order.keys < t.room) × (t.next ≤ 4294967295)
+  pub room_left : refusal (pendings t) ≡ None → (map.len t.order.keys < t.room) × ((t.next - 1) % 65536 + 1 ≤ 65535)
   room_left e =
-      let is : (if nat_le t.room (map.len t.order.keys) then Some Full else (if nat_lt 4294967295 t.next then Some NumbersSpent else None)) ≡ None =
+      let is : (if nat_le t.room (map.len t.order.keys) then Some Full else (if nat_lt 65535 ((t.next - 1) % 65536 + 1) then Some NumbersSpent else None)) ≡ None =
       sym (refusal_by (pendings t) _ len_is) ∙ e in
       grind (arith, nat_tests)
 
@@ -101,7 +101,7 @@ module _ (t : Inside) (h : IsKept t) (s : Slab Entry) (key : ℕ) (e : Entry) (v
       updates.changed (λ q k at. updates.others k (other q k at)) in
       λ i. record { room = t.room; next = t.next + 1; entries = is i }
 
-  pub kept_add : slab_len s ≡ slab_len t.records + 1 → s.capacity ≡ t.records.capacity → map.len t.order.keys < t.room → t.next ≤ 4294967295
+  pub kept_add : slab_len s ≡ slab_len t.records + 1 → s.capacity ≡ t.records.capacity → map.len t.order.keys < t.room → (t.next - 1) % 65536 + 1 ≤ 65535
       → IsKept after_add
   kept_add count capacity room more =
       let len =

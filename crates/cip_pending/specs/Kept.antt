@@ -1,12 +1,11 @@
 -- What is true of the index and the records in which the pendings are kept.
-use Rattle.std.specs.Prelude.{◌≡◌, ℕ, ◌+◌, ◌<◌, ◌≤◌, Some}
+use Rattle.std.specs.Prelude.{◌≡◌, ℕ, ◌^◌, ◌<◌, ◌≤◌, Some}
 use Rattle.std.specs.FinMap as map
 use Rattle.slab.specs.Slab.{get, slab_len}
 use Rattle.cip_base.specs.Joined.{Finds, joined_map}
 use Rattle.cip_base.specs.Words.{RequestNumber}
 use Rattle.cip_pending.specs.declared.table.PendingTable.TheInside.{Inside}
 use Rattle.cip_pending.specs.Pendings.{Pendings}
-use Rattle.cip_base.specs.declared.limits.TheConstants.{LAST_COUNT}
 
 pub record IsKept (t : Inside) : Type 0 where
   -- so that an entry is added without memory
@@ -15,7 +14,7 @@ pub record IsKept (t : Inside) : Type 0 where
   pub fits : map.len t.order.keys ≤ t.room
   pub count : slab_len t.records ≡ map.len t.order.keys
   pub some : 0 < t.next
-  pub spent : t.next ≤ LAST_COUNT + 1
+  pub spent : t.next ≤ 2 ^ 32
   pub below : (number : RequestNumber) (key : ℕ)
       → map.get t.order.keys number ≡ Some key → number < t.next
   pub present : Finds t.order.keys (get t.records)

@@ -1,10 +1,11 @@
 -- What a table of pendings is: a room, the next number, and a finite map from numbers to entries.
-use Rattle.std.specs.Prelude.{◌≡◌, ℕ, ◌+◌, ◌<◌, ◌≤◌, Bool, true, not, ◌&&◌, ◌==◌, List, Option, Some, None, Result, Ok, Err, nat_le, nat_lt, MatchOption, if◌then◌else◌, find, filter, option_and_then}
+use Rattle.std.specs.Prelude.{◌≡◌, ℕ, ◌+◌, ◌^◌, ◌<◌, ◌≤◌, Bool, true, not, ◌&&◌, ◌==◌, List, Option, Some, None, Result, Ok, Err, nat_le, nat_lt, MatchOption, if◌then◌else◌, find, filter, option_and_then}
 use Rattle.std.specs.Str.{bytes_eq}
 use Rattle.std.specs.Ordering.{nat_cmp}
 use Rattle.std.specs.FinMap as map
 use Rattle.cip_base.specs.Words.{LinkAddress, PortIdentifier, RequestNumber, Microseconds}
-use Rattle.cip_base.specs.declared.limits.TheConstants.{LAST_COUNT}
+use Rattle.cip_base.specs.declared.limits.TheConstants.{LAST_COUNT, LAST_INCARNATION}
+use Rattle.cip_base.specs.Counts.{counts_given, incarnation, reborn}
 use Rattle.cip_pending.specs.declared.entry.Entry.{Entry}
 use Rattle.cip_pending.specs.declared.entry.AddReason.{AddReason}
 use Rattle.cip_pending.specs.declared.entry.AddReason.TheVariants.{Full, NumbersSpent}
@@ -16,11 +17,11 @@ pub record Pendings : Type 0 where
   pub next : ℕ
   pub entries : map.FinMap nat_cmp Entry
 
--- why an entry is not taken: no room first, and then no number left
+-- why an entry is not taken: no room first, and then no count left in this incarnation
 abbrev pub refusal : Pendings → Option AddReason
 refusal p =
     if nat_le p.room (map.len p.entries) then Some Full
-    else (if nat_lt LAST_COUNT p.next then Some NumbersSpent else None)
+    else (if nat_lt LAST_COUNT (counts_given p.next + 1) then Some NumbersSpent else None)
 
 -- with the entry under the next number
 abbrev pub added : Pendings → Entry → Pendings
@@ -40,6 +41,18 @@ without_if goes p number = if goes then without p number else p
 -- without the entry that went, if one did
 abbrev pub IsWithout : Option (RequestNumber × Entry) → Pendings → Pendings → Type 0
 IsWithout gone p new = MatchOption gone (new ≡ p) (λ e. new ≡ without p e.0)
+
+-- ---- a reset
+
+-- there is an incarnation after this
+abbrev pub has_next_incarnation : Pendings → Bool
+has_next_incarnation p = nat_lt (incarnation p.next) LAST_INCARNATION
+
+-- without entries, at count 1 of the next incarnation
+abbrev pub reset : Pendings → Pendings
+reset p = record { room = p.room; next = reborn p.next; entries = map.empty }
+
+-- ---- what a request gets, and what waits
 
 -- whether this entry was sent to this address by this port
 abbrev pub is_asked : PortIdentifier → LinkAddress → Entry → Bool
@@ -91,7 +104,7 @@ first_after after p = find (λ e. is_after after e.0) (map.entries p.entries)
 -- no more entries than room
 pub record IsWithin (p : Pendings) : Type 0 where
   pub some : 0 < p.next
-  pub spent : p.next ≤ LAST_COUNT + 1
+  pub spent : p.next ≤ 2 ^ 32
   pub below : (number : RequestNumber) (entry : Entry)
       → map.get p.entries number ≡ Some entry → number < p.next
   pub fits : map.len p.entries ≤ p.room

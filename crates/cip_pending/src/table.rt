@@ -1,26 +1,31 @@
 //! The table: records in a slab, and an index of their keys by number. All room is reserved.
-ghost use Rattle.std.specs.Prelude.{◌≡◌, ◌+◌, ◌++◌, ◌<◌, ◌≤◌, false, length, IfOk, ◌==◌, is_ok, is_some, if◌then◌else◌, option_map};
+ghost use Rattle.std.specs.Prelude.{◌≡◌, ◌+◌, ◌++◌, ◌<◌, ◌≤◌, false, length, IfOk, ◌==◌, is_ok, is_some, IsTrue, if◌then◌else◌, option_map};
 ghost use Rattle.std.specs.List.{position};
 ghost use Rattle.std.specs.Ordering.{nat_cmp};
 ghost use Rattle.std.specs.Option.{option_copied, option_to_list};
 ghost use Rattle.std.specs.FinMap as map;
 ghost use Rattle.slab.specs.Slab.{get as get_record};
-ghost use Rattle.cip_pending.specs.Pendings.{refusal, add_gives, added, waiting_at, without_if, IsWithout, is_due, first_due, due, rest, first_after, is_after, IsWithin};
+ghost use Rattle.cip_base.specs.Counts.{count_of};
+ghost use Rattle.cip_pending.specs.Pendings.{has_next_incarnation, reset, refusal, add_gives, added, waiting_at, without_if, IsWithout, is_due, first_due, due, rest, first_after, is_after, IsWithin};
 ghost use Rattle.cip_base.specs.Joined.{passes};
 ghost use Rattle.cip_base.specs.Rising.{IsRising, Divides};
 
 use crate::entry::{AddFault, AddReason, Entry};
-use cip_base::{Address, LAST_COUNT, NoMemory, NumberIndex, PortNumber};
+use cip_base::{
+    Address, LAST_COUNT, LAST_INCARNATION, NoMemory, NumberIndex, PortNumber, counts_given,
+    incarnation, reborn,
+};
 use slab::Slab;
 use std::alloc::Global;
 use std::marker::Model;
 
-/// The requests that wait for their replies, each under its number. Numbers rise and never come
-/// back. All memory is taken by `with_room`.
+/// The requests that wait for their replies, each under its number. A number has a count in its low
+/// half, under an incarnation: counts rise, and a reset begins the next incarnation, so that no
+/// number comes back. All memory is taken by `with_room`.
 #[derive(Drop)]
 pub struct PendingTable {
     room: usize,
-    // Up to one past the last number of 32 bits.
+    // One past the last that was given: up to 2^32.
     next: u64,
     order: NumberIndex,
     records: Slab<Entry>,
@@ -45,10 +50,10 @@ impl Model for PendingTable {
 }
 
 impl PendingTable {
-    /// An empty table with room for `room` requests, whose first number is `first`, above 0.
-    /// NoMemory where the room is refused.
+    /// An empty table with room for `room` requests, whose first number is `first`: an incarnation,
+    /// and a count above 0. NoMemory where the room is refused.
     pub fn with_room(alloc: Global, room: usize, first: u32) -> Result<PendingTable, NoMemory>
-        requires { 0 < first }
+        requires { 0 < count_of first }
         ensures { IfOk result (λ t. t ≡ record { room = room; next = first; entries = map.empty }) }
     {
         let order = NumberIndex::with_room(alloc, room)?;
@@ -67,7 +72,7 @@ impl PendingTable {
     {
         if self.order.len() >= self.room {
             Some(AddReason::Full)
-        } else if self.next > LAST_COUNT {
+        } else if counts_given(self.next) + 1 > LAST_COUNT {
             Some(AddReason::NumbersSpent)
         } else {
             None
@@ -75,8 +80,8 @@ impl PendingTable {
     }
 
     /// Keeps a request under the next number, and gives that number. Full where the room is used
-    /// up, and else NumbersSpent where 0xFFFF_FFFF was given: the entry then comes back, and
-    /// nothing changes.
+    /// up, and else NumbersSpent where count 65,535 of this incarnation was given: the entry then
+    /// comes back, and nothing changes.
     pub fn add(&mut self, entry: Entry) -> Result<u32, AddFault>
         ensures value { result ≡ add_gives self.old entry }
         ensures after { self.new ≡ (if is_ok result then added self.old entry else self.old) }
@@ -147,6 +152,24 @@ impl PendingTable {
         }
         let (number, key) = pairs[at];
         Some((number, self.records.get(key)?))
+    }
+
+    /// Whether a reset can follow: an incarnation is left after this one.
+    pub fn can_reset(&self) -> bool
+        ensures { result ≡ has_next_incarnation self.now }
+    {
+        incarnation(self.next) < LAST_INCARNATION
+    }
+
+    /// Removes all requests, and begins the next incarnation with count 1. The room stays, and no
+    /// memory is taken: it takes time that is linear in what the table held.
+    pub fn reset(&mut self)
+        requires { IsTrue (has_next_incarnation self.old) }
+        ensures { self.new ≡ reset self.old }
+    {
+        self.order.clear();
+        self.records.clear();
+        self.next = reborn(self.next);
     }
 
     /// One less than the next number: the last that was given, or one less than the first.

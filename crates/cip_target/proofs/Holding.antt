@@ -83,10 +83,10 @@ first-bytes after m =
 
 -- ---- none, and one put in
 
-same_bytes : (m n : AssemblyMap) → ((q : ℕ) → map.get m q ≡ map.get n q) → m ≡ n
+pub same_bytes : (m n : AssemblyMap) → ((q : ℕ) → map.get m q ≡ map.get n q) → m ≡ n
 same_bytes m n is = map.same_map nat_cmp_total nat_cmp-IsAntisymmetric m n is
 
-same_owners : (m n : Owners) → ((q : ℕ) → map.get m q ≡ map.get n q) → m ≡ n
+pub same_owners : (m n : Owners) → ((q : ℕ) → map.get m q ≡ map.get n q) → m ≡ n
 same_owners m n is = map.same_map nat_cmp_total nat_cmp-IsAntisymmetric m n is
 
 pub bytes-none : bytes_of map.empty ≡ map.empty
@@ -118,7 +118,7 @@ owners-insert m k a = same_owners _ _ (λ q.
 
 -- ---- what stands there put in again
 
-tie : (q k : ℕ) → eq_by_cmp nat_cmp q k ≡ true → k ≡ q
+pub tie : (q k : ℕ) → eq_by_cmp nat_cmp q k ≡ true → k ≡ q
 tie q k e = eqb-true k q (sym (same_test q k) ∙ e)
 
 pub bytes-same : (m : Kept) (k : ℕ) (a : Assembly) → map.get m k ≡ Some a → map.insert (bytes_of m) k a.bytes ≡ bytes_of m

@@ -4,3 +4,6 @@ pub mod Changes
 pub mod Fitting
 pub mod Writes
 pub mod EndPoints
+pub mod Resets
+pub mod ReadsReset
+pub mod Sizes

@@ -11,12 +11,13 @@ use Rattle.cip_target.specs.declared.rows.TargetRefusal.TheVariants.{ClassNotSup
 use Rattle.cip_target.specs.Identity.{identity_bytes}
 use Rattle.cip_target.specs.Object.{object_of}
 use Rattle.cip_target.specs.Assemblies.{AssemblyMap}
-use Rattle.cip_target.specs.Rows.{TargetRow, Refused, Read, Written, read_row, get_row, set_identity_row, set_assembly_row, identity_attribute, assembly_attribute, identity_row, assembly_row, object_row, path_row, target_row}
+use Rattle.cip_target.specs.Rows.{TargetRow, Refused, Read, Written, Reset, read_row, get_row, reset_row, set_identity_row, set_assembly_row, identity_attribute, assembly_attribute, identity_row, assembly_row, object_row, path_row, target_row}
 
 abbrev pub IsThere : AssemblyMap → TargetRow → Type 0
 IsThere m (Refused refusal) = Unit {0}
 IsThere m (Read found) = Unit {0}
 IsThere m (Written i d) = IsSomeAnd (map.get m i) (λ held. length d ≡ length held)
+IsThere m Reset = Unit {0}
 
 read_there : (m : AssemblyMap) (found d : List ℕ) → IsThere m (read_row found d)
 read_there m found d = cond_both (eqb (length d) 0) (Read found) (Refused DataLong) (IsThere m) (λ e. tt) (λ e. tt)
@@ -25,6 +26,9 @@ get_there : (m : AssemblyMap) (o : Option (List ℕ)) (d : List ℕ) → IsThere
 get_there m None d = tt
 get_there m (Some found) d = read_there m found d
 
+reset_there : (m : AssemblyMap) (d : List ℕ) → IsThere m (reset_row d)
+reset_there m d = cond_both (ltb 1 (length d)) (Refused DataLong) Reset (IsThere m) (λ e. tt) (λ e. tt)
+
 set_identity_there : (m : AssemblyMap) (o : Option (List ℕ)) → IsThere m (set_identity_row o)
 set_identity_there m None = tt
 set_identity_there m (Some found) = tt
@@ -32,14 +36,18 @@ set_identity_there m (Some found) = tt
 identity_there : (m : AssemblyMap) (f : IdentityFields) (service : ℕ) (a : Option ℕ) (d : List ℕ) → IsThere m (identity_row f service a d)
 identity_there m f service a d =
     cond_both (eqb service 0x01) (read_row (identity_bytes f) d)
+    (cond (eqb service 0x05) (reset_row d) (cond (eqb service 0x0E) (get_row (identity_attribute f a) d)
+    (cond (eqb service 0x10) (set_identity_row (identity_attribute f a)) (Refused ServiceNotSupported)))) (IsThere m)
+    (λ e. read_there m (identity_bytes f) d)
+    (λ e. cond_both (eqb service 0x05) (reset_row d)
     (cond (eqb service 0x0E) (get_row (identity_attribute f a) d)
     (cond (eqb service 0x10) (set_identity_row (identity_attribute f a)) (Refused ServiceNotSupported))) (IsThere m)
-    (λ e. read_there m (identity_bytes f) d)
+    (λ e. reset_there m d)
     (λ e. cond_both (eqb service 0x0E) (get_row (identity_attribute f a) d)
     (cond (eqb service 0x10) (set_identity_row (identity_attribute f a)) (Refused ServiceNotSupported)) (IsThere m)
     (λ e. get_there m (identity_attribute f a) d)
     (λ e. cond_both (eqb service 0x10) (set_identity_row (identity_attribute f a)) (Refused ServiceNotSupported) (IsThere m)
-    (λ e. set_identity_there m (identity_attribute f a)) (λ e. tt)))
+    (λ e. set_identity_there m (identity_attribute f a)) (λ e. tt))))
 
 -- the attribute of an assembly is its data, or there is none
 set_there : (m : AssemblyMap) (i : ℕ) (held d : List ℕ) → map.get m i ≡ Some held → IsThere m (set_assembly_row i (Some held) d)

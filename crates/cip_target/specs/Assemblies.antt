@@ -47,6 +47,15 @@ HasSize m i size = IsSomeAnd (map.get m i) (λ held. size ≡ length held)
 abbrev pub config_with : InstanceNumber → Octets → AssemblyConfig
 config_with i held = record { instance = i; size = length held }
 
+-- what these assemblies are, each by its instance and size
+abbrev pub configs_of : List (InstanceNumber × Octets) → List AssemblyConfig
+configs_of [] = []
+configs_of (e ∷ others) = config_with e.0 e.1 ∷ configs_of others
+
+-- the assemblies of a target, in rising instance
+abbrev pub configs_in : AssemblyMap → List AssemblyConfig
+configs_in m = configs_of (map.entries m)
+
 -- what is said of an assembly, if it exists
 abbrev pub config_in : AssemblyMap → InstanceNumber → Option AssemblyConfig
 config_in m i = option_map (config_with i) (map.get m i)

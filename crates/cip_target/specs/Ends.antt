@@ -17,7 +17,7 @@ use Rattle.cip_target.specs.declared.config.AssemblyConfig.{AssemblyConfig}
 use Rattle.cip_target.specs.declared.identity.IdentityFields.{IdentityFields}
 use Rattle.cip_target.specs.declared.link.EndLink.{EndLink}
 use Rattle.cip_target.specs.ApplicationPath.{Application, application_of}
-use Rattle.cip_target.specs.Assemblies.{AssemblyMap, Owners, zeroed, size_in, written_over, owned_with}
+use Rattle.cip_target.specs.Assemblies.{AssemblyMap, Owners, zeroed, configs_in, size_in, written_over, owned_with}
 use Rattle.cip_target.specs.Held.{Holdings, unowned}
 use Rattle.cip_target.specs.Objects.{Objects, target_after}
 
@@ -154,3 +154,12 @@ consumed t i d = record {
 -- after an instance is given back
 abbrev pub released : Ends → InstanceNumber → Ends
 released t i = record { objects = t.objects; owners = map.remove t.owners i }
+
+-- after a reset: as a target begins that has the same identity, and assemblies of the same sizes
+abbrev pub reset : Ends → Ends
+reset t = fresh t.objects.identity (configs_in t.objects.assemblies)
+
+-- the target has an assembly where one of these configures it, of that size, and no other
+abbrev pub HasSizes : Ends → List AssemblyConfig → Type 0
+HasSizes t configs =
+    (i : InstanceNumber) → size_in t.objects.assemblies i ≡ size_in (zeroed configs) i

@@ -1,5 +1,5 @@
 -- How the assemblies are kept, and what is true of the list in which they stand.
-use Rattle.std.specs.Prelude.{ℕ, ◌≤◌, T, List, [], ◌∷◌, length, slice_index_or, Option, Some, None}
+use Rattle.std.specs.Prelude.{ℕ, ◌≤◌, T, List, [], ◌∷◌, length, replicate, slice_index_or, Option, Some, None}
 use Rattle.std.specs.Ordering.{nat_cmp}
 use Rattle.std.specs.FinMap as map
 use Rattle.cip_base.specs.declared.limits.TheConstants.{MAX_DATUM}
@@ -66,6 +66,15 @@ owners_of m = owners_in (map.entries m)
 
 abbrev pub holdings : Kept → Holdings
 holdings m = record { bytes = bytes_of m; owners = owners_of m }
+
+-- an assembly as a target begins with it: as many bytes, all of them 00, and no owner
+abbrev pub cleared : Assembly → Assembly
+cleared a = record { bytes = replicate (length a.bytes) 0; owner = None }
+
+-- each of them
+abbrev pub all_cleared : List (InstanceNumber × Assembly) → List (InstanceNumber × Assembly)
+all_cleared [] = []
+all_cleared (e ∷ es) = (e.0, cleared e.1) ∷ all_cleared es
 
 -- stands for what is past the end of the list
 abbrev pub nothing : InstanceNumber × Assembly

@@ -1,6 +1,6 @@
 -- What the target answers: the first row that fits (Volume 1, chapter 5, Identity and Assembly
 -- objects; Appendix B, general status).
-use Rattle.std.specs.Prelude.{ℕ, ◌+◌, ◌==◌, nat_lt, if◌then◌else◌, [], length, Option, Some, None}
+use Rattle.std.specs.Prelude.{ℕ, Bool, true, false, ◌+◌, ◌==◌, nat_lt, if◌then◌else◌, [], length, Option, Some, None}
 use Rattle.std.specs.FinMap as map
 use Rattle.cip_base.specs.Words.{Octets, InstanceNumber}
 use Rattle.cip_segment.specs.Reading.{segments_of}
@@ -14,11 +14,13 @@ use Rattle.cip_target.specs.Identity.{identity_bytes, attribute_of}
 use Rattle.cip_target.specs.Object.{object_of}
 use Rattle.cip_target.specs.Assemblies.{AssemblyMap}
 
--- a row that refuses, one that reads these bytes, or one that writes these bytes to this instance
+-- a row that refuses, one that reads these bytes, one that writes these bytes to this instance, or
+-- one that asks the whole device to reset
 pub data TargetRow : Type 0 where
   Refused : TargetRefusal → TargetRow
   Read : Octets → TargetRow
   Written : InstanceNumber → Octets → TargetRow
+  Reset : TargetRow
 
 -- reading takes no data
 abbrev pub read_row : Octets → Octets → TargetRow
@@ -28,6 +30,10 @@ read_row found d = if length d == 0 then Read found else Refused DataLong
 abbrev pub get_row : Option Octets → Octets → TargetRow
 get_row None d = Refused NoSuchAttribute
 get_row (Some found) d = read_row found d
+
+-- a reset takes no data, or one byte, the type of reset
+abbrev pub reset_row : Octets → TargetRow
+reset_row d = if nat_lt 1 (length d) then Refused DataLong else Reset
 
 -- no attribute of the Identity can be set
 abbrev pub set_identity_row : Option Octets → TargetRow
@@ -52,10 +58,11 @@ abbrev pub assembly_attribute : Octets → Option ℕ → Option Octets
 assembly_attribute held None = None
 assembly_attribute held (Some a) = if a == 3 then Some held else None
 
--- the Identity's services: Get_Attributes_All, Get_Attribute_Single, Set_Attribute_Single
+-- the Identity's services: Get_Attributes_All, Reset, Get_Attribute_Single, Set_Attribute_Single
 abbrev pub identity_row : IdentityFields → ℕ → Option ℕ → Octets → TargetRow
 identity_row f service a d =
     if service == 0x01 then read_row (identity_bytes f) d
+    else if service == 0x05 then reset_row d
     else if service == 0x0E then get_row (identity_attribute f a) d
     else if service == 0x10 then set_identity_row (identity_attribute f a)
     else Refused ServiceNotSupported
@@ -85,6 +92,13 @@ path_row f m (Some o) service d = object_row f m o service d
 unfoldable pub target_row : IdentityFields → AssemblyMap → Request → TargetRow
 target_row f m r = path_row f m (object_of (segments_of r.path)) r.service r.data_
 
+-- a row that asks the whole device to reset
+abbrev pub is_reset : TargetRow → Bool
+is_reset (Refused refusal) = false
+is_reset (Read found) = false
+is_reset (Written i d) = false
+is_reset Reset = true
+
 -- the general status of a row that refuses
 abbrev pub refusal_status : TargetRefusal → ℕ
 refusal_status PathFormNotSupported = 0x05
@@ -96,16 +110,18 @@ refusal_status NotSettable = 0x0E
 refusal_status DataShort = 0x13
 refusal_status DataLong = 0x15
 
--- the general status of a row
+-- the general status of a row; of a reset, which no module carries out yet: service not supported
 abbrev pub status_of : TargetRow → ℕ
 status_of (Refused refusal) = refusal_status refusal
 status_of (Read found) = 0
 status_of (Written i d) = 0
+status_of Reset = 0x08
 
 abbrev pub data_of : TargetRow → Octets
 data_of (Refused refusal) = []
 data_of (Read found) = found
 data_of (Written i d) = []
+data_of Reset = []
 
 -- a service with bit 7 set
 abbrev pub reply_service : ℕ → ℕ
@@ -124,8 +140,9 @@ plain_reply service general d = record {
 abbrev pub answer_of : ℕ → TargetRow → Reply
 answer_of service row = plain_reply service (status_of row) (data_of row)
 
--- the assemblies after a row
+-- the assemblies after a row is answered; a reset is carried out apart from its answer
 abbrev pub assemblies_after : AssemblyMap → TargetRow → AssemblyMap
 assemblies_after m (Refused refusal) = m
 assemblies_after m (Read found) = m
 assemblies_after m (Written i d) = map.insert m i d
+assemblies_after m Reset = m

@@ -5,7 +5,7 @@ use Rattle.cip_base.specs.declared.limits.TheConstants.{MAX_DATUM}
 use Rattle.cip_base.specs.Words.{Octets, InstanceNumber}
 use Rattle.cip_target.specs.declared.rows.Row.{Row}
 use Rattle.cip_target.specs.declared.rows.Row.TheVariants as rows
-use Rattle.cip_target.specs.Rows.{TargetRow, Refused, Read, Written}
+use Rattle.cip_target.specs.Rows.{TargetRow, Refused, Read, Written, Reset}
 
 -- bytes that are borrowed, if there are any
 abbrev pub bytes_seen : Option (Bor Octets) → Option Octets
@@ -19,9 +19,11 @@ abbrev pub seen : Octets → Row → TargetRow
 seen d (rows.Refused refusal) = Refused refusal
 seen d (rows.Read found) = Read found.now
 seen d (rows.Written i) = Written i d
+seen d rows.Reset = Reset
 
 -- what it reads fits a reply
 abbrev pub IsSmall : Row → Type 0
 IsSmall (rows.Refused refusal) = Unit {0}
 IsSmall (rows.Read found) = length found.now ≤ MAX_DATUM
 IsSmall (rows.Written i) = Unit {0}
+IsSmall rows.Reset = Unit {0}

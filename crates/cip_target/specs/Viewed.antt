@@ -1,5 +1,5 @@
 -- What a borrowed application path says, and the assemblies that it names.
-use Rattle.std.specs.Prelude.{◌≡◌, ◌≤◌, Bool, List, [], ◌∷◌, Option, Some, None, option_map, MatchOption, Err}
+use Rattle.std.specs.Prelude.{◌≡◌, Bool, List, [], ◌∷◌, Option, Some, None, option_map, MatchOption, Err}
 use Rattle.cip_base.specs.Words.{InstanceNumber}
 use Rattle.cip_segment.specs.declared.segment.Segment.{Segment}
 use Rattle.cip_segment.specs.declared.segment.SegmentView.{SegmentView}

@@ -2,8 +2,8 @@
 ghost use Rattle.std.specs.Prelude.{◌≡◌, ◌≤◌, ◌==◌, nat_le, length, IfSome, IsSomeAnd, is_ok, is_some, if◌then◌else◌};
 ghost use Rattle.std.specs.List.{position};
 ghost use Rattle.std.specs.FinMap as map;
-ghost use Rattle.cip_target.specs.Assemblies.{HasSize, config_in, first_above, is_above};
-ghost use Rattle.cip_target.specs.Held.{unowned, with_fresh, with_bytes, with_front, with_output, without_owner};
+ghost use Rattle.cip_target.specs.Assemblies.{HasSize, zeroed, configs_in, config_in, first_above, is_above};
+ghost use Rattle.cip_target.specs.Held.{unowned, with_fresh, with_bytes, with_front, with_output, without_owner, all_cleared};
 ghost use Rattle.cip_target.specs.Seen.{bytes_seen, assembly_seen};
 
 use crate::assembly::Assembly;
@@ -61,6 +61,14 @@ fn place_above(held: &[(u16, Assembly)], after: Option<u16>) -> Option<usize>
     ensures { result ≡ position (λ e. is_above after e.0) held.now }
 {
     held.iter().position(|e| is_above(after, e.0))
+}
+
+fn clear_all(held: &mut [(u16, Assembly)], alloc: Global)
+    ensures { held.new ≡ all_cleared held.old }
+{
+    for entry in held.iter_mut() {
+        entry.1.clear(alloc);
+    }
 }
 
 impl Assemblies {
@@ -164,6 +172,14 @@ impl Assemblies {
         if let Some(at) = place_of(&self.held, instance) {
             self.held[at].1.owner = None;
         }
+    }
+
+    /// Makes all bytes 00, and takes out all owners.
+    pub(crate) fn reset(&mut self)
+        ensures { self.new ≡ unowned (zeroed (configs_in self.old.bytes)) }
+    {
+        let alloc = *self.held.allocator();
+        clear_all(&mut self.held, alloc);
     }
 
     /// The assembly of the least instance above, or of all.

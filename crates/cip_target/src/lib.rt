@@ -18,7 +18,7 @@ mod target;
 pub use config::AssemblyConfig;
 pub use ends::EndRefusal;
 pub use identity::{Identity, IdentityFields, is_product_name};
-pub use laws::points_of_an_end;
+pub use laws::{points_of_an_end, reset_is_as_made, sizes_stay, what_reads_as_reset};
 pub use link::EndLink;
 pub use object::{ObjectPath, object_path};
 pub use rows::TargetRefusal;

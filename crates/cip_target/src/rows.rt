@@ -16,7 +16,8 @@ pub enum TargetRefusal {
     NotSettable,
     /// Less data than the assembly has.
     DataShort,
-    /// More data than the assembly has, or any data where an attribute is read.
+    /// More data than the assembly has, any data where an attribute is read, or more than one byte
+    /// for a reset.
     DataLong,
 }
 
@@ -38,10 +39,11 @@ impl TargetRefusal {
     }
 }
 
-/// A row, with what it reads or where it writes.
+/// A row, with what it reads or where it writes; or a reset of the whole device.
 #[derive(Clone, Copy)]
 pub(crate) enum Row<'a> {
     Refused(TargetRefusal),
     Read(&'a [u8]),
     Written(u32),
+    Reset,
 }

@@ -1,14 +1,14 @@
 //! The target of a module.
-ghost use Rattle.std.specs.Prelude.{◌≡◌, ◌≤◌, length, IfOk, IsTrue, is_ok};
+ghost use Rattle.std.specs.Prelude.{◌≡◌, ◌≤◌, false, length, IfOk, IsTrue, is_ok};
 ghost use Rattle.std.specs.Option.{ForSome};
 ghost use Rattle.std.specs.List.{list_all};
 ghost use Rattle.cip_message.specs.Reading.{request_of};
 ghost use Rattle.cip_message.specs.Reply.{reply_bytes};
 ghost use Rattle.cip_target.specs.Assemblies.{is_assembly, zeroed, first_above};
 ghost use Rattle.cip_target.specs.Identity.{is_identity, identity_bytes};
-ghost use Rattle.cip_target.specs.Rows.{read_row, get_row, set_identity_row, set_assembly_row, identity_attribute, assembly_attribute, identity_row, assembly_row, plain_reply};
-ghost use Rattle.cip_target.specs.Objects.{row_of_object, row_of, answer_bytes};
-ghost use Rattle.cip_target.specs.Ends.{fresh, ends_if};
+ghost use Rattle.cip_target.specs.Rows.{read_row, get_row, reset_row, set_identity_row, set_assembly_row, identity_attribute, assembly_attribute, identity_row, assembly_row, plain_reply};
+ghost use Rattle.cip_target.specs.Objects.{row_of_object, row_of, reads_reset, answer_bytes};
+ghost use Rattle.cip_target.specs.Ends.{fresh, ends_if, reset};
 ghost use Rattle.cip_target.specs.Held.{unowned};
 ghost use Rattle.cip_target.specs.Seen.{bytes_seen, assembly_seen, seen, IsSmall};
 
@@ -74,6 +74,18 @@ fn get<'a>(found: Option<&'a [u8]>, data_: &[u8]) -> Row<'a>
     match found {
         None => Row::Refused(TargetRefusal::NoSuchAttribute),
         Some(found) => read(found, data_),
+    }
+}
+
+// A reset takes no data, or one byte, the type of reset.
+fn reset<'a>(data_: &[u8]) -> Row<'a>
+    ensures is { seen data_.now result ≡ reset_row data_.now }
+    ensures fits { IsSmall result }
+{
+    if data_.len() > 1 {
+        Row::Refused(TargetRefusal::DataLong)
+    } else {
+        Row::Reset
     }
 }
 
@@ -190,6 +202,7 @@ impl Target {
     {
         match service {
             0x01 => read(self.attributes.as_slice(), data_),
+            0x05 => reset(data_),
             0x0E => get(self.identity_attribute(attribute), data_),
             0x10 => set_identity(self.identity_attribute(attribute), data_),
             _ => Row::Refused(TargetRefusal::ServiceNotSupported),
@@ -231,16 +244,29 @@ impl Target {
         }
     }
 
+    /// Whether a request is an Identity Reset (Volume 1, chapter 5, Identity object, service 05)
+    /// that no row refuses: its path names class 1, instance 1, and it has no data or one byte of
+    /// any value. Such a request is for the whole device, which answers it and calls `reset`. It
+    /// takes no memory.
+    pub fn reads_reset(&self, request: RequestView<'_>) -> bool
+        ensures { result ≡ reads_reset self.now.objects (request_of request.entry) }
+    {
+        // Most requests are told by their service, without a look at their path.
+        request.service == 0x05 && matches!(self.row(request), Row::Reset)
+    }
+
     /// The whole reply to a request (Volume 1, chapter 2, Message Router; chapter 5, Identity and
     /// Assembly objects). The request's path names a class, an instance and perhaps an attribute,
     /// in any spelling. Any view is answered, also one that no bytes were read as; the service of
     /// the reply is the request's with bit 7 set.
     ///
     /// Identity, class 1, instance 1: Get_Attributes_All 01, Get_Attribute_Single 0E of attributes
-    /// 1 to 7, none of which can be set. Assembly, class 4: Get_Attribute_Single 0E and
-    /// Set_Attribute_Single 10 of attribute 3, its data, set whole. Otherwise the reply has the
-    /// general status of the first `TargetRefusal` that fits. NoMemory changes nothing.
+    /// 1 to 7, none of which can be set; a Reset 05 that is not refused is not answered here.
+    /// Assembly, class 4: Get_Attribute_Single 0E and Set_Attribute_Single 10 of attribute 3, its
+    /// data, set whole. Otherwise the reply has the general status of the first `TargetRefusal`
+    /// that fits. NoMemory changes nothing. The condition is that `reads_reset` is false.
     pub fn answer(&mut self, alloc: Global, request: RequestView<'_>) -> Result<Bytes, NoMemory>
+        requires { reads_reset self.old.objects (request_of request) ≡ false }
         ensures ok { IfOk result
             (λ b. b ≡ answer_bytes self.old.objects (request_of request.entry)) }
         ensures after { self.new ≡ ends_if (is_ok result) self.old (request_of request.entry) }
@@ -253,7 +279,16 @@ impl Target {
                 self.assemblies.write(instance, request.data_);
                 Ok(done)
             }
+            Row::Reset => unreachable!(),
         }
+    }
+
+    /// Resets the target: it is as `Target::new` makes it of the same identity and assemblies, each
+    /// of its size with all bytes 00; all instances are released. It takes no memory.
+    pub fn reset(&mut self)
+        ensures { self.new ≡ reset self.old }
+    {
+        self.assemblies.reset();
     }
 
     /// The fields of the identity.

@@ -20,14 +20,15 @@ use Rattle.cip_topology.specs.declared.place.Place.{Place}
 use Rattle.cip_topology.specs.declared.place.Place.TheVariants as places
 use Rattle.cip_topology.specs.Plan.{AreLinks, HasPort, StandsOn, TellsApart, AddressesDiffer, originator}
 use Rattle.cip_topology.specs.Nodes.{Node}
-use Rattle.cip_topology.specs.Keys.{◌>>=◌, number_or_at, name_at, table_of, item_count}
+use Rattle.cip_topology.specs.Keys.{◌>>=◌, number_or_at, counted_at, name_at, table_of, item_count}
 use Rattle.cip_topology.specs.PortTables.{ports_at, assemblies_at}
 use Rattle.cip_topology.specs.ModuleTables.{kind_at, identity_at, counts_at, new_name, has_originator, new_originator}
 use Rattle.cip_topology.specs.ModuleTables.{is_taken, named_settings, settings_of_table, settings_of, modules_after}
 use Rattle.cip_topology.proofs.Ports.{some_same}
 use Rattle.cip_topology.proofs.WayBack.{there_is, node_found}
 use Rattle.cip_topology.proofs.Lists.{get_push, none_at, apart_push}
-use Rattle.cip_topology.proofs.Rules.{bind_ok, same_ok, passed, le_true, number_or_bounds, text_passes}
+use Rattle.cip_topology.proofs.Rules.{bind_ok, same_ok, passed, le_true, number_or_bounds, counted_some, text_passes}
+use Rattle.cip_base.specs.Counts.{count_of}
 use Rattle.cip_topology.proofs.PortsKept.{PortsKept, ports_kept, assemblies_kept}
 
 -- ---- one module
@@ -37,23 +38,23 @@ below n h = grind (arith, nat_tests)
 
 record CountsFit (c : Counts) : Type 0 where
   clock : nat_lt c.clock (2 ^ 63) ≡ true
-  id : nat_le 1 c.first_id ≡ true
-  number : nat_le 1 c.first_number ≡ true
+  id : nat_le 1 (count_of c.first_id) ≡ true
+  number : nat_le 1 (count_of c.first_number) ≡ true
   pending : is_room 256 c.pending_room ≡ true
   hop : is_room 256 c.hop_room ≡ true
 
 counts_fit : (place : Place) (m : Members) (c : Counts) → counts_at place m ≡ Ok c → CountsFit c
 counts_fit place m c h =
     let (clock, e1, h1) = bind_ok (number_or_at place key.Clock 0 0 9223372036854775807 m)
-    (λ clock. number_or_at place key.FirstId 1 1 4294967295 m >>= λ first_id.
-    (number_or_at place key.FirstNumber 1 1 4294967295 m >>= λ first_number. (number_or_at place key.PendingRoom 256 1 256 m >>= λ pending_room.
+    (λ clock. counted_at place key.FirstId m >>= λ first_id.
+    (counted_at place key.FirstNumber m >>= λ first_number. (number_or_at place key.PendingRoom 256 1 256 m >>= λ pending_room.
     (number_or_at place key.HopRoom 256 1 256 m >>= λ hop_room.
     Ok (record { clock = clock; first_id = first_id; first_number = first_number; pending_room = pending_room; hop_room = hop_room }))))) c h in
-    let (first_id, e2, h2) = bind_ok (number_or_at place key.FirstId 1 1 4294967295 m) (λ first_id.
-    number_or_at place key.FirstNumber 1 1 4294967295 m >>= λ first_number. (number_or_at place key.PendingRoom 256 1 256 m >>= λ pending_room.
+    let (first_id, e2, h2) = bind_ok (counted_at place key.FirstId m) (λ first_id.
+    counted_at place key.FirstNumber m >>= λ first_number. (number_or_at place key.PendingRoom 256 1 256 m >>= λ pending_room.
     (number_or_at place key.HopRoom 256 1 256 m >>= λ hop_room.
     Ok (record { clock = clock; first_id = first_id; first_number = first_number; pending_room = pending_room; hop_room = hop_room })))) c h1 in
-    let (first_number, e3, h3) = bind_ok (number_or_at place key.FirstNumber 1 1 4294967295 m) (λ first_number.
+    let (first_number, e3, h3) = bind_ok (counted_at place key.FirstNumber m) (λ first_number.
     number_or_at place key.PendingRoom 256 1 256 m >>= λ pending_room. (number_or_at place key.HopRoom 256 1 256 m >>= λ hop_room.
     Ok (record { clock = clock; first_id = first_id; first_number = first_number; pending_room = pending_room; hop_room = hop_room }))) c h2 in
     let (pending_room, e4, h4) = bind_ok (number_or_at place key.PendingRoom 256 1 256 m)
@@ -62,16 +63,16 @@ counts_fit place m c h =
     let (hop_room, e5, h5) = bind_ok (number_or_at place key.HopRoom 256 1 256 m) (λ hop_room.
     Ok (record { clock = clock; first_id = first_id; first_number = first_number; pending_room = pending_room; hop_room = hop_room })) c h4 in
     let b1 = number_or_bounds place key.Clock 0 0 9223372036854775807 m clock (omega arith) (omega arith) e1 in
-    let b2 = number_or_bounds place key.FirstId 1 1 4294967295 m first_id (omega arith) (omega arith) e2 in
-    let b3 = number_or_bounds place key.FirstNumber 1 1 4294967295 m first_number (omega arith) (omega arith) e3 in
+    let b2 = counted_some place key.FirstId m first_id e2 in
+    let b3 = counted_some place key.FirstNumber m first_number e3 in
     let b4 = number_or_bounds place key.PendingRoom 256 1 256 m pending_room (omega arith) (omega arith) e4 in
     let b5 = number_or_bounds place key.HopRoom 256 1 256 m hop_room (omega arith) (omega arith) e5 in
     let same : record { clock = clock; first_id = first_id; first_number = first_number; pending_room = pending_room; hop_room = hop_room }
     ≡ c = same_ok _ c h5 in
     subst CountsFit same (record {
       clock = below clock b1.1;
-      id = le_true 1 first_id b2.0;
-      number = le_true 1 first_number b3.0;
+      id = b2;
+      number = b3;
       pending = and_from (nat_le 1 pending_room) (nat_le pending_room 256) (le_true 1 pending_room b4.0) (le_true pending_room 256 b4.1);
       hop = and_from (nat_le 1 hop_room) (nat_le hop_room 256) (le_true 1 hop_room b5.0) (le_true hop_room 256 b5.1);
     })
@@ -128,7 +129,7 @@ named_new place name links modules m s are is h =
       legal = and_from (is_name name) _ is
           (and_from (are_counts (made kind identity counts ports assemblies)) _
           (and_from (nat_lt counts.clock (2 ^ 63)) _ fit.clock
-          (and_from (nat_le 1 counts.first_id) _ fit.id (and_from (nat_le 1 counts.first_number) _ fit.number
+          (and_from (nat_le 1 (count_of counts.first_id)) _ fit.id (and_from (nat_le 1 (count_of counts.first_number)) _ fit.number
           (and_from (is_room 256 counts.pending_room) (is_room 256 counts.hop_room) fit.pending fit.hop))))
           (and_from (are_ports kind ports) (are_assemblies assemblies) all.1 some));
       name = no_name.0;

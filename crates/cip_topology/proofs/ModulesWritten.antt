@@ -30,11 +30,12 @@ use Rattle.cip_topology.specs.Plan.{Plan, IsTopology, HasPort, StandsOn, TellsAp
 use Rattle.cip_topology.specs.Nodes.{Node, node_from}
 use Rattle.cip_topology.specs.Documents.{AreTables, HasTables, HasTypes, FitsTypes, Writes, WritesIdentity, WritesLink, WritesModule, kind_word}
 use Rattle.cip_topology.specs.Files.{tables_at, some_items, plan_with, topology_of}
-use Rattle.cip_topology.specs.Keys.{Read, ◌>>=◌, value_at, out_of_range, number_at, number_or_at, text_at, name_at, array_of, item_count}
+use Rattle.cip_topology.specs.Keys.{Read, ◌>>=◌, value_at, out_of_range, number_at, number_or_at, counted_at, text_at, name_at, array_of, item_count}
 use Rattle.cip_topology.specs.LinkTables.{links_after}
 use Rattle.cip_topology.specs.PortTables.{ports_at, assemblies_at, at_most}
 use Rattle.cip_topology.specs.ModuleTables.{kind_of, kind_at, identity_at, counts_at, new_name, has_originator, new_originator, is_taken, named_settings}
 use Rattle.cip_topology.specs.ModuleTables.{settings_of_table, settings_of, modules_after}
+use Rattle.cip_base.specs.Counts.{count_of}
 use Rattle.cip_topology.proofs.Before.{apart_before, get_before, get_here, none_here}
 use Rattle.cip_topology.proofs.LinksWritten.{links_are}
 use Rattle.cip_topology.proofs.ModulesKept.{ModulesKept}
@@ -43,7 +44,7 @@ use Rattle.cip_topology.proofs.PortsKept.{numbers_are, instances_are}
 use Rattle.cip_topology.proofs.PortsWritten.{as_many, AreGood, AreGoodAssemblies, ports_written, assemblies_written}
 use Rattle.cip_topology.proofs.Rules.{le_of, le_true}
 use Rattle.cip_topology.proofs.WayBack.{is_there, node_is}
-use Rattle.cip_topology.proofs.Written.{then_ok, if_true, if_false, value_is, number_is, number_or_is, text_is}
+use Rattle.cip_topology.proofs.Written.{then_ok, if_true, if_false, value_is, number_is, number_or_is, counted_is, text_is}
 
 -- ---- one module
 
@@ -93,19 +94,19 @@ clock_below n h = grind (arith, nat_tests)
 counts_are : (place : Place) (links : List Link) (c : ModuleSettings) (m : Members) → WritesModule links c m → FitsTypes c → are_counts c ≡ true
     → counts_at place m ≡ Ok (counts_of c)
 counts_are place links c m w f h =
-    let (clock, h1) = and_parts (nat_lt c.clock (2 ^ 63)) (nat_le 1 c.first_id
-    && (nat_le 1 c.first_number && (is_room 256 c.pending_room && is_room 256 c.hop_room))) h in
-    let (id, h2) = and_parts (nat_le 1 c.first_id) (nat_le 1 c.first_number && (is_room 256 c.pending_room && is_room 256 c.hop_room)) h1 in
-    let (number, h3) = and_parts (nat_le 1 c.first_number) (is_room 256 c.pending_room && is_room 256 c.hop_room) h2 in
+    let (clock, h1) = and_parts (nat_lt c.clock (2 ^ 63)) (nat_le 1 (count_of c.first_id)
+    && (nat_le 1 (count_of c.first_number) && (is_room 256 c.pending_room && is_room 256 c.hop_room))) h in
+    let (id, h2) = and_parts (nat_le 1 (count_of c.first_id)) (nat_le 1 (count_of c.first_number) && (is_room 256 c.pending_room && is_room 256 c.hop_room)) h1 in
+    let (number, h3) = and_parts (nat_le 1 (count_of c.first_number)) (is_room 256 c.pending_room && is_room 256 c.hop_room) h2 in
     let (pending, hop) = and_parts (is_room 256 c.pending_room) (is_room 256 c.hop_room) h3 in
     let pendings = and_parts (nat_le 1 c.pending_room) (nat_le c.pending_room 256) pending in
     let hops = and_parts (nat_le 1 c.hop_room) (nat_le c.hop_room 256) hop in
     then_ok (number_or_at place key.Clock 0 0 9223372036854775807 m) _ c.clock (Ok (counts_of c))
     (number_or_is place key.Clock 0 0 9223372036854775807 c.clock m w.clock (omega arith) (clock_below c.clock clock))
-    (then_ok (number_or_at place key.FirstId 1 1 4294967295 m) _ c.first_id (Ok (counts_of c))
-    (number_or_is place key.FirstId 1 1 4294967295 c.first_id m w.first_id (le_of 1 c.first_id id) f.first_id)
-    (then_ok (number_or_at place key.FirstNumber 1 1 4294967295 m) _ c.first_number (Ok (counts_of c))
-    (number_or_is place key.FirstNumber 1 1 4294967295 c.first_number m w.first_number (le_of 1 c.first_number number) f.first_number)
+    (then_ok (counted_at place key.FirstId m) _ c.first_id (Ok (counts_of c))
+    (counted_is place key.FirstId c.first_id m w.first_id id f.first_id)
+    (then_ok (counted_at place key.FirstNumber m) _ c.first_number (Ok (counts_of c))
+    (counted_is place key.FirstNumber c.first_number m w.first_number number f.first_number)
     (then_ok (number_or_at place key.PendingRoom 256 1 256 m) _ c.pending_room (Ok (counts_of c))
     (number_or_is place key.PendingRoom 256 1 256 c.pending_room m w.pending_room (le_of 1 c.pending_room pendings.0) (le_of c.pending_room 256 pendings.1))
     (then_ok (number_or_at place key.HopRoom 256 1 256 m) _ c.hop_room (Ok (counts_of c))

@@ -8,7 +8,8 @@ use Rattle.cip_topology.specs.declared.key.Key.{Key}
 use Rattle.cip_topology.specs.declared.place.Place.{Place}
 use Rattle.cip_topology.specs.declared.fault.LoadFault.{LoadFault}
 use Rattle.cip_topology.specs.Words.{word_of}
-use Rattle.cip_topology.specs.Keys.{Read, ◌>>=◌, value_at, natural, within, number_of, number_at, number_or, number_or_at, text_if, text_at}
+use Rattle.cip_topology.specs.Keys.{Read, ◌>>=◌, value_at, natural, within, number_of, number_at, number_or, number_or_at, with_count, counted, counted_at, text_if, text_at}
+use Rattle.cip_base.specs.Counts.{count_of}
 
 -- the first of two rules is kept where both are
 pub bind_ok : {A B : Type 0} (r : Read A) (f : A → Read B) (y : B) → (r >>= f) ≡ Ok y → (x : A) × (r ≡ Ok x) × (f x ≡ Ok y)
@@ -54,6 +55,16 @@ number_or_bounds place k otherwise least most m n low high h = by_value (get_mem
     by_value : (o : Option Data) → number_or place k otherwise least most o ≡ Ok n → (least ≤ n) × (n ≤ most)
     by_value None e = let same = same_ok otherwise n e in (subst (λ y. least ≤ y) same low, subst (λ y. y ≤ most) same high)
     by_value (Some d) e = within_bounds place k least most d (natural (as_integer d)) n e
+
+pub counted_some : (place : Place) (k : Key) (m : Members) (n : ℕ) → counted_at place k m ≡ Ok n → nat_le 1 (count_of n) ≡ true
+counted_some place k m n h = by_value (get_member (word_of k) m) h
+  where
+    by_value : (o : Option Data) → counted place k o ≡ Ok n → nat_le 1 (count_of n) ≡ true
+    by_value None e = ap (λ x. nat_le 1 (count_of x)) (sym (same_ok 1 n e))
+    by_value (Some d) e =
+        let (x, found, counts) = bind_ok (number_of place k 1 4294967295 d) (with_count place k d) n e in
+        let (t, same) = kept (nat_le 1 (count_of x)) _ x n counts in
+        ap (λ y. nat_le 1 (count_of y)) (sym same) ∙ t
 
 text_if_passes : (test : List ℕ → Bool) (place : Place) (k : Key) (d : Data) (o : Option (List ℕ)) (s : List ℕ)
     → text_if test place k d o ≡ Ok s → test s ≡ true

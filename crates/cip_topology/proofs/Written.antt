@@ -11,9 +11,10 @@ use Rattle.cip_topology.specs.declared.key.Key.TheVariants as key
 use Rattle.cip_topology.specs.declared.place.Place.{Place}
 use Rattle.cip_topology.specs.Words.{word_of}
 use Rattle.cip_topology.specs.Documents.{HasNumber, HasNumberOr, HasText, HasAddress}
-use Rattle.cip_topology.specs.Keys.{Read, ◌>>=◌, needed, value_at, out_of_range, within, number_of, number_at, number_or, number_or_at, text_if, text_at}
+use Rattle.cip_topology.specs.Keys.{Read, ◌>>=◌, needed, value_at, out_of_range, within, number_of, number_at, number_or, number_or_at, with_count, counted, counted_at, text_if, text_at}
 use Rattle.cip_topology.specs.Keys.{sized, pairs_of, address_in, address_of, address_at}
-use Rattle.cip_topology.proofs.Rules.{le_true}
+use Rattle.cip_base.specs.Counts.{count_of}
+use Rattle.cip_topology.proofs.Rules.{le_true, le_of}
 
 -- one rule after the other
 pub then_ok : {A B : Type 0} (r : Read A) (f : A → Read B) (x : A) (y : Read B) → r ≡ Ok x → f x ≡ y → (r >>= f) ≡ y
@@ -44,6 +45,16 @@ number_or_is place k otherwise least most n m (inl at) low high =
     ap (number_or place k otherwise least most) at ∙ within_is place k least most (integer (pos n)) n low high
 number_or_is place k otherwise least most n m (inr out) low high =
     ap (number_or place k otherwise least most) out.0 ∙ ap (λ (x : ℕ). Ok x) (sym out.1)
+
+pub counted_is : (place : Place) (k : Key) (n : ℕ) (m : Members) → HasNumberOr k 1 n m → nat_le 1 (count_of n) ≡ true → n ≤ 4294967295
+    → counted_at place k m ≡ Ok n
+counted_is place k n m (inl at) some high =
+    let d = integer (pos n) in
+    let test : 1 ≤ count_of n = le_of 1 (count_of n) some in
+    ap (counted place k) at
+    ∙ then_ok (number_of place k 1 4294967295 d) (with_count place k d) n (Ok n) (within_is place k 1 4294967295 d n (omega arith) high)
+    (if_true _ (Ok n) (out_of_range place k d) some)
+counted_is place k n m (inr out) some high = ap (counted place k) out.0 ∙ ap (λ (x : ℕ). Ok x) (sym out.1)
 
 pub text_is : (test : List ℕ → Bool) (place : Place) (k : Key) (s : List ℕ) (m : Members) → HasText k s m → test s ≡ true → text_at test place k m ≡ Ok s
 text_is test place k s m at t =

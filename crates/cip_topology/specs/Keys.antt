@@ -4,6 +4,7 @@ use Rattle.toml.specs.Data.{Data, Items, no_items, item, Members, get_member, as
 use Rattle.hex.specs.Hex.{decode_of}
 use Rattle.std.specs.Result.{result_ok}
 use Rattle.cip_base.specs.Words.{Octets, LinkAddress}
+use Rattle.cip_base.specs.Counts.{count_of}
 use Rattle.cip_config.specs.Config.{is_name}
 use Rattle.cip_topology.specs.declared.key.Key.{Key}
 use Rattle.cip_topology.specs.declared.key.Key.TheVariants as key
@@ -60,6 +61,18 @@ number_or place k otherwise least most (Some d) = number_of place k least most d
 abbrev pub number_or_at : Place → Key → ℕ → ℕ → ℕ → Members → Read ℕ
 number_or_at place k otherwise least most m =
     number_or place k otherwise least most (get_member (word_of k) m)
+
+-- a number of 32 bits with a count above 0 in its low half
+abbrev pub with_count : Place → Key → Data → ℕ → Read ℕ
+with_count place k d n = if nat_le 1 (count_of n) then Ok n else out_of_range place k d
+
+abbrev pub counted : Place → Key → Option Data → Read ℕ
+counted place k None = Ok 1
+counted place k (Some d) = number_of place k 1 4294967295 d >>= with_count place k d
+
+-- a first id or request number, which the table may leave out
+abbrev pub counted_at : Place → Key → Members → Read ℕ
+counted_at place k m = counted place k (get_member (word_of k) m)
 
 -- a text that passes a test
 abbrev pub text_if : (Octets → Bool) → Place → Key → Data → Option Octets → Read Octets

@@ -16,7 +16,7 @@ use Rattle.cip_topology.specs.declared.place.Place.{Place}
 use Rattle.cip_topology.specs.declared.place.Place.TheVariants as places
 use Rattle.cip_topology.specs.declared.fault.LoadFault.TheVariants.{DoubleName, DoubleOriginator}
 use Rattle.cip_topology.specs.Nodes.{node_from}
-use Rattle.cip_topology.specs.Keys.{Read, ◌>>=◌, value_at, out_of_range, number_at, number_or_at, text_at, name_at, table_of}
+use Rattle.cip_topology.specs.Keys.{Read, ◌>>=◌, value_at, out_of_range, number_at, number_or_at, counted_at, text_at, name_at, table_of}
 use Rattle.cip_topology.specs.PortTables.{ports_at, assemblies_at}
 
 abbrev pub kind_of : Place → Data → Option Octets → Read ModuleKind
@@ -56,8 +56,8 @@ identity_at place m =
 abbrev pub counts_at : Place → Members → Read Counts
 counts_at place m =
     number_or_at place key.Clock 0 0 9223372036854775807 m >>= λ clock.
-    (number_or_at place key.FirstId 1 1 4294967295 m >>= λ first_id.
-    (number_or_at place key.FirstNumber 1 1 4294967295 m >>= λ first_number.
+    (counted_at place key.FirstId m >>= λ first_id.
+    (counted_at place key.FirstNumber m >>= λ first_number.
     (number_or_at place key.PendingRoom 256 1 256 m >>= λ pending_room.
     (number_or_at place key.HopRoom 256 1 256 m >>= λ hop_room.
     Ok (record {

@@ -102,7 +102,7 @@ impl Key {
             Key::Serial => "0 to 4294967295",
             Key::ProductName => "0 to 32 characters from 20 to 7E",
             Key::Clock => "0 to 9223372036854775807",
-            Key::FirstId | Key::FirstNumber => "1 to 4294967295",
+            Key::FirstId | Key::FirstNumber => { "1 to 4294967295, and not 0 in its low 16 bits" }
             Key::PendingRoom | Key::HopRoom => "1 to 256",
             Key::Port => "[[module.port]] tables, 1 to 8, of an adapter exactly 1",
             Key::Number => "1 to 65535, each once in a module",

@@ -17,7 +17,9 @@ use crate::name::Name;
 use crate::place::Place;
 use crate::port_tables::{assemblies, ports};
 use crate::seats::{Seat, Seats, Spot};
-use crate::values::{clock, name, number, number_or, out_of_range, product_name, table_of, value};
+use crate::values::{
+    clock, counted, name, number, number_or, out_of_range, product_name, table_of, value,
+};
 use cip_base::Bytes;
 use cip_config::{Assemblies, ModuleConfig, ModuleKind, ModuleSettings, PortConfig, Ports};
 use cip_target::{Identity, IdentityFields};
@@ -77,8 +79,8 @@ fn counts_of(table: &Table, place: &Place) -> Result<Counts, LoadFault>
     ensures { Gives (λ c. c) result (counts_at place.now (table_view table.now)) }
 {
     let clock = clock(table, place)?;
-    let first_id = number_or(table, place, Key::FirstId, 1, 1, u32::MAX)?;
-    let first_number = number_or(table, place, Key::FirstNumber, 1, 1, u32::MAX)?;
+    let first_id = counted(table, place, Key::FirstId)?;
+    let first_number = counted(table, place, Key::FirstNumber)?;
     let pending_room = number_or(table, place, Key::PendingRoom, 256, 1, 256)? as usize;
     let hop_room = number_or(table, place, Key::HopRoom, 256, 1, 256)? as usize;
     Ok(Counts {

@@ -7,7 +7,7 @@ ghost use Rattle.cip_topology.specs.declared.fault.LoadFault.TheVariants.{NoMemo
 ghost use Rattle.cip_topology.specs.declared.key.Key.TheVariants.{Clock as AtClock, ProductName as AtProductName};
 ghost use Rattle.cip_topology.specs.Words.{word_of};
 ghost use Rattle.cip_topology.specs.Faults.{found_of};
-ghost use Rattle.cip_topology.specs.Keys.{value_at, number_of, number_at, number_or_at, text_at, name_at, pairs_of, address_at, array_of, items_at, table_of};
+ghost use Rattle.cip_topology.specs.Keys.{value_at, number_of, number_at, number_or_at, counted_at, text_at, name_at, pairs_of, address_at, array_of, items_at, table_of};
 ghost use Rattle.cip_topology.specs.Files.{Gives};
 
 use crate::fault::LoadFault;
@@ -15,7 +15,7 @@ use crate::found::Found;
 use crate::key::Key;
 use crate::name::Name;
 use crate::place::Place;
-use cip_base::{Address, Bytes};
+use cip_base::{Address, Bytes, count_of};
 use cip_target::is_product_name;
 use hex::FromHexError;
 use std::alloc::Global;
@@ -107,6 +107,22 @@ pub(crate) fn number_or(
     match value_at(table, key) {
         Some(value) => number_of(value, place, key, least, most),
         None => Ok(otherwise),
+    }
+}
+
+/// The first id or request number at a key, or 1 where the key is not there. Its count, the low
+/// half, is above 0.
+pub(crate) fn counted(table: &Table, place: &Place, key: Key) -> Result<u32, LoadFault>
+    ensures { Gives (λ n. n) result (counted_at place.now key (table_view table.now)) }
+{
+    let Some(value) = value_at(table, key) else {
+        return Ok(1);
+    };
+    let number = number_of(value, place, key, 1, u32::MAX)?;
+    if count_of(number) >= 1 {
+        Ok(number)
+    } else {
+        Err(out_of_range(place, key, value))
     }
 }
 

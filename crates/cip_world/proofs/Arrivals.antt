@@ -181,13 +181,8 @@ asked_that (events.Frame p a (bodies.Request k b)) port n from h =
     record { bytes = b; event_is = λ i. events.Frame (ports i) (addresses i) (bodies.Request (numbers i) b) }
 asked_that (events.Frame p a (bodies.Reply k b)) port n from h = absurd (omega (arith, h))
 asked_that (events.Frame p a (bodies.Data k b)) port n from h = absurd (omega (arith, h))
-asked_that (events.Command (commands.Open op timing path params)) port n from h = absurd (omega (arith, h))
-asked_that (events.Command (commands.LargeOpen op timing path params)) port n from h = absurd (omega (arith, h))
-asked_that (events.Command (commands.Close op of timing)) port n from h = absurd (omega (arith, h))
-asked_that (events.Command (commands.Send op timing path request)) port n from h = absurd (omega (arith, h))
-asked_that (events.Command (commands.Enter of bytes)) port n from h = absurd (omega (arith, h))
-asked_that (events.Command (commands.Set instance bytes)) port n from h = absurd (omega (arith, h))
 asked_that (events.Command (commands.Produce instance)) port n from h = absurd (omega (arith, h))
+asked_that (events.Command c) port n from h = absurd (omega (arith, h))
 asked_that (events.Tick ms) port n from h = absurd (omega (arith, h))
 
 abbrev CameSo : ℕ → ℕ → List ℕ → List Turn → Type 0

@@ -135,12 +135,12 @@ module _ (config : ModuleSettings) (s : State) (op : ℕ) where
   pub uses : (c : Command) (es : List Effect) → command_asker c ≡ Some (Local op) → decide config s (events.Command c) ≡ Some es → Uses config s op es
   uses (commands.Open o timing path params) es is e =
       let same = local_is o is in
-      uses_of _ es (ap (λ (k : ℕ). decide config s (events.Command (commands.Open k timing path params))) (sym same) ∙ e)
-      (uses_open (open_of config.identity false timing path (widened params)))
+      let oo = open_of config.identity false timing path (widened params) in
+      uses_of _ es (ap (λ (k : ℕ). Some (open_command_effects config s k oo)) (sym same) ∙ e) (uses_open oo)
   uses (commands.LargeOpen o timing path params) es is e =
       let same = local_is o is in
-      uses_of _ es (ap (λ (k : ℕ). decide config s (events.Command (commands.LargeOpen k timing path params))) (sym same) ∙ e)
-      (uses_open (open_of config.identity true timing path params))
+      let oo = open_of config.identity true timing path params in
+      uses_of _ es (ap (λ (k : ℕ). Some (open_command_effects config s k oo)) (sym same) ∙ e) (uses_open oo)
   uses (commands.Send o timing path asked) es is e =
       let same = local_is o is in
       let u = sent timing path asked in

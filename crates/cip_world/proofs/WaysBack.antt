@@ -120,13 +120,8 @@ pub record CameBy (event : Event) (port n : ℕ) (from : List ℕ) : Type 0 wher
   pub event_is : event ≡ events.Frame port from (bodies.Request n bytes)
 
 command_local : (c : Command) (port n : ℕ) (from : List ℕ) → asker (events.Command c) ≡ Some (Link port from n) → ⊥
-command_local (commands.Open op timing path params) port n from e = cc
-command_local (commands.LargeOpen op timing path params) port n from e = cc
-command_local (commands.Close op of timing) port n from e = cc
-command_local (commands.Send op timing path asked) port n from e = cc
-command_local (commands.Enter of bytes) port n from e = cc
-command_local (commands.Set instance bytes) port n from e = cc
 command_local (commands.Produce instance) port n from e = cc
+command_local c port n from e = cc
 
 pub came_by : (event : Event) (port n : ℕ) (from : List ℕ) → asker event ≡ Some (Link port from n) → CameBy event port n from
 came_by (events.Command c) port n from e = absurd (command_local c port n from e)

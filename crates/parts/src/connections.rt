@@ -1,10 +1,11 @@
 //! The table of connections, on worked values and with its room refused.
 ghost use Rattle.std.specs.Prelude.{◌≡◌, ◌<◌, IfSome, None};
 ghost use Rattle.std.specs.FinMap as map;
+ghost use Rattle.cip_base.specs.Counts.{count_of};
 ghost use Rattle.cip_hops.specs.Sides.{op_of};
 
 use crate::rows::{Part, Words, play};
-use cip_base::{Address, PortNumber, Triad};
+use cip_base::{Address, PortNumber, Triad, count_of};
 use cip_hops::{
     BeginFault, BeginReason, Held, Hop, HopDown, HopTable, HopUp, Opening, OwnIds, Side,
 };
@@ -84,7 +85,7 @@ fn routed(alloc: Global, words: &mut Words) -> Option<Opening>
 }
 
 fn empty_table(alloc: Global, room: usize, first: u32) -> Option<HopTable>
-    requires { 0 < first }
+    requires { 0 < count_of first }
     ensures { IfSome result (λ t. t ≡ record { room = room; next = first; held = map.empty }) }
 {
     match HopTable::with_room(alloc, room, first) {
@@ -221,6 +222,15 @@ impl Connections {
         serial(self.alloc, hop.as_ref())
     }
 
+    // Begins the next incarnation where there is one: whether there was.
+    fn reset(&mut self) -> Option<String> {
+        let is_left = self.table.can_reset();
+        if is_left {
+            self.table.reset();
+        }
+        truth(self.alloc, is_left)
+    }
+
     fn find(&self, name: &str, words: &mut Words) -> Option<String> {
         let alloc = self.alloc;
         match name {
@@ -248,6 +258,7 @@ impl Part for Connections {
             "touch" => self.touched(words),
             "count" => self.counted(words),
             "expire" => self.expired(words),
+            "reset" => self.reset(),
             _ => self.find(name, words),
         }
     }
@@ -255,8 +266,8 @@ impl Part for Connections {
 
 // Plays rows on an empty table of so much room, whose ids begin here.
 fn play_connections(rt: &HostRuntime, room: usize, first: u32, rows: &str) -> Result<(), Fail> {
-    if first == 0 {
-        return Err(Fail::new("ids begin at 1"));
+    if count_of(first) == 0 {
+        return Err(Fail::new("counts begin at 1"));
     }
     let alloc = rt.alloc();
     let table = empty_table(alloc, room, first).ok_or("no table")?;
@@ -282,6 +293,53 @@ fn ids_end_and_never_come_back(rt: HostRuntime) -> Result<(), Fail> {
         can_begin 3 1 = IdsSpent
         begin 3 end = IdsSpent
         last = 4294967295
+        ",
+    )
+}
+
+// Counts end at 65,535, and go on only in the next incarnation: then no triad, id or op is left.
+#[test]
+fn a_reset_begins_the_next_incarnation(rt: HostRuntime) -> Result<(), Fail> {
+    play_connections(
+        &rt,
+        2,
+        0xFFFD,
+        "
+        begin 1 through = 65533 65534
+        finish 1 = true
+        begin 2 through = IdsSpent
+        begin 2 end = none 65535
+        abandon 2 = true
+        can_begin 2 1 = IdsSpent
+        reset = true
+        last = 65536
+        by_triad 1 = none
+        by_up 65534 2 01 = none
+        by_down 65533 1 03 = none
+        abandon 1 = false
+        remove 1 = false
+        least = none
+        begin 1 through = 65537 65538
+        begin 2 end = none 65539
+        begin 3 end = Full
+        reset = true
+        last = 131072
+        begin 3 end = none 131073
+        ",
+    )
+}
+
+#[test]
+fn no_reset_follows_the_last_incarnation(rt: HostRuntime) -> Result<(), Fail> {
+    play_connections(
+        &rt,
+        1,
+        0xFFFF_0001,
+        "
+        begin 1 through = 4294901761 4294901762
+        reset = false
+        last = 4294901762
+        abandon 1 = true
         ",
     )
 }

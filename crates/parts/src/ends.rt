@@ -164,6 +164,36 @@ fn an_output_is_owned_until_it_is_released(rt: HostRuntime) -> Result<(), Fail> 
 }
 
 #[test]
+fn a_reset_makes_a_target_anew(rt: HostRuntime) -> Result<(), Fail> {
+    play_ends(
+        &rt,
+        "
+        open 0x4806 0x4804 1 2004_2467_2C65_2C66_8002AABBCC00 = fits
+        consume 101 01020304 = true
+        answer 10_03_2004_2466_3003_0506 = 90_00_00_00
+        reset = done
+        least = 100 -
+        after 100 = 101 00000000
+        after 101 = 102 0000
+        after 102 = 103 000000
+        after 103 = none
+        answer 0E_03_2004_2465_3003 = 8E_00_00_00_00000000
+        answer 0E_03_2004_2466_3003 = 8E_00_00_00_0000
+        answer 01_02_2001_2401 = 81_00_00_00_01010C000200010300000B0B0000024252
+        status 0x4806 0x4804 1 2004_2464_2C65_2C66 = fits
+        # It serves as before, and can be reset again.
+        open 0x4806 0x4804 1 2004_2464_2C65_2C66 = fits
+        status 0x4806 0x4804 1 2004_2464_2C65_2C66 = 0x0106
+        consume 101 05060708 = true
+        produce 101 = 05060708
+        reset = done
+        produce 101 = 00000000
+        status 0x4806 0x4804 1 2004_2464_2C65_2C66 = fits
+        ",
+    )
+}
+
+#[test]
 fn an_output_of_no_bytes_has_no_owner(rt: HostRuntime) -> Result<(), Fail> {
     play_ends(
         &rt,

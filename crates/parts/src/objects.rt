@@ -58,6 +58,59 @@ fn each_row_by_its_bytes(rt: HostRuntime) -> Result<(), Fail> {
 }
 
 #[test]
+fn what_reads_as_a_reset(rt: HostRuntime) -> Result<(), Fail> {
+    play_objects(
+        &rt,
+        "
+        # No data or a byte, an attribute, which does not count, and each spelling.
+        reads_reset 05_02_2001_2401 = true
+        reads_reset 05_02_2001_2401_00 = true
+        reads_reset 05_02_2001_2401_01 = true
+        reads_reset 05_02_2001_2401_FF = true
+        reads_reset 05_03_2001_2401_3007 = true
+        reads_reset 05_03_2001_2401_3009_00 = true
+        reads_reset 05_05_21000100_260001000000 = true
+        answer 05_02_2001_2401 = for the device
+        # More data, other instances, classes and services, and paths of another form.
+        reads_reset 05_02_2001_2401_0000 = false
+        reads_reset 05_02_2001_2401_0000000000000000 = false
+        reads_reset 05_02_2001_2400 = false
+        reads_reset 05_02_2001_2402_00 = false
+        reads_reset 05_02_2004_2465 = false
+        reads_reset 05_02_2005_2401 = false
+        reads_reset 05_02_2006_2401 = false
+        reads_reset 05_01_2001 = false
+        reads_reset 05_02_2001_2C01 = false
+        reads_reset 05_03_4305_2001_2401 = false
+        reads_reset 05_07_3404_0000_0000_0000_0000_2001_2401 = false
+        reads_reset 01_02_2001_2401 = false
+        reads_reset 04_02_2001_2401 = false
+        reads_reset 06_02_2001_2401_00 = false
+        reads_reset 0E_03_2001_2401_3001 = false
+        ",
+    )
+}
+
+#[test]
+fn resets_that_are_refused(rt: HostRuntime) -> Result<(), Fail> {
+    play_objects(
+        &rt,
+        "
+        answer 05_02_2001_2401_0000 = 85_00_15_00
+        answer 05_02_2001_2401_010203 = 85_00_15_00
+        answer 05_03_2001_2401_3009_0000 = 85_00_15_00
+        answer 05_02_2001_2402_0000 = 85_00_16_00
+        answer 05_02_2001_2400 = 85_00_16_00
+        answer 05_02_2004_2465 = 85_00_08_00
+        answer 05_02_2004_2463_0000 = 85_00_16_00
+        answer 05_02_2005_2401_0000 = 85_00_05_00
+        answer 05_01_2001_0000 = 85_00_05_00
+        answer 04_02_2001_2401_0000 = 84_00_08_00
+        ",
+    )
+}
+
+#[test]
 fn an_assembly_is_written_in_each_spelling(rt: HostRuntime) -> Result<(), Fail> {
     play_objects(
         &rt,

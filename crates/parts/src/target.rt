@@ -79,12 +79,28 @@ struct Asked {
 }
 
 impl Asked {
-    // `REQUEST`: the whole reply.
+    // `REQUEST`: the whole reply, but of a reset that is not refused.
     fn reply(&mut self, words: &mut Words) -> Option<String> {
         let bytes = words.bytes()?;
         let request = read_request(bytes.as_slice()).ok()?;
+        if self.target.reads_reset(request) {
+            return String::from_str(self.alloc, "for the device").ok();
+        }
         let reply = self.target.answer(self.alloc, request).ok()?;
         bytes_text(self.alloc, reply.as_slice())
+    }
+
+    // `REQUEST`: whether it is a reset that is not refused.
+    fn reads_reset(&self, words: &mut Words) -> Option<String> {
+        let bytes = words.bytes()?;
+        let request = read_request(bytes.as_slice()).ok()?;
+        truth(self.alloc, self.target.reads_reset(request))
+    }
+
+    // Resets the target.
+    fn reset(&mut self) -> Option<String> {
+        self.target.reset();
+        String::from_str(self.alloc, "done").ok()
     }
 
     // The assembly of the least instance above this one, or of all.
@@ -151,6 +167,8 @@ impl Part for Asked {
     fn answer(&mut self, name: &str, words: &mut Words) -> Option<String> {
         match name {
             "answer" => self.reply(words),
+            "reads_reset" => self.reads_reset(words),
+            "reset" => self.reset(),
             "least" => self.next(None),
             "after" => self.next(Some(words.u16()?)),
             "serial" => format!(in self.alloc; "{}", self.target.identity().serial).ok(),

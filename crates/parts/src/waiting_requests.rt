@@ -1,6 +1,6 @@
 //! The table of requests that wait, on worked values and with its room refused.
 use crate::rows::{Numbers, Pairs, Part, Words, play};
-use cip_base::{Address, NoMemory, PortNumber};
+use cip_base::{Address, NoMemory, PortNumber, count_of};
 use cip_pending::{AddFault, Entry, Kind, PendingTable, UpSide};
 use std::alloc::Global;
 use std::fmt;
@@ -149,6 +149,15 @@ impl Waiting {
         }
     }
 
+    // Begins the next incarnation where there is one: whether there was.
+    fn reset(&mut self) -> Option<String> {
+        let is_left = self.table.can_reset();
+        if is_left {
+            self.table.reset();
+        }
+        format!(in self.alloc; "{is_left}").ok()
+    }
+
     // The least number, or with `NUMBER` the least above it.
     fn next(&self, after: Option<u32>) -> Option<String> {
         let number = match self.table.next_after(after) {
@@ -164,6 +173,7 @@ impl Part for Waiting {
         match name {
             "add" => self.add(words),
             "can_add" => self.can_add(),
+            "reset" => self.reset(),
             "look" => self.look(words),
             "take" => self.take(words),
             "expire" => self.expire(words),
@@ -178,8 +188,8 @@ impl Part for Waiting {
 
 // Plays rows on a table of so much room, whose numbers begin here.
 fn play_waiting(rt: &HostRuntime, room: usize, first: u32, rows: &str) -> Result<(), Fail> {
-    if first == 0 {
-        return Err(Fail::new("numbers begin at 1"));
+    if count_of(first) == 0 {
+        return Err(Fail::new("counts begin at 1"));
     }
     let alloc = rt.alloc();
     let table = PendingTable::with_room(alloc, room, first)?;
@@ -205,6 +215,54 @@ fn numbers_end_and_never_come_back(rt: HostRuntime) -> Result<(), Fail> {
         add 3 10 = the numbers are spent: op 3 to 2 05 due 10 words 4 unconnected
         can_add = NumbersSpent
         last = 4294967295
+        ",
+    )
+}
+
+// Counts end at 65,535, and go on only in the next incarnation.
+#[test]
+fn a_reset_begins_the_next_incarnation(rt: HostRuntime) -> Result<(), Fail> {
+    play_waiting(
+        &rt,
+        2,
+        0xFFFE,
+        "
+        add 1 10 = 65534
+        add 2 5 = 65535
+        take 65534 2 05 = op 1 to 2 05 due 10 words 4 unconnected
+        add 3 10 = the numbers are spent: op 3 to 2 05 due 10 words 4 unconnected
+        last = 65535
+        reset = true
+        last = 65536
+        least = none
+        take 65535 2 05 = none
+        add 4 10 = 65537
+        add 5 10 = 65538
+        can_add = Full
+        take 65535 2 05 = none
+        take 65537 2 05 = op 4 to 2 05 due 10 words 4 unconnected
+        reset = true
+        last = 131072
+        add 6 10 = 131073
+        ",
+    )
+}
+
+// FFFE_0001 is the incarnation before the last.
+#[test]
+fn no_reset_follows_the_last_incarnation(rt: HostRuntime) -> Result<(), Fail> {
+    play_waiting(
+        &rt,
+        1,
+        0xFFFE_0001,
+        "
+        add 1 10 = 4294836225
+        reset = true
+        last = 4294901760
+        reset = false
+        add 2 10 = 4294901761
+        reset = false
+        least = 4294901761
         ",
     )
 }

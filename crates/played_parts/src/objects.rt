@@ -138,6 +138,9 @@ impl Part for Asking {
         let Ok(request) = read_request(self.request) else {
             return Err(Refusal::Other);
         };
+        if self.target.reads_reset(request) {
+            return Err(Refusal::Other);
+        }
         self.given = Some(self.target.answer(alloc, request)?);
         Ok(())
     }

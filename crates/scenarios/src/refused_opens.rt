@@ -239,6 +239,13 @@ fn too_few_ids_for_another_connection(rt: HostRuntime) -> Result<(), Fail> {
         > send 2 01 reply 1 D4_00_01_01_1301_4200_0101_0D0C0B0A_06_00
         A tables
         > now 0 id 4294967294 number 0
+        # The same in another incarnation.
+        A with first_id 0x1FFFF
+        A request 2 01 1 54_0220062401_07F9_00000000_11000000_4200_0101_0D0C0B0A_00_000000_\
+            10270000_0648_10270000_0448_01_06_0103_0207_2004_2464_2C65_2C66
+        > send 2 01 reply 1 D4_00_01_01_1301_4200_0101_0D0C0B0A_06_00
+        A tables
+        > now 0 id 131070 number 0
         # Two are left.
         A with first_id 0xFFFFFFFE
         A request 2 01 1 54_0220062401_07F9_00000000_11000000_4200_0101_0D0C0B0A_00_000000_\

@@ -167,6 +167,15 @@ fn no_number_for_another_request(rt: HostRuntime) -> Result<(), Fail> {
         > send 2 01 reply 1 81_00_00_00_0101_0C00_0200_0103_0000_0B0B0000_02_4252
         A request 2 01 3 52_0220062401_07F9_0600_010220012401_01_00_0103
         > send 2 01 reply 3 D2_00_01_01_0103_01
+        # The counts of an incarnation end, and none goes on into the next.
+        A with first_number 0x7FFFF
+        A request 2 01 1 52_0220062401_07F9_0600_010220012401_01_00_0103
+        > send 1 03 request 524287 010220012401
+        A request 2 01 2 52_0220062401_07F9_0600_010220012401_01_00_0103
+        > send 2 01 reply 2 D2_00_01_01_0103_01
+        A tables
+        > now 0 id 32 number 524287
+        > pending 524287 up 2 01 1 down 1 03 due 31872000 words 1 unconnected
         ",
     )
 }

@@ -121,7 +121,7 @@ const RULES: [Rule; 19] = [
         key: "first_id",
         beyond: "0",
         found: "0",
-        allowed: "1 to 4294967295",
+        allowed: "1 to 4294967295, and not 0 in its low 16 bits",
         is_needed: false,
         ..VENDOR
     },

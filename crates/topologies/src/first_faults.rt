@@ -155,10 +155,12 @@ fn the_keys_of_a_module(rt: HostRuntime) -> Result<(), Fail> {
         => [[module]] 2 (A): `clock` is -1; allowed: 0 to 9223372036854775807
 
         module2.first_id := first_number = 0 ~ first_id = 0
-        => [[module]] 2 (A): `first_id` is 0; allowed: 1 to 4294967295
+        => [[module]] 2 (A): `first_id` is 0; allowed: 1 to 4294967295, and not 0
+        .. in its low 16 bits
 
         module2.first_id := first_number = 0 ~ pending_room = 0
-        => [[module]] 2 (A): `first_number` is 0; allowed: 1 to 4294967295
+        => [[module]] 2 (A): `first_number` is 0; allowed: 1 to 4294967295, and not 0
+        .. in its low 16 bits
 
         module2.first_id := hop_room = 0 ~ pending_room = 0
         => [[module]] 2 (A): `pending_room` is 0; allowed: 1 to 256

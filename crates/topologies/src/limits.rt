@@ -267,10 +267,20 @@ fn what_stands_where_the_file_says_nothing(rt: HostRuntime) -> Result<(), Fail> 
         => [[module]] 1 (S): `status` is 65536; allowed: 0 to 65535
 
         module1.first_id := first_id = 0
-        => [[module]] 1 (S): `first_id` is 0; allowed: 1 to 4294967295
+        => [[module]] 1 (S): `first_id` is 0; allowed: 1 to 4294967295, and not 0
+        .. in its low 16 bits
+
+        module1.first_id := first_id = 0x2_0000
+        => [[module]] 1 (S): `first_id` is 131072; allowed: 1 to 4294967295, and not 0
+        .. in its low 16 bits
+
+        module1.first_id := first_number = 0xFFFF_0000
+        => [[module]] 1 (S): `first_number` is 4294901760; allowed: 1 to 4294967295, and not 0
+        .. in its low 16 bits
 
         module1.first_id := first_number = 4294967296
-        => [[module]] 1 (S): `first_number` is 4294967296; allowed: 1 to 4294967295
+        => [[module]] 1 (S): `first_number` is 4294967296; allowed: 1 to 4294967295, and not 0
+        .. in its low 16 bits
 
         module1.first_id := pending_room = 0
         => [[module]] 1 (S): `pending_room` is 0; allowed: 1 to 256

@@ -13,14 +13,14 @@ returns-then-len-self c =
     sym (refusal_full c.self.inside c.self.invariant c.args.triad.now c.args.ids (ap is_some (sym c.find.ensures) ∙ sym c.if-is_some.ensures)
     (omega (arith, c.len.ensures, c.if-len-self.true))) ∙ ap (λ p. refusal p c.args.triad.now c.args.ids) c.self.view_is
 
-pub returns-then-self-from : goal.returns-then-self-from
-returns-then-self-from c =
+pub returns-then-counts_given-from-gt-LAST_COUNT : goal.returns-then-counts_given-from-gt-LAST_COUNT
+returns-then-counts_given-from-gt-LAST_COUNT c =
     sym (refusal_spent c.self.inside c.self.invariant c.args.triad.now c.args.ids (ap is_some (sym c.find.ensures) ∙ sym c.if-is_some.ensures)
-    (omega (arith, c.len.ensures, c.if-len-self.false)) (omega (arith, c.from.ensures, c.if-self-from.true)))
+    (omega (arith, c.len.ensures, c.if-len-self.false)) (omega (arith, c.counts_given.ensures, c.from.ensures, c.if-counts_given-from-gt-LAST_COUNT.true)))
     ∙ ap (λ p. refusal p c.args.triad.now c.args.ids) c.self.view_is
 
-pub returns-else-self-from : goal.returns-else-self-from
-returns-else-self-from c =
+pub returns-else-counts_given-from-gt-LAST_COUNT : goal.returns-else-counts_given-from-gt-LAST_COUNT
+returns-else-counts_given-from-gt-LAST_COUNT c =
     sym (refusal_none c.self.inside c.self.invariant c.args.triad.now c.args.ids (ap is_some (sym c.find.ensures) ∙ sym c.if-is_some.ensures)
-    (omega (arith, c.len.ensures, c.if-len-self.false)) (omega (arith, c.from.ensures, c.if-self-from.false)))
+    (omega (arith, c.len.ensures, c.if-len-self.false)) (omega (arith, c.counts_given.ensures, c.from.ensures, c.if-counts_given-from-gt-LAST_COUNT.false)))
     ∙ ap (λ p. refusal p c.args.triad.now c.args.ids) c.self.view_is

@@ -7,10 +7,10 @@ pub returns-then-len-self : goal.returns-then-len-self
 returns-then-len-self c =
     sym (refusal_full c.self.inside c.self.invariant (omega (arith, c.len.ensures, c.if-len-self.true))) ∙ ap refusal c.self.view_is
 
-pub returns-then-self-gt-LAST_COUNT : goal.returns-then-self-gt-LAST_COUNT
-returns-then-self-gt-LAST_COUNT c =
-    sym (refusal_spent c.self.inside c.self.invariant (omega (arith, c.len.ensures, c.if-len-self.false)) (omega arith)) ∙ ap refusal c.self.view_is
+pub returns-then-counts_given-gt-LAST_COUNT : goal.returns-then-counts_given-gt-LAST_COUNT
+returns-then-counts_given-gt-LAST_COUNT c =
+    sym (refusal_spent c.self.inside c.self.invariant (omega (arith, c.len.ensures, c.if-len-self.false)) (omega (arith, c.counts_given.ensures))) ∙ ap refusal c.self.view_is
 
-pub returns-else-self-gt-LAST_COUNT : goal.returns-else-self-gt-LAST_COUNT
-returns-else-self-gt-LAST_COUNT c =
-    sym (refusal_none c.self.inside c.self.invariant (omega (arith, c.len.ensures, c.if-len-self.false)) (omega arith)) ∙ ap refusal c.self.view_is
+pub returns-else-counts_given-gt-LAST_COUNT : goal.returns-else-counts_given-gt-LAST_COUNT
+returns-else-counts_given-gt-LAST_COUNT c =
+    sym (refusal_none c.self.inside c.self.invariant (omega (arith, c.len.ensures, c.if-len-self.false)) (omega (arith, c.counts_given.ensures))) ∙ ap refusal c.self.view_is
