@@ -2,6 +2,7 @@
 ghost use Rattle.std.specs.Prelude.{◌≡◌, ◌≤◌, IfOk};
 ghost use Rattle.cip_console.specs.declared.options.OptionsFault.TheVariants.{NoMemory as NoOptionsMemory};
 
+use cip_base::NoMemory;
 use clap::error::ErrorKind;
 use clap::{Arg, ArgAction, ArgMatches, Command, value_parser};
 use std::alloc::{AllocError, Global};
@@ -135,6 +136,38 @@ fn fault_of(error: &clap::Error) -> OptionsFault {
         ErrorKind::DisplayHelp => OptionsFault::Usage(Usage::Help),
         ErrorKind::DisplayVersion => OptionsFault::Usage(Usage::Version),
         _ => OptionsFault::Usage(Usage::Wrong),
+    }
+}
+
+// What the parser says before its usage, in one line and without the word `error` in front.
+fn said(alloc: Global, error: &clap::Error) -> Result<String, AllocError> {
+    let mut whole = String::new(alloc);
+    write!(whole, "{error}")?;
+    let mut text = String::new(alloc);
+    for line in whole.as_str().lines() {
+        if line.is_empty() {
+            break;
+        }
+        if !text.is_empty() {
+            text.push_str(" ")?;
+        }
+        text.push_str(line.trim())?;
+    }
+    let said = text.as_str();
+    String::from_str(alloc, said.strip_prefix("error: ").unwrap_or(said))
+}
+
+/// What is wrong with words that `read_options` refuses as Wrong: the word, and why. NoMemory where
+/// an allocation is refused.
+pub fn explain_options(alloc: Global, words: &[String]) -> Result<String, NoMemory> {
+    match command(alloc)?.try_get_matches_from(words) {
+        Ok(matches) => {
+            let turns = matches.get_str("turns").unwrap_or("");
+            let mut text = String::new(alloc);
+            write!(text, "--turns: {turns:?} is none of 1 to {MOST_TURNS}")?;
+            Ok(text)
+        }
+        Err(error) => Ok(said(alloc, &error)?),
     }
 }
 

@@ -4,6 +4,7 @@ use crate::steps::ScriptFault;
 use crate::text;
 use cip_base::NoMemory;
 use cip_segment::{PathFault, view_path};
+use cip_tool::{HexFault, fault_place, hex_fault};
 use cip_topology::Excerpt;
 use std::alloc::Global;
 use thiserror::Error;
@@ -21,8 +22,14 @@ pub enum WordFault {
     LessThanOne,
     #[error("no frame's name; allowed: two numbers and one dot between them")]
     NoName,
-    #[error("no bytes; allowed: pairs of hexadecimal digits, or - for none")]
-    NoBytes,
+    #[error("no bytes: {0}")]
+    NoBytes(HexFault),
+    #[error("no bytes but a path in words: `ciptool path` gives its bytes")]
+    PathInWords,
+    #[error("no path: byte {0} is {1:02X}, which begins or continues no segment")]
+    Reserved(usize, u8),
+    #[error("no path: byte {0} is a pad; allowed: 00")]
+    BadPad(usize),
     #[error("no path: {0}")]
     NoPath(PathFault),
     #[error("no frame that waits")]
@@ -62,6 +69,10 @@ pub enum Explained {
         field: Excerpt,
         found: Excerpt,
         why: WordFault,
+    },
+    #[error("byte {place} of the line is a carriage return, 0D; lines end with 0A, or with 0D 0A")]
+    Return {
+        place: usize,
     },
     /// The line is not the one that the fault is about.
     #[error("{0}")]
@@ -125,12 +136,23 @@ fn number_fault(field: &str, word: &str, most: u64) -> Option<WordFault> {
     }
 }
 
-fn is_bytes(word: &str) -> bool {
-    let digits = word.as_bytes();
-    word == "-"
-        || !digits.is_empty()
-            && digits.len() % 2 == 0
-            && digits.iter().all(|byte| byte.is_ascii_hexdigit())
+// Whether a word is a path as `ciptool` writes it, and no bytes.
+fn is_in_words(word: &str) -> bool {
+    word.contains(',') || word.contains('@') || word.contains('=')
+}
+
+// Why a word is no bytes.
+fn bytes_fault(field: &str, word: &str) -> Option<WordFault> {
+    if word == "-" {
+        return None;
+    }
+    if field == "PATH" && is_in_words(word) {
+        return Some(WordFault::PathInWords);
+    }
+    match hex_fault(word) {
+        Some(fault) => Some(WordFault::NoBytes(fault)),
+        None => None,
+    }
 }
 
 // Why the bytes of a word are no path.
@@ -138,8 +160,11 @@ fn path_fault(alloc: Global, word: &str) -> Result<Option<WordFault>, NoMemory> 
     let Some(bytes) = text::bytes(alloc, word)? else {
         return Ok(None);
     };
+    let place = fault_place(bytes.as_slice());
     match view_path(bytes.as_slice()) {
         Ok(_) => Ok(None),
+        Err(PathFault::Reserved(byte)) => Ok(Some(WordFault::Reserved(place, byte))),
+        Err(PathFault::BadPad) => Ok(Some(WordFault::BadPad(place))),
         Err(fault) => Ok(Some(WordFault::NoPath(fault))),
     }
 }
@@ -159,9 +184,7 @@ fn word_fault(
             Some(most) => Ok(number_fault(field, word, most)),
             None => Ok(None),
         },
-        (ScriptFault::BadBytes, "PATH" | "REQUEST" | "BYTES") if !is_bytes(word) => {
-            Ok(Some(WordFault::NoBytes))
-        }
+        (ScriptFault::BadBytes, "PATH" | "REQUEST" | "BYTES") => Ok(bytes_fault(field, word)),
         (ScriptFault::BadPath, "PATH") => path_fault(alloc, word),
         (ScriptFault::NoFrame, "E.K") => Ok(Some(WordFault::NoFrame)),
         (ScriptFault::ClockFull, "MS") => Ok(Some(WordFault::ClockFull)),
@@ -258,11 +281,24 @@ fn explain_byte(line: &[u8]) -> Explained {
     Explained::Fault(ScriptFault::NotText)
 }
 
+// The first carriage return with more of the line behind it.
+fn return_in(line: &[u8]) -> Option<usize> {
+    for (i, byte) in line.iter().enumerate() {
+        if *byte == b'\r' && i + 1 < line.len() {
+            return Some(i + 1);
+        }
+    }
+    None
+}
+
 // What is wrong with a line that has this fault.
 fn explain_line(alloc: Global, line: &[u8], fault: ScriptFault) -> Result<Explained, NoMemory> {
     let Some(line) = text::ascii(line) else {
         return Ok(explain_byte(line));
     };
+    if let Some(place) = return_in(line.as_bytes()) {
+        return Ok(Explained::Return { place });
+    }
     let mut words = Vec::new(alloc);
     text::words(line, &mut words)?;
     match words.split_first() {

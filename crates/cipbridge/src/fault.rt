@@ -3,28 +3,73 @@ use cip_base::NoMemory;
 use cip_console::{ConsoleFault, Explained, OptionsFault, Usage};
 use cip_threads::RunFault;
 use cip_topology::LoadFault;
+use std::fmt;
 use thiserror::Error;
+
+// What stands behind a fault of the options.
+const WRONG: Usage = Usage::Wrong;
+
+/// Why a file gives no bytes.
+#[derive(Clone, Copy, Debug, PartialEq, Eq, Error)]
+pub enum Unread {
+    #[error("there is no such file")]
+    Missing,
+    #[error("is a directory")]
+    Directory,
+    #[error("no permission to read it")]
+    NoPermission,
+    #[error("has more than 1,048,576 bytes")]
+    TooLong,
+    #[error("can't be read")]
+    Failed,
+}
+
+/// A name, each byte of it that can't be printed as its number.
+#[derive(Clone, Copy)]
+struct Escaped<'a>(&'a String);
+
+impl fmt::Display for Escaped<'_> {
+    fn fmt<W: fmt::Write>(&self, f: &mut fmt::Formatter<W>) -> fmt::Result {
+        for c in self.0.as_str().chars() {
+            if c.is_control() {
+                write!(f, "\\x{:02X}", u32::from(c))?;
+            } else {
+                f.write_char(c)?;
+            }
+        }
+        Ok(())
+    }
+}
 
 /// Why the program ends before its work is done, with the file that it is about.
 #[derive(Debug, Drop, Error)]
 pub enum Fault {
     #[error("{0}")]
     Options(OptionsFault),
+    /// A word of the command line asks for nothing that the program has, and why.
+    #[error("{0}\n{WRONG}")]
+    Usage(String),
     /// A word of the command line, from 1, is no text.
     #[error("argument {0}: not UTF-8")]
     Argument(usize),
     /// The topology file, or the chassis that stands where none is given, breaks a rule.
-    #[error("{0}: {1}")]
+    #[error("{}: {}", Escaped(.0), .1)]
     Topology(String, LoadFault),
     /// The topology file is no text.
-    #[error("{0}: not UTF-8")]
+    #[error("{}: not UTF-8", Escaped(.0))]
     NotText(String),
     /// A file can't be read, or is too long.
-    #[error("{0}: can't be read, or has more than 1,048,576 bytes")]
-    Read(String),
+    #[error("{}: {}", Escaped(.0), .1)]
+    Read(String, Unread),
     /// A line of the script, and what is wrong with it.
-    #[error("{0}:{1}: {2}")]
+    #[error("{}:{}: {}", Escaped(.0), .1, .2)]
     Script(String, usize, Explained),
+    /// A line of the script that names no module, and the modules that there are.
+    #[error("{}:{}: {}; allowed: {}", Escaped(.0), .1, .2, .3)]
+    NoModule(String, usize, Explained, String),
+    /// A text that was asked for can't be written.
+    #[error("standard output can't be written")]
+    Say,
     /// The console, but for reading and for the script.
     #[error("{0}")]
     Console(ConsoleFault),
@@ -69,8 +114,11 @@ impl Fault {
             Fault::Topology(_, LoadFault::NoMemory) => 5,
             Fault::Topology(..) => 3,
             Fault::NotText(_) => 3,
-            Fault::Read(_) => 4,
+            Fault::Usage(_) => 2,
+            Fault::Read(..) => 4,
+            Fault::Say => 4,
             Fault::Script(..) => 1,
+            Fault::NoModule(..) => 1,
             Fault::Console(fault) => status_of(fault),
             Fault::NoMemory => 5,
         }

@@ -2,6 +2,7 @@
 #![tactic(auto)]
 
 mod fault;
+mod noted;
 mod program;
 mod terminal;
 

@@ -1,11 +1,12 @@
 //! What the program does: it reads its options, the topology file and the script, in this order,
 //! runs the script over new modules of the topology, and writes the transcript.
-use crate::fault::Fault;
+use crate::fault::{Fault, Unread};
+use crate::noted::Noted;
 use crate::terminal::Terminal;
 use cip_base::NoMemory;
 use cip_console::{
-    ConsoleFault, Options, OptionsFault, Out, Plain, ReadFault, Script, ScriptFault, Source, Usage,
-    Watched, explain, read_options, read_script, run, run_live,
+    ConsoleFault, Options, OptionsFault, Out, ReadFault, Script, ScriptFault, Usage, Watched,
+    explain, explain_options, read_options, read_script, run, run_live,
 };
 use cip_indexed::{NewModule, new_modules};
 use cip_module::Module;
@@ -14,6 +15,7 @@ use cip_topology::{CHASSIS, LoadFault, Topology, load};
 use std::alloc::Global;
 use std::env::Env;
 use std::fs::File;
+use std::io::{ErrorKind, IsTerminal, Read};
 use std::sync::Wait;
 use std::thread::Threads;
 use std::{env, io};
@@ -30,36 +32,58 @@ fn named(alloc: Global, name: &str) -> Result<String, Fault> {
 }
 
 // A file can't be read.
-fn unread(alloc: Global, name: &str) -> Fault {
+fn unread(alloc: Global, name: &str, why: Unread) -> Fault {
     match named(alloc, name) {
-        Ok(name) => Fault::Read(name),
+        Ok(name) => Fault::Read(name, why),
         Err(fault) => fault,
     }
+}
+
+// The names of the modules of a topology, with commas between them.
+fn names_of(alloc: Global, topology: &Topology) -> Result<String, NoMemory> {
+    let mut names = String::new(alloc);
+    for config in topology.configs() {
+        if !names.is_empty() {
+            names.push_str(", ")?;
+        }
+        let name = std::str::from_utf8(config.settings().name.as_slice());
+        names.push_str(name.unwrap_or(""))?;
+    }
+    Ok(names)
 }
 
 // A fault of a line of the script, with what is wrong there.
 fn script_fault(
     alloc: Global,
-    name: &str,
-    script: &[u8],
+    asked: Asked<'_>,
     line: usize,
     fault: ScriptFault,
 ) -> Result<Fault, NoMemory> {
-    let name = String::from_str(alloc, name)?;
-    let explained = explain(alloc, script, line, fault)?;
+    let name = String::from_str(alloc, asked.name)?;
+    let explained = explain(alloc, asked.script, line, fault)?;
+    if fault == ScriptFault::NoModule {
+        let names = String::from_str(alloc, asked.modules)?;
+        return Ok(Fault::NoModule(name, line, explained, names));
+    }
     Ok(Fault::Script(name, line, explained))
 }
 
+// A script, its name, and the names of the modules that it is for.
+#[derive(Clone, Copy)]
+struct Asked<'a> {
+    name: &'a str,
+    script: &'a [u8],
+    modules: &'a str,
+}
+
 // What the console says, with the name of the script, and of a line what is wrong there.
-fn fault_of(alloc: Global, name: &str, script: &[u8], fault: ConsoleFault) -> Fault {
+fn fault_of(alloc: Global, asked: Asked<'_>, fault: ConsoleFault) -> Fault {
     match fault {
-        ConsoleFault::Script(line, fault) => {
-            match script_fault(alloc, name, script, line, fault) {
-                Ok(fault) => fault,
-                Err(NoMemory) => Fault::NoMemory,
-            }
-        }
-        ConsoleFault::Read => unread(alloc, name),
+        ConsoleFault::Script(line, fault) => match script_fault(alloc, asked, line, fault) {
+            Ok(fault) => fault,
+            Err(NoMemory) => Fault::NoMemory,
+        },
+        ConsoleFault::Read => unread(alloc, asked.name, Unread::Failed),
         ConsoleFault::Write => Fault::Console(ConsoleFault::Write),
         ConsoleFault::NoMemory => Fault::NoMemory,
         ConsoleFault::New(fault) => Fault::Console(ConsoleFault::New(fault)),
@@ -83,6 +107,13 @@ fn words_fault(rt: &HostRuntime, alloc: Global) -> Fault {
     Fault::NoMemory
 }
 
+fn usage_fault(alloc: Global, words: &[String]) -> Fault {
+    match explain_options(alloc, words) {
+        Ok(text) => Fault::Usage(text),
+        Err(NoMemory) => Fault::NoMemory,
+    }
+}
+
 // The words after the program's name.
 fn options(rt: &HostRuntime, alloc: Global) -> Result<Options, Fault> {
     let Ok(args) = env::args(rt) else {
@@ -96,30 +127,42 @@ fn options(rt: &HostRuntime, alloc: Global) -> Result<Options, Fault> {
     }
     match read_options(alloc, words.as_slice()) {
         Ok(options) => Ok(options),
+        Err(OptionsFault::Usage(Usage::Wrong)) => Err(usage_fault(alloc, words.as_slice())),
         Err(fault) => Err(Fault::Options(fault)),
+    }
+}
+
+fn unread_by(error: &io::Error) -> Unread {
+    match error.kind() {
+        ErrorKind::NotFound => Unread::Missing,
+        ErrorKind::PermissionDenied => Unread::NoPermission,
+        ErrorKind::IsADirectory => Unread::Directory,
+        _ => Unread::Failed,
     }
 }
 
 fn open(rt: &HostRuntime, alloc: Global, path: &str) -> Result<File, Fault> {
     match File::open(rt, path) {
         Ok(file) => Ok(file),
-        Err(_) => Err(unread(alloc, path)),
+        Err(error) => Err(unread(alloc, path, unread_by(&error))),
     }
 }
 
 // All that a reader gives, at most as many bytes as a script may have.
-fn bytes_of<S: Source>(alloc: Global, name: &str, reader: &mut S) -> Result<Vec<u8>, Fault> {
+fn bytes_of<R: Read>(alloc: Global, name: &str, reader: &mut Noted<R>) -> Result<Vec<u8>, Fault> {
     match read_script(alloc, reader) {
         Ok(bytes) => Ok(bytes),
         Err(ReadFault::NoMemory) => Err(Fault::NoMemory),
-        Err(_) => Err(unread(alloc, name)),
+        Err(ReadFault::TooLong) => Err(unread(alloc, name, Unread::TooLong)),
+        Err(ReadFault::Failed) if reader.is_directory => {
+            Err(unread(alloc, name, Unread::Directory))
+        }
+        Err(ReadFault::Failed) => Err(unread(alloc, name, Unread::Failed)),
     }
 }
 
 fn bytes_at(rt: &HostRuntime, alloc: Global, path: &str) -> Result<Vec<u8>, Fault> {
-    let mut file = Plain {
-        inner: open(rt, alloc, path)?,
-    };
+    let mut file = Noted::of(open(rt, alloc, path)?);
     bytes_of(alloc, path, &mut file)
 }
 
@@ -159,7 +202,10 @@ fn script(rt: &HostRuntime, alloc: Global, options: &Options) -> Result<Vec<u8>,
     match &options.script {
         Some(path) => bytes_at(rt, alloc, path.as_str()),
         None => {
-            let mut input = Plain { inner: rt.reader() };
+            if rt.stdin().is_terminal() {
+                let _ = eprintln!(rt; "cipbridge: the script is read from the terminal, to Ctrl-D");
+            }
+            let mut input = Noted::of(rt.reader());
             bytes_of(alloc, script_name(options), &mut input)
         }
     }
@@ -231,9 +277,17 @@ fn run_with<T: Threads + Wait + Sync>(
     let alloc = rt.alloc();
     let topology = topology(rt, alloc, options)?;
     let script = script(rt, alloc, options)?;
+    let modules = names_of(alloc, &topology)?;
     match play(rt, workers, options, script.as_slice(), topology) {
         Ok(()) => Ok(()),
-        Err(fault) => Err(fault_of(alloc, script_name(options), script.as_slice(), fault)),
+        Err(fault) => {
+            let asked = Asked {
+                name: script_name(options),
+                script: script.as_slice(),
+                modules: modules.as_str(),
+            };
+            Err(fault_of(alloc, asked, fault))
+        }
     }
 }
 
@@ -241,7 +295,7 @@ fn run_with<T: Threads + Wait + Sync>(
 fn say(rt: &HostRuntime, asked: Usage) -> Result<(), Fault> {
     match println!(rt; "{asked}") {
         Ok(()) => Ok(()),
-        Err(_) => Err(Fault::Console(ConsoleFault::Write)),
+        Err(_) => Err(Fault::Say),
     }
 }
 

@@ -73,19 +73,19 @@ const TOLD: [Explained; 24] = [
     ),
     (
         b"enter S 1 0",
-        "enter: BYTES: 0 is no bytes; allowed: pairs of hexadecimal digits, or - for none",
+        "enter: BYTES: 0 is no bytes: 1 digits, an odd number",
     ),
     (
         b"send S 1 7 250 020g 0",
-        "send: PATH: 020g is no bytes; allowed: pairs of hexadecimal digits, or - for none",
+        "send: PATH: 020g is no bytes: digit 4 is g; allowed: 0 to 9, A to F, a to f",
     ),
     (
         b"send S 1 7 250 0205 0g",
-        "send: REQUEST: 0g is no bytes; allowed: pairs of hexadecimal digits, or - for none",
+        "send: REQUEST: 0g is no bytes: digit 2 is g; allowed: 0 to 9, A to F, a to f",
     ),
     (
         b"send S 1 7 250 0005 00",
-        "send: PATH: 0005 is no path: the byte 0 is reserved",
+        "send: PATH: 0005 is no path: byte 1 is 00, which begins or continues no segment",
     ),
     (b"\nlose 7.1", "lose: E.K: 7.1 is no frame that waits"),
     (
