@@ -3,15 +3,16 @@
 
 usage: vectors/run.py [--kind plain|indexed|adapter] [--group NAME] [--frames] [--tables] PROGRAM [WORD ..]
 
-PROGRAM is what stands between this script and the device. It reads a line of JSON at a time and answers each with one line, at once:
+PROGRAM is what stands between this script and the device. It reads a line of JSON at a time and answers each with one line,
+at once:
 
     {"config": {..}, "kind": "plain"}    make the module anew, as a case's config says      {}
     {"event": {..}}                      take the event, as it stands in the case           {"outputs": [..]}
     {"tables": null}                     with --tables alone: the state                     {"tables": {..}}
 
-Members of the name `says` are left out on both sides. `--kind` plays the cases of modules of that kind (plain), `--group` those of one
-group, `--frames` those in which no command stands, for a device that can be reached by its links alone. The status is 1 if anything
-differs.
+Members of the name `says` are left out on both sides. `--kind` plays the cases of modules of that kind (plain), `--group`
+those of one group, `--frames` those in which no command stands, for a device that can be reached by its links alone. The status
+is 1 if anything differs, or the program ends early.
 """
 
 import argparse
@@ -39,12 +40,20 @@ class Device:
         self.program = subprocess.Popen(words, stdin=subprocess.PIPE, stdout=subprocess.PIPE, encoding="utf-8")
 
     def ask(self, what):
-        self.program.stdin.write(json.dumps(bare(what)) + "\n")
-        self.program.stdin.flush()
-        line = self.program.stdout.readline()
+        asked = json.dumps(bare(what))
+        try:
+            self.program.stdin.write(asked + "\n")
+            self.program.stdin.flush()
+            line = self.program.stdout.readline()
+        except BrokenPipeError:
+            line = ""
         if not line:
-            sys.exit(f"the program ended at {json.dumps(bare(what))}")
-        return bare(json.loads(line))
+            self.program.stdin = None
+            sys.exit(f"the program ended at {asked[:200]}")
+        try:
+            return bare(json.loads(line))
+        except ValueError:
+            sys.exit(f"no JSON comes at {asked}: {line[:200]}")
 
 
 def played(device, case, kind, has_tables):
