@@ -167,7 +167,10 @@ pub fn explain_options(alloc: Global, words: &[String]) -> Result<String, NoMemo
             write!(text, "--turns: {turns:?} is none of 1 to {MOST_TURNS}")?;
             Ok(text)
         }
-        Err(error) => Ok(said(alloc, &error)?),
+        Err(error) => match error.kind() {
+            ErrorKind::OutOfMemory => Err(NoMemory),
+            _ => Ok(said(alloc, &error)?),
+        },
     }
 }
 
