@@ -25,4 +25,5 @@ filled (outputs.Consumed triad instance old) bytes = outputs.Consumed triad inst
 filled (outputs.Arrived op old) bytes = outputs.Arrived op bytes
 filled (outputs.Refused fault) bytes = outputs.Refused fault
 filled (outputs.Expired triad) bytes = outputs.Expired triad
+filled (outputs.Ended op) bytes = outputs.Ended op
 filled (outputs.Dropped reason) bytes = outputs.Dropped reason

@@ -165,6 +165,7 @@ impl Output {
                 Ok(Output::Arrived { op: *op, bytes })
             }
             Output::Expired { triad } => Ok(Output::Expired { triad: *triad }),
+            Output::Ended { op } => Ok(Output::Ended { op: *op }),
             Output::Dropped(reason) => Ok(Output::Dropped(*reason)),
         }
     }

@@ -192,5 +192,9 @@ pub enum Output {
     Expired {
         triad: Triad,
     },
+    /// The module was reset: what the op asked for, or opened, is gone.
+    Ended {
+        op: u32,
+    },
     Dropped(Dropped),
 }

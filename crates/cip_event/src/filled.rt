@@ -55,6 +55,7 @@ impl Output {
             Output::Arrived { op, bytes: _ } => Output::Arrived { op, bytes },
             Output::Refused(fault) => Output::Refused(fault),
             Output::Expired { triad } => Output::Expired { triad },
+            Output::Ended { op } => Output::Ended { op },
             Output::Dropped(reason) => Output::Dropped(reason),
         }
     }

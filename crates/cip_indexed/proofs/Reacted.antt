@@ -1,13 +1,14 @@
--- What a reaction puts out is an output of the routing table.
-use Rattle.std.proofs.Common.{◌≡◌, List, ℕ, refl, sym, subst}
+-- What a reaction puts out is what the routing table puts out.
+use Rattle.std.proofs.Common.{◌≡◌, List, ℕ, [], ◌∷◌, refl, sym, subst}
 use Rattle.cip_event.specs.declared.event.Output.{Output}
 use Rattle.cip_module.specs.declared.reaction.Reaction.{Reaction}
-use Rattle.cip_module.specs.declared.reaction.Reaction.TheVariants.{Whole, Edited}
+use Rattle.cip_module.specs.declared.reaction.Reaction.TheVariants.{Whole, Edited, Several}
 use Rattle.cip_event.specs.Filled.{filled}
 use Rattle.cip_module.specs.Reactions.{PutsOut}
 use Rattle.cip_indexed.specs.PutOut.{IsPutOut}
 
-pub put : (came : List ℕ) (reaction : Reaction) (P : Output → Type 0) (out : Output) → PutsOut came reaction P
-    → ((output : Output) → IsPutOut came reaction output → out ≡ output) → P out
-put came (Whole output) P out holds is = subst P (sym (is output refl)) holds
-put came (Edited output edit) P out (b, becomes, holds) is = subst P (sym (is (filled output b) (b, becomes, refl))) holds
+pub put : (came : List ℕ) (reaction : Reaction) (P : List Output → Type 0) (out : List Output) → PutsOut came reaction P
+    → ((list : List Output) → IsPutOut came reaction list → out ≡ list) → P out
+put came (Whole output) P out holds is = subst P (sym (is (output ∷ []) refl)) holds
+put came (Edited output edit) P out (b, becomes, holds) is = subst P (sym (is (filled output b ∷ []) (b, becomes, refl))) holds
+put came (Several all) P out holds is = subst P (sym (is all.items refl)) holds

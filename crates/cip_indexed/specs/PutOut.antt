@@ -1,5 +1,5 @@
 -- What a reaction to these bytes puts out.
-use Rattle.std.specs.Prelude.{◌≡◌}
+use Rattle.std.specs.Prelude.{◌≡◌, List, [], ◌∷◌}
 use Rattle.cip_base.specs.Words.{Octets}
 use Rattle.cip_event.specs.declared.event.Output.{Output}
 use Rattle.cip_module.specs.declared.reaction.Reaction.{Reaction}
@@ -11,8 +11,10 @@ use Rattle.cip_module.specs.Reactions.{Becomes}
 abbrev pub CanPutOut : Octets → Reaction → Type 0
 CanPutOut came (reactions.Whole output) = Unit {0}
 CanPutOut came (reactions.Edited output edit) = (b : Octets) × Becomes came edit b
+CanPutOut came (reactions.Several all) = Unit {0}
 
-abbrev pub IsPutOut : Octets → Reaction → Output → Type 0
-IsPutOut came (reactions.Whole whole) output = output ≡ whole
-IsPutOut came (reactions.Edited lacking edit) output =
-    (b : Octets) × Becomes came edit b × (output ≡ filled lacking b)
+abbrev pub IsPutOut : Octets → Reaction → List Output → Type 0
+IsPutOut came (reactions.Whole whole) outputs = outputs ≡ whole ∷ []
+IsPutOut came (reactions.Edited lacking edit) outputs =
+    (b : Octets) × Becomes came edit b × (outputs ≡ filled lacking b ∷ [])
+IsPutOut came (reactions.Several all) outputs = outputs ≡ all.items

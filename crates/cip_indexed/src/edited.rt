@@ -1,5 +1,6 @@
 //! What goes on or goes up of a message, in the buffer in which it came.
-ghost use Rattle.std.specs.Prelude.{◌≡◌};
+ghost use Rattle.std.specs.Prelude.{◌≡◌, ◌<◌, [], List};
+ghost use Rattle.std.specs.Vec.{vec_capacity};
 ghost use Rattle.cip_base.specs.Words.{Octets};
 ghost use Rattle.cip_event.specs.declared.event.Body.TheVariants as bodies;
 ghost use Rattle.cip_event.specs.declared.event.Output.{Output as Outputs};
@@ -33,16 +34,25 @@ fn edited(came: Bytes, edit: Edit) -> Bytes
     Bytes::of(bytes)
 }
 
-/// What a reaction to these bytes puts out. It takes no memory.
+/// What a reaction to these bytes puts out, in a place that there is for it. It takes no memory.
 #[inline(always)]
-pub(crate) fn put_out(reaction: Reaction, came: Bytes) -> Output
-    requires { CanPutOut came reaction }
-    ensures { (output : Outputs) → IsPutOut came reaction output → result ≡ output }
+pub(crate) fn put_out(
+    mut outputs: Vec<Output>,
+    reaction: Reaction,
+    came: Bytes,
+) -> Vec<Output>
+    requires none { outputs.items ≡ [] }
+    requires room { 0 < vec_capacity outputs }
+    requires possible { CanPutOut came reaction }
+    ensures { (list : List Outputs) → IsPutOut came reaction list → result.items ≡ list }
 {
-    match reaction {
+    let output = match reaction {
         Reaction::Whole(output) => output,
         Reaction::Edited { output, edit } => output.filled(edited(came, edit)),
-    }
+        Reaction::Several(all) => return all,
+    };
+    outputs.push_reserved(output);
+    outputs
 }
 
 /// A datum, sent on.

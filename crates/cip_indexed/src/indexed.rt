@@ -55,7 +55,7 @@ impl IndexedModule {
             result }
         ensures config { config_of_indexed self.new ≡ config_of_indexed self.old }
     {
-        let Ok(mut outputs) = Vec::with_capacity(self.alloc, 1) else {
+        let Ok(outputs) = Vec::with_capacity(self.alloc, 1) else {
             let body = Body::Request { number, bytes };
             return Err(StepFault::NoMemory(Event::Frame { port, from, body }));
         };
@@ -63,10 +63,7 @@ impl IndexedModule {
             .device
             .react_to_request(port, &from, number, bytes.as_slice())
         {
-            Ok(reaction) => {
-                outputs.push_reserved(put_out(reaction, bytes));
-                Ok(outputs)
-            }
+            Ok(reaction) => Ok(put_out(outputs, reaction, bytes)),
             Err(_) => {
                 let body = Body::Request { number, bytes };
                 Err(StepFault::NoMemory(Event::Frame { port, from, body }))
@@ -91,15 +88,14 @@ impl IndexedModule {
             result }
         ensures config { config_of_indexed self.new ≡ config_of_indexed self.old }
     {
-        let Ok(mut outputs) = Vec::with_capacity(self.alloc, 1) else {
+        let Ok(outputs) = Vec::with_capacity(self.alloc, 1) else {
             let body = Body::Reply { number, bytes };
             return Err(StepFault::NoMemory(Event::Frame { port, from, body }));
         };
         let reaction = self
             .device
             .react_to_reply(port, &from, number, bytes.as_slice());
-        outputs.push_reserved(put_out(reaction, bytes));
-        Ok(outputs)
+        Ok(put_out(outputs, reaction, bytes))
     }
 
     // A datum: its bytes go on, or it comes back whole.
@@ -173,12 +169,11 @@ impl IndexedModule {
             (events.Command (Enter of bytes)) (state_of_indexed self.new) result }
         ensures config { config_of_indexed self.new ≡ config_of_indexed self.old }
     {
-        let Ok(mut outputs) = Vec::with_capacity(self.alloc, 1) else {
+        let Ok(outputs) = Vec::with_capacity(self.alloc, 1) else {
             return Err(StepFault::NoMemory(Event::Command(Command::Enter { of, bytes })));
         };
         let reaction = self.device.react_to_enter(of, bytes.as_slice());
-        outputs.push_reserved(put_out(reaction, bytes));
-        Ok(outputs)
+        Ok(put_out(outputs, reaction, bytes))
     }
 
     // What is no frame.

@@ -15,12 +15,12 @@ use Rattle.cip_laws.specs.EffectLists.{gain, births, IsLight, IsBounded}
 use Rattle.cip_config.specs.declared.config.ModuleSettings.{ModuleSettings}
 use Rattle.cip_event.specs.declared.event.Event.{Event}
 use Rattle.cip_event.specs.declared.event.Output.{Output}
-use Rattle.cip_module.specs.Effects.{Effect, Begins, Accepts, apply, applied}
+use Rattle.cip_module.specs.Effects.{Effect, Answers, Begins, Accepts, apply, applied}
 use Rattle.cip_module.specs.State.{State}
 use Rattle.cip_module.specs.Table.{decide}
 use Rattle.cip_laws.specs.Tells.{asker, Tells, AllTell}
 use Rattle.cip_laws.proofs.Tells.{decide_tells}
-use Rattle.cip_laws.proofs.TellsAskers.{begins_asker, open_asker}
+use Rattle.cip_laws.proofs.TellsAskers.{begins_asker, open_asker, answers_asker}
 use Rattle.cip_laws.specs.Births.{opened_by, or_else, first_opened, Past, IsBirth, HasId}
 use Rattle.cip_laws.specs.Histories.{Turn, state_after, IsHistory}
 use Rattle.cip_laws.proofs.Light.{light_once}
@@ -48,6 +48,8 @@ none_born config s event (Begins sending opening) none tells =
     let no : None ≡ Some sending.up = sym none ∙ begins_asker config s event sending opening tells in absurd (cc)
 none_born config s event (Accepts opening o link) none tells =
     let no : None ≡ Some tells.up = sym none ∙ open_asker config s event tells.up o tells.asks in absurd (cc)
+none_born config s event (Answers up asked) none tells =
+    let no : None ≡ Some up = sym none ∙ answers_asker config s event up asked tells in absurd (cc)
 none_born config s event e none tells = refl
 
 pub none_births : (config : ModuleSettings) (s : State) (event : Event) (es : List Effect) → asker event ≡ None → AllTell config s event es
@@ -79,17 +81,19 @@ opened_births e o h = absurd (cc)
 unborn_opens : (e : Effect) → births e ≡ 0 → opened_by e ≡ None
 unborn_opens (Begins sending opening) h = absurd (omega (arith, h))
 unborn_opens (Accepts opening open_ link) h = absurd (omega (arith, h))
+unborn_opens (Answers up asked) h = refl
 unborn_opens e h = refl
 
-unborn_draws : (s : State) (e : Effect) → births e ≡ 0 → drawn_ids s e ≡ 0
-unborn_draws s (Begins sending opening) h = absurd (omega (arith, h))
-unborn_draws s (Accepts opening open_ link) h = absurd (omega (arith, h))
-unborn_draws s e h = refl
+unborn_draws : (config : ModuleSettings) (s : State) (e : Effect) → births e ≡ 0 → drawn_ids config s e ≡ 0
+unborn_draws config s (Begins sending opening) h = absurd (omega (arith, h))
+unborn_draws config s (Accepts opening open_ link) h = absurd (omega (arith, h))
+unborn_draws config s (Answers up asked) h = absurd (omega (arith, h))
+unborn_draws config s e h = refl
 
 none_drawn : (config : ModuleSettings) (s : State) (es : List Effect) → gain births es ≡ 0 → drawn_from config drawn_ids s es ≡ 0
 none_drawn config s [] h = refl
 none_drawn config s (e ∷ es) h =
-    let here = unborn_draws s e (omega (arith, h)) in let there = none_drawn config (apply config s e) es (omega (arith, h)) in omega (arith, here, there)
+    let here = unborn_draws config s e (omega (arith, h)) in let there = none_drawn config (apply config s e) es (omega (arith, h)) in omega (arith, here, there)
 
 first_is : (before after : List Effect) (e : Effect) (o : Opening) → opened_by e ≡ Some o → gain births (before ++ (e ∷ after)) ≤ 1
     → first_opened (before ++ (e ∷ after)) ≡ Some o
@@ -172,21 +176,21 @@ pub own_range : (next id : ℕ) (o : Opening) → HasId (own_ids next o) id → 
 own_range next id o (inl e) = up_range next id (up_is_link o.up) (down_is_link o.down) e
 own_range next id o (inr e) = down_range next id (up_is_link o.up) (down_is_link o.down) e
 
-opened_draws : (s : State) (e : Effect) (o : Opening) → opened_by e ≡ Some o → drawn_ids s e ≡ ids_drawn o
-opened_draws s (Begins sending opening) o h = let same : opening ≡ o = cc in ap ids_drawn same
-opened_draws s (Accepts opening open_ link) o h = let same : opening ≡ o = cc in ap ids_drawn same
-opened_draws s e o h = absurd (cc)
+opened_draws : (config : ModuleSettings) (s : State) (e : Effect) (o : Opening) → opened_by e ≡ Some o → drawn_ids config s e ≡ ids_drawn o
+opened_draws config s (Begins sending opening) o h = let same : opening ≡ o = cc in ap ids_drawn same
+opened_draws config s (Accepts opening open_ link) o h = let same : opening ≡ o = cc in ap ids_drawn same
+opened_draws config s e o h = absurd (cc)
 
-by_first : (s : State) (e : Effect) (es : List Effect) (o : Opening) (n : ℕ) (x : Option Opening) → opened_by e ≡ x → or_else x (first_opened es) ≡ Some o
-    → (first_opened es ≡ Some o → ids_drawn o ≤ n) → ids_drawn o ≤ drawn_ids s e + n
-by_first s e es o n None t r later = let rest = later r in omega (arith, rest)
-by_first s e es o n (Some p) t r later = let same : p ≡ o = cc in let here = opened_draws s e o (t ∙ ap (λ (y : Opening). Some y) same) in omega (arith, here)
+by_first : (config : ModuleSettings) (s : State) (e : Effect) (es : List Effect) (o : Opening) (n : ℕ) (x : Option Opening) → opened_by e ≡ x → or_else x (first_opened es) ≡ Some o
+    → (first_opened es ≡ Some o → ids_drawn o ≤ n) → ids_drawn o ≤ drawn_ids config s e + n
+by_first config s e es o n None t r later = let rest = later r in omega (arith, rest)
+by_first config s e es o n (Some p) t r later = let same : p ≡ o = cc in let here = opened_draws config s e o (t ∙ ap (λ (y : Opening). Some y) same) in omega (arith, here)
 
 first_draws : (config : ModuleSettings) (s : State) (es : List Effect) (o : Opening) → first_opened es ≡ Some o
     → ids_drawn o ≤ drawn_from config drawn_ids s es
 first_draws config s [] o h = absurd (cc)
 first_draws config s (e ∷ es) o h =
-    by_first s e es o (drawn_from config drawn_ids (apply config s e) es) (opened_by e) refl h (λ r. first_draws config (apply config s e) es o r)
+    by_first config s e es o (drawn_from config drawn_ids (apply config s e) es) (opened_by e) refl h (λ r. first_draws config (apply config s e) es o r)
 
 -- the ids of a birth are from the next before it, and below the next after it
 pub birth_range : (config : ModuleSettings) (o : Opening) (ids : OwnIds) (turns : List Turn) (turn : Turn) (id : ℕ) → IsHistory config (turn ∷ turns)

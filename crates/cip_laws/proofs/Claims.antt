@@ -16,18 +16,20 @@ use Rattle.cip_hops.specs.declared.hop.Side.{Side}
 use Rattle.cip_hops.specs.declared.hop.Side.TheVariants.{Up, Down}
 use Rattle.cip_hops.specs.Hops.{hop_at}
 use Rattle.cip_base.proofs.Lengths.{one_if}
-use Rattle.cip_hops.proofs.Counts.{tally, tally-insert, tally-remove}
+use Rattle.cip_hops.proofs.Counts.{tally, tally-insert, tally-remove, tally-le}
 use Rattle.cip_message.specs.Reply.{reply_bytes}
-use Rattle.cip_target.specs.Objects.{target_answer}
+use Rattle.cip_message.specs.Request.{Request}
 use Rattle.cip_laws.specs.EffectLists.{takes_up}
 use Rattle.cip_config.specs.declared.config.ModuleSettings.{ModuleSettings}
 use Rattle.cip_event.specs.declared.event.Output.{Output}
-use Rattle.cip_module.specs.Effects.{Effect, Replies, Answers, Forwards, Begins, Finishes, Takes, PendingTimesOut, Passes, objects_of, entry_for, apply, output_of, reply_up, replied, timed_out_reply, timed_out_bytes, datum_up, datum_down, datum_by, passed, kind_for, succeeded_at}
+use Rattle.cip_module.specs.Effects.{Effect, Replies, Answers, Forwards, Begins, Finishes, Takes, PendingTimesOut, Passes, resets, here_answer, answered_state, entry_for, apply, output_of, reply_up, replied, timed_out_reply, timed_out_bytes, datum_up, datum_down, datum_by, passed, kind_for, succeeded_at}
 use Rattle.cip_module.specs.State.{State}
 use Rattle.cip_module.proofs.Fits.{numbers_apart}
 use Rattle.cip_base.proofs.Points.{one_or_apart, gone_here, gone_apart}
 use Rattle.cip_laws.specs.Weights.{mark, same_up, replies_to, is_to, is_reply, weight_in}
+use Rattle.cip_module.specs.Resets.{reset_state}
 use Rattle.cip_laws.proofs.Puts.{AreBelow, no_number}
+use Rattle.cip_laws.proofs.Weighing.{answered_alone}
 
 -- how many requests wait for this up side
 abbrev pub waits_for : UpSide → State → ℕ
@@ -106,11 +108,23 @@ asked up s p h =
     let one = marked (same_up p.up up) in
     omega (arith, more, one)
 
+-- after an answer here what waits waited before, and after a reset nothing waits
+waits_left : (config : ModuleSettings) (up : UpSide) (s : State) (asked : Request) (b : Bool)
+    → waits_for up (answered_state b config s asked) ≤ waits_for up s
+waits_left config up s asked true =
+    let small = tally-le nat_cmp (λ (p : Entry). same_up p.up up) (reset_state s).pendings.entries in let none = map.len-empty nat_cmp Entry in
+    omega (arith, small, none)
+waits_left config up s asked false = omega arith
+
 -- what an effect replies to an up side, and what waits for it, grow by what it takes up at most
 pub claims_each : (config : ModuleSettings) (up : UpSide) (s : State) (e : Effect) → AreBelow s
     → weight_in (is_reply up) (output_of config s e) + waits_for up (apply config s e) ≤ waits_for up s + takes_up up e
 claims_each config up s (Replies v bytes) h = let is = given up v bytes in omega (arith, is)
-claims_each config up s (Answers v request) h = let is = given up v (reply_bytes (target_answer (objects_of config s) request)) in omega (arith, is)
+claims_each config up s (Answers v request) h =
+    let is = given up v (reply_bytes (here_answer config s request)) in
+    let alone = answered_alone (is_reply up) (λ op. refl) config s v request in
+    let left = waits_left config up s request (resets config s request) in
+    omega (arith, is, alone, left)
 claims_each config up s (Forwards sending kind) h = let more = asked up s (entry_for s sending kind) h in omega (arith, more)
 claims_each config up s (Begins sending opening) h = let more = asked up s (entry_for s sending (kind_for opening)) h in omega (arith, more)
 claims_each config up s (Finishes number triad bytes success) h =

@@ -13,7 +13,6 @@ use Rattle.cip_hops.specs.declared.hop.Hop.{Hop}
 use Rattle.cip_hops.specs.declared.hop.Side.{Side}
 use Rattle.cip_hops.specs.declared.hop.Side.TheVariants.{Up, Down}
 use Rattle.cip_hops.specs.Hops.{hop_at, hop_by_op}
-use Rattle.cip_target.specs.Objects.{target_answer}
 use Rattle.cip_config.specs.declared.config.ModuleSettings.{ModuleSettings}
 use Rattle.cip_module.specs.CommandRows.{CommandRow}
 use Rattle.cip_module.specs.CommandRows as command
@@ -25,13 +24,13 @@ use Rattle.cip_module.specs.CommandRows.{enter_row}
 use Rattle.cip_module.specs.DataRows.{DataRow, data_row}
 use Rattle.cip_module.specs.DataRows as datum
 use Rattle.cip_laws.specs.EffectLists.{gain}
-use Rattle.cip_module.specs.Effects.{Effect, Replies, Answers, Finishes, Takes, PendingTimesOut, Passes, objects_of, reply_up, replied, timed_out_reply, timed_out_bytes, datum_up, datum_down, datum_by, passed, apply, output_of, outputs_of, succeeded_at}
+use Rattle.cip_module.specs.Effects.{Effect, Replies, Answers, Finishes, Takes, PendingTimesOut, Passes, here_answer, reply_up, replied, timed_out_reply, timed_out_bytes, datum_up, datum_down, datum_by, passed, apply, output_of, outputs_of, succeeded_at}
 use Rattle.cip_laws.specs.Outputs.{is_datum, DatumOf, GoesUp, Arrives, GoesDown, IsConsumed, one_datum}
 use Rattle.cip_module.specs.State.{State}
 use Rattle.cip_module.specs.Table.{datum_effects, entered_effects, enter_effects, refused_effects, decide}
 use Rattle.cip_laws.specs.Weights.{mark, weight_in}
 use Rattle.cip_laws.proofs.PassedBy.{passes, counts_none}
-use Rattle.cip_laws.proofs.Weighing.{weight_in-append}
+use Rattle.cip_laws.proofs.Weighing.{weight_in-append, answered_alone}
 
 -- ---- where a datum goes
 
@@ -71,7 +70,10 @@ one_passed side (Some hop) bytes = let most = mark_most (is_datum (datum_by side
 
 given_each : (config : ModuleSettings) (s : State) (e : Effect) → weight_in one_datum (output_of config s e) ≤ passes e
 given_each config s (Replies v bytes) = let none = none_up v bytes in omega (arith, none)
-given_each config s (Answers v asked) = let none = none_up v (reply_bytes (target_answer (objects_of config s) asked)) in omega (arith, none)
+given_each config s (Answers v asked) =
+    let none = none_up v (reply_bytes (here_answer config s asked)) in
+    let alone = answered_alone one_datum (λ op. refl) config s v asked in
+    omega (arith, none, alone)
 given_each config s (Finishes number triad bytes success) =
     let none = none_replied (map.get s.pendings.entries number) (succeeded_at s number triad bytes success) in omega (arith, none)
 given_each config s (Takes number bytes) = let none = none_replied (map.get s.pendings.entries number) bytes in omega (arith, none)

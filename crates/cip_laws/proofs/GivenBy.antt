@@ -1,5 +1,5 @@
 -- Which effect gave a reply to an up side, the end of a connection, a refusal or a drop.
-use Rattle.std.proofs.Common.{◌≡◌, ℕ, true, List, [], ◌∷◌, Option, Some, None, refl, sym, ap, subst, inl, inr, arith, ◌∙◌}
+use Rattle.std.proofs.Common.{◌≡◌, ℕ, true, List, [], ◌∷◌, Option, Some, None, refl, sym, ap, subst, inl, inr, arith, ◌∙◌, Bool, false}
 use Rattle.std.specs.FinMap as map
 use Rattle.std.proofs.lemmas.Bool.{eq-eqb, and_from}
 use Rattle.std.proofs.lemmas.Slice.Eq.{bytes_eq-Decides}
@@ -17,18 +17,19 @@ use Rattle.cip_hops.specs.declared.opening.HopUp.TheVariants.{Link as UpLink, Lo
 use Rattle.cip_hops.specs.declared.opening.HopDown.{HopDown}
 use Rattle.cip_hops.specs.declared.opening.HopDown.TheVariants.{Link as DownLink, End}
 use Rattle.cip_hops.specs.Hops.{hop_at}
-use Rattle.cip_target.specs.Objects.{target_answer}
+use Rattle.cip_event.specs.declared.event.Output.TheVariants as outputs
+use Rattle.cip_module.specs.Resets.{held_ops, all_ended}
 use Rattle.cip_config.specs.declared.config.ModuleSettings.{ModuleSettings}
 use Rattle.cip_event.specs.declared.event.Event.{Event}
 use Rattle.cip_event.specs.declared.event.Output.{Output}
-use Rattle.cip_module.specs.Effects.{Effect, Replies, Answers, Forwards, Begins, Finishes, Takes, PendingTimesOut, HopTimesOut, Passes, RefusesCommand, Drops, objects_of, reply_up, replied, timed_out_reply, timed_out_bytes, datum_up, datum_down, datum_by, passed, succeeded, waits_large, output_of, succeeded_at}
-use Rattle.cip_laws.specs.Outputs.{RepliesBy, AtOnce, Here, Opened, Taken, Late, tells_end, EndedBy, ByTimeOut, ByRefusal, ByDrop}
+use Rattle.cip_module.specs.Effects.{Effect, Replies, Answers, Forwards, Begins, Finishes, Takes, PendingTimesOut, HopTimesOut, Passes, RefusesCommand, Drops, resets, here_answer, ended_by as told_ended, reply_up, replied, timed_out_reply, timed_out_bytes, datum_up, datum_down, datum_by, passed, succeeded, waits_large, output_of, succeeded_at}
+use Rattle.cip_laws.specs.Outputs.{RepliesBy, AtOnce, Here, Opened, Taken, Late, tells_end, EndedBy, ByTimeOut, ByReset, ByRefusal, ByDrop}
 use Rattle.cip_module.specs.State.{State}
 use Rattle.cip_laws.specs.Tells.{Tells}
 use Rattle.cip_laws.specs.Weights.{mark, same_up, is_reply, weight_in}
 use Rattle.cip_laws.specs.Turns.{Has}
 use Rattle.cip_laws.proofs.Claims.{no_reply_passed}
-use Rattle.cip_laws.proofs.Weighing.{weight_has}
+use Rattle.cip_laws.proofs.Weighing.{weight_has, none_reset}
 use Rattle.cip_laws.specs.Tells.{RepliesAs, AnswersAs}
 use Rattle.cip_hops.specs.declared.hop.Held.{Held}
 
@@ -74,8 +75,10 @@ module _ (up : UpSide) (bytes : List ℕ) where
   answered_by config s0 event mid (Replies v b) tells h =
       let is = one_of v b h in
       AtOnce (subst (λ (u : UpSide). RepliesAs config s0 event u bytes) is.0 (subst (λ (c : List ℕ). RepliesAs config s0 event v c) is.1 tells))
-  answered_by config s0 event mid (Answers v asked) tells h =
-      let is = one_of v (reply_bytes (target_answer (objects_of config mid) asked)) h in
+  answered_by config s0 event mid (Answers v asked) tells (inr h) =
+      absurd (none_of (told_ended (resets config mid asked) mid) (none_reset (is_reply up) (λ op. refl) (resets config mid asked) mid) h)
+  answered_by config s0 event mid (Answers v asked) tells (inl e) =
+      let is = one_of v (reply_bytes (here_answer config mid asked)) (inl e) in
       Here asked (ap (λ (u : UpSide). Answers u asked) is.0) (subst (λ (u : UpSide). AnswersAs config s0 event u asked) is.0 tells) (sym is.1)
   answered_by config s0 event mid (Finishes number triad came success) tells h =
       let is = replied_of (map.get mid.pendings.entries number) (succeeded_at mid number triad came success) h in
@@ -129,8 +132,17 @@ module _ (x : Output) (ends : tells_end x ≡ 1) where
   passed_none side None b h = h
   passed_none side (Some hop) b h = single (datum_by side hop b) (by_ends_none side hop b) h
 
+  told_op : (ops : List ℕ) → Has (all_ended ops) x → (op : ℕ) × (x ≡ outputs.Ended op)
+  told_op [] h = absurd h
+  told_op (op ∷ ops) (inl e) = (op, sym e)
+  told_op (op ∷ ops) (inr h) = told_op ops h
+
+  told_so : (b : Bool) (s : State) → Has (told_ended b s) x → (b ≡ true) × Has (all_ended (held_ops s)) x
+  told_so true s h = (refl, h)
+  told_so false s h = absurd h
+
   pub ended_by : (config : ModuleSettings) (s : State) (event : Event) (mid : State) (e : Effect) → Tells config s event e → Has (output_of config mid e) x
-      → EndedBy config s event e x
+      → EndedBy config s event mid e x
   ended_by config s event mid (HopTimesOut triad) tells (inl e) = ByTimeOut triad refl (sym e) tells
   ended_by config s event mid (HopTimesOut triad) tells (inr h) = absurd h
   ended_by config s event mid (RefusesCommand fault) tells (inl e) = ByRefusal fault refl (sym e) tells
@@ -138,7 +150,12 @@ module _ (x : Output) (ends : tells_end x ≡ 1) where
   ended_by config s event mid (Drops reason) tells (inl e) = ByDrop reason refl (sym e) tells
   ended_by config s event mid (Drops reason) tells (inr h) = absurd h
   ended_by config s event mid (Replies v b) tells h = absurd (single (reply_up v b) (reply_ends_none v b) h)
-  ended_by config s event mid (Answers v asked) tells h = absurd (single (reply_up v _) (reply_ends_none v _) h)
+  ended_by config s event mid (Answers v asked) tells (inl e) =
+      absurd (single (reply_up v (reply_bytes (here_answer config mid asked))) (reply_ends_none v (reply_bytes (here_answer config mid asked))) (inl e))
+  ended_by config s event mid (Answers v asked) tells (inr h) =
+      let by = told_so (resets config mid asked) mid h in
+      let op = told_op (held_ops mid) by.1 in
+      ByReset v asked op.0 refl op.1 by.0 by.1 tells
   ended_by config s event mid (Forwards sending kind) tells h = absurd (single _ refl h)
   ended_by config s event mid (Begins sending opening) tells h = absurd (single _ refl h)
   ended_by config s event mid (Finishes number triad came success) tells h =

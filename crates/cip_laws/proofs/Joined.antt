@@ -28,7 +28,7 @@ use Rattle.cip_event.specs.declared.event.Body.TheVariants as bodies
 use Rattle.cip_event.specs.declared.event.Event.{Event}
 use Rattle.cip_event.specs.declared.event.Output.{Output}
 use Rattle.cip_event.specs.declared.event.Output.TheVariants as outputs
-use Rattle.cip_module.specs.Effects.{Sending, Effect, Forwards, Begins, Accepts, Finishes, Takes, PendingTimesOut, Removes, HopTimesOut, Renews, Counts, entry_for, kind_for, abandoned, abandoned_if, removed, given_up, ends_here, apply, output_of, applied, outputs_of}
+use Rattle.cip_module.specs.Effects.{Sending, Effect, Forwards, Begins, Accepts, Finishes, Takes, PendingTimesOut, Removes, HopTimesOut, Renews, Counts, entry_for, kind_for, abandoned, abandoned_if, removed, given_up, ends_here, apply, output_of, applied, outputs_of, Answers, resets, answered_state}
 use Rattle.cip_module.specs.State.{State}
 use Rattle.cip_laws.specs.Tells.{Tells, ForwardsAs, BeginsAs, AcceptsAs, FinishesAs, SentOn, ClosedOn}
 use Rattle.cip_module.proofs.Opens.{opens_for}
@@ -46,6 +46,7 @@ use Rattle.cip_laws.proofs.Puts.{puts, pending_cases}
 use Rattle.cip_laws.proofs.Quiet.{alone, reply_alone}
 use Rattle.cip_laws.proofs.Turns.{Turned, newest, by_places, outputs-append}
 pub use Rattle.cip_laws.specs.Openings.{OpenSent, SentIn, Opens, Joined}
+use Rattle.cip_message.specs.Request.{Request}
 
 -- ---- what is opening stays so
 
@@ -283,6 +284,13 @@ module _ (config : ModuleSettings) (turns : List Turn) (turn : Turn)
         finished_apart mid.hops k triad success.ot_id mid.now
         (λ one. (was n p at).0 (h.one n number p tells.entry triad (was n p at).1 waits kind (tells.kind ∙ ap (λ (t : Triad). Some t) (sym one)))) ∙ there)
 
+    joined_answers : (asked : Request) (b : Bool) → Joined SentBy mid → Joined SentBy (answered_state b config mid asked)
+    joined_answers asked true h = record {
+      each = λ n p triad at kind. let none : None ≡ Some p = sym (map.get-empty {X = Entry} nat_cmp n) ∙ at in absurd (cc);
+      one = λ m n p q triad at there kind too. let none : None ≡ Some p = sym (map.get-empty {X = Entry} nat_cmp m) ∙ at in absurd (cc);
+    }
+    joined_answers asked false h = h
+
     joined_each : (e : Effect) → before ++ (e ∷ after) ≡ now.effects → Tells config s0 turn.event e → Joined SentBy mid → Joined SentBy (after_it e)
     joined_each (Forwards sending kind) is tells h = joined_forwards sending kind tells h
     joined_each (Begins sending o) is tells h = joined_begins before after sending o is tells h
@@ -300,6 +308,7 @@ module _ (config : ModuleSettings) (turns : List Turn) (turn : Turn)
         same_waits (Counts triad side count) h refl (λ q o ids at. if_opening (option_map_or ends_here (hop_at mid.hops triad) false)
         (changed mid.hops triad (counted side count)) mid.hops q o ids
         (changed_opening mid.hops triad q (counted side count) o ids at) at)
+    joined_each (Answers up asked) is tells h = joined_answers asked (resets config mid asked) h
     joined_each e is tells h = same_waits e h refl (λ q o ids at. at)
 
 -- over a history

@@ -2,10 +2,11 @@
 use Rattle.std.proofs.Common.{◌≡◌, ℕ, ◌+◌, ◌≤◌, Bool, true, false, List, [], ◌∷◌, Option, Some, None, refl, ap, inl, inr, arith, eqb, leb}
 use Rattle.std.proofs.lemmas.Bool.{cases_order, eq-eqb, ne_eqb, le-leb, lt-leb, leb-true, leb-false}
 use Rattle.cip_message.specs.Reply.{reply_bytes}
-use Rattle.cip_target.specs.Objects.{target_answer}
+use Rattle.cip_message.specs.Request.{Request}
+use Rattle.cip_base.specs.Counts.{reborn}
 use Rattle.cip_laws.specs.EffectLists.{gain}
 use Rattle.cip_config.specs.declared.config.ModuleSettings.{ModuleSettings}
-use Rattle.cip_module.specs.Effects.{Effect, Replies, Answers, Forwards, Begins, Finishes, Takes, PendingTimesOut, Passes, objects_of, apply, output_of, reply_up, replied, timed_out_reply, timed_out_bytes, datum_up, datum_down, datum_by, passed, succeeded_at}
+use Rattle.cip_module.specs.Effects.{Effect, Replies, Answers, Forwards, Begins, Finishes, Takes, PendingTimesOut, Passes, resets, here_answer, answered_state, apply, output_of, reply_up, replied, timed_out_reply, timed_out_bytes, datum_up, datum_down, datum_by, passed, succeeded_at}
 use Rattle.cip_pending.specs.declared.entry.Entry.{Entry}
 use Rattle.cip_pending.specs.declared.entry.UpSide.{UpSide}
 use Rattle.cip_pending.specs.declared.entry.UpSide.TheVariants.{Link, Local}
@@ -25,8 +26,8 @@ use Rattle.cip_module.specs.State.{State, initial_state}
 use Rattle.cip_laws.specs.Histories.{Turn, state_after, IsHistory}
 use Rattle.cip_laws.specs.Weights.{mark, is_request, weight_in, weight, came}
 use Rattle.cip_laws.specs.Turns.{Has}
-use Rattle.cip_laws.proofs.Puts.{next_number}
-use Rattle.cip_laws.proofs.Weighing.{weight_has, history_conserved}
+use Rattle.cip_laws.proofs.Puts.{next_number, reborn_above}
+use Rattle.cip_laws.proofs.Weighing.{weight_has, answered_alone, history_conserved}
 
 -- whether a number is still to be drawn
 abbrev pub undrawn : ℕ → State → ℕ
@@ -83,10 +84,26 @@ no_request_late n (Some p) = let none = no_request_up n p.up (timed_out_bytes p.
 
 -- ---- each effect
 
+-- what can still be sent from a later next could be sent from an earlier
+later_fewer : (m k n : ℕ) → m ≤ k → mark (leb k n) ≤ mark (leb m n)
+later_fewer m k n h = by_order (leb k n) refl
+  where
+    by_order : (b : Bool) → leb k n ≡ b → mark b ≤ mark (leb m n)
+    by_order true e = let above = leb-true k n e in let here = ap mark (le-leb m n (omega (arith, above, h))) in omega (arith, here)
+    by_order false e = omega arith
+
+fewer_left : (config : ModuleSettings) (n : ℕ) (s : State) (asked : Request) (b : Bool) → undrawn n (answered_state b config s asked) ≤ undrawn n s
+fewer_left config n s asked true = later_fewer s.pendings.next (reborn s.pendings.next) n (reborn_above s.pendings.next)
+fewer_left config n s asked false = omega arith
+
 numbers_each : (config : ModuleSettings) (n : ℕ) (s : State) (e : Effect)
     → weight_in (is_request n) (output_of config s e) + undrawn n (apply config s e) ≤ undrawn n s + 0
 numbers_each config n s (Replies v bytes) = let none = no_request_up n v bytes in omega (arith, none)
-numbers_each config n s (Answers v request) = let none = no_request_up n v (reply_bytes (target_answer (objects_of config s) request)) in omega (arith, none)
+numbers_each config n s (Answers v request) =
+    let none = no_request_up n v (reply_bytes (here_answer config s request)) in
+    let alone = answered_alone (is_request n) (λ op. refl) config s v request in
+    let fewer = fewer_left config n s request (resets config s request) in
+    omega (arith, none, alone, fewer)
 numbers_each config n s (Forwards sending kind) = let now = drawn_now s.pendings.next n in omega (arith, now)
 numbers_each config n s (Begins sending opened) = let now = drawn_now s.pendings.next n in omega (arith, now)
 numbers_each config n s (Finishes number triad bytes success) =
@@ -111,7 +128,11 @@ mark_none true h = absurd (omega (arith, h))
 mark_none false h = refl
 
 -- what sends a request draws one number
-drawn_once : (config : ModuleSettings) (n : ℕ) (s : State) (e : Effect) → 1 ≤ weight_in (is_request n) (output_of config s e) → numbers_drawn s e ≤ 1
+drawn_once : (config : ModuleSettings) (n : ℕ) (s : State) (e : Effect) → 1 ≤ weight_in (is_request n) (output_of config s e) → numbers_drawn config s e ≤ 1
+drawn_once config n s (Answers v request) h =
+    let none = no_request_up n v (reply_bytes (here_answer config s request)) in
+    let alone = answered_alone (is_request n) (λ op. refl) config s v request in
+    absurd (omega (arith, none, alone, h))
 drawn_once config n s (Forwards sending kind) h = omega arith
 drawn_once config n s (Begins sending opened) h = omega arith
 drawn_once config n s e h = omega arith

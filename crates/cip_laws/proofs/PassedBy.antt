@@ -16,7 +16,6 @@ use Rattle.cip_hops.specs.declared.hop.Side.{Side}
 use Rattle.cip_hops.specs.declared.hop.Side.TheVariants.{Down}
 use Rattle.cip_hops.specs.Sides.{op_of, up_is}
 use Rattle.cip_hops.specs.Hops.{is_id, hop_at, is_hop_by_up, hop_by_op}
-use Rattle.cip_target.specs.Objects.{target_answer}
 use Rattle.cip_laws.specs.EffectLists.{gain}
 use Rattle.cip_config.specs.declared.config.ModuleSettings.{ModuleSettings}
 use Rattle.cip_event.specs.declared.event.Body.TheVariants as bodies
@@ -29,7 +28,7 @@ use Rattle.cip_module.specs.CommandRows as command
 use Rattle.cip_module.specs.CommandRows.{enter_row}
 use Rattle.cip_module.specs.DataRows.{DataRow, data_row}
 use Rattle.cip_module.specs.DataRows as datum
-use Rattle.cip_module.specs.Effects.{Effect, Replies, Answers, Forwards, Begins, Finishes, Takes, PendingTimesOut, HopTimesOut, Passes, RefusesCommand, Drops, objects_of, reply_up, replied, timed_out_reply, timed_out_bytes, datum_by, passed, output_of, applied, succeeded_at}
+use Rattle.cip_module.specs.Effects.{Effect, Replies, Answers, Forwards, Begins, Finishes, Takes, PendingTimesOut, HopTimesOut, Passes, RefusesCommand, Drops, resets, here_answer, ended_by, reply_up, replied, timed_out_reply, timed_out_bytes, datum_by, passed, output_of, applied, succeeded_at}
 use Rattle.cip_module.specs.State.{State}
 use Rattle.cip_module.specs.Table.{counts, datum_effects, enter_effects, entered_effects, refused_effects, decide}
 use Rattle.cip_laws.specs.Tells.{PassesAs, PassedOn, Entered, Made}
@@ -40,6 +39,7 @@ use Rattle.cip_laws.proofs.Triads.{HasOwnTriads, own_triads}
 use Rattle.cip_laws.proofs.Turns.{Turned, newest}
 pub use Rattle.cip_laws.specs.Outputs.{is_data, is_datum, PassedBy}
 pub use Rattle.cip_module.proofs.Found.{found_own}
+use Rattle.cip_module.specs.Resets.{held_ops, all_ended}
 
 has_id : (id : ℕ) (own : Option ℕ) → is_id id own ≡ true → own ≡ Some id
 has_id id None t = absurd (cc)
@@ -64,6 +64,15 @@ module _ (x : Output) (data_ : is_datum x ≡ true) where
   reply_no (Link port address number) b = refl
   reply_no (Local op) b = refl
 
+  told_no : (ops : List ℕ) → Has (all_ended ops) x → ⊥
+  told_no [] h = h
+  told_no (op ∷ ops) (inl e) = let no : false ≡ true = ap is_datum e ∙ data_ in cc
+  told_no (op ∷ ops) (inr h) = told_no ops h
+
+  reset_no : (b : Bool) (s : State) → Has (ended_by b s) x → ⊥
+  reset_no true s h = told_no (held_ops s) h
+  reset_no false s h = h
+
   replied_no : (p : Option entries.Entry) (b : List ℕ) → Has (replied p b) x → ⊥
   replied_no None b h = h
   replied_no (Some p) b h = no_other (reply_up p.up b) (reply_no p.up b) h
@@ -81,8 +90,9 @@ module _ (x : Output) (data_ : is_datum x ≡ true) where
   pub passed_by : (config : ModuleSettings) (mid : State) (e : Effect) → Has (output_of config mid e) x → PassedBy mid e x
   passed_by config mid (Passes triad side b) h = passes_it mid triad side b (hop_at mid.hops triad) refl h
   passed_by config mid (Replies v b) h = absurd (no_other (reply_up v b) (reply_no v b) h)
-  passed_by config mid (Answers v asked) h = absurd (no_other (reply_up v (reply_bytes (target_answer (objects_of config mid) asked)))
-      (reply_no v (reply_bytes (target_answer (objects_of config mid) asked))) h)
+  passed_by config mid (Answers v asked) (inl e) = absurd (no_other (reply_up v (reply_bytes (here_answer config mid asked)))
+      (reply_no v (reply_bytes (here_answer config mid asked))) (inl e))
+  passed_by config mid (Answers v asked) (inr h) = absurd (reset_no (resets config mid asked) mid h)
   passed_by config mid (Forwards sending kind) h = absurd (no_other _ refl h)
   passed_by config mid (Begins sending o) h = absurd (no_other _ refl h)
   passed_by config mid (Finishes number triad came success) h =

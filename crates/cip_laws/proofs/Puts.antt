@@ -1,5 +1,5 @@
 -- Where the requests that wait after an effect come from, and how many numbers and ids it draws.
-use Rattle.std.proofs.Common.{◌≡◌, ℕ, ◌+◌, ◌<◌, Option, Some, None, refl, ap, ◌⊎◌, inl, inr, arith}
+use Rattle.std.proofs.Common.{◌≡◌, ℕ, ◌+◌, ◌<◌, Option, Some, None, refl, ap, ◌⊎◌, inl, inr, arith, ◌≤◌, Bool, true, false, sym, ◌∙◌}
 use Rattle.std.specs.FinMap as map
 use Rattle.std.specs.Cmp.{nat_cmp_total}
 use Rattle.std.specs.Option.{option_and_then}
@@ -12,11 +12,21 @@ use Rattle.cip_hops.specs.declared.hop.Held.{Held}
 use Rattle.cip_hops.specs.declared.hop.Held.TheVariants.{Opening as IsOpening, Open}
 use Rattle.cip_hops.specs.Hops.{Hops, as_hop, open_in, finished, begun, change_in, changed, touched, counted}
 use Rattle.cip_config.specs.declared.config.ModuleSettings.{ModuleSettings}
-use Rattle.cip_module.specs.Effects.{Effect, Forwards, Begins, Accepts, Finishes, Takes, PendingTimesOut, Removes, HopTimesOut, Renews, Counts, entry_for, kind_for, abandoned, abandoned_if, removed, given_up, renewed, recounted, apply}
+use Rattle.cip_module.specs.Effects.{Effect, Answers, resets, answered_state, Forwards, Begins, Accepts, Finishes, Takes, PendingTimesOut, Removes, HopTimesOut, Renews, Counts, entry_for, kind_for, abandoned, abandoned_if, removed, given_up, renewed, recounted, apply}
 use Rattle.cip_module.specs.State.{State}
 use Rattle.cip_module.proofs.Fits.{numbers_apart}
 use Rattle.cip_base.proofs.MapCases.{insert_cases, remove_cases}
+use Rattle.std.specs.Ordering.{nat_cmp}
+use Rattle.cip_base.specs.Counts.{reborn}
+use Rattle.cip_message.specs.Request.{Request}
+use Rattle.cip_laws.specs.Changes.{passed_over}
 pub use Rattle.cip_laws.specs.Changes.{puts, numbers_drawn, drawn_ids}
+
+-- after an answer here what waits waited before
+answered_pending : (config : ModuleSettings) (s : State) (asked : Request) (b : Bool) (n : ℕ) (p : Entry)
+    → map.get (answered_state b config s asked).pendings.entries n ≡ Some p → map.get s.pendings.entries n ≡ Some p
+answered_pending config s asked true n p h = let none : None ≡ Some p = sym (map.get-empty {X = Entry} nat_cmp n) ∙ h in absurd (cc)
+answered_pending config s asked false n p h = h
 
 -- what waits after an effect waited before, or is what it puts there, under the next number
 pub pending_cases : (config : ModuleSettings) (s : State) (e : Effect) (n : ℕ) (p : Entry) → map.get (apply config s e).pendings.entries n ≡ Some p
@@ -34,19 +44,31 @@ pending_cases config s (Begins sending opening) n p h =
 pending_cases config s (Finishes number triad bytes success) n p h = inl (remove_cases nat_cmp_total numbers_apart s.pendings.entries number n p h).1
 pending_cases config s (Takes number bytes) n p h = inl (remove_cases nat_cmp_total numbers_apart s.pendings.entries number n p h).1
 pending_cases config s (PendingTimesOut number) n p h = inl (remove_cases nat_cmp_total numbers_apart s.pendings.entries number n p h).1
+pending_cases config s (Answers up asked) n p h = inl (answered_pending config s asked (resets config s asked) n p h)
 pending_cases config s e n p h = inl h
 
 -- ---- numbers
 
-pub next_number : (config : ModuleSettings) (s : State) (e : Effect) → (apply config s e).pendings.next ≡ s.pendings.next + numbers_drawn s e
+-- a new incarnation is above the one before
+pub reborn_above : (next : ℕ) → next ≤ reborn next
+reborn_above next = omega arith
+
+answered_number : (config : ModuleSettings) (s : State) (asked : Request) (b : Bool)
+    → (answered_state b config s asked).pendings.next ≡ s.pendings.next + passed_over b s.pendings.next
+answered_number config s asked true = let above = reborn_above s.pendings.next in omega (arith, above)
+answered_number config s asked false = omega arith
+
+pub next_number : (config : ModuleSettings) (s : State) (e : Effect) → (apply config s e).pendings.next ≡ s.pendings.next + numbers_drawn config s e
+next_number config s (Answers up asked) = answered_number config s asked (resets config s asked)
 next_number config s (Forwards sending kind) = refl
 next_number config s (Begins sending opening) = refl
 next_number config s e = omega arith
 
-put_draws : (s : State) (e : Effect) (p : Entry) → puts s e ≡ Some p → numbers_drawn s e ≡ 1
-put_draws s (Forwards sending kind) p h = refl
-put_draws s (Begins sending opening) p h = refl
-put_draws s e p h = absurd (cc)
+put_draws : (config : ModuleSettings) (s : State) (e : Effect) (p : Entry) → puts s e ≡ Some p → numbers_drawn config s e ≡ 1
+put_draws config s (Forwards sending kind) p h = refl
+put_draws config s (Begins sending opening) p h = refl
+put_draws config s (Answers up asked) p h = absurd (cc)
+put_draws config s e p h = absurd (cc)
 
 -- each number in use is below the next
 abbrev pub AreBelow : State → Type 0
@@ -57,7 +79,7 @@ below_after config s e h n p at =
     let drawn = next_number config s e in
     elim (pending_cases config s e n p at) [
       | inl old ↦ let below = h n p old in omega (arith, below, drawn)
-      | inr new ↦ let one = put_draws s e p new.1 in let is = new.0 in omega (arith, is, one, drawn)
+      | inr new ↦ let one = put_draws config s e p new.1 in let is = new.0 in omega (arith, is, one, drawn)
     ]
 
 pub no_number : (s : State) → AreBelow s → map.get s.pendings.entries s.pendings.next ≡ None
@@ -97,7 +119,13 @@ given_next h (Some p) = elim (opened_triad p.kind) as (λ (opened : Option Triad
   | Some triad ↦ abandoned_next h triad
 ]
 
-pub next_id : (config : ModuleSettings) (s : State) (e : Effect) → (apply config s e).hops.next ≡ s.hops.next + drawn_ids s e
+answered_id : (config : ModuleSettings) (s : State) (asked : Request) (b : Bool)
+    → (answered_state b config s asked).hops.next ≡ s.hops.next + passed_over b s.hops.next
+answered_id config s asked true = let above = reborn_above s.hops.next in omega (arith, above)
+answered_id config s asked false = omega arith
+
+pub next_id : (config : ModuleSettings) (s : State) (e : Effect) → (apply config s e).hops.next ≡ s.hops.next + drawn_ids config s e
+next_id config s (Answers up asked) = answered_id config s asked (resets config s asked)
 next_id config s (Begins sending opening) = refl
 next_id config s (Accepts opening open_ link) = finished_next (begun s.hops opening) opening.triad 0 s.now
 next_id config s (Finishes number triad bytes success) = let same = finished_next s.hops triad success.ot_id s.now in omega (arith, same)

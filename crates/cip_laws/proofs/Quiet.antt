@@ -32,7 +32,7 @@ stirs_light = record {
 still : (config : ModuleSettings) (s : State) (e : Effect) → table_changes e ≡ 0 → IsStill s (apply config s e)
 still config s (Spends op) h = (refl, refl)
 still config s (Replies up bytes) h = (refl, refl)
-still config s (Answers up asked) h = (refl, refl)
+still config s (Answers up asked) h = absurd (omega (arith, h))
 still config s (Passes triad side bytes) h = (refl, refl)
 still config s (Writes instance bytes) h = (refl, refl)
 still config s (RefusesCommand fault) h = (refl, refl)

@@ -9,13 +9,12 @@ use Rattle.cip_hops.specs.declared.opening.HopDown.TheVariants.{Link as DownLink
 use Rattle.cip_hops.specs.declared.opening.Opening.{Opening}
 use Rattle.cip_hops.specs.declared.opening.OwnIds.{OwnIds}
 use Rattle.cip_hops.specs.Hops.{hop_at}
-use Rattle.cip_target.specs.Objects.{target_answer}
 use Rattle.cip_config.specs.declared.config.ModuleSettings.{ModuleSettings}
 use Rattle.cip_event.specs.declared.event.Body.TheVariants as bodies
 use Rattle.cip_event.specs.declared.event.Event.{Event}
 use Rattle.cip_event.specs.declared.event.Output.{Output}
 use Rattle.cip_event.specs.declared.event.Output.TheVariants as outputs
-use Rattle.cip_module.specs.Effects.{Effect, Replies, Answers, Forwards, Begins, Accepts, Finishes, Takes, PendingTimesOut, HopTimesOut, Passes, RefusesCommand, Drops, objects_of, reply_up, output_of, succeeded_at}
+use Rattle.cip_module.specs.Effects.{Effect, Replies, Answers, Forwards, Begins, Accepts, Finishes, Takes, PendingTimesOut, HopTimesOut, Passes, RefusesCommand, Drops, here_answer, reply_up, output_of, succeeded_at}
 use Rattle.cip_module.specs.OpenRows.{end_down}
 use Rattle.cip_module.specs.State.{State}
 use Rattle.cip_laws.specs.Tells.{Tells, AllTell}
@@ -25,7 +24,7 @@ use Rattle.cip_laws.specs.Weights.{mark, is_request, weight_in}
 use Rattle.cip_laws.specs.Turns.{Has}
 use Rattle.cip_laws.proofs.Numbers.{no_request_up, no_request_passed, no_request_taken, no_request_late}
 use Rattle.cip_laws.proofs.Turns.{newest}
-use Rattle.cip_laws.proofs.Weighing.{weight_has}
+use Rattle.cip_laws.proofs.Weighing.{weight_has, answered_alone}
 pub use Rattle.cip_laws.specs.Outputs.{BornBy, RequestBy, ByForward, ByBegin}
 
 -- ---- what a birth tells
@@ -77,7 +76,10 @@ module _ (port n : ℕ) (to bytes : List ℕ) where
   request_by config s event mid (Begins sending o) tells (inl e) = ByBegin sending o refl tells (cc) (cc) (cc)
   request_by config s event mid (Begins sending o) tells (inr h) = absurd h
   request_by config s event mid (Replies v b) tells h = absurd (up_none v b h)
-  request_by config s event mid (Answers v asked) tells h = absurd (up_none v (reply_bytes (target_answer (objects_of config mid) asked)) h)
+  request_by config s event mid (Answers v asked) tells h =
+      let none = no_request_up n v (reply_bytes (here_answer config mid asked)) in
+      let alone = answered_alone (is_request n) (λ op. refl) config mid v asked in
+      absurd (none_given (output_of config mid (Answers v asked)) (omega (arith, none, alone)) h)
   request_by config s event mid (Finishes number triad came success) tells h =
       absurd (none_given _ (no_request_taken n (map.get mid.pendings.entries number) (succeeded_at mid number triad came success)) h)
   request_by config s event mid (Takes number b) tells h = absurd (none_given _ (no_request_taken n (map.get mid.pendings.entries number) b) h)

@@ -8,9 +8,9 @@ use Rattle.cip_laws.proofs.Puts.{numbers_drawn, next_number, drawn_ids, next_id}
 use Rattle.cip_laws.proofs.Turns.{newest}
 
 -- what effects in turn draw, each in the state where it is applied
-abbrev pub drawn_from : ModuleSettings → (State → Effect → ℕ) → State → List Effect → ℕ
+abbrev pub drawn_from : ModuleSettings → (ModuleSettings → State → Effect → ℕ) → State → List Effect → ℕ
 drawn_from config d s [] = 0
-drawn_from config d s (e ∷ es) = d s e + drawn_from config d (apply config s e) es
+drawn_from config d s (e ∷ es) = d config s e + drawn_from config d (apply config s e) es
 
 pub numbers_after : (config : ModuleSettings) (s : State) (es : List Effect)
     → (applied config s es).pendings.next ≡ s.pendings.next + drawn_from config numbers_drawn s es

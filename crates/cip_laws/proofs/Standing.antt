@@ -21,6 +21,7 @@ use Rattle.cip_laws.proofs.TellsAskers.{answers_asker, forwards_asker, begins_as
 
 -- 0 of an effect that leaves the requests that wait as they are
 abbrev waits_anew : Effect → ℕ
+waits_anew (Answers up asked) = 1
 waits_anew (Forwards sending kind) = 1
 waits_anew (Begins sending opening) = 1
 waits_anew (Finishes number triad bytes success) = 1
@@ -43,6 +44,7 @@ waits_light = record {
 }
 
 same_waits : (config : ModuleSettings) (s : State) (e : Effect) → waits_anew e ≡ 0 → (apply config s e).pendings ≡ s.pendings
+same_waits config s (Answers up asked) h = absurd (omega (arith, h))
 same_waits config s (Forwards sending kind) h = absurd (omega (arith, h))
 same_waits config s (Begins sending opening) h = absurd (omega (arith, h))
 same_waits config s (Finishes number triad bytes success) h = absurd (omega (arith, h))

@@ -1,5 +1,5 @@
 -- Where what is held after an effect comes from: it stood before, begins, ends here, or is what was opening.
-use Rattle.std.proofs.Common.{◌≡◌, ℕ, List, false, Option, Some, None, refl, sym, ap, subst, ◌∙◌, inl, inr}
+use Rattle.std.proofs.Common.{◌≡◌, ℕ, List, false, Option, Some, None, refl, sym, ap, subst, ◌∙◌, inl, inr, Bool, true}
 use Rattle.std.specs.FinMap as map
 use Rattle.std.specs.Prelude.{is_some}
 use Rattle.std.specs.Option.{option_map_or}
@@ -22,12 +22,14 @@ use Rattle.cip_open.specs.Open.{Open as OpenRequest}
 use Rattle.cip_open.specs.Success.{OpenSuccess}
 use Rattle.cip_target.specs.declared.link.EndLink.{EndLink}
 use Rattle.cip_config.specs.declared.config.ModuleSettings.{ModuleSettings}
-use Rattle.cip_module.specs.Effects.{Effect, Begins, Accepts, Finishes, Takes, PendingTimesOut, Removes, HopTimesOut, Renews, Counts, abandoned, abandoned_if, removed, given_up, renewed, recounted, ends_here, apply}
+use Rattle.cip_module.specs.Effects.{Effect, Begins, Accepts, Finishes, Takes, PendingTimesOut, Removes, HopTimesOut, Renews, Counts, abandoned, abandoned_if, removed, given_up, renewed, recounted, ends_here, apply, Answers, resets, answered_state}
 use Rattle.cip_module.specs.State.{State}
 use Rattle.cip_base.proofs.Points.{put_here}
 use Rattle.cip_module.proofs.Removed.{open_at}
 use Rattle.cip_base.proofs.MapCases.{insert_cases, remove_cases}
 pub use Rattle.cip_laws.specs.Changes.{SameCore, Stood, OpenedBy, HeldCase, Stands, Begun, Ended, Finished}
+use Rattle.cip_message.specs.Request.{Request}
+use Rattle.cip_pending.specs.declared.entry.UpSide.{UpSide}
 
 pub same_self : (x : Held) → SameCore x x
 same_self (IsOpening o ids) = (refl, refl)
@@ -145,6 +147,11 @@ accepts_case s opening o link q x e =
           ]
     ]
 
+answered_stood : (config : ModuleSettings) (s : State) (up : UpSide) (asked : Request) (b : Bool) (q : Triad) (x : Held)
+    → map.get (answered_state b config s asked).hops.held q ≡ Some x → HeldCase s (Answers up asked) q x
+answered_stood config s up asked true q x e = let none : None ≡ Some x = sym (map.get-empty {X = Held} triad_cmp q) ∙ e in absurd (cc)
+answered_stood config s up asked false q x e = Stands (stood_still s.hops q x e)
+
 pub held_cases : (config : ModuleSettings) (s : State) (e : Effect) (q : Triad) (x : Held) → map.get (apply config s e).hops.held q ≡ Some x
     → HeldCase s e q x
 held_cases config s (Begins sending opening) q x e =
@@ -161,4 +168,5 @@ held_cases config s (Removes triad) q x e = Stands (removed_stood s.hops triad q
 held_cases config s (HopTimesOut triad) q x e = Stands (removed_stood s.hops triad q x e)
 held_cases config s (Renews triad side) q x e = Stands (renewed_stood s.hops triad q side s.now x e)
 held_cases config s (Counts triad side count) q x e = Stands (recounted_stood s.hops triad q side count x e)
+held_cases config s (Answers up asked) q x e = answered_stood config s up asked (resets config s asked) q x e
 held_cases config s e q x h = Stands (stood_still s.hops q x h)

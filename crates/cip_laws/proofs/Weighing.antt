@@ -1,11 +1,16 @@
 -- Weights of outputs, and what a turn gives and keeps at most.
-use Rattle.std.proofs.Common.{◌≡◌, ℕ, ◌+◌, ◌≤◌, List, [], ◌∷◌, ◌++◌, Some, zero, suc, inl, inr, refl, ap, subst, arith}
+use Rattle.std.proofs.Common.{◌≡◌, ℕ, ◌+◌, ◌≤◌, List, [], ◌∷◌, ◌++◌, Some, zero, suc, inl, inr, refl, ap, subst, arith, Bool, true, false}
 use Rattle.std.specs.Prelude.{slice_get}
 use Rattle.cip_laws.specs.EffectLists.{gain}
 use Rattle.cip_config.specs.declared.config.ModuleSettings.{ModuleSettings}
 use Rattle.cip_event.specs.declared.event.Event.{Event}
 use Rattle.cip_event.specs.declared.event.Output.{Output}
-use Rattle.cip_module.specs.Effects.{Effect, apply, output_of, applied, outputs_of}
+use Rattle.cip_message.specs.Request.{Request}
+use Rattle.cip_message.specs.Reply.{reply_bytes}
+use Rattle.cip_pending.specs.declared.entry.UpSide.{UpSide}
+use Rattle.cip_event.specs.declared.event.Output.TheVariants as outputs
+use Rattle.cip_module.specs.Effects.{Effect, Answers, resets, here_answer, ended_by as told_ended, reply_up, apply, output_of, applied, outputs_of}
+use Rattle.cip_module.specs.Resets.{held_ops, all_ended}
 use Rattle.cip_module.specs.State.{State, initial_state}
 use Rattle.cip_module.specs.Table.{decide}
 use Rattle.cip_laws.specs.Histories.{Turn, state_after, IsHistory}
@@ -43,6 +48,20 @@ one_place w (x ∷ os) zero (suc k) o p l a b e f =
 one_place w (x ∷ os) (suc i) zero o p l a b e f =
     let same : x ≡ p = cc in let here = ap w same in let there = weight_at w os i o e in absurd (omega (arith, here, there))
 one_place w (x ∷ os) (suc i) (suc k) o p l a b e f = ap suc (one_place w os i k o p (omega arith) a b e f)
+
+-- Of a weight that no end of an op has, an answer here weighs what its reply weighs.
+module _ (w : Output → ℕ) (none : (op : ℕ) → w (outputs.Ended op) ≡ 0) where
+  none_told : (ops : List ℕ) → weight_in w (all_ended ops) ≡ 0
+  none_told [] = refl
+  none_told (op ∷ ops) = let here = none op in let there = none_told ops in omega (arith, here, there)
+
+  pub none_reset : (b : Bool) (s : State) → weight_in w (told_ended b s) ≡ 0
+  none_reset true s = none_told (held_ops s)
+  none_reset false s = refl
+
+  pub answered_alone : (config : ModuleSettings) (s : State) (v : UpSide) (asked : Request)
+      → weight_in w (output_of config s (Answers v asked)) ≡ w (reply_up v (reply_bytes (here_answer config s asked)))
+  answered_alone config s v asked = let no = none_reset (resets config s asked) s in omega (arith, no)
 
 -- Where what each effect gives, and what is kept after it, is at most what was kept and what it gains, so it is of a turn.
 module _ (config : ModuleSettings) (w : Output → ℕ) (kept : State → ℕ) (d : Effect → ℕ) (Good : State → Type 0)

@@ -1,7 +1,8 @@
 -- Where what stands after an effect comes from: the requests that wait and the connections, the
 -- numbers and the ids that it draws.
-use Rattle.std.specs.Prelude.{◌≡◌, ℕ, Option, Some, None}
+use Rattle.std.specs.Prelude.{◌≡◌, ℕ, ◌-◌, Bool, true, false, Option, Some, None}
 use Rattle.std.specs.FinMap as map
+use Rattle.cip_base.specs.Counts.{reborn}
 use Rattle.cip_base.specs.Words.{Octets, RequestNumber}
 use Rattle.cip_base.specs.declared.triad.Triad.{Triad}
 use Rattle.cip_open.specs.Open.{Open as OpenRequest}
@@ -14,7 +15,8 @@ use Rattle.cip_hops.specs.declared.hop.Held.TheVariants.{Opening as IsOpening, O
 use Rattle.cip_hops.specs.Sides.{own_ids, ids_drawn}
 use Rattle.cip_hops.specs.Hops.{Hops, opened}
 use Rattle.cip_target.specs.declared.link.EndLink.{EndLink}
-use Rattle.cip_module.specs.Effects.{Sending, Effect, Forwards, Begins, Accepts, Finishes, entry_for, kind_for}
+use Rattle.cip_config.specs.declared.config.ModuleSettings.{ModuleSettings}
+use Rattle.cip_module.specs.Effects.{Sending, Effect, Answers, resets, Forwards, Begins, Accepts, Finishes, entry_for, kind_for}
 use Rattle.cip_module.specs.State.{State}
 
 -- ---- the requests that wait
@@ -25,17 +27,24 @@ puts s (Forwards sending kind) = Some (entry_for s sending kind)
 puts s (Begins sending opening) = Some (entry_for s sending (kind_for opening))
 puts s e = None
 
-abbrev pub numbers_drawn : State → Effect → ℕ
-numbers_drawn s (Forwards sending kind) = 1
-numbers_drawn s (Begins sending opening) = 1
-numbers_drawn s e = 0
+-- what comes next is raised so far by a reset, if it happens
+abbrev pub passed_over : Bool → ℕ → ℕ
+passed_over true next = reborn next - next
+passed_over false next = 0
+
+abbrev pub numbers_drawn : ModuleSettings → State → Effect → ℕ
+numbers_drawn config s (Answers up asked) = passed_over (resets config s asked) s.pendings.next
+numbers_drawn config s (Forwards sending kind) = 1
+numbers_drawn config s (Begins sending opening) = 1
+numbers_drawn config s e = 0
 
 -- ---- the connections
 
-abbrev pub drawn_ids : State → Effect → ℕ
-drawn_ids s (Begins sending opening) = ids_drawn opening
-drawn_ids s (Accepts opening o link) = ids_drawn opening
-drawn_ids s e = 0
+abbrev pub drawn_ids : ModuleSettings → State → Effect → ℕ
+drawn_ids config s (Answers up asked) = passed_over (resets config s asked) s.hops.next
+drawn_ids config s (Begins sending opening) = ids_drawn opening
+drawn_ids config s (Accepts opening o link) = ids_drawn opening
+drawn_ids config s e = 0
 
 -- what never changes: what was opened, the own ids, and of a connection that is open the other's id
 abbrev pub SameCore : Held → Held → Type 0

@@ -33,8 +33,9 @@ takes_up up (Forwards sending kind) = mark (same_up sending.up up)
 takes_up up (Begins sending opening) = mark (same_up sending.up up)
 takes_up up e = 0
 
--- a connection is begun here, or ends here
+-- ids may be drawn: a connection is begun here, or ends here; or a request may reset the module
 abbrev pub births : Effect → ℕ
+births (Answers v request) = 1
 births (Begins sending opening) = 1
 births (Accepts opening o link) = 1
 births e = 0
@@ -43,7 +44,6 @@ births e = 0
 abbrev pub table_changes : Effect → ℕ
 table_changes (Spends op) = 0
 table_changes (Replies up bytes) = 0
-table_changes (Answers up asked) = 0
 table_changes (Passes triad side bytes) = 0
 table_changes (Writes instance bytes) = 0
 table_changes (RefusesCommand fault) = 0

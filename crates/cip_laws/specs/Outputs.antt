@@ -19,7 +19,6 @@ use Rattle.cip_hops.specs.declared.hop.Hop.{Hop}
 use Rattle.cip_hops.specs.declared.hop.Side.{Side}
 use Rattle.cip_hops.specs.declared.hop.Side.TheVariants.{Up, Down}
 use Rattle.cip_hops.specs.Hops.{hop_at}
-use Rattle.cip_target.specs.Objects.{target_answer}
 use Rattle.cip_config.specs.declared.config.ModuleSettings.{ModuleSettings}
 use Rattle.cip_event.specs.declared.event.Body.{Body}
 use Rattle.cip_event.specs.declared.event.Body.TheVariants as bodies
@@ -28,7 +27,7 @@ use Rattle.cip_event.specs.declared.event.Event.{Event}
 use Rattle.cip_event.specs.declared.event.Output.{Output}
 use Rattle.cip_event.specs.declared.event.Output.TheVariants as outputs
 use Rattle.cip_event.specs.declared.event.Refused.{Refused}
-use Rattle.cip_module.specs.Effects.{Sending, Effect, Answers, Forwards, Begins, Finishes, Takes, PendingTimesOut, HopTimesOut, Passes, RefusesCommand, Drops, objects_of, timed_out_bytes, datum_by, succeeded, output_of, applied}
+use Rattle.cip_module.specs.Effects.{Sending, Effect, Answers, Forwards, Begins, Finishes, Takes, PendingTimesOut, HopTimesOut, Passes, RefusesCommand, Drops, resets, here_answer, timed_out_bytes, datum_by, succeeded, output_of, applied}
 use Rattle.cip_module.specs.OpenRows.{opening_with}
 use Rattle.cip_module.specs.State.{State}
 use Rattle.cip_module.specs.Table.{up_side_of}
@@ -36,6 +35,7 @@ use Rattle.cip_laws.specs.Tells.{Tells, AsksOpen, RepliesAs, AnswersAs, Forwards
 use Rattle.cip_laws.specs.Weights.{mark}
 use Rattle.cip_laws.specs.Turns.{Has}
 use Rattle.cip_pending.specs.Kinds.{is_large_kind}
+use Rattle.cip_module.specs.Resets.{held_ops, all_ended}
 
 -- the effect that gave an output, and those before it and after it
 pub record GaveBy (config : ModuleSettings) (s : State) (event : Event) (all : List Effect)
@@ -75,7 +75,7 @@ pub data RepliesBy (config : ModuleSettings) (s : State) (event : Event) (mid : 
     (up : UpSide) (bytes : Octets) : Type 0 where
   AtOnce : RepliesAs config s event up bytes → RepliesBy config s event mid e up bytes
   Here : (asked : Request) → e ≡ Answers up asked → AnswersAs config s event up asked
-      → bytes ≡ reply_bytes (target_answer (objects_of config mid) asked)
+      → bytes ≡ reply_bytes (here_answer config mid asked)
       → RepliesBy config s event mid e up bytes
   Opened : (number : RequestNumber) (triad : Triad) (came : Octets) (success : OpenSuccess)
       (p : Entry) → e ≡ Finishes number triad came success
@@ -104,6 +104,7 @@ is_datum (outputs.Refused fault) = false
 is_datum (outputs.Consumed triad instance bytes) = true
 is_datum (outputs.Arrived op bytes) = true
 is_datum (outputs.Expired triad) = false
+is_datum (outputs.Ended op) = false
 is_datum (outputs.Dropped reason) = false
 
 -- the connection and the side by which an effect passed a datum
@@ -136,7 +137,7 @@ pub data DatumOf (hop : Hop) (side : Side) (bytes : Octets) (x : Output) : Type 
 abbrev pub one_datum : Output → ℕ
 one_datum x = mark (is_datum x)
 
--- ---- the end of a connection, a refusal, a drop
+-- ---- the end of a connection or an op, a refusal, a drop
 
 -- 1 of an output that tells of one of these
 abbrev pub tells_end : Output → ℕ
@@ -146,14 +147,19 @@ tells_end (outputs.Refused fault) = 1
 tells_end (outputs.Consumed triad instance bytes) = 0
 tells_end (outputs.Arrived op bytes) = 0
 tells_end (outputs.Expired triad) = 1
+tells_end (outputs.Ended op) = 1
 tells_end (outputs.Dropped reason) = 1
 
--- a connection that was silent for too long; a command or a frame, with the row that it meets
-pub data EndedBy (config : ModuleSettings) (s : State) (event : Event) (e : Effect) (x : Output) :
-    Type 0 where
+-- a connection that was silent for too long; an op that waited or was open where a request resets
+-- the module; a command or a frame, with the row that it meets
+pub data EndedBy (config : ModuleSettings) (s : State) (event : Event) (mid : State) (e : Effect)
+    (x : Output) : Type 0 where
   ByTimeOut : (triad : Triad) → e ≡ HopTimesOut triad → x ≡ outputs.Expired triad
-      → HopTimesOutAs s event triad → EndedBy config s event e x
+      → HopTimesOutAs s event triad → EndedBy config s event mid e x
+  ByReset : (up : UpSide) (asked : Request) (op : OpNumber) → e ≡ Answers up asked
+      → x ≡ outputs.Ended op → resets config mid asked ≡ true → Has (all_ended (held_ops mid)) x
+      → AnswersAs config s event up asked → EndedBy config s event mid e x
   ByRefusal : (fault : Refused) → e ≡ RefusesCommand fault → x ≡ outputs.Refused fault
-      → RefusesAs s event fault → EndedBy config s event e x
+      → RefusesAs s event fault → EndedBy config s event mid e x
   ByDrop : (reason : Dropped) → e ≡ Drops reason → x ≡ outputs.Dropped reason
-      → DropsAs config s event reason → EndedBy config s event e x
+      → DropsAs config s event reason → EndedBy config s event mid e x

@@ -31,6 +31,7 @@ is_request n (outputs.Refused fault) = 0
 is_request n (outputs.Consumed triad instance bytes) = 0
 is_request n (outputs.Arrived op bytes) = 0
 is_request n (outputs.Expired triad) = 0
+is_request n (outputs.Ended op) = 0
 is_request n (outputs.Dropped reason) = 0
 
 -- to whom an output replies: by a link, under the number that the request had there, or to the
@@ -47,6 +48,7 @@ replies_to (outputs.Refused fault) = None
 replies_to (outputs.Consumed triad instance bytes) = None
 replies_to (outputs.Arrived op bytes) = None
 replies_to (outputs.Expired triad) = None
+replies_to (outputs.Ended op) = None
 replies_to (outputs.Dropped reason) = None
 
 abbrev pub same_up : UpSide → UpSide → Bool

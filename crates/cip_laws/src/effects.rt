@@ -62,14 +62,15 @@ pub fn effects_change_the_tables()
     ensures connections { (config : Settings) (s : State) (e : Effect) (q : Triad) (x : Held)
         → map.get (apply config s e).hops.held q ≡ Some x → HeldCase s e q x }
     ensures numbers { (config : Settings) (s : State) (e : Effect)
-        → (apply config s e).pendings.next ≡ s.pendings.next + numbers_drawn s e }
+        → (apply config s e).pendings.next ≡ s.pendings.next + numbers_drawn config s e }
     ensures ids { (config : Settings) (s : State) (e : Effect)
-        → (apply config s e).hops.next ≡ s.hops.next + drawn_ids s e }
+        → (apply config s e).hops.next ≡ s.hops.next + drawn_ids config s e }
 {}
 
 /// Which effect each output of an event comes from, and what that tells of the event and of the
 /// state before it: a request, a reply or a Done, a datum that is sent, consumed or given to the
-/// originator, the end of a silent connection, a refusal with its row and a drop with its row.
+/// originator, the end of a silent connection, that of an op by a reset, a refusal with its row and
+/// a drop with its row.
 pub fn outputs_come_from_effects()
     ensures each { (config : Settings) (s : State) (event : Input) (es : List Effect) (x : Given)
         → decide config s event ≡ Some es → Has (outputs_of config s es) x
@@ -91,5 +92,5 @@ pub fn outputs_come_from_effects()
         → datum_by side hop bytes ≡ x → DatumOf hop side bytes x }
     ensures ends { (x : Given) → tells_end x ≡ 1 → (config : Settings) (s : State)
         (event : Input) (mid : State) (e : Effect) → Tells config s event e
-        → Has (output_of config mid e) x → EndedBy config s event e x }
+        → Has (output_of config mid e) x → EndedBy config s event mid e x }
 {}

@@ -58,7 +58,7 @@ use Rattle.cip_module.specs.Links.{LeadsOn}
 use Rattle.cip_module.specs.declared.device.Device.{Device}
 use Rattle.cip_module.specs.Code.Device.{state_of_device}
 use Rattle.cip_module.specs.Code.Does.{Does, HasDone}
-use Rattle.cip_module.specs.Code.Reacts.{with_bytes, send_edit, outgoing_of, IsMade, reaction_of, SendCame, OpenCame, CloseCame, Reacted, Reacts}
+use Rattle.cip_module.specs.Code.Reacts.{with_bytes, send_edit, outgoing_of, IsMade, reaction_of, SendCame, OpenCame, CloseCame, Reacted, Reacts, ReactsWhole}
 use Rattle.cip_module.proofs.CameIn.{SaysSuccess, success_came}
 use Rattle.cip_module.proofs.Waiting.{waits_at}
 use Rattle.cip_module.proofs.SendsForwarded.{sent_on}
@@ -242,7 +242,15 @@ module _ (old new : Device) where
       → ((came : List ℕ) → Fewer came → More came) → Reacts m More old new es r → Reacts m Fewer old new es r
   narrowed m More Fewer es (Ok (reactions.Whole o)) more reacts = reacts
   narrowed m More Fewer es (Ok (reactions.Edited o edit)) more reacts = (reacts.0, λ came is. reacts.1 came (more came is))
+  narrowed m More Fewer es (Ok (reactions.Several all)) more reacts = reacts
   narrowed m More Fewer es (Err fault) more reacts = reacts
+
+  -- what is whole is so however bytes are made
+  pub whole_so : {E : Type 0} (m : Making) (Came : List ℕ → Type 0) (es : List Effect) (r : Result Reaction E) → ReactsWhole old new es r → Reacts m Came old new es r
+  whole_so m Came es (Ok (reactions.Whole o)) reacts = reacts
+  whole_so m Came es (Ok (reactions.Edited o edit)) reacts = absurd (reacts.0)
+  whole_so m Came es (Ok (reactions.Several all)) reacts = reacts
+  whole_so m Came es (Err fault) reacts = reacts
 
 -- ---- a success goes up with the ids of the sides above
 
@@ -274,17 +282,20 @@ is_step config s new event es outs decides does =
 module _ {E : Type 0} (old new : Device) (came : List ℕ) (es : List Effect) (event : Event)
     (decides : decide old.config (state_of_device old) event ≡ Some es) where
   pub stepped_on : (r : Result Reaction E) → Reacts Edited (λ b. b ≡ came) old new es r
-      → IfOk r (λ reaction. PutsOut came reaction (λ output. IsStep old.config (state_of_device old) event (state_of_device new) (output ∷ [])))
+      → IfOk r (λ reaction. PutsOut came reaction (λ outputs. IsStep old.config (state_of_device old) event (state_of_device new) outputs))
   stepped_on (Ok (reactions.Whole o)) reacts =
       is_step old.config (state_of_device old) (state_of_device new) event es (o ∷ []) decides reacts.does
   stepped_on (Ok (reactions.Edited o edit)) reacts =
       let g = reacts.1 came refl in
       (g.0, g.1, is_step old.config (state_of_device old) (state_of_device new) event es (filled o g.0 ∷ []) decides g.2.does)
+  stepped_on (Ok (reactions.Several all)) reacts =
+      is_step old.config (state_of_device old) (state_of_device new) event es all.items decides reacts.does
   stepped_on (Err fault) reacts = tt
 
   pub kept_on : (r : Result Reaction E) → Reacts Edited (λ b. b ≡ came) old new es r → new.config ≡ old.config
   kept_on (Ok (reactions.Whole o)) reacts = reacts.same_config
   kept_on (Ok (reactions.Edited o edit)) reacts = (reacts.1 came refl).2.same_config
+  kept_on (Ok (reactions.Several all)) reacts = reacts.same_config
   kept_on (Err fault) reacts = reacts.same_config
 
 -- ---- a reply

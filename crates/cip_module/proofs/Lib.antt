@@ -1,6 +1,7 @@
 pub mod CameIn
 pub mod OpsLemmas
 pub mod Walks
+pub mod Ended
 pub mod TimeOuts
 pub mod Forwards
 pub mod Found
@@ -8,7 +9,6 @@ pub mod Outputs
 pub mod Fits
 pub mod Kept
 pub mod Removed
-pub mod ResetRefused
 pub mod DatumRows
 pub mod KeysRead
 pub mod Sends

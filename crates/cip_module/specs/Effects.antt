@@ -1,6 +1,6 @@
 -- What a row does: a list of effects. An effect carries keys and bytes, and looks records up in the
 -- state where it is applied.
-use Rattle.std.specs.Prelude.{ℕ, ◌+◌, ◌==◌, not, true, false, if◌then◌else◌, List, [], ◌∷◌, ◌++◌, Bool, Option, Some, None, is_some, length}
+use Rattle.std.specs.Prelude.{ℕ, ◌+◌, ◌==◌, ◌&&◌, not, true, false, if◌then◌else◌, List, [], ◌∷◌, ◌++◌, Bool, Option, Some, None, is_some, length}
 use Rattle.std.specs.Option.{option_map_or}
 use Rattle.std.specs.FinMap as map
 use Rattle.cip_base.specs.Words.{InstanceNumber, LinkAddress, Microseconds, Octets, OpNumber, PortIdentifier, RequestNumber, WordCount}
@@ -26,13 +26,14 @@ use Rattle.cip_hops.specs.Hops.{Hops, begun, finished, opening_at, hop_at, openi
 use Rattle.cip_hops.specs.Sides.{down_is_link}
 use Rattle.cip_hops.specs.Hops as hops
 use Rattle.cip_message.specs.Request.{Request}
-use Rattle.cip_message.specs.Reply.{reply_bytes}
+use Rattle.cip_message.specs.Reply.{Reply, reply_bytes}
 use Rattle.cip_open.specs.Open.{Open}
 use Rattle.cip_open.specs.Success.{OpenSuccess}
 use Rattle.cip_open.specs.GoesOn.{success_with}
 use Rattle.cip_target.specs.declared.link.EndLink.{EndLink}
 use Rattle.cip_target.specs.Assemblies.{AssemblyMap, size_in}
-use Rattle.cip_target.specs.Objects.{Objects, target_answer, target_after}
+use Rattle.cip_target.specs.Rows.{plain_reply}
+use Rattle.cip_target.specs.Objects.{Objects, reads_reset, target_answer, target_after}
 use Rattle.cip_target.specs.Ends.{configured}
 use Rattle.cip_config.specs.declared.config.ModuleSettings.{ModuleSettings}
 use Rattle.cip_event.specs.declared.event.Body.TheVariants as bodies
@@ -44,6 +45,7 @@ use Rattle.cip_module.specs.declared.refusals.LinkRefusal.TheVariants.{TicksSpen
 use Rattle.cip_module.specs.Statuses.{link_status}
 use Rattle.cip_module.specs.Answers.{unconnected_failed, open_failed, close_failed}
 use Rattle.cip_module.specs.State.{State, spent_with}
+use Rattle.cip_module.specs.Resets.{can_reset, reset_state, held_ops, all_ended}
 
 -- what goes on by a link, and what waits for its reply: whom the reply goes to, the port and the
 -- address below, the bytes, how long the reply may take, and the words of the path as received
@@ -60,7 +62,7 @@ pub data Effect : Type 0 where
   Spends : (op : OpNumber) → Effect
   -- a reply goes to whom a request came from
   Replies : (up : UpSide) → (bytes : Octets) → Effect
-  -- the target answers a request
+  -- the module's own objects answer a request; a reset that they read resets the module
   Answers : (up : UpSide) → (request : Request) → Effect
   -- a request goes on under the next number, and waits for its reply
   Forwards : (sending : Sending) → (kind : Kind) → Effect
@@ -113,6 +115,24 @@ waiting_with s sending kind = added s.pendings (entry_for s sending kind)
 abbrev pub objects_of : ModuleSettings → State → Objects
 objects_of config s = record { identity = config.identity; assemblies = s.assemblies }
 
+-- a request that the objects read as a reset, for which there is an incarnation or none
+abbrev pub resets : ModuleSettings → State → Request → Bool
+resets config s r = reads_reset (objects_of config s) r && can_reset s
+
+abbrev pub lacks_incarnation : ModuleSettings → State → Request → Bool
+lacks_incarnation config s r = reads_reset (objects_of config s) r && not (can_reset s)
+
+-- the answer of the module's own objects; to a reset without an incarnation left 0C, object state
+-- conflict (Volume 1, Appendix B)
+abbrev pub here_answer : ModuleSettings → State → Request → Reply
+here_answer config s r = if lacks_incarnation config s r then plain_reply r.service 0x0C []
+    else target_answer (objects_of config s) r
+
+abbrev pub answered_state : Bool → ModuleSettings → State → Request → State
+answered_state true config s r = reset_state s
+answered_state false config s r =
+    record s { assemblies = (target_after (objects_of config s) r).assemblies }
+
 -- without what was opening, and without what was open
 abbrev pub abandoned : Hops → Triad → Hops
 abandoned h triad = if is_some (opening_at h triad) then hops.without h triad else h
@@ -157,8 +177,7 @@ overwritten m i b = if option_map_or (λ size. size == length b) (size_in m i) f
 abbrev pub apply : ModuleSettings → State → Effect → State
 apply config s (Spends op) = record s { ops = spent_with op s.ops }
 apply config s (Replies up bytes) = s
-apply config s (Answers up request) =
-    record s { assemblies = (target_after (objects_of config s) request).assemblies }
+apply config s (Answers up request) = answered_state (resets config s request) config s request
 apply config s (Forwards sending kind) = record s { pendings = waiting_with s sending kind }
 apply config s (Begins sending opening) = record s {
   pendings = waiting_with s sending (kind_for opening);
@@ -269,11 +288,16 @@ abbrev pub passed : Side → Option Hop → Octets → List Output
 passed side None bytes = []
 passed side (Some hop) bytes = datum_by side hop bytes ∷ []
 
+-- a reset ends what this module's commands asked for and opened, in rising op
+abbrev pub ended_by : Bool → State → List Output
+ended_by true s = all_ended (held_ops s)
+ended_by false s = []
+
 abbrev pub output_of : ModuleSettings → State → Effect → List Output
 output_of config s (Spends op) = []
 output_of config s (Replies up bytes) = reply_up up bytes ∷ []
 output_of config s (Answers up request) =
-    reply_up up (reply_bytes (target_answer (objects_of config s) request)) ∷ []
+    reply_up up (reply_bytes (here_answer config s request)) ∷ ended_by (resets config s request) s
 output_of config s (Forwards sending kind) = request_below s sending ∷ []
 output_of config s (Begins sending opening) = request_below s sending ∷ []
 output_of config s (Accepts opening open_ link) = []

@@ -3,6 +3,7 @@ pub mod Keys
 pub mod Object
 pub mod State
 pub mod Answers
+pub mod Resets
 pub mod Effects
 pub mod Links
 pub mod UnconnectedRows

@@ -1,5 +1,5 @@
 -- What a frame puts out that stays in the buffer in which it came.
-use Rattle.std.specs.Prelude.{◌≡◌, ◌≤◌, ◌<◌, Bool, length}
+use Rattle.std.specs.Prelude.{◌≡◌, ◌≤◌, ◌<◌, Bool, length, List, [], ◌∷◌}
 use Rattle.cip_base.specs.Words.{Octets}
 use Rattle.cip_segment.specs.Reading.{HopAt}
 use Rattle.cip_unconnected.specs.Unconnected.{Unconnected, unconnected_bytes}
@@ -37,7 +37,8 @@ Becomes came (edits.SuccessUp up_id their_id) b =
     × (b ≡ success_with large s up_id their_id)
 
 -- a reaction to these bytes puts out what P holds of
-abbrev pub PutsOut : Octets → Reaction → (Output → Type 0) → Type 0
-PutsOut came (reactions.Whole output) P = P output
+abbrev pub PutsOut : Octets → Reaction → (List Output → Type 0) → Type 0
+PutsOut came (reactions.Whole output) P = P (output ∷ [])
 PutsOut came (reactions.Edited output edit) P =
-    (b : Octets) × Becomes came edit b × P (filled output b)
+    (b : Octets) × Becomes came edit b × P (filled output b ∷ [])
+PutsOut came (reactions.Several all) P = P all.items

@@ -1,5 +1,5 @@
 //! The effects of the routing table, carried out one by one. None takes memory.
-ghost use Rattle.std.specs.Prelude.{◌≡◌, ◌<◌, [], true, false, None, Some, is_some, if◌then◌else◌};
+ghost use Rattle.std.specs.Prelude.{◌≡◌, ◌<◌, [], true, false, None, Some, is_some, if◌then◌else◌, IsTrue, OnOk};
 ghost use Rattle.std.specs.Option.{ForSome, option_map};
 ghost use Rattle.std.specs.FinMap as map;
 ghost use Rattle.std.specs.Vec.{vec_len, vec_capacity};
@@ -12,6 +12,7 @@ ghost use Rattle.cip_module.specs.Code.Plans.{own_id};
 ghost use Rattle.cip_hops.specs.Sides.{down_is_link, up_is_link};
 ghost use Rattle.cip_target.specs.Ends.{row_at, configured};
 ghost use Rattle.cip_module.specs.State.{is_spent, spent_with};
+ghost use Rattle.cip_module.specs.Resets.{can_reset, reset_state};
 ghost use Rattle.cip_module.specs.Effects.{applied, given_up_of, given_up, removed, renewed, recounted, overwritten};
 ghost use Rattle.cip_module.specs.Code.Fit.{given_back};
 ghost use Rattle.cip_module.specs.Code.Device.{state_of_device};
@@ -21,7 +22,7 @@ ghost use Rattle.cip_module.specs.OpenRows.{end_down};
 ghost use Rattle.cip_module.specs.Paired.{IsOther};
 
 use crate::device::Device;
-use cip_base::{Address, PortNumber, Triad};
+use cip_base::{Address, NoMemory, PortNumber, Triad};
 use cip_hops::{HopDown, HopTable, Opening, Side};
 use cip_open::OpenView;
 use cip_pending::{Entry, Kind, UpSide};
@@ -60,6 +61,15 @@ impl Device {
         if let UpSide::Local { op } = up {
             self.spends(*op);
         }
+    }
+
+    /// Makes room for one op more, and changes nothing else.
+    pub(crate) fn reserves_op(&mut self) -> Result<(), NoMemory>
+        ensures room { OnOk result (vec_len self.new.ops.ops < vec_capacity self.new.ops.ops) }
+        ensures state { state_of_device self.new ≡ state_of_device self.old }
+        ensures config { self.new.config ≡ self.old.config }
+    {
+        self.ops.reserve()
     }
 
     /// Uses up an op, for which there is room.
@@ -192,6 +202,18 @@ impl Device {
         if let Some(hop) = self.hops.remove(triad) {
             release(&mut self.target, &hop.opening.down);
         }
+    }
+
+    /// The whole module is reset, for which there is an incarnation.
+    pub(crate) fn resets(&mut self)
+        requires { IsTrue (can_reset (state_of_device self.old)) }
+        ensures after { state_of_device self.new ≡ reset_state (state_of_device self.old) }
+        ensures config { self.new.config ≡ self.old.config }
+        ensures ops { self.new.ops ≡ self.old.ops }
+    {
+        self.pendings.reset();
+        self.hops.reset();
+        self.target.reset();
     }
 
     /// The side of a connection whose own id this is is watched anew from now on.

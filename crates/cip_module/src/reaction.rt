@@ -25,4 +25,6 @@ pub enum Reaction {
     Whole(Output),
     /// An output that lacks its bytes: they are those that came, edited so.
     Edited { output: Output, edit: Edit },
+    /// Outputs that are whole, in turn.
+    Several(Vec<Output>),
 }

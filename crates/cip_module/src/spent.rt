@@ -2,6 +2,7 @@
 ghost use Rattle.std.specs.Prelude.{◌≡◌, ◌<◌, OnOk, [], false};
 ghost use Rattle.std.specs.Vec.{vec_len, vec_capacity};
 ghost use Rattle.cip_module.specs.State.{is_spent, spent_with};
+ghost use Rattle.cip_module.specs.Resets.{noted};
 ghost use Rattle.cip_module.specs.Rising.{IsRising, IsPlace};
 
 use cip_base::NoMemory;
@@ -48,6 +49,17 @@ impl SpentOps {
         ensures same { self.new.ops.items ≡ self.old.ops.items }
     {
         self.ops.reserve(1)?;
+        Ok(())
+    }
+
+    /// Keeps an op, if it is not there.
+    pub(crate) fn note(&mut self, op: u32) -> Result<(), NoMemory>
+        ensures { OnOk result (self.new.ops.items ≡ noted op self.old.ops.items) }
+    {
+        if !self.contains(op) {
+            self.reserve()?;
+            self.spend(op);
+        }
         Ok(())
     }
 

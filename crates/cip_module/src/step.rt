@@ -1,12 +1,10 @@
 //! The step of a module of any kind.
-ghost use Rattle.std.specs.Prelude.{◌≡◌, ◌∷◌, [], None, IfOk, IfSome, OnErr};
-ghost use Rattle.std.specs.Option.{option_to_list};
+ghost use Rattle.std.specs.Prelude.{◌≡◌, None, IfOk, IfSome, OnErr};
 ghost use Rattle.cip_module.specs.Code.Ticks.{IsNoTick, IsSingle};
 ghost use Rattle.cip_module.specs.Steps.{IsStep, IsStepFault};
 ghost use Rattle.cip_module.specs.Table.{command_effects, frame_effects};
 ghost use Rattle.cip_module.specs.Code.Device.{state_of_device};
-ghost use Rattle.cip_module.specs.Code.Does.{Handles, HandlesAs};
-ghost use Rattle.cip_module.specs.Code.Reacts.{Reacts};
+ghost use Rattle.cip_module.specs.Code.Reacts.{ReactsWhole};
 ghost use Rattle.cip_event.specs.Filled.{bytes_in};
 ghost use Rattle.cip_module.specs.Reactions.{PutsOut};
 ghost use Rattle.cip_event.specs.declared.event.Body.TheVariants as bodies;
@@ -25,37 +23,29 @@ use cip_unconnected::UnconnectedView;
 
 impl Device {
     // A frame.
-    fn frame(&mut self, port: PortNumber, from: &Address, body: &Body) -> Result<Output, NoMemory>
-        ensures { Handles self.old self.new
+    fn frame(&mut self, port: PortNumber, from: &Address, body: &Body) -> Result<Reaction, NoMemory>
+        ensures { ReactsWhole self.old self.new
             (frame_effects self.old.config (state_of_device self.old) port
             from.now body.now) result }
     {
         match body {
             Body::Request { number, bytes } => {
-                let bytes = bytes.as_slice();
-                match self.request(Making::Anew, port, from, *number, bytes)? {
-                    Reaction::Whole(output) => Ok(output),
-                    Reaction::Edited { .. } => unreachable!(),
-                }
+                self.request(Making::Anew, port, from, *number, bytes.as_slice())
             }
             Body::Reply { number, bytes } => {
-                let bytes = bytes.as_slice();
-                match self.reply(Making::Anew, port, from, *number, bytes)? {
-                    Reaction::Whole(output) => Ok(output),
-                    Reaction::Edited { .. } => unreachable!(),
-                }
+                self.reply(Making::Anew, port, from, *number, bytes.as_slice())
             }
             Body::Data { id, bytes } => {
                 let copied = Bytes::of(Vec::from_slice(self.alloc, bytes.as_slice())?);
-                Ok(self.take_datum(port, from, *id, copied))
+                Ok(Reaction::Whole(self.take_datum(port, from, *id, copied)))
             }
         }
     }
 
-    // A command that has one output at most.
-    fn command(&mut self, command: &Command) -> Result<Option<Output>, NoMemory>
+    // A command, but for those that put out a datum for each of many connections.
+    fn command(&mut self, command: &Command) -> Result<Reaction, NoMemory>
         requires { IsSingle command.now }
-        ensures { HandlesAs option_to_list self.old self.new
+        ensures { ReactsWhole self.old self.new
             (command_effects self.old.config (state_of_device self.old) command.now) result }
     {
         match command {
@@ -66,15 +56,15 @@ impl Device {
                 params,
             } => {
                 let params = params.widened();
-                Ok(Some(self.open_command(*op, false, *timing, path, &params)?))
+                self.open_command(*op, false, *timing, path, &params)
             }
             Command::LargeOpen {
                 op,
                 timing,
                 path,
                 params,
-            } => Ok(Some(self.open_command(*op, true, *timing, path, params)?)),
-            Command::Close { op, of, timing } => Ok(Some(self.close_command(*op, *of, *timing)?)),
+            } => self.open_command(*op, true, *timing, path, params),
+            Command::Close { op, of, timing } => self.close_command(*op, *of, *timing),
             Command::Send {
                 op,
                 timing,
@@ -86,10 +76,13 @@ impl Device {
                     request: request.as_slice(),
                     route: path.view(),
                 };
-                Ok(Some(self.send(*op, view)?))
+                self.send(*op, view)
             }
-            Command::Enter { of, bytes } => Ok(Some(self.enter(*of, bytes)?)),
-            Command::Set { instance, bytes } => Ok(self.set(*instance, bytes)),
+            Command::Enter { of, bytes } => Ok(Reaction::Whole(self.enter(*of, bytes)?)),
+            Command::Set { instance, bytes } => Ok(match self.set(*instance, bytes) {
+                Some(refused) => Reaction::Whole(refused),
+                None => Reaction::Several(Vec::new(self.alloc)),
+            }),
             Command::Produce { .. } => unreachable!(),
         }
     }
@@ -106,20 +99,25 @@ impl Device {
             return self.produce(*instance);
         }
         let mut outputs = Vec::with_capacity(self.alloc, 1)?;
-        let output = match event {
+        let reaction = match event {
             Event::Command(command) => self.command(command)?,
-            Event::Frame { port, from, body } => Some(self.frame(*port, from, body)?),
+            Event::Frame { port, from, body } => self.frame(*port, from, body)?,
             Event::Tick(_) => unreachable!(),
         };
-        if let Some(output) = output {
-            outputs.push_reserved(output);
+        match reaction {
+            Reaction::Whole(output) => {
+                outputs.push_reserved(output);
+                Ok(outputs)
+            }
+            Reaction::Several(all) => Ok(all),
+            Reaction::Edited { .. } => unreachable!(),
         }
-        Ok(outputs)
     }
 
     /// A request that came in by a port, its bytes left where they are: the new state is that of
-    /// the routing table, and so is the output, once the bytes that came are edited as the reaction
-    /// says and stand in it. NoMemory where an allocation is refused: then nothing has changed.
+    /// the routing table, and so are the outputs, once the bytes that came are edited as the
+    /// reaction says and stand in the one that lacks them. NoMemory where an allocation is refused:
+    /// then nothing has changed.
     pub fn react_to_request(
         &mut self,
         port: PortNumber,
@@ -127,10 +125,10 @@ impl Device {
         number: u32,
         bytes: &[u8],
     ) -> Result<Reaction, NoMemory>
-        ensures done { IfOk result (λ reaction. PutsOut bytes.now reaction (λ output.
+        ensures done { IfOk result (λ reaction. PutsOut bytes.now reaction (λ outputs.
             IsStep self.old.config (state_of_device self.old)
             (events.Frame port from.now (bodies.Request number bytes.now))
-            (state_of_device self.new) (output ∷ []))) }
+            (state_of_device self.new) outputs)) }
         ensures same { OnErr result (state_of_device self.new ≡ state_of_device self.old) }
         ensures config { self.new.config ≡ self.old.config }
     {
@@ -145,10 +143,10 @@ impl Device {
         number: u32,
         bytes: &[u8],
     ) -> Reaction
-        ensures done { PutsOut bytes.now result (λ output.
+        ensures done { PutsOut bytes.now result (λ outputs.
             IsStep self.old.config (state_of_device self.old)
             (events.Frame port from.now (bodies.Reply number bytes.now))
-            (state_of_device self.new) (output ∷ [])) }
+            (state_of_device self.new) outputs) }
         ensures config { self.new.config ≡ self.old.config }
     {
         match self.reply(Making::Edited, port, from, number, bytes) {
@@ -160,10 +158,9 @@ impl Device {
     /// An Enter, its bytes left where they are: nothing changes, and the output is that of the
     /// routing table, once the bytes of the command stand in it.
     pub fn react_to_enter(&self, of: u32, bytes: &[u8]) -> Reaction
-        ensures { PutsOut bytes.now result (λ output. IsStep self.now.config
+        ensures { PutsOut bytes.now result (λ outputs. IsStep self.now.config
             (state_of_device self.now) (events.Command
-            (Enter of bytes.now)) (state_of_device self.now)
-            (output ∷ [])) }
+            (Enter of bytes.now)) (state_of_device self.now) outputs) }
     {
         match self.entered(of, bytes) {
             Ok(output) => Reaction::Edited {

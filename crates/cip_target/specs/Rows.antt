@@ -110,12 +110,12 @@ refusal_status NotSettable = 0x0E
 refusal_status DataShort = 0x13
 refusal_status DataLong = 0x15
 
--- the general status of a row; of a reset, which no module carries out yet: service not supported
+-- the general status of a row
 abbrev pub status_of : TargetRow → ℕ
 status_of (Refused refusal) = refusal_status refusal
 status_of (Read found) = 0
 status_of (Written i d) = 0
-status_of Reset = 0x08
+status_of Reset = 0
 
 abbrev pub data_of : TargetRow → Octets
 data_of (Refused refusal) = []

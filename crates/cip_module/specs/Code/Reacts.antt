@@ -80,13 +80,14 @@ abbrev pub IsEdited : Making → Type 0
 IsEdited makings.Anew = ⊥
 IsEdited makings.Edited = Unit {0}
 
--- The effects were done. Their one output is whole; or it lacks its bytes, where they are edited,
--- and gets them from any that came so.
+-- The effects were done. Their outputs are whole; or there is one, which lacks its bytes, where they
+-- are edited, and gets them from any that came so.
 abbrev pub Reacted : Making → (Octets → Type 0) → Device → Device → List Effect → Reaction → Type 0
 Reacted making Came old new es (reactions.Whole output) = Handled old new es (output ∷ [])
 Reacted making Came old new es (reactions.Edited output edit) =
     IsEdited making × ((came : Octets) → Came came
     → (b : Octets) × Becomes came edit b × Handled old new es (filled output b ∷ []))
+Reacted making Came old new es (reactions.Several all) = Handled old new es all.items
 
 -- the same on Ok; else nothing changed
 abbrev pub Reacts : {E : Type 0} → Making → (Octets → Type 0) → Device → Device → List Effect
@@ -94,3 +95,7 @@ abbrev pub Reacts : {E : Type 0} → Making → (Octets → Type 0) → Device �
 Reacts making Came old new es (Ok reaction) = Reacted making Came old new es reaction
 Reacts making Came old new es (Err fault) =
     IsUnchanged old.config (state_of_device old) new.config (state_of_device new)
+
+-- the same of what came as no bytes
+abbrev pub ReactsWhole : {E : Type 0} → Device → Device → List Effect → Result Reaction E → Type 0
+ReactsWhole old new es result = Reacts makings.Anew (λ came. ⊥) old new es result

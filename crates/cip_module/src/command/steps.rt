@@ -12,7 +12,7 @@ ghost use Rattle.cip_module.specs.UnconnectedRows.{unconnected_row};
 ghost use Rattle.cip_module.specs.Table.{open_of, send_effects, open_command_effects, close_command_effects, enter_effects, set_effects, unconnected_effects, with_spending};
 ghost use Rattle.cip_module.specs.Code.Device.{state_of_device};
 ghost use Rattle.cip_module.specs.Code.Does.{Handled, Handles};
-ghost use Rattle.cip_module.specs.Code.Reacts.{entered_output};
+ghost use Rattle.cip_module.specs.Code.Reacts.{entered_output, ReactsWhole};
 
 use crate::data::outputs::datum_down;
 use crate::device::Device;
@@ -29,33 +29,30 @@ use cip_unconnected::UnconnectedView;
 
 impl Device {
     // A Send that is taken.
-    fn take(&mut self, op: u32, view: UnconnectedView<'_>) -> Result<Output, NoMemory>
+    fn take(&mut self, op: u32, view: UnconnectedView<'_>) -> Result<Reaction, NoMemory>
         requires absent { IsNew (state_of_device self.old) op }
         requires fits { Fits (unconnected_of view) }
-        ensures { Handles self.old self.new (with_spending (Local op)
+        ensures { ReactsWhole self.old self.new (with_spending (Local op)
             (unconnected_effects (Local op) (unconnected_of view.entry)
             (unconnected_row self.old.config self.old.pendings (unconnected_of view.entry))))
             result }
     {
-        self.ops.reserve()?;
-        let Reaction::Whole(output) = self.unconnected(Making::Anew, UpSide::Local { op }, view)?
-        else {
-            unreachable!()
-        };
+        self.reserves_op()?;
+        let reaction = self.unconnected(Making::Anew, UpSide::Local { op }, view)?;
         self.spends(op);
-        Ok(output)
+        Ok(reaction)
     }
 
     /// A Send: handled as the Unconnected_Send that it spells, with its op as the up side.
-    pub(crate) fn send(&mut self, op: u32, view: UnconnectedView<'_>) -> Result<Output, NoMemory>
-        ensures { Handles self.old self.new
+    pub(crate) fn send(&mut self, op: u32, view: UnconnectedView<'_>) -> Result<Reaction, NoMemory>
+        ensures { ReactsWhole self.old self.new
             (send_effects self.old.config (state_of_device self.old) op
             (unconnected_of view.entry) (send_row (state_of_device self.old) op
             (unconnected_of view.entry))) result }
     {
         match self.send_row(op, view) {
             Ok(()) => self.take(op, view),
-            Err(fault) => Ok(Output::Refused(fault)),
+            Err(fault) => Ok(Reaction::Whole(Output::Refused(fault))),
         }
     }
 
@@ -95,11 +92,11 @@ impl Device {
         timing: Timing,
         path: &Path,
         params: &LargeParams,
-    ) -> Result<Output, NoMemory>
+    ) -> Result<Reaction, NoMemory>
         requires absent { IsNew (state_of_device self.old) op }
         requires width { large ≡ false → (params.now.ot_params < 2 ^ 16)
             × (params.now.to_params < 2 ^ 16) }
-        ensures { Handles self.old self.new
+        ensures { ReactsWhole self.old self.new
             (open_command_effects self.old.config (state_of_device self.old)
             op (open_of self.old.config.identity large timing path.now params.now)) result }
     {
@@ -108,11 +105,8 @@ impl Device {
             fields,
             path: path.view(),
         };
-        self.ops.reserve()?;
-        match self.open(Making::Anew, UpSide::Local { op }, &view)? {
-            Reaction::Whole(output) => Ok(output),
-            Reaction::Edited { .. } => unreachable!(),
-        }
+        self.reserves_op()?;
+        self.open(Making::Anew, UpSide::Local { op }, &view)
     }
 
     /// An Open, or a LargeOpen: handled as the request that it spells, with its op as the up side.
@@ -124,16 +118,16 @@ impl Device {
         timing: Timing,
         path: &Path,
         params: &LargeParams,
-    ) -> Result<Output, NoMemory>
+    ) -> Result<Reaction, NoMemory>
         requires { large ≡ false → (params.now.ot_params < 2 ^ 16)
             × (params.now.to_params < 2 ^ 16) }
-        ensures { Handles self.old self.new
+        ensures { ReactsWhole self.old self.new
             (open_command_effects self.old.config (state_of_device self.old)
             op (open_of self.old.config.identity large timing path.now params.now)) result }
     {
         match self.op_row(op) {
             Ok(()) => self.open_anew(op, large, timing, path, params),
-            Err(fault) => Ok(Output::Refused(fault)),
+            Err(fault) => Ok(Reaction::Whole(Output::Refused(fault))),
         }
     }
 
@@ -144,30 +138,27 @@ impl Device {
         op: u32,
         of: u32,
         timing: Timing,
-    ) -> Result<Output, NoMemory>
-        ensures { Handles self.old self.new
+    ) -> Result<Reaction, NoMemory>
+        ensures { ReactsWhole self.old self.new
             (close_command_effects (state_of_device self.old) op of timing)
             result }
     {
         let hop = match self.close_command_row(op, of) {
             Ok(hop) => hop,
-            Err(fault) => return Ok(Output::Refused(fault)),
+            Err(fault) => return Ok(Reaction::Whole(Output::Refused(fault))),
         };
         let path = hop.opening.path.copy(self.alloc)?;
         let fields = CloseFields {
             timing,
             triad: hop.opening.triad,
         };
-        self.ops.reserve()?;
+        self.reserves_op()?;
         let view = CloseView {
             fields,
             path: path.view(),
         };
         let sender = UpSide::Local { op: of };
-        match self.close(Making::Anew, UpSide::Local { op }, &sender, &view)? {
-            Reaction::Whole(output) => Ok(output),
-            Reaction::Edited { .. } => unreachable!(),
-        }
+        self.close(Making::Anew, UpSide::Local { op }, &sender, &view)
     }
 
     /// What an Enter puts out, a datum by the connection that the op opened, which lacks its bytes;

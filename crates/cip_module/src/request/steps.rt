@@ -50,9 +50,7 @@ impl Device {
                 self.forward_open(making, up, large, data_)
             }
             RequestDecision::ForwardClose(data_) => self.forward_close(making, up, data_),
-            RequestDecision::Target(request) => {
-                Ok(Reaction::Whole(self.answer_here(up, request)?))
-            }
+            RequestDecision::Target(request) => self.answer_here(up, request),
         }
     }
 }

@@ -114,9 +114,7 @@ impl Device {
                 let bytes = unconnected_failure(self.alloc, refusal, words)?;
                 Ok(Reaction::Whole(reply_to(up, bytes)))
             }
-            UnconnectedDecision::AnsweredHere(request) => {
-                Ok(Reaction::Whole(self.answer_here(up, request)?))
-            }
+            UnconnectedDecision::AnsweredHere(request) => self.answer_here(up, request),
             UnconnectedDecision::Forwarded {
                 port,
                 address,
