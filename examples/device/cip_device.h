@@ -99,7 +99,8 @@ enum cip_output_kind {
     CIP_OUT_CONSUMED = 6,   /* a datum came to this instance */
     CIP_OUT_ARRIVED = 7,    /* a datum came back to the open of this op */
     CIP_OUT_EXPIRED = 8,    /* the connection was silent for too long, and is gone */
-    CIP_OUT_DROPPED = 9     /* the frame is dropped, for this reason */
+    CIP_OUT_DROPPED = 9,    /* the frame is dropped, for this reason */
+    CIP_OUT_ENDED = 10      /* the device was reset: what this op asked for or opened is gone */
 };
 
 enum cip_refused {

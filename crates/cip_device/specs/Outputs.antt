@@ -25,6 +25,7 @@ payload_of (outputs.Refused reason) = []
 payload_of (outputs.Consumed triad instance bytes) = bytes
 payload_of (outputs.Arrived op bytes) = bytes
 payload_of (outputs.Expired triad) = []
+payload_of (outputs.Ended op) = []
 payload_of (outputs.Dropped reason) = []
 
 -- the bytes of an address, the first so many of the sixteen
@@ -71,6 +72,7 @@ IsOutline (outputs.Consumed triad instance bytes) out =
 IsOutline (outputs.Arrived op bytes) out =
     (out.kind ≡ 7) × (out.number ≡ op) × (out.length ≡ length bytes)
 IsOutline (outputs.Expired triad) out = (out.kind ≡ 8) × IsOriginator triad out
+IsOutline (outputs.Ended op) out = (out.kind ≡ 10) × (out.number ≡ op)
 IsOutline (outputs.Dropped reason) out = (out.kind ≡ 9) × (out.reason ≡ reason_of_dropped reason)
 
 -- the next output is told and waits no more

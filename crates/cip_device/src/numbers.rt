@@ -48,6 +48,8 @@ pub const OUT_EXPIRED: u32 = 8;
 
 pub const OUT_DROPPED: u32 = 9;
 
+pub const OUT_ENDED: u32 = 10;
+
 /// Why a command is refused.
 pub const REFUSED_OP_USED: u32 = 1;
 

@@ -4,7 +4,7 @@ ghost use Rattle.cip_device.specs.Outputs.{payload_of, reason_of_refused, reason
 
 use crate::numbers::{
     DROPPED_LATE, DROPPED_MALFORMED, DROPPED_UNKNOWN_ID, DROPPED_WRONG_SIZE, OUT_ARRIVED,
-    OUT_CONSUMED, OUT_DATA, OUT_DONE, OUT_DROPPED, OUT_EXPIRED, OUT_REFUSED, OUT_REPLY,
+    OUT_CONSUMED, OUT_DATA, OUT_DONE, OUT_DROPPED, OUT_ENDED, OUT_EXPIRED, OUT_REFUSED, OUT_REPLY,
     OUT_REQUEST, REFUSED_NO_INSTANCE, REFUSED_NOT_OPEN, REFUSED_OP_USED, REFUSED_RESERVED_SERVICE,
     REFUSED_WRONG_SIZE,
 };
@@ -122,7 +122,10 @@ pub(crate) fn payload(output: &Output) -> &[u8]
         Output::Done { reply, .. } => reply.as_slice(),
         Output::Consumed { bytes, .. } => bytes.as_slice(),
         Output::Arrived { bytes, .. } => bytes.as_slice(),
-        Output::Refused(_) | Output::Expired { .. } | Output::Dropped(_) => &[],
+        Output::Refused(_)
+        | Output::Expired { .. }
+        | Output::Ended { .. }
+        | Output::Dropped(_) => &[],
     }
 }
 
@@ -183,6 +186,11 @@ pub(crate) fn outline(output: &Output) -> CipOutput
             serial: triad.serial,
             vendor: triad.vendor,
             originator: triad.originator,
+            ..BLANK
+        },
+        Output::Ended { op } => CipOutput {
+            kind: OUT_ENDED,
+            number: *op,
             ..BLANK
         },
         Output::Dropped(reason) => CipOutput {

@@ -289,7 +289,8 @@ module _ (config : ModuleSettings) (turns : List Turn) (turn : Turn)
       each = λ n p triad at kind. let none : None ≡ Some p = sym (map.get-empty {X = Entry} nat_cmp n) ∙ at in absurd (cc);
       one = λ m n p q triad at there kind too. let none : None ≡ Some p = sym (map.get-empty {X = Entry} nat_cmp m) ∙ at in absurd (cc);
     }
-    joined_answers asked false h = h
+    joined_answers asked false h = joined_kept SentBy mid (answered_state false config mid asked) h (λ n p triad at kind. at)
+        (λ n p triad o ids at kind there. there)
 
     joined_each : (e : Effect) → before ++ (e ∷ after) ≡ now.effects → Tells config s0 turn.event e → Joined SentBy mid → Joined SentBy (after_it e)
     joined_each (Forwards sending kind) is tells h = joined_forwards sending kind tells h

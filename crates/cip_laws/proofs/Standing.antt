@@ -146,7 +146,7 @@ module _ (config : ModuleSettings) (s : State) (event : Event) (es : List Effect
       let most = bounded (asker event) up (gain writes_anew es) asks (light_once writes_anew (λ v. 1) writes_light config s event es d) in
       let whole = ap (gain writes_anew) is in
       let sum = gain-append writes_anew before (Answers up asked ∷ after) in
-      same_bytes config s before (omega (arith, most, whole, sum))
+      (same_bytes config s before (omega (arith, most, whole, sum)), alone config s event es before after (Answers up asked) up asks d is refl)
   stands_at (PendingTimesOut number) is tells = tt
   stands_at (Removes triad) is tells = tt
   stands_at (HopTimesOut triad) is tells = tt

@@ -30,6 +30,7 @@ use Rattle.cip_base.proofs.MapCases.{insert_cases, remove_cases}
 pub use Rattle.cip_laws.specs.Changes.{SameCore, Stood, OpenedBy, HeldCase, Stands, Begun, Ended, Finished}
 use Rattle.cip_message.specs.Request.{Request}
 use Rattle.cip_pending.specs.declared.entry.UpSide.{UpSide}
+use Rattle.cip_base.specs.Triads.{triad_cmp}
 
 pub same_self : (x : Held) → SameCore x x
 same_self (IsOpening o ids) = (refl, refl)

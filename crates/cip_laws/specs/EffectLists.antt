@@ -87,7 +87,7 @@ pub record HasStood (s mid : State) : Type 0 where
 
 -- of the state before the event, where an effect is applied
 abbrev pub Stands : State → State → Effect → Type 0
-Stands s mid (Answers up asked) = mid.assemblies ≡ s.assemblies
+Stands s mid (Answers up asked) = (mid.assemblies ≡ s.assemblies) × IsStill s mid
 Stands s mid (Begins sending opening) = IsStill s mid
 Stands s mid (Accepts opening o link) = IsStill s mid
 Stands s mid (Finishes number triad bytes success) = mid ≡ s

@@ -11,7 +11,7 @@ use Rattle.cip_event.specs.declared.event.Command.{Command}
 use Rattle.cip_event.specs.declared.event.Command.TheVariants as commands
 use Rattle.cip_event.specs.declared.event.Output.{Output}
 use Rattle.cip_event.specs.declared.event.Output.TheVariants.{Send, Done, Refused, Consumed}
-use Rattle.cip_event.specs.declared.event.Output.TheVariants.{Arrived, Expired, Dropped}
+use Rattle.cip_event.specs.declared.event.Output.TheVariants.{Arrived, Expired, Ended, Dropped}
 use Rattle.cip_event.specs.declared.event.Refused.{Refused as Refusal}
 use Rattle.cip_event.specs.declared.event.Refused.TheVariants.{OpUsed, NotOpen, WrongSize}
 use Rattle.cip_event.specs.declared.event.Refused.TheVariants.{ReservedService, NoInstance}
@@ -73,6 +73,7 @@ output_text (Consumed triad instance bytes) =
     ++ bytes_text bytes
 output_text (Arrived op bytes) = codes "arrived " ++ decimal op ++ codes " " ++ bytes_text bytes
 output_text (Expired triad) = codes "expired " ++ triad_text triad
+output_text (Ended op) = codes "ended " ++ decimal op
 output_text (Dropped reason) = codes "dropped " ++ drop_text reason
 
 -- the line of an output

@@ -100,6 +100,13 @@ fn put_expired(text: &mut Vec<u8>, triad: &Triad) -> Result<(), NoMemory>
     put_triad(text, triad)
 }
 
+fn put_ended(text: &mut Vec<u8>, op: u32) -> Result<(), NoMemory>
+    ensures { OnOk result (text.new.items ≡ text.old.items ++ output_text (Output.Ended op)) }
+{
+    put(text, b"ended ")?;
+    put_number(text, u64::from(op))
+}
+
 // A word and a word of its own.
 fn put_named(text: &mut Vec<u8>, word: &[u8], name: &str) -> Result<(), NoMemory>
     ensures { OnOk result (text.new.items ≡ text.old.items ++ word.now ++ name.now) }
@@ -123,6 +130,7 @@ fn put_output(text: &mut Vec<u8>, output: &Output) -> Result<(), NoMemory>
         } => put_consumed(text, triad, *instance, bytes),
         Output::Arrived { op, bytes } => put_message(text, b"arrived ", *op, bytes),
         Output::Expired { triad } => put_expired(text, triad),
+        Output::Ended { op } => put_ended(text, *op),
         Output::Dropped(reason) => put_named(text, b"dropped ", drop_text(*reason)),
     }
 }

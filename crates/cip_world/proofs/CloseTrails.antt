@@ -28,6 +28,7 @@ unrefused (outputs.Done op reply ∷ outs) taken = unrefused outs (λ fault has.
 unrefused (outputs.Consumed triad instance bytes ∷ outs) taken = unrefused outs (λ fault has. taken fault (inr has))
 unrefused (outputs.Arrived op bytes ∷ outs) taken = unrefused outs (λ fault has. taken fault (inr has))
 unrefused (outputs.Expired triad ∷ outs) taken = unrefused outs (λ fault has. taken fault (inr has))
+unrefused (outputs.Ended op ∷ outs) taken = unrefused outs (λ fault has. taken fault (inr has))
 unrefused (outputs.Dropped reason ∷ outs) taken = unrefused outs (λ fault has. taken fault (inr has))
 
 -- no Open and no Send

@@ -27,7 +27,7 @@ use Rattle.cip_module.specs.CommandRows.{enter_row}
 use Rattle.cip_module.specs.Effects.{applied}
 use Rattle.cip_laws.specs.Histories.{Turn, state_after, IsHistory}
 use Rattle.cip_module.specs.OpenRows.{opening_with}
-use Rattle.cip_laws.specs.Outputs.{EndedBy, ByTimeOut, ByRefusal, ByDrop}
+use Rattle.cip_laws.specs.Outputs.{EndedBy, ByTimeOut, ByReset, ByRefusal, ByDrop}
 use Rattle.cip_module.specs.State.{State, is_spent}
 use Rattle.cip_module.specs.Table.{up_side_of, asked_open}
 use Rattle.cip_laws.specs.Tells.{AsksOpen, command_row, refused_by}
@@ -65,10 +65,11 @@ module _ (config : ModuleSettings) (turns : List Turn) (turn : Turn) (h : IsHist
   abbrev s0 : State
   s0 = state_after config turns
 
-  refused_so : (fault : Refused) (e : _) → EndedBy config s0 turn.event e (outputs.Refused fault) → refused_by (command_row s0 command) ≡ None → ⊥
-  refused_so fault e (ByTimeOut triad effect_is x_is told) none = cc
-  refused_so fault e (ByDrop reason effect_is x_is told) none = cc
-  refused_so fault e (ByRefusal given effect_is x_is told) none =
+  refused_so : (fault : Refused) (mid : State) (e : _) → EndedBy config s0 turn.event mid e (outputs.Refused fault) → refused_by (command_row s0 command) ≡ None → ⊥
+  refused_so fault mid e (ByTimeOut triad effect_is x_is told) none = cc
+  refused_so fault mid e (ByReset up asked op effect_is x_is resets has told) none = cc
+  refused_so fault mid e (ByDrop reason effect_is x_is told) none = cc
+  refused_so fault mid e (ByRefusal given effect_is x_is told) none =
       let both : events.Command command ≡ events.Command told.command = sym event_is ∙ told.event_is in
       let same : command ≡ told.command = cc in
       let no : None ≡ Some given = sym none ∙ ap (λ (c : Command). refused_by (command_row s0 c)) same ∙ told.meets in
@@ -78,7 +79,7 @@ module _ (config : ModuleSettings) (turns : List Turn) (turn : Turn) (h : IsHist
   taken_by none fault has =
       let now = newest config turn turns h in
       let g = gave_by config s0 turn.event (state_after config (turn ∷ turns)) turn.outputs (outputs.Refused fault) now has in
-      refused_so fault g.effect (ended_by (outputs.Refused fault) refl config s0 turn.event (applied config s0 g.before) g.effect g.tells g.gives) none
+      refused_so fault (applied config s0 g.before) g.effect (ended_by (outputs.Refused fault) refl config s0 turn.event (applied config s0 g.before) g.effect g.tells g.gives) none
 
 -- an Enter of the size of its connection
 pub enter_taken : (s : State) (of : ℕ) (bytes : List ℕ) (hop : Hop) → hop_by_op s.hops of ≡ Some hop → length bytes ≡ hop.opening.ot_size

@@ -30,6 +30,7 @@ flight_is m (Some (outputs.Refused fault)) x e = absurd (cc)
 flight_is m (Some (outputs.Consumed triad instance bytes)) x e = absurd (cc)
 flight_is m (Some (outputs.Arrived op bytes)) x e = absurd (cc)
 flight_is m (Some (outputs.Expired triad)) x e = absurd (cc)
+flight_is m (Some (outputs.Ended op)) x e = absurd (cc)
 flight_is m (Some (outputs.Dropped reason)) x e = absurd (cc)
 
 pub has_at : (os : List Output) (i : ℕ) (o : Output) → slice_get os i ≡ Some o → Has os o

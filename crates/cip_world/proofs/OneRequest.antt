@@ -14,12 +14,11 @@ use Rattle.cip_hops.specs.declared.opening.HopUp.TheVariants.{Link as UpLink, Lo
 use Rattle.cip_hops.specs.declared.opening.HopDown.{HopDown}
 use Rattle.cip_hops.specs.declared.opening.HopDown.TheVariants.{Link as DownLink, End}
 use Rattle.cip_hops.specs.Hops.{hop_at}
-use Rattle.cip_target.specs.Objects.{target_answer}
 use Rattle.cip_config.specs.declared.config.ModuleSettings.{ModuleSettings}
 use Rattle.cip_event.specs.declared.event.Event.{Event}
 use Rattle.cip_event.specs.declared.event.Output.{Output}
 use Rattle.cip_laws.specs.EffectLists.{gain, IsLight, IsBounded}
-use Rattle.cip_module.specs.Effects.{Effect, Replies, Answers, Forwards, Begins, Finishes, Takes, PendingTimesOut, Passes, objects_of, reply_up, replied, timed_out_reply, timed_out_bytes, datum_up, datum_down, passed, apply, output_of, outputs_of, succeeded_at}
+use Rattle.cip_module.specs.Effects.{Effect, Replies, Answers, Forwards, Begins, Finishes, Takes, PendingTimesOut, Passes, here_answer, reply_up, replied, timed_out_reply, timed_out_bytes, datum_up, datum_down, passed, apply, output_of, outputs_of, succeeded_at}
 use Rattle.cip_module.specs.State.{State}
 use Rattle.cip_module.specs.Table.{decide}
 use Rattle.cip_laws.specs.Tells.{asker, Tells, AllTell}
@@ -29,7 +28,7 @@ use Rattle.cip_laws.proofs.Light.{light_once}
 use Rattle.cip_laws.proofs.Tells.{decide_tells}
 use Rattle.cip_laws.proofs.TellsAskers.{forwards_asker, begins_asker}
 use Rattle.cip_laws.proofs.Turns.{Turned}
-use Rattle.cip_laws.proofs.Weighing.{weight_in-append, weight_has}
+use Rattle.cip_laws.proofs.Weighing.{weight_in-append, weight_has, answered_alone}
 use Rattle.cip_world.specs.Trails.{is_request_sent, request_from}
 
 abbrev any_request : Output → ℕ
@@ -105,7 +104,10 @@ passed_none Down (Some hop) b = datum_down_none hop hop.opening.down b
 
 given : (config : ModuleSettings) (s : State) (e : Effect) → weight_in any_request (output_of config s e) ≤ sends e
 given config s (Replies up bytes) = let none = up_none up bytes in omega (arith, none)
-given config s (Answers up asked) = let none = up_none up (reply_bytes (target_answer (objects_of config s) asked)) in omega (arith, none)
+given config s (Answers up asked) =
+    let none = up_none up (reply_bytes (here_answer config s asked)) in
+    let alone = answered_alone any_request (λ op. refl) config s up asked in
+    omega (arith, none, alone)
 given config s (Finishes number triad bytes success) =
     let none = replied_none (map.get s.pendings.entries number) (succeeded_at s number triad bytes success) in omega (arith, none)
 given config s (Takes number bytes) = let none = replied_none (map.get s.pendings.entries number) bytes in omega (arith, none)

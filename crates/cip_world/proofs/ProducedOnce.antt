@@ -60,6 +60,7 @@ module _ (port id : ℕ) (to : List ℕ) where
   goes_there (outputs.Consumed triad instance bytes) = 0
   goes_there (outputs.Arrived op bytes) = 0
   goes_there (outputs.Expired triad) = 0
+  goes_there (outputs.Ended op) = 0
   goes_there (outputs.Dropped reason) = 0
 
   -- those that have it

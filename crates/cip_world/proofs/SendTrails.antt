@@ -11,12 +11,11 @@ use Rattle.cip_unconnected.specs.GoesOn.{lowered}
 use Rattle.cip_pending.specs.declared.entry.Entry as entries
 use Rattle.cip_pending.specs.declared.entry.Kind.{Kind}
 use Rattle.cip_pending.specs.Kinds.{opened_triad}
-use Rattle.cip_target.specs.Objects.{target_answer, answer_bytes}
 use Rattle.cip_event.specs.declared.event.Body.TheVariants as bodies
 use Rattle.cip_event.specs.declared.event.Event.TheVariants as events
 use Rattle.cip_event.specs.declared.event.Output.{Output}
 use Rattle.cip_module.specs.declared.refusals.LinkRefusal.TheVariants.{TicksSpent}
-use Rattle.cip_module.specs.Effects.{Sending, objects_of, timed_out_bytes}
+use Rattle.cip_module.specs.Effects.{Sending, here_answer, timed_out_bytes}
 use Rattle.cip_module.specs.Statuses.{link_status}
 use Rattle.cip_laws.specs.Turns.{Has}
 use Rattle.cip_topology.specs.Plan.{Plan}
@@ -57,7 +56,7 @@ none_sent t j k run s none =
 pub data SendOutcome (t : Plan) (j : Journal) (m op at : ℕ) (route asked bytes : List ℕ) : Type 0 where
   Failed : slice_index bytes 0 ≡ 0xD2 → SendOutcome t j m op at route asked bytes
   Answered : (place : ℕ) (step : StepIn t j place) (r : Request) → TrailTo t j m op place step → request_from 0 step.outputs ≡ None → request_at asked ≡ Ok r
-      → walk t at route ≡ Some (record { at = step.at.0; path = [] }) → bytes ≡ answer_bytes (objects_of step.taken.config (state_before step)) r
+      → walk t at route ≡ Some (record { at = step.at.0; path = [] }) → bytes ≡ reply_bytes (here_answer step.taken.config (state_before step) r)
       → SendOutcome t j m op at route asked bytes
 
 further : (t : Plan) (j : Journal) (m op at to : ℕ) (route rest asked bytes : List ℕ) → walk t at route ≡ walk t to rest
@@ -70,11 +69,11 @@ further t j m op at to route rest asked bytes walks (Answered place step r trail
 module _ (t : Plan) (j : Journal) (run : IsRun t j) (m op : ℕ) where
   -- what the embedded request is answered where it came by itself
   itself_outcome : (k : ℕ) (s : StepIn t j k) (bytes asked : List ℕ) (r : Request) → Replied t j k s bytes → AsksItself s.taken.event asked r
-      → bytes ≡ answer_bytes (objects_of s.taken.config (state_before s)) r
+      → bytes ≡ reply_bytes (here_answer s.taken.config (state_before s) r)
   itself_outcome k s bytes asked r (ByRow _ _ up _ told) is =
-      itself_replied s.taken.config (state_before s) s.taken.event asked r is (objects_of s.taken.config (state_before s)) up bytes told
+      itself_replied s.taken.config (state_before s) s.taken.event asked r is up bytes told
   itself_outcome k s bytes asked r (ByTarget _ _ up x _ told bytes_are) is =
-      bytes_are ∙ ap (λ (y : Request). reply_bytes (target_answer (objects_of s.taken.config (state_before s)) y))
+      bytes_are ∙ ap (λ (y : Request). reply_bytes (here_answer s.taken.config (state_before s) y))
       (itself_answered s.taken.config (state_before s) s.taken.event asked r is up x told)
   itself_outcome k s bytes asked r (ByTick _ _ n p put l tick here ends waits later _ bytes_are) is =
       absurd (itself_stays s.taken.config (state_before s) s.taken.event asked r is put.sending p.kind put.why)

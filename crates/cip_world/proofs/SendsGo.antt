@@ -1,5 +1,5 @@
 -- What a step whose event asks an Unconnected_Send did for it, and what one did for the request that was embedded in it.
-use Rattle.std.proofs.Common.{◌≡◌, ℕ, ◌+◌, Bool, true, false, cond, List, [], ◌∷◌, Ok, Err, Option, Some, None, refl, sym, ap, subst, ◌∙◌, ◌⊎◌, inl, inr, arith, length, eqb, leb, ltb, take, drop, ◌*◌, Result}
+use Rattle.std.proofs.Common.{◌≡◌, ℕ, ◌+◌, Bool, true, false, cond, List, [], ◌∷◌, Ok, Err, Option, Some, None, refl, sym, ap, subst, ◌∙◌, ◌⊎◌, inl, inr, arith, length, not, ◌&&◌, eqb, leb, ltb, take, drop, ◌*◌, Result}
 use Rattle.std.specs.Prelude.{slice_index, nat_lt}
 use Rattle.std.proofs.lemmas.Bool.Decides.{nat_tests}
 use Rattle.cip_segment.specs.declared.fault.PathFault.{PathFault}
@@ -25,8 +25,8 @@ use Rattle.cip_pending.specs.declared.entry.Kind.{Kind}
 use Rattle.cip_pending.specs.declared.entry.Kind.TheVariants.{Unconnected as UnconnectedKind, Opening as OpeningKind, Closing as ClosingKind}
 use Rattle.cip_target.specs.declared.object.ObjectPath.{ObjectPath}
 use Rattle.cip_target.specs.Object.{attribute_in, with_attribute, instance_in, object_of}
-use Rattle.cip_target.specs.Objects.{Objects, answer_bytes}
-use Rattle.cip_target.specs.Rows.{target_row, path_row, answer_of, reply_service}
+use Rattle.cip_target.specs.Objects.{target_answer}
+use Rattle.cip_target.specs.Rows.{target_row, path_row, answer_of, reply_service, plain_reply, is_reset}
 use Rattle.cip_message.specs.Reply.{reply_bytes}
 use Rattle.cip_config.specs.declared.config.ModuleSettings.{ModuleSettings}
 use Rattle.cip_event.specs.declared.event.Body.TheVariants as bodies
@@ -36,7 +36,7 @@ use Rattle.cip_event.specs.declared.event.Event.TheVariants as events
 use Rattle.cip_module.specs.declared.refusals.RequestRefusal.{RequestRefusal}
 use Rattle.cip_module.specs.declared.refusals.RequestRefusal.TheVariants.{PathFormNotSupported}
 use Rattle.cip_module.specs.Answers.{failure_bytes, unconnected_failed}
-use Rattle.cip_module.specs.Effects.{Sending}
+use Rattle.cip_module.specs.Effects.{Sending, objects_of, here_answer}
 use Rattle.cip_module.specs.Object.{begins_with_manager}
 use Rattle.cip_module.specs.RequestRows.{RequestRow, is_malformed, object_row, manager_row, read_row, request_row}
 use Rattle.cip_module.specs.RequestRows as request
@@ -50,6 +50,7 @@ use Rattle.cip_laws.proofs.AskedOpens.{no_open_event}
 use Rattle.cip_laws.proofs.GoesOn.{allowed}
 use Rattle.cip_laws.proofs.NextRows.{send_row_is}
 use Rattle.cip_world.proofs.PutIn.{SentFor, Forwarded, Begun}
+use Rattle.cip_module.specs.Resets.{can_reset}
 
 frame_is : (p q : ℕ) (a b : List ℕ) (k n : ℕ) (c d : List ℕ) → events.Frame p a (bodies.Request k c) ≡ events.Frame q b (bodies.Request n d)
     → (p ≡ q) × (a ≡ b) × (k ≡ n) × (c ≡ d)
@@ -253,12 +254,15 @@ small_reply : (n : ℕ) → leb 128 n ≡ false → reply_service n ≡ 128 + n
 small_reply n small = let low : ltb n 128 ≡ true = grind (arith, nat_tests, small) in ap (λ b. cond b (128 + n) n) low
 
 -- a path that names no object is answered alike by the row and by the target
-none_answered : (objects : Objects) (asked : List ℕ) (r : Request) → request_at asked ≡ Ok r → object_of (segments_of r.path) ≡ None
-    → failure_bytes r.service (request_status PathFormNotSupported) ≡ answer_bytes objects r
+none_answered : (config : ModuleSettings) (s : State) (asked : List ℕ) (r : Request) → request_at asked ≡ Ok r → object_of (segments_of r.path) ≡ None
+    → failure_bytes r.service (request_status PathFormNotSupported) ≡ reply_bytes (here_answer config s r)
 unfolding target_row
-none_answered objects asked r read none =
+none_answered config s asked r read none =
+    let objects = objects_of config s in
     ap (λ (n : ℕ). reply_bytes (record { service = n; general = 5; extra = []; data_ = [] })) (sym (small_reply r.service (small_service asked r read)))
     ∙ ap (λ (o : Option ObjectPath). reply_bytes (answer_of r.service (path_row objects.identity objects.assemblies o r.service r.data_))) (sym none)
+    ∙ ap (λ (o : Option ObjectPath). reply_bytes (cond (is_reset (path_row objects.identity objects.assemblies o r.service r.data_) && not (can_reset s))
+    (plain_reply r.service 0x0C []) (target_answer objects r))) (sym none)
 
 module _ (config : ModuleSettings) (s : State) (event : Event) (asked : List ℕ) (r : Request) (is : AsksItself event asked r) where
   target_came : (up : UpSide) (row : RequestRow) → Came config event up row → TargetRow r row
@@ -308,28 +312,28 @@ module _ (config : ModuleSettings) (s : State) (event : Event) (asked : List ℕ
       by_kind kind (SentOn is h) = itself_no_send sending.up h.u h.asks
       by_kind kind (ClosedOn triad is h) = itself_no_close sending.up h.closes.sender h.c h.closes.asks
 
-  failed_so : (objects : Objects) (service : ℕ) (refusal : RequestRefusal) (bytes : List ℕ) → TargetRow r (request.Refuses service refusal)
-      → bytes ≡ failure_bytes service (request_status refusal) → bytes ≡ answer_bytes objects r
-  failed_so objects service refusal bytes (IsDropped e) is_ = absurd (cc)
-  failed_so objects service refusal bytes (NamesNone none e) is_ =
+  failed_so : (service : ℕ) (refusal : RequestRefusal) (bytes : List ℕ) → TargetRow r (request.Refuses service refusal)
+      → bytes ≡ failure_bytes service (request_status refusal) → bytes ≡ reply_bytes (here_answer config s r)
+  failed_so service refusal bytes (IsDropped e) is_ = absurd (cc)
+  failed_so service refusal bytes (NamesNone none e) is_ =
       let services : service ≡ r.service = cc in
       let refusals : refusal ≡ PathFormNotSupported = cc in
-      is_ ∙ (λ i. failure_bytes (services i) (request_status (refusals i))) ∙ none_answered objects asked r is.read none
-  failed_so objects service refusal bytes (IsTarget e) is_ = absurd (cc)
+      is_ ∙ (λ i. failure_bytes (services i) (request_status (refusals i))) ∙ none_answered config s asked r is.read none
+  failed_so service refusal bytes (IsTarget e) is_ = absurd (cc)
 
-  -- what is replied at once is what the target answers
-  pub itself_replied : (objects : Objects) (up : UpSide) (bytes : List ℕ) → RepliesAs config s event up bytes → bytes ≡ answer_bytes objects r
-  itself_replied objects up bytes (RequestFails service refusal came e) =
-      failed_so objects service refusal bytes (target_came up (request.Refuses service refusal) came) e
-  itself_replied objects up bytes (SendUnread asked_ fault came read e) = absurd (no_send_row asked_ (target_came up (request.UnconnectedSend asked_) came))
-  itself_replied objects up bytes (SendFails u refusal asks meets e) = absurd (itself_no_send up u asks)
-  itself_replied objects up bytes (OpenUnread large asked_ fault came read e) =
+  -- what is replied at once is what the module's own objects answer
+  pub itself_replied : (up : UpSide) (bytes : List ℕ) → RepliesAs config s event up bytes → bytes ≡ reply_bytes (here_answer config s r)
+  itself_replied up bytes (RequestFails service refusal came e) =
+      failed_so service refusal bytes (target_came up (request.Refuses service refusal) came) e
+  itself_replied up bytes (SendUnread asked_ fault came read e) = absurd (no_send_row asked_ (target_came up (request.UnconnectedSend asked_) came))
+  itself_replied up bytes (SendFails u refusal asks meets e) = absurd (itself_no_send up u asks)
+  itself_replied up bytes (OpenUnread large asked_ fault came read e) =
       absurd (no_open_row large asked_ (target_came up (request.ForwardOpen large asked_) came))
-  itself_replied objects up bytes (OpenFails o refusal asks meets e) = absurd (itself_no_open up o asks)
-  itself_replied objects up bytes (OpenEnds o link asks meets e) = absurd (itself_no_open up o asks)
-  itself_replied objects up bytes (CloseUnread asked_ fault came read e) = absurd (no_close_row asked_ (target_came up (request.ForwardClose asked_) came))
-  itself_replied objects up bytes (CloseFails sender c refusal asks meets e) = absurd (itself_no_close up sender c asks)
-  itself_replied objects up bytes (CloseEnds sender c asks meets e) = absurd (itself_no_close up sender c asks)
+  itself_replied up bytes (OpenFails o refusal asks meets e) = absurd (itself_no_open up o asks)
+  itself_replied up bytes (OpenEnds o link asks meets e) = absurd (itself_no_open up o asks)
+  itself_replied up bytes (CloseUnread asked_ fault came read e) = absurd (no_close_row asked_ (target_came up (request.ForwardClose asked_) came))
+  itself_replied up bytes (CloseFails sender c refusal asks meets e) = absurd (itself_no_close up sender c asks)
+  itself_replied up bytes (CloseEnds sender c asks meets e) = absurd (itself_no_close up sender c asks)
 
   target_is : (x : Request) → TargetRow r (request.Target x) → x ≡ r
   target_is x (IsDropped e) = absurd (cc)

@@ -13,7 +13,6 @@ use Rattle.cip_pending.specs.declared.entry.Entry as entries
 use Rattle.cip_pending.specs.declared.entry.UpSide.{UpSide}
 use Rattle.cip_pending.specs.declared.entry.UpSide.TheVariants.{Link, Local}
 use Rattle.cip_hops.specs.declared.hop.Held.{Held}
-use Rattle.cip_target.specs.Objects.{Objects, target_answer}
 use Rattle.cip_config.specs.declared.config.ModuleSettings.{ModuleSettings}
 use Rattle.cip_event.specs.declared.event.Body.{Body}
 use Rattle.cip_event.specs.declared.event.Body.TheVariants as bodies
@@ -24,7 +23,7 @@ use Rattle.cip_event.specs.declared.event.Event.TheVariants as events
 use Rattle.cip_event.specs.declared.event.Output.{Output}
 use Rattle.cip_event.specs.declared.event.Output.TheVariants as outputs
 use Rattle.cip_laws.specs.EffectLists.{Stands}
-use Rattle.cip_module.specs.Effects.{Sending, Effect, Answers, Finishes, Takes, objects_of, timed_out_bytes, succeeded, reply_up, apply, applied, Forwards, Begins}
+use Rattle.cip_module.specs.Effects.{Sending, Effect, Answers, Finishes, Takes, here_answer, timed_out_bytes, succeeded, reply_up, apply, applied, Forwards, Begins}
 use Rattle.cip_laws.specs.Histories.{state_after}
 use Rattle.cip_laws.specs.Outputs.{GaveBy, RepliesBy, AtOnce, Here, Opened, Taken, Late}
 use Rattle.cip_module.specs.State.{State}
@@ -82,7 +81,7 @@ pub record Arrives (t : Plan) (j : Journal) (a b : ℕ) (s : StepIn t j a) (r : 
 pub data Replied (t : Plan) (j : Journal) : (k : ℕ) → StepIn t j k → List ℕ → Type 0 where
   ByRow : (k : ℕ) (s : StepIn t j k) (up : UpSide) (bytes : List ℕ) → RepliesAs s.taken.config (state_before s) s.taken.event up bytes → Replied t j k s bytes
   ByTarget : (k : ℕ) (s : StepIn t j k) (up : UpSide) (asked : Request) (bytes : List ℕ) → AnswersAs s.taken.config (state_before s) s.taken.event up asked
-      → bytes ≡ reply_bytes (target_answer (objects_of s.taken.config (state_before s)) asked) → Replied t j k s bytes
+      → bytes ≡ reply_bytes (here_answer s.taken.config (state_before s) asked) → Replied t j k s bytes
   ByTick : (k : ℕ) (s : StepIn t j k) (n : ℕ) (p : entries.Entry) → PutAt s n p → (l : ℕ) (r : StepIn t j l) → r.at.0 ≡ s.at.0
       → PendingTimesOutAs (state_before r) r.taken.event n → map.get (state_before r).pendings.entries n ≡ Some p → k < l
       → (bytes : List ℕ) → bytes ≡ timed_out_bytes p.kind p.words → Replied t j k s bytes
@@ -357,8 +356,9 @@ module _ (t : Chassis) (j : Journal) (run : IsRun t.plan j) (l : ℕ) (s : StepI
         let stands : Stands (state_before s) (applied config (state_before s) g.before) (Answers up asked_) =
         subst (Stands (state_before s) (applied config (state_before s) g.before)) effect_is
         (all_stand config (state_before s) s.taken.event turn.effects turn.decided g.before g.after g.effect g.is) in
-        let objects : objects_of config (applied config (state_before s) g.before) ≡ objects_of config (state_before s) =
-        λ i. record { identity = config.identity; assemblies = stands i } in
+        let mid = applied config (state_before s) g.before in
+        let same : reply_bytes (here_answer config mid asked_) ≡ reply_bytes (here_answer config (state_before s) asked_) =
+        λ i. reply_bytes (here_answer config (record mid { pendings = stands.1.1 i; hops = stands.1.0 i; assemblies = stands.0 i }) asked_) in
         record {
           number = l;
           step = s;
@@ -367,7 +367,7 @@ module _ (t : Chassis) (j : Journal) (run : IsRun t.plan j) (l : ℕ) (s : StepI
           given = reply_up up bytes;
           gives = h;
           taken = not_refused up bytes;
-          replied = ByTarget l s up asked_ bytes k (bytes_are ∙ ap (λ (o : Objects). reply_bytes (target_answer o asked_)) objects);
+          replied = ByTarget l s up asked_ bytes k (bytes_are ∙ same);
         }
     by_way g (Taken n p effect_is at ups) h =
         let told : TakesAs (state_before s) s.taken.event n bytes = subst (Tells config (state_before s) s.taken.event) effect_is g.tells in

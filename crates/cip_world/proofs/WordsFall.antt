@@ -120,6 +120,7 @@ request_out (outputs.Refused fault) h = absurd (cc)
 request_out (outputs.Consumed triad instance bytes) h = absurd (cc)
 request_out (outputs.Arrived op bytes) h = absurd (cc)
 request_out (outputs.Expired triad) h = absurd (cc)
+request_out (outputs.Ended op) h = absurd (cc)
 request_out (outputs.Dropped reason) h = absurd (cc)
 
 -- what was sent, and why

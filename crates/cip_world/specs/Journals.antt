@@ -37,6 +37,7 @@ flight_of m (Some (outputs.Refused fault)) = None
 flight_of m (Some (outputs.Consumed triad instance bytes)) = None
 flight_of m (Some (outputs.Arrived op bytes)) = None
 flight_of m (Some (outputs.Expired triad)) = None
+flight_of m (Some (outputs.Ended op)) = None
 flight_of m (Some (outputs.Dropped reason)) = None
 
 abbrev pub sent_by : Option Entry → ℕ → Option Flight

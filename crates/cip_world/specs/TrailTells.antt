@@ -19,7 +19,7 @@ use Rattle.cip_open.specs.OpenAt.{open_at, open_words_of}
 use Rattle.cip_pending.specs.declared.entry.Entry.{Entry as Pending}
 use Rattle.cip_pending.specs.declared.entry.UpSide.{UpSide}
 use Rattle.cip_target.specs.declared.link.EndLink.{EndLink}
-use Rattle.cip_target.specs.Objects.{answer_bytes}
+use Rattle.cip_message.specs.Reply.{reply_bytes}
 use Rattle.cip_config.specs.declared.config.ModuleSettings.{ModuleSettings}
 use Rattle.cip_event.specs.declared.event.Body.{Body}
 use Rattle.cip_event.specs.declared.event.Body.TheVariants as bodies
@@ -30,7 +30,7 @@ use Rattle.cip_event.specs.declared.event.Event.TheVariants as events
 use Rattle.cip_event.specs.declared.event.Output.TheVariants as outputs
 use Rattle.cip_module.specs.declared.refusals.LinkRefusal.TheVariants.{TicksSpent}
 use Rattle.cip_module.specs.declared.refusals.OpenRefusal.{OpenRefusal}
-use Rattle.cip_module.specs.Effects.{objects_of}
+use Rattle.cip_module.specs.Effects.{here_answer}
 use Rattle.cip_module.specs.OpenRows.{Refuses, Accepted, open_row, unread_row}
 use Rattle.cip_module.specs.RequestRows.{ForwardOpen}
 use Rattle.cip_module.specs.State.{State}
@@ -205,7 +205,7 @@ pub record SentIn (t : Plan) (j : Journal) (m : ℕ) (op : OpNumber) (k : ℕ) (
   pub event_is : step.taken.event ≡ events.Command (commands.Send op timing path request)
   pub unrefused : list_any is_refusal step.outputs ≡ false
 
--- The bytes are the answer of the target to the request, at the module to which the walk of the
+-- The bytes are the answer of the module's own objects to the request, at the module to which the walk of the
 -- path leads, in its state before the last entry of the trail.
 pub record AnsweredThere (t : Plan) (j : Journal) (ks : List ℕ) (m : ℕ)
     (path request bytes : Octets) : Type 0 where
@@ -215,7 +215,7 @@ pub record AnsweredThere (t : Plan) (j : Journal) (ks : List ℕ) (m : ℕ)
   pub asked : Request
   pub read : request_at request ≡ Ok asked
   pub walks : walk t m path ≡ Some (record { at = step.at.0; path = [] })
-  pub answer : bytes ≡ answer_bytes (objects_of step.taken.config (state_before step)) asked
+  pub answer : bytes ≡ reply_bytes (here_answer step.taken.config (state_before step) asked)
 
 -- ---- the trail of a command
 

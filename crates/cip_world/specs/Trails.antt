@@ -24,6 +24,7 @@ is_refusal (outputs.Refused fault) = true
 is_refusal (outputs.Consumed triad instance bytes) = false
 is_refusal (outputs.Arrived op bytes) = false
 is_refusal (outputs.Expired triad) = false
+is_refusal (outputs.Ended op) = false
 is_refusal (outputs.Dropped reason) = false
 
 abbrev pub opens_or_sends : ℕ → Command → Bool
@@ -60,6 +61,7 @@ is_request_sent (outputs.Refused fault) = false
 is_request_sent (outputs.Consumed triad instance bytes) = false
 is_request_sent (outputs.Arrived op bytes) = false
 is_request_sent (outputs.Expired triad) = false
+is_request_sent (outputs.Ended op) = false
 is_request_sent (outputs.Dropped reason) = false
 
 -- the place of the first request among these outputs, of which the first has place i

@@ -101,6 +101,7 @@ impl fmt::Display for Told<'_> {
             }
             Output::Arrived { op, bytes } => write!(f, "arrived {op} {}", Pairs(bytes.as_slice())),
             Output::Expired { triad } => write!(f, "expired {}", Numbers(*triad)),
+            Output::Ended { op } => write!(f, "ended {op}"),
             Output::Dropped(reason) => write!(f, "{}", dropped_text(*reason)),
         }
     }
