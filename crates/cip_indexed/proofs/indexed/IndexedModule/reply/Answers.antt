@@ -1,4 +1,4 @@
-use Rattle.std.proofs.Common.{ℕ, List, [], ◌∷◌, ◌++◌, sym, ap, subst, ◌∙◌}
+use Rattle.std.proofs.Common.{ℕ, List, subst}
 use Rattle.cip_event.specs.declared.event.Body.TheVariants as bodies
 use Rattle.cip_event.specs.declared.event.Event.TheVariants as events
 use Rattle.cip_event.specs.declared.event.Output.{Output}
@@ -14,8 +14,7 @@ returns-clause-ok c =
     let m = c.args.self.now in
     let Stepped : List ℕ → List Output → Type 0 = λ bytes outputs. IsStep (config_of_indexed m) (state_of_indexed m)
     (events.Frame c.args.port c.args.from (bodies.Reply c.args.number bytes)) (state_of_device c.react_to_reply-reaction.new.self) outputs in
-    subst (Stepped c.args.bytes) (sym (c.push_reserved.ensures.items ∙ ap (λ (l : List Output). l ++ (c.put_out.result ∷ [])) c.in-Ok.ensures.items))
-    (put c.args.bytes c.react_to_reply-reaction.result (λ out. Stepped c.args.bytes (out ∷ [])) c.put_out.result
-    (subst (λ (bytes : List ℕ). PutsOut bytes c.react_to_reply-reaction.result (λ out. Stepped bytes (out ∷ []))) c.as_slice.ensures
+    put c.args.bytes c.react_to_reply-reaction.result (Stepped c.args.bytes) c.put_out.result.items
+    (subst (λ (bytes : List ℕ). PutsOut bytes c.react_to_reply-reaction.result (λ outs. Stepped bytes outs)) c.as_slice.ensures
     c.react_to_reply-reaction.ensures.done)
-    c.put_out.ensures)
+    c.put_out.ensures
