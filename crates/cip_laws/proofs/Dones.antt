@@ -14,7 +14,7 @@ use Rattle.cip_event.specs.declared.event.Event.TheVariants as events
 use Rattle.cip_module.specs.CommandRows.{CommandRow}
 use Rattle.cip_module.specs.CommandRows as command
 use Rattle.cip_module.specs.CommandRows.{op_row, close_command_row, send_row}
-use Rattle.cip_module.specs.Effects.{Effect, Spends, apply, applied, outputs_of, Answers, resets, answered_state}
+use Rattle.cip_module.specs.Effects.{Effect, Spends, apply, applied, outputs_of, Answers, resets}
 use Rattle.cip_module.specs.State.{State, is_spent, spent_with, initial_state}
 use Rattle.cip_module.specs.Table.{refused_effects, closed_effects, sent, decide}
 use Rattle.cip_laws.specs.Tells.{AllTell}
@@ -22,12 +22,11 @@ use Rattle.cip_module.proofs.Kept.{spent_now, spent_still}
 use Rattle.cip_laws.specs.Histories.{Turn, state_after, IsHistory}
 use Rattle.cip_laws.specs.Weights.{mark, is_reply, is_asked_by, weight, weight_in}
 use Rattle.cip_laws.proofs.Claims.{waits_for, claims_each}
-use Rattle.cip_laws.proofs.Puts.{below_after}
+use Rattle.cip_laws.proofs.Puts.{below_after, answered_ops}
 use Rattle.cip_laws.proofs.OneReply.{claims, none_wait}
 use Rattle.cip_laws.proofs.TakenUp.{takes_once}
 use Rattle.cip_laws.proofs.Turns.{Turned, newest}
 use Rattle.cip_laws.proofs.Weighing.{conserved}
-use Rattle.cip_message.specs.Request.{Request}
 
 module _ (op : ℕ) where
   -- whether the op is still to be used
@@ -39,13 +38,10 @@ module _ (op : ℕ) where
   fewer false true h = let no : false ≡ true = h refl in absurd (cc)
   fewer false false h = omega arith
 
-  same_ops : (config : ModuleSettings) (s : State) (asked : Request) (b : Bool) → unspent (answered_state b config s asked) ≤ unspent s
-  same_ops config s asked true = omega arith
-  same_ops config s asked false = omega arith
-
   stays : (config : ModuleSettings) (s : State) (e : Effect) → unspent (apply config s e) ≤ unspent s
   stays config s (Spends o) = fewer (is_spent op (spent_with o s.ops)) (is_spent op s.ops) (λ used. spent_still op o s.ops used)
-  stays config s (Answers up asked) = same_ops config s asked (resets config s asked)
+  stays config s (Answers up asked) =
+      let same = ap (λ ops. mark (not (is_spent op ops))) (answered_ops config s asked (resets config s asked)) in omega (arith, same)
   stays config s e = omega arith
 
   stays_list : (config : ModuleSettings) (s : State) (es : List Effect) → unspent (applied config s es) ≤ unspent s

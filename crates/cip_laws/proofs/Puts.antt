@@ -22,6 +22,11 @@ use Rattle.cip_message.specs.Request.{Request}
 use Rattle.cip_laws.specs.Changes.{passed_over}
 pub use Rattle.cip_laws.specs.Changes.{puts, numbers_drawn, drawn_ids}
 
+-- an answer here uses no op up, and gives none back
+pub answered_ops : (config : ModuleSettings) (s : State) (asked : Request) (b : Bool) → (answered_state b config s asked).ops ≡ s.ops
+answered_ops config s asked true = refl
+answered_ops config s asked false = refl
+
 -- after an answer here what waits waited before
 answered_pending : (config : ModuleSettings) (s : State) (asked : Request) (b : Bool) (n : ℕ) (p : Entry)
     → map.get (answered_state b config s asked).pendings.entries n ≡ Some p → map.get s.pendings.entries n ≡ Some p

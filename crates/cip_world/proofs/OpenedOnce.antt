@@ -11,7 +11,7 @@ use Rattle.cip_event.specs.declared.event.Event.TheVariants as events
 use Rattle.cip_event.specs.declared.event.Output.{Output}
 use Rattle.cip_event.specs.declared.event.Output.TheVariants as outputs
 use Rattle.cip_event.specs.declared.event.Refused.TheVariants as refused
-use Rattle.cip_module.specs.Effects.{Effect, Spends, apply, applied, outputs_of}
+use Rattle.cip_module.specs.Effects.{Effect, Spends, apply, applied, outputs_of, Answers, resets}
 use Rattle.cip_laws.proofs.AskedOpens.{asks_effects, one_open}
 use Rattle.cip_laws.specs.Histories.{Turn, state_after, IsHistory}
 use Rattle.cip_module.specs.OpenRows.{open_row}
@@ -29,11 +29,13 @@ use Rattle.cip_world.specs.Journals.{Journal, entry_at, part}
 use Rattle.cip_world.specs.Runs.{IsModule, IsRun, state_in}
 use Rattle.cip_world.proofs.Parts.{turn_of, part_step, part_here, same_module, step_here, run_history}
 use Rattle.cip_world.proofs.Rooted.{entry_cases}
+use Rattle.cip_laws.proofs.Puts.{answered_ops}
 
 -- ---- what is used up stays so
 
 stays : (config : ModuleSettings) (s : State) (e : Effect) (op : ℕ) → is_spent op s.ops ≡ true → is_spent op (apply config s e).ops ≡ true
 stays config s (Spends o) op h = spent_still op o s.ops h
+stays config s (Answers up asked) op h = ap (is_spent op) (answered_ops config s asked (resets config s asked)) ∙ h
 stays config s e op h = h
 
 stays_all : (config : ModuleSettings) (s : State) (es : List Effect) (op : ℕ) → is_spent op s.ops ≡ true → is_spent op (applied config s es).ops ≡ true

@@ -1,5 +1,5 @@
 -- An op is used in one entry of a run: a module takes one command of it, and refuses all others.
-use Rattle.std.proofs.Common.{◌≡◌, ℕ, ◌<◌, Bool, true, false, cond, not, ◌&&◌, List, [], ◌∷◌, Option, Some, None, refl, sym, ap, subst, ◌∙◌, inl, inr, arith, eqb, length, nat_lt}
+use Rattle.std.proofs.Common.{◌≡◌, ℕ, ◌<◌, Bool, true, false, cond, not, ◌&&◌, List, [], ◌∷◌, Option, Some, None, refl, sym, ap, subst, ◌∙◌, inl, inr, arith, eqb, length, nat_lt, ◌++◌}
 use Rattle.std.specs.List.{list_any}
 use Rattle.std.specs.Prelude.{slice_index, is_some}
 use Rattle.std.proofs.lemmas.Bool.{and_parts, and_from, eqb-true, eq-eqb, cases_order}
@@ -25,7 +25,7 @@ use Rattle.cip_event.specs.declared.event.Output.TheVariants as outputs
 use Rattle.cip_laws.specs.Turns.{Has}
 use Rattle.cip_event.specs.declared.event.Refused.{Refused}
 use Rattle.cip_module.specs.CommandRows.{op_row, send_row}
-use Rattle.cip_module.specs.Effects.{Effect, Spends, RefusesCommand, apply, applied, outputs_of}
+use Rattle.cip_module.specs.Effects.{Effect, Spends, RefusesCommand, apply, applied, outputs_of, Answers, resets, ended_by}
 use Rattle.cip_laws.specs.Histories.{Turn, state_after, IsHistory}
 use Rattle.cip_module.specs.OpenRows.{OpenRow, open_row}
 use Rattle.cip_module.specs.OpenRows as opens
@@ -50,6 +50,8 @@ use Rattle.cip_world.proofs.Entries.{older_one, turned_in}
 use Rattle.cip_world.proofs.Moments.{run_older, before_that}
 use Rattle.cip_world.proofs.Parts.{turn_of, part_here, part_step, step_here, same_module, run_history}
 use Rattle.cip_event.specs.Params.{widened}
+use Rattle.cip_laws.proofs.Puts.{answered_ops}
+use Rattle.cip_module.specs.Resets.{held_ops, all_ended}
 
 -- ---- one command
 
@@ -87,9 +89,17 @@ module _ (config : ModuleSettings) (s : State) (op : ℕ) where
   open_none o (opens.Forwarded port address rest) = refl
   open_none o (opens.Accepted link) = refl
 
+  told_none : (ops : List ℕ) → list_any is_refusal (all_ended ops ++ []) ≡ false
+  told_none [] = refl
+  told_none (o ∷ ops) = told_none ops
+
+  reset_none : (b : Bool) (t : State) → list_any is_refusal (ended_by b t ++ []) ≡ false
+  reset_none true t = told_none (held_ops t)
+  reset_none false t = refl
+
   send_none : (u : Unconnected) (row : UnconnectedRow) → list_any is_refusal (outputs_of config s (Spends op ∷ unconnected_effects (Local op) u row)) ≡ false
   send_none u (unconnected.Refuses refusal) = refl
-  send_none u (unconnected.AnsweredHere request) = refl
+  send_none u (unconnected.AnsweredHere request) = reset_none (resets config s request) (apply config s (Spends op))
   send_none u (unconnected.Forwarded port address rest) = refl
 
   uses_of : (es fs : List Effect) → Some es ≡ Some fs → Uses config s op es → Uses config s op fs
@@ -160,6 +170,7 @@ module _ (config : ModuleSettings) (s : State) (op : ℕ) where
 module _ (op : ℕ) where
   stays : (config : ModuleSettings) (s : State) (e : Effect) → is_spent op s.ops ≡ true → is_spent op (apply config s e).ops ≡ true
   stays config s (Spends o) h = spent_still op o s.ops h
+  stays config s (Answers up asked) h = ap (is_spent op) (answered_ops config s asked (resets config s asked)) ∙ h
   stays config s e h = h
 
   stays_all : (config : ModuleSettings) (s : State) (es : List Effect) → is_spent op s.ops ≡ true → is_spent op (applied config s es).ops ≡ true
