@@ -4,7 +4,7 @@ by themselves. What comes of an event is said by the oracle alone."""
 import re
 
 from oracle import CHASSIS, COUNT, HEADER, MOST, frames_of, is_path, put
-from worked import IDENTITY, PATH, TIMING
+from worked import IDENTITY, PATH, RESET, TIMING
 
 
 class Life:
@@ -195,8 +195,18 @@ class Life:
         request = self.one(request, request, request, self.mutated(request))
         return name, ("request", port, sender, draw.randrange(20), request)
 
-    def step(self):
-        name, words = self.drawn()
+    def reset(self):
+        """A Reset: by a link, carried by an Unconnected_Send, or to S from its own application."""
+        request, number = RESET + self.one(b"", b"\x00", b"\x01", b"\xff"), self.draw.randrange(20)
+        carried = b"\x52" + HEADER + bytes(TIMING) + put(len(request)) + request + bytes(len(request) % 2) + b"\0\0"
+        name, port, sender = self.one(("A", 2, b"\x01"), ("B", 1, b"\x00"), ("E", 2, b"\x01"), ("S", 2, b"\x05"))
+        if name == "S" and self.one(0, 1):
+            self.op += 1
+            return name, ("send", self.op, *TIMING, b"", request)
+        return name, ("request", port, sender, number, self.one(request, carried))
+
+    def step(self, resets=False):
+        name, words = self.reset() if resets else self.drawn()
         lines = self.script.event(name, words, guard=self.guard)
         if words[0] in ("request", "reply", "data"):
             self.past.append((name, words))
@@ -229,6 +239,15 @@ def lived(script, draw, count, guard=""):
         life = Life(draw, script, guard)
         for _ in range(min(ROUND, count - number)):
             life.step()
+    return script
+
+
+def reset_often(script, draw, count, resets):
+    """Adds so many events to a script, and among them so many resets of modules that are made once."""
+    script.fresh(E={"kind": draw.choice((0, 1, 2))})
+    life = Life(draw, script)
+    for number in range(count):
+        life.step(number % (count // resets) == count // resets - 1)
     return script
 
 

@@ -39,7 +39,7 @@ STATUS = {
               "not this sender's open triad": "0107", "path differs from the hop's": "0316"},
     "target": {"path form not supported": "05", "class not supported": "05", "no such instance": "16",
                "service not supported": "08", "no such attribute": "14", "not settable": "0E", "data short": "13",
-               "data long": "15", "reset": "08"},
+               "data long": "15", "no incarnation left": "0C"},
 }  # fmt: skip
 LINK = {"no port segment": "0315", "no such port": "0311", "link address not legal": "0312", "time-out ticks spent": "0204",
         "no pending left": "0301"}  # fmt: skip
@@ -294,11 +294,22 @@ class Module:
                 return self.forward_open(up, data, service)
             return {0x52: self.unconnected, 0x4E: self.forward_close}[service](up, data)
         self.hit("request", "target")
-        return [self.replied(up, self.target(*read))]
+        return self.answered(up, *read)
 
     def refused(self, group, row, service, data=b"", status=None):
         self.hit(group, row)
         return failure(service, status or STATUS[group].get(row) or LINK[row], data)
+
+    def answered(self, up, service, path, data):
+        """What the module's own objects answer; a reset is carried out."""
+        lines = [self.replied(up, self.target(service, path, data))]
+        if self.row != ("target", "reset"):
+            return lines
+        askers = [it[0] for it in self.pendings.values()] + [hop["up"] for hop in self.hops.values()]
+        self.pendings, self.openings, self.hops = {}, {}, {}
+        self.number, self.id = (((it >> 16) + 1) << 16 for it in (self.number, self.id))
+        self.assemblies = {instance: bytes(size) for instance, size in self.sizes.items()}
+        return lines + [f"ended {op}" for op in sorted({up[1] for up in askers if up[0] == "op"})]
 
     def target(self, service, path, data):
         def no(row):
@@ -315,8 +326,12 @@ class Module:
         if service not in ((0x01, 0x05, 0x0E, 0x10) if of_class == 1 else (0x0E, 0x10)):
             return no("service not supported")
         if service == 0x05:
-            # no module carries it out yet
-            return no("data long" if len(data) > 1 else "reset")
+            if len(data) > 1:
+                return no("data long")
+            if max(self.number, self.id) >> 16 == COUNT:
+                return no("no incarnation left")
+            self.hit("target", "reset")
+            return bytes([0x85, 0, 0, 0])
         if service != 0x01 and attribute not in (range(1, 8) if of_class == 1 else (3,)):
             return no("no such attribute")
         if service == 0x10 and of_class == 1:
@@ -358,7 +373,7 @@ class Module:
             return no("embedded request unreadable or for the Connection Manager")
         if not route:
             self.hit("unconnected send", "answered here")
-            return [self.replied(up, self.target(*read))]
+            return self.answered(up, *read)
         key, hop = first_hop(route)
         if self.key_fault(key):
             return no("key mismatch", self.key_fault(key))

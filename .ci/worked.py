@@ -1,5 +1,5 @@
 """The worked runs over the chassis: a request from S to B and back; a connection from S to E that is opened, carries data both ways
-and is closed; and one that is opened large."""
+and is closed; one that is opened large; and resets: of B, of A while S opens through it, of S by itself, each used again."""
 
 from driver import Script
 from oracle import CHASSIS, Module, frames_of
@@ -18,6 +18,19 @@ CONNECTED = [
 ]
 
 CONNECTED_LARGE = [("S", ("large", 1, *TIMING, PATH, 0x42, *LARGE)), ("S", ("enter", 1, DATUM))]
+
+# the Identity's service Reset, without its byte
+RESET = bytes.fromhex("050220012401")
+RESETTING = [
+    ("S", ("open", 1, *TIMING, PATH, 0x42, *OPEN)),
+    ("S", ("send", 2, *TIMING, PATH[:4], RESET)),
+    ("S", ("enter", 1, DATUM)),
+    ("S", ("send", 3, *TIMING, PATH[:2], RESET + b"\x01")),
+    ("S", ("send", 4, *TIMING, b"", RESET)),
+    ("E", ("send", 5, *TIMING, b"", RESET + b"\x00")),
+    ("S", ("open", 6, *TIMING, PATH, 0x43, *OPEN)),
+    ("S", ("enter", 6, DATUM)),
+]
 
 
 def events(commands):
@@ -38,7 +51,7 @@ def guarded(kind):
     """The worked runs on modules of a kind, each event guarded, so that its step alone is refused memory."""
     script = Script("plain" if kind == "adapter" else kind)
     settings = {} if kind == "adapter" else {"E": {"kind": ["plain", "indexed"].index(kind)}}
-    for commands in (ASKED, CONNECTED, CONNECTED_LARGE):
+    for commands in (ASKED, CONNECTED, CONNECTED_LARGE, RESETTING):
         script.fresh(**settings)
         # the run, its beginning once more under other names, and a time at which all of that is due
         again = [("S", ("send", 8, *TIMING, PATH[:4], IDENTITY)), ("S", ("open", 9, *TIMING, PATH, 0x43, *OPEN))]

@@ -33,30 +33,32 @@ fn an_identity_tells_its_attributes(rt: HostRuntime) -> Result<(), Fail> {
     )
 }
 
-// A Reset is read, and no module carries it out yet; what follows finds all as it was.
+// No byte or one byte of any value; more is 15. A Reset of anything but the Identity is none.
 #[test]
-fn a_reset_is_not_supported(rt: HostRuntime) -> Result<(), Fail> {
+fn a_reset_empties_the_assemblies(rt: HostRuntime) -> Result<(), Fail> {
     play(
         rt.alloc(),
         "
-        B request 1 00 1 050220012401
-        > send 1 00 reply 1 85000800
-        B request 1 00 1 05022001240100
-        > send 1 00 reply 1 85000800
-        B request 1 00 1 050220012401FF
-        > send 1 00 reply 1 85000800
-        B request 1 00 1 0502200124010000
-        > send 1 00 reply 1 85001500
-        B request 1 00 1 050220012402
-        > send 1 00 reply 1 85001600
         E request 2 01 1 10_03200424653003_AABBCCDD
         > send 2 01 reply 1 90000000
-        E request 2 01 2 0502200124650000
-        > send 2 01 reply 2 85001600
-        E request 2 01 3 050220042465
-        > send 2 01 reply 3 85000800
-        E request 2 01 4 0E03200424653003
-        > send 2 01 reply 4 8E_00_00_00_AABBCCDD
+        E request 2 01 2 0502200124010000
+        > send 2 01 reply 2 85001500
+        E request 2 01 3 050220012402
+        > send 2 01 reply 3 85001600
+        E request 2 01 4 0502200124650000
+        > send 2 01 reply 4 85001600
+        E request 2 01 5 050220042465
+        > send 2 01 reply 5 85000800
+        E request 2 01 6 0E03200424653003
+        > send 2 01 reply 6 8E_00_00_00_AABBCCDD
+        E request 2 01 7 050220012401
+        > send 2 01 reply 7 85000000
+        E request 2 01 8 0E03200424653003
+        > send 2 01 reply 8 8E_00_00_00_00000000
+        E request 2 01 9 05022001240100
+        > send 2 01 reply 9 85000000
+        E request 2 01 10 050220012401FF
+        > send 2 01 reply 10 85000000
         ",
     )
 }

@@ -11,7 +11,73 @@ struct Row {
     lines: &'static [&'static str],
 }
 
-const ROWS: [Row; 17] = [
+const ROWS: [Row; 20] = [
+    Row {
+        name: "a bridge is reset under a connection and used again",
+        script: "\
+open S 1 0x07 0xFA 020501030207200424642C652C66 0x42 0 1 10000 0x4806 10000 0x4804
+run 100
+send S 2 0x07 0xFA 02050103 050220012401
+run 10
+tables B
+chain S 1
+enter S 1 0100AABBCCDD
+run 10
+tick S 40
+tick A 40
+tick E 40
+open S 3 0x07 0xFA 020501030207200424642C652C66 0x43 0 1 10000 0x4806 10000 0x4804
+run 10
+",
+        lines: &[
+            "  0 done 2 85000000",
+            "quiet",
+            "tables B now 0 id 65536 number 65536",
+            "broken B",
+            "  0 dropped UnknownId",
+            "  0 expired 66 257 168496141",
+            "  0 expired 66 257 168496141",
+            "  0 expired 66 257 168496141",
+            "  0 send 2 07 request 65537 54022006240107F70000000001000100430001010D0C0B0A00000000\
+                102700000648102700000448010420042464\
+                2C652C66",
+            "  0 send 1 00 reply 3 D40000000200010023000000430001010D0C0B0A10270000102700000000",
+            "  0 done 3 D40000002400000012000000430001010D0C0B0A10270000102700000000",
+            "quiet",
+        ],
+    },
+    Row {
+        name: "a scanner resets itself under a connection",
+        script: "\
+open S 1 0x07 0xFA 020501030207200424642C652C66 0x42 0 1 10000 0x4806 10000 0x4804
+run 100
+send S 2 0x07 0xFA - 050220012401
+enter S 1 0100AABBCCDD
+open S 1 0x07 0xFA 020501030207200424642C652C66 0x43 0 1 10000 0x4806 10000 0x4804
+chain S 1
+",
+        lines: &[
+            "  0 done 2 85000000",
+            "  1 ended 1",
+            "  0 refused NotOpen",
+            "  0 refused OpUsed",
+            "not open",
+        ],
+    },
+    Row {
+        name: "a scanner resets itself while an open is under way",
+        script: "\
+open S 1 0x07 0xFA 020501030207200424642C652C66 0x42 0 1 10000 0x4806 10000 0x4804
+send S 2 0x07 0xFA - 050220012401
+run 100
+",
+        lines: &[
+            "  0 done 2 85000000",
+            "  1 ended 1",
+            "  0 dropped Late",
+            "quiet",
+        ],
+    },
     Row {
         name: "a request of an odd length gets a pad behind it",
         script: "\

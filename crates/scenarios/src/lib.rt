@@ -34,6 +34,8 @@ mod refused_opens;
 #[cfg(test)]
 mod refused_requests;
 #[cfg(test)]
+mod resetting;
+#[cfg(test)]
 mod sending_unconnected;
 #[cfg(test)]
 mod taking_replies;
