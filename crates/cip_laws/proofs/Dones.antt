@@ -30,7 +30,7 @@ use Rattle.cip_laws.proofs.Weighing.{conserved}
 
 module _ (op : ℕ) where
   -- whether the op is still to be used
-  abbrev unspent : State → ℕ
+  abbrev pub unspent : State → ℕ
   unspent s = mark (not (is_spent op s.ops))
 
   fewer : (a b : Bool) → (b ≡ true → a ≡ true) → mark (not a) ≤ mark (not b)
@@ -44,12 +44,12 @@ module _ (op : ℕ) where
       let same = ap (λ ops. mark (not (is_spent op ops))) (answered_ops config s asked (resets config s asked)) in omega (arith, same)
   stays config s e = omega arith
 
-  stays_list : (config : ModuleSettings) (s : State) (es : List Effect) → unspent (applied config s es) ≤ unspent s
+  pub stays_list : (config : ModuleSettings) (s : State) (es : List Effect) → unspent (applied config s es) ≤ unspent s
   stays_list config s [] = omega arith
   stays_list config s (e ∷ es) = let here = stays config s e in let there = stays_list config (apply config s e) es in omega (arith, here, there)
 
   -- what is taken up for an op uses it up
-  abbrev Uses : ModuleSettings → State → List Effect → Type 0
+  abbrev pub Uses : ModuleSettings → State → List Effect → Type 0
   Uses config s es = gain (takes_up (Local op)) es + unspent (applied config s es) ≤ unspent s
 
   unused : (o : ℕ) (s : State) (config : ModuleSettings) (rest : List Effect) → o ≡ op → is_spent o s.ops ≡ false
@@ -107,7 +107,7 @@ module _ (op : ℕ) where
   begins : (o : ℕ) (es fs : List Effect) → Some fs ≡ Some es → Begins o fs → Begins o es
   begins o es fs e h = let same : fs ≡ es = cc in subst (Begins o) same h
 
-  uses : (config : ModuleSettings) (s : State) (event : Event) (new : State) (outs : List _) (turn : Turned config s event new outs)
+  pub uses : (config : ModuleSettings) (s : State) (event : Event) (new : State) (outs : List _) (turn : Turned config s event new outs)
       → Uses config s turn.effects
   uses config s event new outs turn = by_event event (takes_once (Local op) config s event turn.effects turn.decided) turn.tells turn.decided
     where
@@ -134,12 +134,11 @@ module _ (op : ℕ) where
   at_most true = omega arith
   at_most false = omega arith
 
-  -- its Dones, what waits for it, and whether it is still to be used, are one together
-  pub done_once : (config : ModuleSettings) (turns : List Turn) → IsHistory config turns
-      → weight (is_reply (Local op)) turns + waits_for (Local op) (state_after config turns) + unspent (state_after config turns) ≤ 1
-  done_once config [] h = let none = none_wait config (Local op) in let small =
-      at_most (not (is_spent op (initial_state config).ops)) in omega (arith, none, small)
-  done_once config (turn ∷ turns) h =
+  -- what a turn gives the op, what waits for it after it and whether it is still to be used, are at most what was before
+  pub turn_once : (config : ModuleSettings) (turn : Turn) (turns : List Turn) → IsHistory config (turn ∷ turns)
+      → weight_in (is_reply (Local op)) turn.outputs + waits_for (Local op) (state_after config (turn ∷ turns)) + unspent (state_after config (turn ∷ turns))
+      ≤ waits_for (Local op) (state_after config turns) + unspent (state_after config turns)
+  turn_once config turn turns h =
       let now = newest config turn turns h in
       let s = state_after config turns in
       let below = (claims config (Local op) turns h.0).0 in
@@ -151,5 +150,12 @@ module _ (op : ℕ) where
       ap (waits_for (Local op)) now.state in
       let used = uses config s turn.event (state_after config (turn ∷ turns)) turn.outputs now in
       let same : unspent (applied config s now.effects) ≡ unspent (state_after config (turn ∷ turns)) = ap unspent now.state in
-      let old = done_once config turns h.0 in
-      omega (arith, sum, given, left, used, same, old)
+      omega (arith, sum, given, left, used, same)
+
+  -- its Dones, what waits for it, and whether it is still to be used, are one together
+  pub done_once : (config : ModuleSettings) (turns : List Turn) → IsHistory config turns
+      → weight (is_reply (Local op)) turns + waits_for (Local op) (state_after config turns) + unspent (state_after config turns) ≤ 1
+  done_once config [] h = let none = none_wait config (Local op) in let small =
+      at_most (not (is_spent op (initial_state config).ops)) in omega (arith, none, small)
+  done_once config (turn ∷ turns) h =
+      let now = turn_once config turn turns h in let old = done_once config turns h.0 in omega (arith, now, old)

@@ -26,6 +26,7 @@ pub mod Asking
 pub mod AskedOpens
 pub mod OneReply
 pub mod Dones
+pub mod EndsOnce
 pub mod Failures
 pub mod GoesOn
 pub mod Joined

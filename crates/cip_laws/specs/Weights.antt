@@ -65,6 +65,17 @@ is_to up (Some v) = mark (same_up v up)
 abbrev pub is_reply : UpSide → Output → ℕ
 is_reply up o = is_to up (replies_to o)
 
+-- the end of this op by a reset
+abbrev pub is_ended : ℕ → Output → ℕ
+is_ended op (outputs.Send port to body) = 0
+is_ended op (outputs.Done o reply) = 0
+is_ended op (outputs.Refused fault) = 0
+is_ended op (outputs.Consumed triad instance bytes) = 0
+is_ended op (outputs.Arrived o bytes) = 0
+is_ended op (outputs.Expired triad) = 0
+is_ended op (outputs.Ended o) = mark (o == op)
+is_ended op (outputs.Dropped reason) = 0
+
 -- an event that asks something, for this up side
 abbrev pub is_asked_by : UpSide → Event → ℕ
 is_asked_by up event = is_to up (asker event)

@@ -1,5 +1,5 @@
 //! What holds of all that a module ever did.
-ghost use Rattle.std.specs.Prelude.{◌≡◌, ℕ, ◌+◌, ◌≤◌, List, ◌∷◌, Some, true};
+ghost use Rattle.std.specs.Prelude.{◌≡◌, ℕ, ◌+◌, ◌≤◌, List, [], ◌∷◌, ◌++◌, Some, true};
 ghost use Rattle.std.specs.FinMap as map;
 ghost use Rattle.cip_base.specs.declared.triad.Triad.{Triad};
 ghost use Rattle.cip_pending.specs.declared.entry.Entry.{Entry};
@@ -13,13 +13,14 @@ ghost use Rattle.cip_hops.specs.declared.hop.Hop.{Hop};
 ghost use Rattle.cip_hops.specs.Sides.{down_is_link};
 ghost use Rattle.cip_hops.specs.Hops.{opening_of, ids_of};
 ghost use Rattle.cip_config.specs.declared.config.ModuleSettings.{ModuleSettings as Settings};
+ghost use Rattle.cip_event.specs.declared.event.Output.TheVariants.{Ended};
 ghost use Rattle.cip_laws.specs.Births.{Past, IsBirth, HasId};
 ghost use Rattle.cip_laws.specs.Histories.{Turn, state_after, IsHistory};
 ghost use Rattle.cip_laws.specs.Openings.{SentIn, Joined, HopOpened};
 ghost use Rattle.cip_laws.specs.Outputs.{BornBy};
 ghost use Rattle.cip_laws.specs.OwnTriads.{HasOwnTriads};
-ghost use Rattle.cip_laws.specs.Weights.{is_request, is_reply, is_asked_by, same_up, weight, came};
-ghost use Rattle.cip_laws.specs.Turns.{SomeTurn, AskedIn};
+ghost use Rattle.cip_laws.specs.Weights.{is_request, is_reply, is_ended, is_asked_by, same_up, weight, came};
+ghost use Rattle.cip_laws.specs.Turns.{SomeTurn, AskedIn, Has};
 
 /// A module sends one request at most under each number.
 pub fn numbers_are_born_once()
@@ -53,6 +54,17 @@ pub fn ops_are_done_once()
         → (op n : ℕ) (p : Entry)
         → map.get (state_after config turns).pendings.entries n ≡ Some p → p.up ≡ Local op
         → weight (is_reply (Local op)) turns ≡ 0 }
+{}
+
+/// An op gets one Ended at most; and neither a Done nor another Ended in the turn of its Ended, or
+/// after it.
+pub fn ops_end_once()
+    ensures ended { (config : Settings) (turns : List Turn) → IsHistory config turns
+        → (op : ℕ) → weight (is_ended op) turns ≤ 1 }
+    ensures last { (config : Settings) (later before : List Turn) (turn : Turn)
+        → IsHistory config (later ++ (turn ∷ before)) → (op : ℕ) → Has turn.outputs (Ended op)
+        → (weight (is_reply (Local op)) (later ++ (turn ∷ [])) ≡ 0)
+        × (weight (is_ended op) later ≡ 0) }
 {}
 
 /// A connection that is opening or open was born in one turn of the module, with its ids, and no
