@@ -2,7 +2,7 @@
 ghost use Rattle.std.specs.Prelude.{◌<◌};
 
 use crate::fault::Fault;
-use crate::frames::{ANSWER, SEND, close, closed, large_open, large_opened, open, opened};
+use crate::frames::{ANSWER, RESET, SEND, close, closed, large_open, large_opened, open, opened};
 use cip_base::{Address, Bytes, PortNumber};
 use cip_module::{Body, Event, Module, Output};
 use std::alloc::Global;
@@ -48,12 +48,18 @@ fn from_below(body: Body) -> Event {
 pub struct Bridge<M: Module> {
     alloc: Global,
     module_: M,
+    // of its incarnation
+    first_id: u32,
 }
 
 impl<M: Module> Bridge<M> {
     /// The bridge that this module is.
     pub fn of(alloc: Global, module_: M) -> Bridge<M> {
-        Bridge { alloc, module_ }
+        Bridge {
+            alloc,
+            module_,
+            first_id: FIRST_ID,
+        }
     }
 
     fn bytes(&self, bytes: &[u8]) -> Result<Bytes, Fault> {
@@ -84,6 +90,19 @@ impl<M: Module> Bridge<M> {
         let bytes = self.bytes(bytes)?;
         match self.step(from_below(Body::Reply { number, bytes }))? {
             Body::Reply { .. } => Ok(()),
+            _ => Err(Fault::Unexpected),
+        }
+    }
+
+    /// The bridge is reset: it forgets what waits and what is open, and has all numbers and ids of its
+    /// next incarnation.
+    pub fn reset(&mut self) -> Result<(), Fault> {
+        let bytes = self.bytes(&RESET)?;
+        match self.step(from_above(Body::Request { number: 1, bytes }))? {
+            Body::Reply { .. } => {
+                self.first_id = ((self.first_id >> 16).wrapping_add(1) << 16) | 1;
+                Ok(())
+            }
             _ => Err(Fault::Unexpected),
         }
     }
@@ -125,7 +144,7 @@ impl<M: Module> Bridge<M> {
     #[inline(always)]
     pub fn datum(&mut self, before: u16, bytes: &[u8]) -> Result<(), Fault> {
         let bytes = self.bytes(bytes)?;
-        let id = FIRST_ID + 1 + 2 * u32::from(before);
+        let id = self.first_id.wrapping_add(1 + 2 * u32::from(before));
         match self.step(from_above(Body::Data { id, bytes }))? {
             Body::Data { .. } => Ok(()),
             _ => Err(Fault::Unexpected),

@@ -180,20 +180,38 @@ fn long_turns<M: Module>(
     Ok(())
 }
 
+// After so many turns the bridge is reset, before the 65,535 numbers of its incarnation are spent: a
+// turn takes two at most, and the tables as many as they have room for.
+const ROUND: u32 = 30_000;
+
 impl Case {
     // So many turns, once the tables are filled.
+    fn round<M: Module>(
+        &self,
+        alloc: Global,
+        bridge: &mut Bridge<M>,
+        times: u32,
+    ) -> Result<(), Fault> {
+        open_all(bridge, self.others)?;
+        send_all(bridge, self.others)?;
+        match self.turn {
+            Turn::Send => send_turns(bridge, self.others, times),
+            Turn::Open => open_turns(bridge, self.others, times),
+            Turn::Large => large_turns(bridge, times),
+            Turn::Datum => datum_turns(bridge, self.others, times),
+            Turn::LongDatum(size) => long_datum_turns(alloc, bridge, size, times),
+            Turn::Long(pairs) => long_turns(alloc, bridge, pairs, times),
+        }
+    }
+
+    // So many turns, in rounds between which the bridge is reset.
     fn turns<M: Module>(&self, alloc: Global, module_: M, times: u32) -> Result<(), Fault> {
         let mut bridge = Bridge::of(alloc, module_);
-        open_all(&mut bridge, self.others)?;
-        send_all(&mut bridge, self.others)?;
-        match self.turn {
-            Turn::Send => send_turns(&mut bridge, self.others, times),
-            Turn::Open => open_turns(&mut bridge, self.others, times),
-            Turn::Large => large_turns(&mut bridge, times),
-            Turn::Datum => datum_turns(&mut bridge, self.others, times),
-            Turn::LongDatum(size) => long_datum_turns(alloc, &mut bridge, size, times),
-            Turn::Long(pairs) => long_turns(alloc, &mut bridge, pairs, times),
+        for _ in 0..times / ROUND {
+            self.round(alloc, &mut bridge, ROUND)?;
+            bridge.reset()?;
         }
+        self.round(alloc, &mut bridge, times % ROUND)
     }
 
     /// So many turns at a bridge of their own, of this kind.

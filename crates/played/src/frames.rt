@@ -1,6 +1,9 @@
 //! The messages that the nodes beside the bridge send it, as bytes.
 use std::alloc::{AllocError, Global};
 
+/// The Identity's service Reset.
+pub const RESET: [u8; 6] = [0x05, 0x02, 0x20, 0x01, 0x24, 0x01];
+
 /// An Unconnected_Send of Get_Attributes_All to an Identity, by 01 03 and 02 07.
 pub const SEND: [u8; 22] = [
     0x52, 0x02, 0x20, 0x06, 0x24, 0x01, 0x07, 0xF9, 0x06, 0x00, 0x01, 0x02, 0x20, 0x01, 0x24, 0x01,
