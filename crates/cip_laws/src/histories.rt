@@ -96,7 +96,7 @@ pub fn connections_are_opened_by_successes()
         → Past (HopOpened config hop.opening hop.ids hop.their_id) turns }
 {}
 
-/// Each connection stands under its own triad, and numbers and ids never fall.
+/// Each connection stands under its own triad, and numbers, ids and the clock never fall.
 pub fn tables_stay_in_order()
     ensures triads { (config : Settings) (turns : List Turn) → IsHistory config turns
         → HasOwnTriads (state_after config turns) }
@@ -106,4 +106,7 @@ pub fn tables_stay_in_order()
     ensures ids { (config : Settings) (turn : Turn) (turns : List Turn)
         → IsHistory config (turn ∷ turns) → (state_after config turns).hops.next
         ≤ (state_after config (turn ∷ turns)).hops.next }
+    ensures clock { (config : Settings) (turn : Turn) (turns : List Turn)
+        → IsHistory config (turn ∷ turns) → (state_after config turns).now
+        ≤ (state_after config (turn ∷ turns)).now }
 {}
