@@ -13,3 +13,5 @@ pub mod LapsedRun
 pub mod CarriedOnce
 pub mod DonesTold
 pub mod Told
+pub mod ResetRun
+pub mod ResetBridge

@@ -10,3 +10,5 @@ pub mod LateClose
 pub mod OneAfterTheOther
 pub mod LapsedRun
 pub mod Told
+pub mod ResetRun
+pub mod ResetBridge

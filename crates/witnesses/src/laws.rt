@@ -30,6 +30,8 @@ ghost use Rattle.witnesses.specs.LargeRun as large;
 ghost use Rattle.witnesses.specs.LateClose as closing;
 ghost use Rattle.witnesses.specs.OneAfterTheOther as twice;
 ghost use Rattle.witnesses.specs.LapsedRun as lapsed;
+ghost use Rattle.witnesses.specs.ResetRun as resets;
+ghost use Rattle.witnesses.specs.ResetBridge as reset_bridge;
 ghost use Rattle.witnesses.specs.Told.{ConsumedFrom, ArrivedFrom, FailsAt, SucceedsAt, AnsweredAt, ComesLate};
 
 /// The plans are topologies.
@@ -71,6 +73,18 @@ pub fn chained_run()
         (record { at = 0; hop = chained.of_scanner })
         (record { at = 1; hop = chained.of_first } ∷ record { at = 2; hop = chained.of_second }
         ∷ record { at = 3; hop = chained.of_adapter } ∷ []) }
+{}
+
+/// A module that resets itself while an open of its own is under way: the open ends, and its reply
+/// is late, though another request waits under the first number of the next incarnation.
+pub fn a_module_resets_itself()
+    ensures { IsRun plant resets.comes_late }
+{}
+
+/// A bridge that is reset under an open connection: a datum of it is unknown there, and what is asked
+/// through the bridge again goes on under the first number of the next incarnation.
+pub fn a_bridge_is_reset()
+    ensures { IsRun row reset_bridge.is_answered }
 {}
 
 /// A large open through the two bridges. The chain of its connection stands in the end.

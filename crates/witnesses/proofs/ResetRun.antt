@@ -1,0 +1,222 @@
+-- It is a run.
+use Rattle.std.proofs.Common.{[], ◌∷◌, refl}
+use Rattle.cip_event.specs.declared.event.Command.TheVariants as commands
+use Rattle.cip_event.specs.declared.event.Event.TheVariants as events
+use Rattle.cip_event.specs.declared.event.Body.TheVariants as bodies
+use Rattle.cip_event.specs.declared.event.Output.TheVariants as outputs
+use Rattle.cip_event.specs.declared.event.Dropped.TheVariants.{Late}
+use Rattle.witnesses.specs.Plans.{scanner, first_bridge, second_bridge, plant, params}
+use Rattle.witnesses.specs.FailedOpen.{path, first_request, second_request, failure}
+use Rattle.witnesses.specs.LateReply.{asked}
+use Rattle.cip_world.specs.Runs.{IsRun, state_in}
+use Rattle.cip_message.specs.Counted.{counted_at, counted_path_at}
+use Rattle.cip_message.specs.Failure.{failure_at}
+use Rattle.cip_message.specs.ReplyAt.{reply_at}
+use Rattle.cip_message.specs.RequestAt.{request_at}
+use Rattle.cip_close.specs.CloseAt.{close_at}
+use Rattle.cip_close.specs.SuccessAt.{close_reply_at}
+use Rattle.cip_module.specs.CloseRows.{close_row}
+use Rattle.cip_module.specs.CommandRows.{send_row}
+use Rattle.cip_module.specs.DataRows.{data_row}
+use Rattle.cip_module.specs.Links.{link_refusal}
+use Rattle.cip_module.specs.OpenRows.{open_row}
+use Rattle.cip_module.specs.ReplyRows.{reply_row}
+use Rattle.cip_module.specs.RequestRows.{request_row}
+use Rattle.cip_module.specs.UnconnectedRows.{unconnected_row}
+use Rattle.cip_open.specs.OpenAt.{open_at}
+use Rattle.cip_open.specs.SuccessAt.{open_reply_at}
+use Rattle.cip_segment.specs.Reading.{behind, hop_of, path_at, segments_of, segments_within}
+use Rattle.cip_segment.specs.Scan.{bytes_at, double_at, logical_at, narrow_at, number_at, other_at, padded_at, plain_port_at, point_at, port_at, segment_at, size_at, words_at}
+use Rattle.cip_target.specs.Ends.{end_row}
+use Rattle.cip_target.specs.Rows.{target_row}
+use Rattle.cip_unconnected.specs.UnconnectedAt.{unconnected_at}
+use Rattle.witnesses.proofs.Maps.{Gives, none_waits, none_held, held_first, held_none, held_get, held_entries, held_twice, entry_first, entry_get, entry_gone, entry_entries, pendings_none, bytes_none}
+use Rattle.witnesses.specs.ResetRun.{reset, done, opens, resets, asks, goes_on, refuses, passes, comes_late}
+
+by_opens : Gives scanner (state_in scanner 0 [])
+    (events.Command (commands.Open 1 (record { tick = 7; ticks = 250 }) path params))
+    (outputs.Send 2 (5 ∷ []) (bodies.Request 1 first_request) ∷ [])
+unfolding behind bytes_at close_at close_reply_at close_row counted_at counted_path_at data_row double_at end_row failure_at hop_of link_refusal logical_at
+    narrow_at number_at open_at open_reply_at open_row other_at padded_at path_at plain_port_at point_at port_at reply_at reply_row request_at request_row
+    segment_at segments_of segments_within send_row size_at target_row unconnected_at unconnected_row words_at
+by_opens = simp (none_waits, none_held, held_first) (_, refl)
+
+by_resets : Gives scanner (state_in scanner 0 opens)
+    (events.Command (commands.Send 2 (record { tick = 7; ticks = 250 }) [] reset))
+    (outputs.Done 2 done ∷ outputs.Ended 1 ∷ [])
+unfolding behind bytes_at close_at close_reply_at close_row counted_at counted_path_at data_row double_at end_row failure_at hop_of link_refusal logical_at
+    narrow_at number_at open_at open_reply_at open_row other_at padded_at path_at plain_port_at point_at port_at reply_at reply_row request_at request_row
+    segment_at segments_of segments_within send_row size_at target_row unconnected_at unconnected_row words_at
+by_resets = simp (none_waits, none_held, held_first, held_none, held_entries, entry_entries, pendings_none, bytes_none) (_, refl)
+
+by_asks : Gives scanner (state_in scanner 0 resets)
+    (events.Command (commands.Send 3 (record { tick = 7; ticks = 250 }) (2 ∷ 5 ∷ []) asked))
+    (outputs.Send 2 (5 ∷ []) (bodies.Request 65537 asked) ∷ [])
+unfolding behind bytes_at close_at close_reply_at close_row counted_at counted_path_at data_row double_at end_row failure_at hop_of link_refusal logical_at
+    narrow_at number_at open_at open_reply_at open_row other_at padded_at path_at plain_port_at point_at port_at reply_at reply_row request_at request_row
+    segment_at segments_of segments_within send_row size_at target_row unconnected_at unconnected_row words_at
+by_asks = simp (none_waits, none_held, held_first, bytes_none) (_, refl)
+
+by_goes_on : Gives first_bridge (state_in first_bridge 1 asks)
+    (events.Frame 2 (1 ∷ []) (bodies.Request 1 first_request))
+    (outputs.Send 1 (3 ∷ []) (bodies.Request 1 second_request) ∷ [])
+unfolding behind bytes_at close_at close_reply_at close_row counted_at counted_path_at data_row double_at end_row failure_at hop_of link_refusal logical_at
+    narrow_at number_at open_at open_reply_at open_row other_at padded_at path_at plain_port_at point_at port_at reply_at reply_row request_at request_row
+    segment_at segments_of segments_within send_row size_at target_row unconnected_at unconnected_row words_at
+by_goes_on = simp (none_waits, none_held, held_first) (_, refl)
+
+by_refuses : Gives second_bridge (state_in second_bridge 2 goes_on)
+    (events.Frame 1 (0 ∷ []) (bodies.Request 1 second_request))
+    (outputs.Send 1 (0 ∷ []) (bodies.Reply 1 failure) ∷ [])
+unfolding behind bytes_at close_at close_reply_at close_row counted_at counted_path_at data_row double_at end_row failure_at hop_of link_refusal logical_at
+    narrow_at number_at open_at open_reply_at open_row other_at padded_at path_at plain_port_at point_at port_at reply_at reply_row request_at request_row
+    segment_at segments_of segments_within send_row size_at target_row unconnected_at unconnected_row words_at
+by_refuses = simp held_first (_, refl)
+
+by_passes : Gives first_bridge (state_in first_bridge 1 refuses)
+    (events.Frame 1 (3 ∷ []) (bodies.Reply 1 failure))
+    (outputs.Send 2 (1 ∷ []) (bodies.Reply 1 failure) ∷ [])
+unfolding behind bytes_at close_at close_reply_at close_row counted_at counted_path_at data_row double_at end_row failure_at hop_of link_refusal logical_at
+    narrow_at number_at open_at open_reply_at open_row other_at padded_at path_at plain_port_at point_at port_at reply_at reply_row request_at request_row
+    segment_at segments_of segments_within send_row size_at target_row unconnected_at unconnected_row words_at
+by_passes = simp (none_waits, none_held, held_first, held_get, entry_get, entry_gone) (_, refl)
+
+by_comes_late : Gives scanner (state_in scanner 0 passes)
+    (events.Frame 2 (5 ∷ []) (bodies.Reply 1 failure))
+    (outputs.Dropped Late ∷ [])
+unfolding behind bytes_at close_at close_reply_at close_row counted_at counted_path_at data_row double_at end_row failure_at hop_of link_refusal logical_at
+    narrow_at number_at open_at open_reply_at open_row other_at padded_at path_at plain_port_at point_at port_at reply_at reply_row request_at request_row
+    segment_at segments_of segments_within send_row size_at target_row unconnected_at unconnected_row words_at
+by_comes_late = simp (none_waits, none_held, held_first, entry_first, entry_get, bytes_none) (_, refl)
+
+run_opens : IsRun plant opens
+run_opens = (
+  tt,
+  record {
+    event = events.Command (commands.Open 1 (record { tick = 7; ticks = 250 }) path params);
+    given = refl;
+    config = scanner;
+    is_module = refl;
+    new = by_opens.0;
+    step = by_opens.1;
+  },
+)
+
+run_resets : IsRun plant resets
+run_resets = (
+  run_opens,
+  record {
+    event = events.Command (commands.Send 2 (record { tick = 7; ticks = 250 }) [] reset);
+    given = refl;
+    config = scanner;
+    is_module = refl;
+    new = by_resets.0;
+    step = by_resets.1;
+  },
+)
+
+run_asks : IsRun plant asks
+run_asks = (
+  run_resets,
+  record {
+    event = events.Command (commands.Send 3 (record { tick = 7; ticks = 250 }) (2 ∷ 5 ∷ []) asked);
+    given = refl;
+    config = scanner;
+    is_module = refl;
+    new = by_asks.0;
+    step = by_asks.1;
+  },
+)
+
+run_goes_on : IsRun plant goes_on
+run_goes_on = (
+  run_asks,
+  record {
+    event = events.Frame 2 (1 ∷ []) (bodies.Request 1 first_request);
+    given = record {
+      waits = record {
+        flight = record { way = record { at = 0; port = 2; address = 5 ∷ [] }; body = bodies.Request 1 first_request };
+        there = record { at = 1; port = 2; address = 1 ∷ [] };
+        sent = refl;
+        leads = refl;
+        fresh = refl;
+      };
+      here = refl;
+      event_is = refl;
+    };
+    config = first_bridge;
+    is_module = refl;
+    new = by_goes_on.0;
+    step = by_goes_on.1;
+  },
+)
+
+run_refuses : IsRun plant refuses
+run_refuses = (
+  run_goes_on,
+  record {
+    event = events.Frame 1 (0 ∷ []) (bodies.Request 1 second_request);
+    given = record {
+      waits = record {
+        flight = record { way = record { at = 1; port = 1; address = 3 ∷ [] }; body = bodies.Request 1 second_request };
+        there = record { at = 2; port = 1; address = 0 ∷ [] };
+        sent = refl;
+        leads = refl;
+        fresh = refl;
+      };
+      here = refl;
+      event_is = refl;
+    };
+    config = second_bridge;
+    is_module = refl;
+    new = by_refuses.0;
+    step = by_refuses.1;
+  },
+)
+
+run_passes : IsRun plant passes
+run_passes = (
+  run_refuses,
+  record {
+    event = events.Frame 1 (3 ∷ []) (bodies.Reply 1 failure);
+    given = record {
+      waits = record {
+        flight = record { way = record { at = 2; port = 1; address = 0 ∷ [] }; body = bodies.Reply 1 failure };
+        there = record { at = 1; port = 1; address = 3 ∷ [] };
+        sent = refl;
+        leads = refl;
+        fresh = refl;
+      };
+      here = refl;
+      event_is = refl;
+    };
+    config = first_bridge;
+    is_module = refl;
+    new = by_passes.0;
+    step = by_passes.1;
+  },
+)
+
+-- the whole run
+pub reset_under_way : IsRun plant comes_late
+reset_under_way = (
+  run_passes,
+  record {
+    event = events.Frame 2 (5 ∷ []) (bodies.Reply 1 failure);
+    given = record {
+      waits = record {
+        flight = record { way = record { at = 1; port = 2; address = 1 ∷ [] }; body = bodies.Reply 1 failure };
+        there = record { at = 0; port = 2; address = 5 ∷ [] };
+        sent = refl;
+        leads = refl;
+        fresh = refl;
+      };
+      here = refl;
+      event_is = refl;
+    };
+    config = scanner;
+    is_module = refl;
+    new = by_comes_late.0;
+    step = by_comes_late.1;
+  },
+)
