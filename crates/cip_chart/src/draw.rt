@@ -4,7 +4,7 @@ use crate::arrows::{put_arrows, take_arrows};
 use crate::collect::ChartView;
 use crate::escape::put_escaped;
 use crate::layout::{Heights, LEFT, MARK, SPACING};
-use crate::lives::{body_of, put_lives};
+use crate::lives::{body_of, put_lives, take_names};
 use crate::rows::{put_marks, put_rows, take_rows};
 use crate::style::{self, HEADS, STYLE};
 use cip_base::NoMemory;
@@ -67,6 +67,7 @@ pub(crate) fn put_svg(
     let heights = Heights::of(alloc, chart.rows.as_slice(), body)?;
     let end = heights.end();
     let mut areas = Areas::new(alloc, end)?;
+    take_names(chart, &heights, &mut areas)?;
     take_rows(alloc, chart, &heights, &mut areas)?;
     let arrows = take_arrows(alloc, chart, &heights, &mut areas)?;
     let width = width_with(chart, areas.right);

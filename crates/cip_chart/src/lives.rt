@@ -1,4 +1,5 @@
 //! The modules of a chart: their boxes, their ports and their lifelines.
+use crate::areas::{Anchor, Areas, Spot, width_of};
 use crate::collect::ChartView;
 use crate::escape::put_escaped;
 use crate::layout::{BOX, Heights, PORT, x_of};
@@ -108,6 +109,28 @@ fn put_all_ports(chart: &ChartView<'_>, out: &mut String) -> Result<(), NoMemory
         }
     }
     out.push_str("</g>\n")?;
+    Ok(())
+}
+
+/// The names of the modules in between take their places.
+pub(crate) fn take_names(
+    chart: &ChartView<'_>,
+    heights: &Heights,
+    areas: &mut Areas,
+) -> Result<(), NoMemory> {
+    for y in &heights.names {
+        for (place, column) in chart.columns.iter().enumerate() {
+            if let Some(column) = column {
+                let spot = Spot {
+                    x: x_of(*column),
+                    y: *y,
+                    anchor: Anchor::Middle,
+                };
+                let name = name_of(chart.topology, ModuleId(place));
+                areas.put_text(spot.area(width_of(name.len())))?;
+            }
+        }
+    }
     Ok(())
 }
 

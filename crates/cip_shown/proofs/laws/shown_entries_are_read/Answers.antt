@@ -1,0 +1,4 @@
+use Rattle.cip_shown.proofs.laws.shown_entries_are_read.Goals as goal
+
+pub returns : goal.returns
+returns c = ?
