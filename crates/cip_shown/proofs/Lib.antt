@@ -1,2 +1,4 @@
 pub mod Words
 pub mod Outputs
+pub mod Heads
+pub mod Entries

@@ -1,11 +1,10 @@
 -- Words of a line: they hold no space and no end of a line.
-use Rattle.std.proofs.Common.{◌≡◌, ℕ, ◌<◌, ◌≤◌, ◌+◌, ◌*◌, ◌/◌, ◌%◌, ◌⊎◌, ◌^◌, ◌++◌, ◌∷◌, ◌==◌, ◌&&◌, Bool, List, [], length, true, false, Some, None, refl, sym, ap, ◌∙◌, arith, rules, append_assoc, slice_index}
-use Rattle.std.proofs.Common.{if◌then◌else◌, inl, inr, zero, suc, eqb}
-use Rattle.std.specs.Prelude.{nat_lt, nat_le, decimal, codes, All}
+use Rattle.std.proofs.Common.{◌≡◌, ℕ, ◌<◌, ◌/◌, ◌%◌, ◌^◌, ◌++◌, ◌∷◌, ◌==◌, ◌&&◌, Bool, List, [], length, true, false, refl, ap, ◌∙◌, arith, append_assoc, slice_index}
+use Rattle.std.proofs.Common.{inl, inr, zero, suc}
+use Rattle.std.specs.Prelude.{nat_lt, decimal, All}
 use Rattle.std.specs.Char.{is_ascii_digit}
-use Rattle.std.specs.List.{list_all, slice_split}
-use Rattle.std.specs.Str.Parse.{digits_value}
-use Rattle.std.proofs.lemmas.Bool.{cases_Bool, cases_lt, and_parts}
+use Rattle.std.specs.List.{list_all}
+use Rattle.std.proofs.lemmas.Bool.{cases_lt, and_parts}
 use Rattle.std.proofs.lemmas.Bool.Decides.{nat_tests}
 use Rattle.std.proofs.lemmas.Fmt.{digits_decimal}
 use Rattle.std.proofs.lemmas.List.Elements.{All-nil, All-cons, All-append}
@@ -132,3 +131,17 @@ joined_endless w [] h k = endless w h
 joined_endless w (v ∷ vs) h k =
     All-append (λ b. is_end b ≡ false) w (32 ∷ joined v vs) (endless w h)
     (All-cons (λ b. is_end b ≡ false) 32 (joined v vs) refl (joined_endless v vs k.0 k.1))
+
+-- ---- pieces of a line, put together from the left
+
+pub sp : (a c : List ℕ) → (a ++ 32 ∷ []) ++ c ≡ a ++ 32 ∷ c
+sp a c = append_assoc a (32 ∷ []) c
+
+pub two : (a b c : List ℕ) → ((a ++ 32 ∷ []) ++ b) ++ c ≡ a ++ 32 ∷ (b ++ c)
+two a b c = append_assoc (a ++ 32 ∷ []) b c ∙ append_assoc a (32 ∷ []) (b ++ c)
+
+pub three : (a b c : List ℕ) → (((a ++ 32 ∷ []) ++ b) ++ 32 ∷ []) ++ c ≡ a ++ 32 ∷ (b ++ 32 ∷ c)
+three a b c = sp ((a ++ 32 ∷ []) ++ b) c ∙ two a b (32 ∷ c)
+
+pub behind_three : (a b c d : List ℕ) → (a ++ 32 ∷ (b ++ 32 ∷ c)) ++ d ≡ a ++ 32 ∷ (b ++ 32 ∷ (c ++ d))
+behind_three a b c d = append_assoc a (32 ∷ (b ++ 32 ∷ c)) d ∙ ap (λ x. a ++ 32 ∷ x) (append_assoc b (32 ∷ c) d)
