@@ -80,7 +80,9 @@ frame_joined f = append_assoc (decimal f.entry) (46 ∷ []) (decimal f.output)
 -- ---- they are words
 
 pub frame_word : (f : FrameName) → FitsName f → IsWord (frame_text f)
-frame_word f h = ap (list_all is_high) (frame_joined f) ∙ both_words (decimal f.entry) (46 ∷ decimal f.output) (decimal_word f.entry h.0) (decimal_word f.output h.1)
+frame_word f h =
+    ap (list_all is_high) (frame_joined f)
+    ∙ both_words (decimal f.entry) (46 ∷ decimal f.output) (decimal_word f.entry h.0) (decimal_word f.output h.1)
 
 pub input_is_word : (input : Input) → IsWord (word_of input)
 input_is_word (inputs.Command (commands.Open op timing path params)) = refl

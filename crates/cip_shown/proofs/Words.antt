@@ -94,9 +94,10 @@ pairs_word (b ∷ rest) h =
     let small : b < 256 = head_byte b rest h in
     let high : b / 16 < 16 = omega arith in
     let low : b % 16 < 16 = omega arith in
-    and_both (is_high (slice_index upper_digits (b / 16))) (is_high (slice_index upper_digits (b % 16)) && list_all is_high (encode_upper rest))
-    (digit_of (b / 16) high)
-    (and_both (is_high (slice_index upper_digits (b % 16))) (list_all is_high (encode_upper rest)) (digit_of (b % 16) low) (pairs_word rest (tail_bytes b rest h)))
+    let second : Bool = is_high (slice_index upper_digits (b % 16)) in
+    let others : Bool = list_all is_high (encode_upper rest) in
+    and_both (is_high (slice_index upper_digits (b / 16))) (second && others) (digit_of (b / 16) high)
+    (and_both second others (digit_of (b % 16) low) (pairs_word rest (tail_bytes b rest h)))
 
 pub bytes_word : (bytes : List ℕ) → IsBytes bytes → IsWord (bytes_text bytes)
 bytes_word [] h = refl

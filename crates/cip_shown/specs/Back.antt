@@ -1,5 +1,5 @@
 -- What the lines of an entry show, and what is read of a text line by line.
-use Rattle.std.specs.Prelude.{ℕ, ◌+◌, ◌==◌, Bool, if◌then◌else◌, List, [], ◌∷◌, length, Option, Some, None}
+use Rattle.std.specs.Prelude.{ℕ, ◌+◌, ◌++◌, ◌==◌, Bool, if◌then◌else◌, List, [], ◌∷◌, length, Option, Some, None}
 use Rattle.std.specs.List.{slice_split}
 use Rattle.cip_event.specs.declared.event.Command.{Command}
 use Rattle.cip_event.specs.declared.event.Command.TheVariants as commands
@@ -18,6 +18,7 @@ use Rattle.cip_read.specs.declared.line.Line.{Line}
 use Rattle.cip_read.specs.declared.line.Line.TheVariants as lines
 use Rattle.cip_read.specs.Fields.{◌>>=◌}
 use Rattle.cip_read.specs.Lines.{line_of}
+use Rattle.cip_transcript.specs.Show.{entry_text}
 
 -- ---- what is shown
 
@@ -50,6 +51,15 @@ lines_shown k (entries.Step m input outputs) =
     lines.Step k m (input_shown input) ∷ outputs_shown 0 outputs
 lines_shown k (entries.Lost frame) = lines.Lost k (name_shown frame) ∷ []
 
+-- entries one behind the other, the first of which has this number, as text and as lines
+abbrev pub entries_text : List (List ℕ) → ℕ → List Entry → List ℕ
+entries_text names k [] = []
+entries_text names k (entry ∷ more) = entry_text names k entry ++ entries_text names (k + 1) more
+
+abbrev pub entries_shown : ℕ → List Entry → List Line
+entries_shown k [] = []
+entries_shown k (entry ∷ more) = lines_shown k entry ++ entries_shown (k + 1) more
+
 -- ---- what is read
 
 -- the byte ends a line
@@ -60,8 +70,8 @@ is_end b = b == 10
 abbrev pub read_lines : Plan → List (List ℕ) → Option (List Line)
 read_lines t [] = None
 read_lines t (rest ∷ []) = if length rest == 0 then Some [] else None
-read_lines t (line ∷ next ∷ more) = line_of t line >>= λ shown. (read_lines t (next ∷ more) >>= λ others.
-    Some (shown ∷ others))
+read_lines t (line ∷ next ∷ more) = line_of t line >>= λ shown. (read_lines t (next ∷ more)
+    >>= λ others. Some (shown ∷ others))
 
 -- what the lines of a text show, where each is part of an entry
 abbrev pub read_text : Plan → List ℕ → Option (List Line)

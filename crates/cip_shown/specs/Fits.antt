@@ -1,5 +1,6 @@
 -- What the values of the program hold: each number is below the bound of its type, each byte below
--- 256, a port and a tick are not 0, an address has 1 to 16 bytes, and the module is one of the topology.
+-- 256, a port and a tick are not 0, an address has 1 to 16 bytes, and a module is one of the
+-- topology.
 use Rattle.std.specs.Prelude.{ℕ, ◌+◌, ◌<◌, ◌≤◌, ◌^◌, List, [], ◌∷◌, length}
 use Rattle.hex.specs.Hex.{IsBytes}
 use Rattle.cip_base.specs.declared.triad.Triad.{Triad}
@@ -67,3 +68,8 @@ abbrev pub FitsEntry : Plan → Entry → Type 0
 FitsEntry t (Step m input outputs) =
     (m.0 < length t.modules) × FitsInput input × FitsOutputs 0 outputs
 FitsEntry t (Lost frame) = FitsName frame
+
+-- each entry, and their numbers, of which the first is this one
+abbrev pub FitsEntries : Plan → ℕ → List Entry → Type 0
+FitsEntries t k [] = Unit {0}
+FitsEntries t k (entry ∷ more) = (k < 2 ^ 64) × FitsEntry t entry × FitsEntries t (k + 1) more

@@ -1,10 +1,10 @@
 //! Reading what a transcript shows gives it back.
-ghost use Rattle.std.specs.Prelude.{◌≡◌, ℕ, ◌<◌, ◌^◌, Some};
+ghost use Rattle.std.specs.Prelude.{◌≡◌, ℕ, ◌<◌, ◌^◌, List, Some};
 ghost use Rattle.cip_topology.specs.Plan.{Plan, IsTopology};
 ghost use Rattle.cip_world.specs.declared.journal.Entry.{Entry};
 ghost use Rattle.cip_transcript.specs.Show.{entry_text, names_of};
-ghost use Rattle.cip_shown.specs.Back.{read_text, lines_shown};
-ghost use Rattle.cip_shown.specs.Fits.{FitsEntry};
+ghost use Rattle.cip_shown.specs.Back.{read_text, lines_shown, entries_text, entries_shown};
+ghost use Rattle.cip_shown.specs.Fits.{FitsEntry, FitsEntries};
 
 /// The lines that a transcript shows of an entry over a topology are read as that entry: its own
 /// line and those of its outputs, in their order.
@@ -12,4 +12,10 @@ pub fn shown_entries_are_read()
     ensures { (t : Plan) → IsTopology t → (k : ℕ) → k < 2 ^ 64 → (entry : Entry)
         → FitsEntry t entry
         → read_text t (entry_text (names_of t) k entry) ≡ Some (lines_shown k entry) }
+{}
+
+/// And so are the lines of all entries, one behind the other.
+pub fn shown_journals_are_read()
+    ensures { (t : Plan) → IsTopology t → (k : ℕ) (all : List Entry) → FitsEntries t k all
+        → read_text t (entries_text (names_of t) k all) ≡ Some (entries_shown k all) }
 {}

@@ -3,4 +3,4 @@
 
 mod laws;
 
-pub use laws::shown_entries_are_read;
+pub use laws::{shown_entries_are_read, shown_journals_are_read};
