@@ -132,9 +132,16 @@ more_are_words : (output : Output) → FitsOutput output → AreWords (more_word
 more_are_words (Send port to body) h = (small_word port h.0.1, (bytes_word to h.1.2, body_are_words body h.2))
 more_are_words (Done op reply) h = (number_word op h.0, (bytes_word reply h.1, tt))
 more_are_words (Refused fault) h = (refusal_word fault, tt)
-more_are_words (Consumed triad instance bytes) h =
-    (small_word triad.serial h.0.0, (small_word triad.vendor h.0.1, (number_word triad.originator h.0.2,
-    (number_word instance h.1, (bytes_word bytes h.2, tt)))))
+more_are_words (Consumed triad instance bytes) h = (
+  small_word triad.serial h.0.0,
+  (
+    small_word triad.vendor h.0.1,
+    (
+      number_word triad.originator h.0.2,
+      (number_word instance h.1, (bytes_word bytes h.2, tt)),
+    ),
+  ),
+)
 more_are_words (Arrived op bytes) h = (number_word op h.0, (bytes_word bytes h.1, tt))
 more_are_words (Expired triad) h = (small_word triad.serial h.0, (small_word triad.vendor h.1, (number_word triad.originator h.2, tt)))
 more_are_words (Dropped reason) h = (drop_word reason, tt)

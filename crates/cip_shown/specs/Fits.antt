@@ -64,6 +64,11 @@ FitsInput (inputs.Command command) = FitsCommand command
 FitsInput (inputs.Tick ms) = (1 ≤ ms) × (ms < 2 ^ 16)
 FitsInput (inputs.Frame port from f) = FitsName f
 
+-- the module of the entry is one of the topology
+abbrev pub IsAmong : Plan → Entry → Type 0
+IsAmong t (Step m input outputs) = m.0 < length t.modules
+IsAmong t (Lost frame) = Unit {0}
+
 abbrev pub FitsEntry : Plan → Entry → Type 0
 FitsEntry t (Step m input outputs) =
     (m.0 < length t.modules) × FitsInput input × FitsOutputs 0 outputs
