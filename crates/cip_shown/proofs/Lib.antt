@@ -2,3 +2,4 @@ pub mod Words
 pub mod Outputs
 pub mod Heads
 pub mod Entries
+pub mod Notes

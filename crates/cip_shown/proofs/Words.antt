@@ -24,7 +24,7 @@ is_high b = nat_lt 32 b
 abbrev pub IsWord : List ℕ → Type 0
 IsWord w = list_all is_high w ≡ true
 
-and_both : (a b : Bool) → a ≡ true → b ≡ true → (a && b) ≡ true
+pub and_both : (a b : Bool) → a ≡ true → b ≡ true → (a && b) ≡ true
 and_both a b h k = rw (h, k) refl
 
 pub all_of : (q : ℕ → Bool) (P : ℕ → Type 0) → ((b : ℕ) → q b ≡ true → P b) → (w : List ℕ) → list_all q w ≡ true → All P w

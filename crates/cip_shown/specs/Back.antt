@@ -1,5 +1,5 @@
 -- What the lines of an entry show, and what is read of a text line by line.
-use Rattle.std.specs.Prelude.{ℕ, ◌+◌, ◌++◌, ◌==◌, Bool, if◌then◌else◌, List, [], ◌∷◌, length, Option, Some, None}
+use Rattle.std.specs.Prelude.{◌≡◌, ℕ, ◌+◌, ◌++◌, ◌==◌, Bool, if◌then◌else◌, List, [], ◌∷◌, length, Option, Some, None, All}
 use Rattle.std.specs.List.{slice_split}
 use Rattle.cip_event.specs.declared.event.Command.{Command}
 use Rattle.cip_event.specs.declared.event.Command.TheVariants as commands
@@ -76,3 +76,7 @@ read_lines t (line ∷ next ∷ more) = line_of t line >>= λ shown. (read_lines
 -- what the lines of a text show, where each is part of an entry
 abbrev pub read_text : Plan → List ℕ → Option (List Line)
 read_text t text = read_lines t (slice_split is_end text)
+
+-- no line of the text shows a part of an entry, and nothing behind the last one does
+abbrev pub ShowsNone : Plan → List ℕ → Type 0
+ShowsNone t text = All (λ line. line_of t line ≡ None) (slice_split is_end text)

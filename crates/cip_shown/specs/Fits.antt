@@ -1,7 +1,7 @@
 -- What the values of the program hold: each number is below the bound of its type, each byte below
 -- 256, a port and a tick are not 0, an address has 1 to 16 bytes, and a module is one of the
 -- topology.
-use Rattle.std.specs.Prelude.{ℕ, ◌+◌, ◌<◌, ◌≤◌, ◌^◌, List, [], ◌∷◌, length}
+use Rattle.std.specs.Prelude.{ℕ, ◌+◌, ◌<◌, ◌≤◌, ◌^◌, List, [], ◌∷◌, length, Ok, Err}
 use Rattle.hex.specs.Hex.{IsBytes}
 use Rattle.cip_base.specs.declared.triad.Triad.{Triad}
 use Rattle.cip_event.specs.declared.event.Body.{Body}
@@ -12,6 +12,7 @@ use Rattle.cip_event.specs.declared.event.Output.{Output}
 use Rattle.cip_event.specs.declared.event.Output.TheVariants.{Send, Done, Refused, Consumed}
 use Rattle.cip_event.specs.declared.event.Output.TheVariants.{Arrived, Expired, Dropped}
 use Rattle.cip_topology.specs.Plan.{Plan}
+use Rattle.cip_transcript.specs.Chained.{Chained}
 use Rattle.cip_world.specs.declared.journal.FrameName.{FrameName}
 use Rattle.cip_world.specs.declared.journal.Input.{Input}
 use Rattle.cip_world.specs.declared.journal.Input.TheVariants as inputs
@@ -78,3 +79,13 @@ FitsEntry t (Lost frame) = FitsName frame
 abbrev pub FitsEntries : Plan → ℕ → List Entry → Type 0
 FitsEntries t k [] = Unit {0}
 FitsEntries t k (entry ∷ more) = (k < 2 ^ 64) × FitsEntry t entry × FitsEntries t (k + 1) more
+
+-- entries of a trail
+abbrev pub FitsNumbers : List ℕ → Type 0
+FitsNumbers [] = Unit {0}
+FitsNumbers (n ∷ more) = (n < 2 ^ 64) × FitsNumbers more
+
+-- the instances at the end of a chain
+abbrev pub FitsChain : Chained → Type 0
+FitsChain (Ok view) = (view.end.consume < 2 ^ 32) × (view.end.produce < 2 ^ 32)
+FitsChain (Err fault) = Unit {0}
