@@ -161,8 +161,8 @@ fn entry_fits(topology: &Topology, entry: &Entry)
     }
 }
 
-/// The lines that a transcript shows of an entry over a topology, of one of its modules, are read as
-/// that entry. Their types alone say that it fits.
+/// The lines that a transcript shows of an entry over a topology, of one of its modules, are read
+/// as that entry. Their types alone say that it fits.
 pub fn entry_is_read(topology: &Topology, number: usize, entry: &Entry)
     requires { IsAmong topology.now entry.now }
     ensures { read_text topology.now (entry_text (names_of topology.now) number entry.now)
