@@ -11,49 +11,72 @@ pub(crate) const LEFT: u64 = 150;
 pub(crate) const BOX: u64 = 24;
 /// The height of a port's line.
 pub(crate) const PORT: u64 = 13;
-/// The height of a row, and of each mark more.
+/// The height of a row.
 pub(crate) const ROW: u64 = 34;
-
+/// The height of each mark behind the first, and of a line of text.
 pub(crate) const MARK: u64 = 14;
+
+// So many rows are shown between two lines with the names of the modules.
+const NAMED: u64 = 24;
+
+// The height of a line with the names of the modules.
+const NAMES: u64 = 30;
 
 /// Where the lifeline of a column stands.
 pub(crate) fn x_of(column: usize) -> u64 {
     LEFT.saturating_add(SPACING.saturating_mul(column as u64))
 }
 
-/// How high a row is.
+/// How much of a row is below its dot, with its marks.
+pub(crate) fn below_dot(row: &Row) -> u64 {
+    MARK.saturating_mul(row.marks as u64)
+}
+
+/// How high a row is that is shown.
 fn height_of(row: &Row) -> u64 {
-    if row.is_folded {
-        return 0;
-    }
     let marks = MARK.saturating_mul((row.marks as u64).saturating_sub(1));
     let fold = if row.repeats > 0 { ROW } else { 0 };
     ROW.saturating_add(marks).saturating_add(fold)
 }
 
-/// Where each row stands, the first below the boxes; and, last, where the chart ends.
-pub(crate) fn heights(alloc: Global, rows: &[Row], top: u64) -> Result<Vec<u64>, NoMemory> {
-    let mut heights = Vec::new(alloc);
-    let mut y = top;
-    for row in rows {
-        heights.push(y)?;
-        y = y.saturating_add(height_of(row));
+/// Where the rows of a chart stand.
+#[derive(Drop)]
+pub(crate) struct Heights {
+    /// Where the dot of each row stands, and, last, where the chart ends.
+    pub rows: Vec<u64>,
+    /// Where the names of the modules stand again.
+    pub names: Vec<u64>,
+}
+
+impl Heights {
+    /// Of these rows, the first of them here.
+    pub(crate) fn of(alloc: Global, rows: &[Row], top: u64) -> Result<Heights, NoMemory> {
+        let mut heights = Heights {
+            rows: Vec::new(alloc),
+            names: Vec::new(alloc),
+        };
+        let mut y = top;
+        let mut shown: u64 = 0;
+        for row in rows {
+            if !row.is_folded {
+                if shown == NAMED {
+                    heights.names.push(y)?;
+                    y = y.saturating_add(NAMES);
+                    shown = 0;
+                }
+                shown = shown.saturating_add(1);
+            }
+            heights.rows.push(y)?;
+            if !row.is_folded {
+                y = y.saturating_add(height_of(row));
+            }
+        }
+        heights.rows.push(y)?;
+        Ok(heights)
     }
-    heights.push(y)?;
-    Ok(heights)
-}
 
-// So many hundredths of a way.
-fn share(way: u64, hundredths: u64) -> u64 {
-    let whole = (way / 100).saturating_mul(hundredths);
-    whole.saturating_add((way % 100).saturating_mul(hundredths) / 100)
-}
-
-/// A point so many hundredths of the way from one place to another.
-pub(crate) fn between(from: u64, to: u64, hundredths: u64) -> u64 {
-    if from <= to {
-        from.saturating_add(share(to - from, hundredths))
-    } else {
-        from.saturating_sub(share(from - to, hundredths))
+    /// Where the chart ends.
+    pub(crate) fn end(&self) -> u64 {
+        self.rows.as_slice().last().copied().unwrap_or(0)
     }
 }

@@ -1,15 +1,21 @@
 //! A transcript as a sequence chart: a lifeline for each module, an arrow for each frame.
 #![tactic(auto)]
 
+mod areas;
+mod arrows;
 mod collect;
 mod cut;
 mod draw;
 mod escape;
 mod fold;
+mod labels;
 mod layout;
+mod line;
+mod lives;
 mod marks;
 mod model;
 mod page;
+mod rows;
 mod style;
 
 pub use collect::ChartView;

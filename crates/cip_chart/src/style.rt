@@ -1,26 +1,53 @@
-//! The colours and lines of a chart.
+//! The colours and lines of a chart. They stand as attributes, so that a viewer that knows no style
+//! sheet shows it; the sheet has what it looks like on a dark screen, and at an arrow that one
+//! points at.
 
-/// The style of a chart, light and dark.
+/// The texts of a chart, but where an element says another.
+pub(crate) const TEXT: &str = "class=\"chart\" font-family=\"ui-sans-serif,system-ui,Segoe UI,\
+Helvetica,Arial,sans-serif\" font-size=\"11\" fill=\"#1b1f24\"";
+
+/// The names of modules.
+pub(crate) const NAME: &str = "font-size=\"13\" font-weight=\"700\" text-anchor=\"middle\"";
+
+/// What stands smaller and paler, in the middle of its place or at its end.
+pub(crate) const PALE: &str = "class=\"pale\" font-size=\"10\" fill=\"#5b6470\"";
+
+/// Lines and areas.
+pub(crate) const BOX: &str = "class=\"box\" fill=\"#eef1f5\" stroke=\"#c3c9d1\"";
+
+pub(crate) const LIFE: &str = "class=\"life\" fill=\"none\" stroke=\"#c3c9d1\" \
+stroke-dasharray=\"2 3\"";
+
+pub(crate) const FOLD: &str = "class=\"fold\" fill=\"#eef1f5\"";
+
+/// What tells of something that went wrong.
+pub(crate) const BAD: &str = " class=\"bad\" fill=\"#c0182b\"";
+
+/// The lines of frames.
+pub(crate) const REQUEST: &str = "class=\"request\" fill=\"none\" stroke=\"#0b5cad\" \
+stroke-width=\"1.5\"";
+
+pub(crate) const REPLY: &str = "class=\"reply\" fill=\"none\" stroke=\"#1a7f37\" \
+stroke-width=\"1.5\" stroke-dasharray=\"6 3\"";
+
+pub(crate) const FAILURE: &str = "class=\"failure\" fill=\"none\" stroke=\"#c0182b\" \
+stroke-width=\"1.5\" stroke-dasharray=\"6 3\"";
+
+pub(crate) const DATA: &str = "class=\"data\" fill=\"none\" stroke=\"#7a5195\" \
+stroke-width=\".8\"";
+
+/// The cross where a frame was lost.
+pub(crate) const CROSS: &str = "class=\"cross\" stroke=\"#c0182b\" stroke-width=\"2\" \
+stroke-dasharray=\"none\"";
+
+/// The sheet of a chart.
 pub(crate) const STYLE: &str = "\
-text{font:11px ui-sans-serif,system-ui,Segoe UI,Helvetica,Arial,sans-serif}\
-.name{font-weight:700;font-size:13px;text-anchor:middle}\
-.port,.entry,.note,.time{font-size:10px}.port{text-anchor:middle}.entry,.time{text-anchor:end}\
-.life{stroke-dasharray:2 3}.command{font-weight:700}.foldtext{font-style:italic}\
-.line{fill:none;stroke-width:1.5}.hit{fill:none;stroke:transparent;stroke-width:9}\
-.reply,.failure{stroke-dasharray:6 3}.data{stroke-width:.8}.cross{stroke-width:2;fill:none}\
-.label{text-anchor:middle;paint-order:stroke;stroke-width:3px}\
+.halo{paint-order:stroke;stroke:#fff;stroke-width:3px;stroke-linejoin:round}\
 a:hover .line,a:focus .line{stroke-width:3}a:focus{outline:none}\
-.paper{fill:#fff}text,.dot{fill:#1b1f24}\
-.port,.entry,.note,.time,.foldtext{fill:#5b6470}\
-.box,.fold{fill:#eef1f5}.box,.life{stroke:#c3c9d1}.label{stroke:#fff}\
-.request{stroke:#0b5cad}#request path{fill:#0b5cad}\
-.reply{stroke:#1a7f37}#reply path{fill:#1a7f37}\
-.failure,.cross{stroke:#c0182b}#failure path,.bad{fill:#c0182b}\
-.data{stroke:#7a5195}#data path{fill:#7a5195}\
+a:focus .halo{text-decoration:underline}\
 @media (prefers-color-scheme:dark){\
-.paper{fill:#15181c}text,.dot{fill:#e6e9ee}\
-.port,.entry,.note,.time,.foldtext{fill:#9aa4b1}\
-.box,.fold{fill:#232930}.box,.life{stroke:#454d57}.label{stroke:#15181c}\
+.paper{fill:#15181c}.chart{fill:#e6e9ee}.pale{fill:#9aa4b1}.halo{stroke:#15181c}\
+.box,.fold{fill:#232930}.box,.life{stroke:#454d57}\
 .request{stroke:#6cb3ff}#request path{fill:#6cb3ff}\
 .reply{stroke:#5ad07a}#reply path{fill:#5ad07a}\
 .failure,.cross{stroke:#ff7b86}#failure path,.bad{fill:#ff7b86}\
@@ -53,14 +80,14 @@ pub(crate) const HEADS: &str = "\
 <defs>\
 <marker id=\"request\" viewBox=\"0 0 8 8\" refX=\"8\" refY=\"4\" markerWidth=\"8\" \
 markerHeight=\"8\" markerUnits=\"userSpaceOnUse\" orient=\"auto\">\
-<path d=\"M0 0L8 4L0 8z\"/></marker>\
+<path fill=\"#0b5cad\" d=\"M0 0L8 4L0 8z\"/></marker>\
 <marker id=\"reply\" viewBox=\"0 0 8 8\" refX=\"8\" refY=\"4\" markerWidth=\"8\" \
 markerHeight=\"8\" markerUnits=\"userSpaceOnUse\" orient=\"auto\">\
-<path d=\"M0 0L8 4L0 8z\"/></marker>\
+<path fill=\"#1a7f37\" d=\"M0 0L8 4L0 8z\"/></marker>\
 <marker id=\"failure\" viewBox=\"0 0 8 8\" refX=\"8\" refY=\"4\" markerWidth=\"8\" \
 markerHeight=\"8\" markerUnits=\"userSpaceOnUse\" orient=\"auto\">\
-<path d=\"M0 0L8 4L0 8z\"/></marker>\
+<path fill=\"#c0182b\" d=\"M0 0L8 4L0 8z\"/></marker>\
 <marker id=\"data\" viewBox=\"0 0 8 8\" refX=\"8\" refY=\"4\" markerWidth=\"7\" \
 markerHeight=\"7\" markerUnits=\"userSpaceOnUse\" orient=\"auto\">\
-<path d=\"M0 0L8 4L0 8z\"/></marker>\
+<path fill=\"#7a5195\" d=\"M0 0L8 4L0 8z\"/></marker>\
 </defs>\n";

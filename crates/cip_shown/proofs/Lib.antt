@@ -1,0 +1,5 @@
+pub mod Words
+pub mod Outputs
+pub mod Heads
+pub mod Entries
+pub mod Notes
