@@ -45,6 +45,7 @@ pub(crate) fn mark_of(alloc: Global, output: &Output) -> Result<Option<(String, 
             let serial = triad.serial;
             (format!(in alloc; "expired, serial {serial}")?, true)
         }
+        Output::Ended { op } => (format!(in alloc; "op {op} ended by the reset")?, true),
         Output::Dropped(reason) => {
             let word = drop_word(*reason);
             (format!(in alloc; "dropped {word}")?, true)

@@ -6,7 +6,7 @@ use Rattle.cip_event.specs.declared.event.Body.{Body}
 use Rattle.cip_event.specs.declared.event.Body.TheVariants.{Request, Reply, Data}
 use Rattle.cip_event.specs.declared.event.Output.{Output}
 use Rattle.cip_event.specs.declared.event.Output.TheVariants.{Send, Done, Refused, Consumed}
-use Rattle.cip_event.specs.declared.event.Output.TheVariants.{Arrived, Expired, Dropped}
+use Rattle.cip_event.specs.declared.event.Output.TheVariants.{Arrived, Expired, Ended, Dropped}
 use Rattle.cip_event.specs.declared.event.Refused.{Refused as Refusal}
 use Rattle.cip_event.specs.declared.event.Refused.TheVariants.{OpUsed, NotOpen, WrongSize}
 use Rattle.cip_event.specs.declared.event.Refused.TheVariants.{ReservedService, NoInstance}
@@ -79,6 +79,10 @@ arrived_of w = do
 abbrev pub expired_of : List (List ℕ) → Option Output
 expired_of w = triad_of w >>= λ triad. Some (Expired triad)
 
+-- `K ended OP`
+abbrev pub ended_of : List (List ℕ) → Option Output
+ended_of w = below (2 ^ 32) (number_of (nth w 4)) >>= λ op. Some (Ended op)
+
 abbrev pub drop_of : List ℕ → Option Drop
 drop_of word =
     if bytes_eq word (codes "Malformed") then Some Malformed
@@ -99,6 +103,7 @@ output_by word w =
     else if bytes_eq word (codes "consumed") then of_words 9 w (consumed_of w)
     else if bytes_eq word (codes "arrived") then of_words 6 w (arrived_of w)
     else if bytes_eq word (codes "expired") then of_words 7 w (expired_of w)
+    else if bytes_eq word (codes "ended") then of_words 5 w (ended_of w)
     else if bytes_eq word (codes "dropped") then of_words 5 w (dropped_of w)
     else None
 

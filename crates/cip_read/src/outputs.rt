@@ -2,7 +2,8 @@
 ghost use Rattle.std.specs.Prelude.{◌≡◌, ◌<◌, ◌≤◌, length, map, Option};
 ghost use Rattle.cip_read.specs.Fields.{Gives, nth, texts, of_words};
 ghost use Rattle.cip_read.specs.Outputs.{send_of, done_of, refused_of, consumed_of, arrived_of};
-ghost use Rattle.cip_read.specs.Outputs.{expired_of, dropped_of, output_of, body_of, refusal_of};
+ghost use Rattle.cip_read.specs.Outputs.{expired_of, ended_of, dropped_of, output_of, body_of};
+ghost use Rattle.cip_read.specs.Outputs.{refusal_of};
 ghost use Rattle.cip_read.specs.Outputs.{drop_of, triad_of};
 
 use crate::fault::{Expected, LineFault};
@@ -145,6 +146,17 @@ fn expired_output(words: &[&str]) -> Result<Output, LineFault>
     Ok(Output::Expired { triad })
 }
 
+// `K ended OP`
+fn ended_output(words: &[&str]) -> Result<Output, LineFault>
+    ensures { Gives result (of_words 5 (texts words.now) (ended_of (texts words.now))) }
+{
+    if words.len() != 5 {
+        return Err(LineFault::Word(words.len(), Expected::Usage("K ended OP")));
+    }
+    let op = u32_at(words, 4)?;
+    Ok(Output::Ended { op })
+}
+
 fn drop_of(word: &str) -> Result<Dropped, LineFault>
     ensures { Gives result (drop_of word.now) }
 {
@@ -192,10 +204,12 @@ pub(crate) fn output_at(alloc: Global, words: &[&str]) -> Result<Output, LineFau
         arrived_output(alloc, words)
     } else if word == "expired" {
         expired_output(words)
+    } else if word == "ended" {
+        ended_output(words)
     } else if word == "dropped" {
         dropped_output(words)
     } else {
-        let allowed = "send, done, refused, consumed, arrived, expired or dropped";
+        let allowed = "send, done, refused, consumed, arrived, expired, ended or dropped";
         Err(LineFault::Word(3, Expected::Words(allowed)))
     }
 }

@@ -6,7 +6,7 @@ use Rattle.cip_base.specs.declared.triad.Triad.{Triad}
 use Rattle.cip_event.specs.declared.event.Body.{Body}
 use Rattle.cip_event.specs.declared.event.Body.TheVariants.{Request, Reply, Data}
 use Rattle.cip_event.specs.declared.event.Output.{Output}
-use Rattle.cip_event.specs.declared.event.Output.TheVariants.{Send, Done, Refused, Consumed, Arrived, Expired, Dropped}
+use Rattle.cip_event.specs.declared.event.Output.TheVariants.{Send, Done, Refused, Consumed, Arrived, Expired, Ended, Dropped}
 use Rattle.cip_event.specs.declared.event.Refused.{Refused as Refusal}
 use Rattle.cip_event.specs.declared.event.Refused.TheVariants.{OpUsed, NotOpen, WrongSize, ReservedService, NoInstance}
 use Rattle.cip_event.specs.declared.event.Dropped.{Dropped as Drop}
@@ -31,6 +31,7 @@ first_word (Refused fault) = codes "refused"
 first_word (Consumed triad instance bytes) = codes "consumed"
 first_word (Arrived op bytes) = codes "arrived"
 first_word (Expired triad) = codes "expired"
+first_word (Ended op) = codes "ended"
 first_word (Dropped reason) = codes "dropped"
 
 abbrev pub body_words : Body → List (List ℕ)
@@ -46,6 +47,7 @@ more_words (Consumed triad instance bytes) =
     decimal triad.serial ∷ decimal triad.vendor ∷ decimal triad.originator ∷ decimal instance ∷ bytes_text bytes ∷ []
 more_words (Arrived op bytes) = decimal op ∷ bytes_text bytes ∷ []
 more_words (Expired triad) = decimal triad.serial ∷ decimal triad.vendor ∷ decimal triad.originator ∷ []
+more_words (Ended op) = decimal op ∷ []
 more_words (Dropped reason) = drop_text reason ∷ []
 
 -- the words of a line behind the first, which is empty
@@ -78,6 +80,7 @@ text_joined (Consumed triad instance bytes) =
     ∙ behind_three (decimal triad.serial) (decimal triad.vendor) (decimal triad.originator) (32 ∷ (decimal instance ++ 32 ∷ bytes_text bytes))))
 text_joined (Arrived op bytes) = ap (λ x. codes "arrived " ++ x) (sp (decimal op) (bytes_text bytes))
 text_joined (Expired triad) = ap (λ x. codes "expired " ++ x) (triad_joined triad)
+text_joined (Ended op) = refl
 text_joined (Dropped reason) = refl
 
 pub line_joined : (i : ℕ) (output : Output) → output_line i output ≡ joined [] (line_words i output) ++ 10 ∷ []
@@ -126,6 +129,7 @@ first_is_word (Refused fault) = refl
 first_is_word (Consumed triad instance bytes) = refl
 first_is_word (Arrived op bytes) = refl
 first_is_word (Expired triad) = refl
+first_is_word (Ended op) = refl
 first_is_word (Dropped reason) = refl
 
 more_are_words : (output : Output) → FitsOutput output → AreWords (more_words output)
@@ -144,6 +148,7 @@ more_are_words (Consumed triad instance bytes) h = (
 )
 more_are_words (Arrived op bytes) h = (number_word op h.0, (bytes_word bytes h.1, tt))
 more_are_words (Expired triad) h = (small_word triad.serial h.0, (small_word triad.vendor h.1, (number_word triad.originator h.2, tt)))
+more_are_words (Ended op) h = (number_word op h, tt)
 more_are_words (Dropped reason) h = (drop_word reason, tt)
 
 pub line_are_words : (i : ℕ) (output : Output) → i < 2 ^ 64 → FitsOutput output → AreWords (line_words i output)
@@ -195,6 +200,7 @@ output_read t i (Consumed triad instance bytes) h k =
     rw (n64 i h, n16 triad.serial k.0.0, n16 triad.vendor k.0.1, n32 triad.originator k.0.2, n32 instance k.1, bytes_back bytes k.2) refl
 output_read t i (Arrived op bytes) h k = rw (n64 i h, n32 op k.0, bytes_back bytes k.1) refl
 output_read t i (Expired triad) h k = rw (n64 i h, n16 triad.serial k.0, n16 triad.vendor k.1, n32 triad.originator k.2) refl
+output_read t i (Ended op) h k = rw (n64 i h, n32 op k) refl
 output_read t i (Dropped Malformed) h k = rw (n64 i h) refl
 output_read t i (Dropped Late) h k = rw (n64 i h) refl
 output_read t i (Dropped UnknownId) h k = rw (n64 i h) refl

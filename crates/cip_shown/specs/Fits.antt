@@ -10,7 +10,7 @@ use Rattle.cip_event.specs.declared.event.Command.{Command}
 use Rattle.cip_event.specs.declared.event.Command.TheVariants as commands
 use Rattle.cip_event.specs.declared.event.Output.{Output}
 use Rattle.cip_event.specs.declared.event.Output.TheVariants.{Send, Done, Refused, Consumed}
-use Rattle.cip_event.specs.declared.event.Output.TheVariants.{Arrived, Expired, Dropped}
+use Rattle.cip_event.specs.declared.event.Output.TheVariants.{Arrived, Expired, Ended, Dropped}
 use Rattle.cip_topology.specs.Plan.{Plan}
 use Rattle.cip_transcript.specs.Chained.{Chained}
 use Rattle.cip_world.specs.declared.journal.FrameName.{FrameName}
@@ -40,6 +40,7 @@ FitsOutput (Refused fault) = Unit {0}
 FitsOutput (Consumed triad instance bytes) = FitsTriad triad × (instance < 2 ^ 32) × IsBytes bytes
 FitsOutput (Arrived op bytes) = (op < 2 ^ 32) × IsBytes bytes
 FitsOutput (Expired triad) = FitsTriad triad
+FitsOutput (Ended op) = op < 2 ^ 32
 FitsOutput (Dropped reason) = Unit {0}
 
 -- each output, and their numbers, of which the first is this one

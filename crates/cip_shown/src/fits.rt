@@ -100,6 +100,7 @@ fn output_fits(output: &Output)
             bytes_fit(bytes);
         }
         Output::Expired { triad } => triad_fits(triad),
+        Output::Ended { op } => number_fits(*op),
         Output::Dropped(_) => {}
     }
 }

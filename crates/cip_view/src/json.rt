@@ -298,6 +298,11 @@ impl<'a> JsonView<'a> {
                 let triad = triad_json(alloc, *triad)?;
                 Ok(json!(in alloc; {"expired": triad})?)
             }
+            Output::Ended { op } => {
+                self.book.done(*op);
+                let ended = json!(in alloc; {"op": *op})?;
+                Ok(json!(in alloc; {"ended": ended})?)
+            }
             Output::Dropped(reason) => Ok(json!(in alloc; {"dropped": drop_word(*reason)})?),
         }
     }

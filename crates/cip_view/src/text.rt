@@ -126,6 +126,12 @@ impl<'a> TextView<'a> {
                 self.out.push_str("    the connection was silent for too long, and is gone\n")?;
                 Ok(())
             }
+            Output::Ended { op } => {
+                self.book.done(*op);
+                let text = "    the module was reset: what this op asked for, or had opened, is gone\n";
+                self.out.push_str(text)?;
+                Ok(())
+            }
             Output::Dropped(reason) => {
                 writeln!(self.out, "    {}", drop_reason(*reason))?;
                 Ok(())
