@@ -1,11 +1,16 @@
 //! Every fault of a topology file, not the first alone, and what is strange in one without faults.
 #![tactic(auto)]
 
+mod bytes;
 mod checking;
+mod explaining;
 mod reached;
 mod repairing;
 mod report;
 mod strangers;
+mod tables;
 
+pub use bytes::{NotUtf8, text_of};
 pub use checking::check;
+pub use explaining::explain_load;
 pub use report::Report;

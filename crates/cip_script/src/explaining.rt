@@ -70,6 +70,8 @@ pub enum Explained {
         found: Excerpt,
         why: WordFault,
     },
+    #[error("not text: the line begins with a byte order mark, EF BB BF; save it without one")]
+    Mark,
     #[error("byte {place} of the line is a carriage return, 0D; lines end with 0A, or with 0D 0A")]
     Return {
         place: usize,
@@ -268,8 +270,11 @@ fn explain_text(
     }
 }
 
-// The first byte that is not ASCII.
+// The first byte that is not ASCII, or a byte order mark.
 fn explain_byte(line: &[u8]) -> Explained {
+    if line.starts_with(&[0xEF, 0xBB, 0xBF]) {
+        return Explained::Mark;
+    }
     for (i, byte) in line.iter().enumerate() {
         if !byte.is_ascii() {
             return Explained::NotText {

@@ -1,8 +1,9 @@
 //! Why the program ends with an exit status above 0.
 use cip_base::NoMemory;
+use cip_check::NotUtf8;
 use cip_console::{ConsoleFault, Explained, OptionsFault, Usage};
 use cip_threads::RunFault;
-use cip_topology::LoadFault;
+use cip_world::FrameName;
 use std::fmt;
 use thiserror::Error;
 
@@ -41,6 +42,29 @@ impl fmt::Display for Escaped<'_> {
     }
 }
 
+// The most frames that are listed.
+const MOST: usize = 20;
+
+/// The names of frames, with commas between them.
+#[derive(Clone, Copy)]
+struct Frames<'a>(&'a Vec<FrameName>);
+
+impl fmt::Display for Frames<'_> {
+    fn fmt<W: fmt::Write>(&self, f: &mut fmt::Formatter<W>) -> fmt::Result {
+        if self.0.is_empty() {
+            return f.write_str("none");
+        }
+        for (i, frame) in self.0.iter().take(MOST).enumerate() {
+            let between = if i == 0 { "" } else { ", " };
+            write!(f, "{between}{}.{}", frame.entry, frame.output)?;
+        }
+        if self.0.len() > MOST {
+            write!(f, " and {} more", self.0.len() - MOST)?;
+        }
+        Ok(())
+    }
+}
+
 /// Why the program ends before its work is done, with the file that it is about.
 #[derive(Debug, Drop, Error)]
 pub enum Fault {
@@ -52,12 +76,12 @@ pub enum Fault {
     /// A word of the command line, from 1, is no text.
     #[error("argument {0}: not UTF-8")]
     Argument(usize),
-    /// The topology file, or the chassis that stands where none is given, breaks a rule.
+    /// The topology file, or the chassis that stands where none is given, breaks a rule; which.
     #[error("{}: {}", Escaped(.0), .1)]
-    Topology(String, LoadFault),
+    Topology(String, String),
     /// The topology file is no text.
-    #[error("{}: not UTF-8", Escaped(.0))]
-    NotText(String),
+    #[error("{}: {}", Escaped(.0), .1)]
+    NotText(String, NotUtf8),
     /// A file can't be read, or is too long.
     #[error("{}: {}", Escaped(.0), .1)]
     Read(String, Unread),
@@ -67,6 +91,9 @@ pub enum Fault {
     /// A line of the script that names no module, and the modules that there are.
     #[error("{}:{}: {}; allowed: {}", Escaped(.0), .1, .2, .3)]
     NoModule(String, usize, Explained, String),
+    /// A line of the script that names no frame that waits, and those that wait.
+    #[error("{}:{}: {}; waiting: {}", Escaped(.0), .1, .2, Frames(.3))]
+    NoFrame(String, usize, Explained, Vec<FrameName>),
     /// A text that was asked for can't be written.
     #[error("standard output can't be written")]
     Say,
@@ -111,14 +138,14 @@ impl Fault {
             Fault::Options(OptionsFault::Usage(Usage::Wrong)) => 2,
             Fault::Options(OptionsFault::NoMemory) => 5,
             Fault::Argument(_) => 2,
-            Fault::Topology(_, LoadFault::NoMemory) => 5,
             Fault::Topology(..) => 3,
-            Fault::NotText(_) => 3,
+            Fault::NotText(..) => 3,
             Fault::Usage(_) => 2,
             Fault::Read(..) => 4,
             Fault::Say => 4,
             Fault::Script(..) => 1,
             Fault::NoModule(..) => 1,
+            Fault::NoFrame(..) => 1,
             Fault::Console(fault) => status_of(fault),
             Fault::NoMemory => 5,
         }

@@ -1,8 +1,26 @@
 //! Why the program ends with an exit status above 0.
 
 use crate::options::USAGE;
+use cip_check::NotUtf8;
 use cip_tool::AnswerFault;
 use thiserror::Error;
+
+/// Why a file gives no bytes.
+#[derive(Clone, Copy, Debug, PartialEq, Eq, Error)]
+pub enum Unread {
+    #[error("there is no such file")]
+    Missing,
+    #[error("is a directory")]
+    Directory,
+    #[error("no permission to read it")]
+    NoPermission,
+    #[error("has more than 1,048,576 bytes")]
+    TooLong,
+    #[error("can't be read")]
+    Failed,
+    #[error("out of memory")]
+    NoMemory,
+}
 
 /// Why the program ends before its work is done.
 #[derive(Debug, Drop, Error)]
@@ -17,10 +35,11 @@ pub enum Fault {
     #[error("{0}")]
     Answer(AnswerFault),
     /// A file can't be read.
-    #[error("{0}: can't be read, or has more than 1,048,576 bytes")]
-    Read(String),
-    #[error("{0}: not UTF-8")]
-    NotText(String),
+    #[error("{0}: {1}")]
+    Read(String, Unread),
+    /// A topology file is no text.
+    #[error("{0}: {1}")]
+    NotText(String, NotUtf8),
     /// A topology file has so many faults, which were told.
     #[error("{0}: {1} faults")]
     Topology(String, usize),
@@ -39,9 +58,10 @@ impl Fault {
             Fault::Answer(_) => 1,
             Fault::Usage(_) => 2,
             Fault::Argument(_) => 2,
-            Fault::NotText(_) => 3,
+            Fault::NotText(..) => 3,
             Fault::Topology(..) => 3,
-            Fault::Read(_) => 4,
+            Fault::Read(_, Unread::NoMemory) => 5,
+            Fault::Read(..) => 4,
             Fault::Write => 4,
             Fault::NoMemory => 5,
         }

@@ -1,15 +1,15 @@
 //! What the program does: it reads its options, and writes the answer.
 
-use crate::fault::Fault;
+use crate::fault::{Fault, Unread};
 use crate::options::{HELP, OptionsFault, Task, VERSION, read_task};
-use cip_check::check;
+use cip_check::{check, text_of};
 use cip_open::Params;
 use cip_tool::{params_answer, params_of, path_answer, size_of, status_answer};
-use std::alloc::{AllocError, Global};
-use std::env;
+use std::alloc::Global;
 use std::env::Env;
 use std::fs::File;
-use std::io::Read;
+use std::io::{ErrorKind, Read};
+use std::{env, io};
 
 // The most bytes of one word of the command line, as Linux has it.
 const WORD_LIMIT: usize = 131_072;
@@ -68,23 +68,45 @@ const FILE_LIMIT: usize = 1_048_576;
 // How often a file is read at most: once for each byte, and once for the end.
 const ASKS: usize = 1_048_577;
 
-// The bytes of a file; None where it can't be read, or has more than are allowed.
-fn bytes_of(alloc: Global, file: &mut File) -> Result<Option<Vec<u8>>, AllocError> {
+fn unread_by(error: &io::Error) -> Unread {
+    match error.kind() {
+        ErrorKind::NotFound => Unread::Missing,
+        ErrorKind::PermissionDenied => Unread::NoPermission,
+        ErrorKind::IsADirectory => Unread::Directory,
+        _ => Unread::Failed,
+    }
+}
+
+// All that a reader gives, at most as many bytes as a file may have.
+fn bytes_of<R: Read>(alloc: Global, reader: &mut R) -> Result<Vec<u8>, Unread> {
     let mut bytes = Vec::new(alloc);
     let mut piece = [0u8; 4096];
     for _ in 0..ASKS {
-        let Ok(count) = file.read(&mut piece) else {
-            return Ok(None);
+        let count = match reader.read(&mut piece) {
+            Ok(count) => count,
+            Err(error) => return Err(unread_by(&error)),
         };
         if count == 0 {
-            return Ok(Some(bytes));
+            return Ok(bytes);
         }
         if bytes.len().saturating_add(count) > FILE_LIMIT {
-            return Ok(None);
+            return Err(Unread::TooLong);
         }
-        bytes.extend_from_slice(&piece[..count])?;
+        if bytes.extend_from_slice(&piece[..count]).is_err() {
+            return Err(Unread::NoMemory);
+        }
     }
-    Ok(None)
+    Err(Unread::TooLong)
+}
+
+fn bytes_at(rt: &HostRuntime, alloc: Global, name: &str) -> Result<Vec<u8>, Unread> {
+    match File::open(rt, name) {
+        Ok(file) => {
+            let mut file = file;
+            bytes_of(alloc, &mut file)
+        }
+        Err(error) => Err(unread_by(&error)),
+    }
 }
 
 fn say_report(rt: &HostRuntime, alloc: Global, name: String, text: &str) -> Result<(), Fault> {
@@ -104,17 +126,13 @@ fn say_report(rt: &HostRuntime, alloc: Global, name: String, text: &str) -> Resu
 
 // Checks a topology file.
 fn check_file(rt: &HostRuntime, alloc: Global, name: String) -> Result<(), Fault> {
-    let Ok(mut file) = File::open(rt, name.as_str()) else {
-        return Err(Fault::Read(name));
+    let bytes = match bytes_at(rt, alloc, name.as_str()) {
+        Ok(bytes) => bytes,
+        Err(why) => return Err(Fault::Read(name, why)),
     };
-    let bytes = match bytes_of(alloc, &mut file) {
-        Ok(Some(bytes)) => bytes,
-        Ok(None) => return Err(Fault::Read(name)),
-        Err(_) => return Err(Fault::NoMemory),
-    };
-    match std::str::from_utf8(bytes.as_slice()) {
+    match text_of(bytes.as_slice()) {
         Ok(text) => say_report(rt, alloc, name, text),
-        Err(_) => Err(Fault::NotText(name)),
+        Err(fault) => Err(Fault::NotText(name, fault)),
     }
 }
 
