@@ -7,6 +7,7 @@ mod explaining;
 mod reached;
 mod repairing;
 mod report;
+mod rooms;
 mod strangers;
 mod tables;
 
@@ -14,3 +15,4 @@ pub use bytes::{NotUtf8, text_of};
 pub use checking::check;
 pub use explaining::explain_load;
 pub use report::Report;
+pub use rooms::{RoomsFault, small_rooms};

@@ -4,7 +4,7 @@ use crate::steps::ScriptFault;
 use crate::text;
 use cip_base::NoMemory;
 use cip_segment::{PathFault, view_path};
-use cip_tool::{HexFault, fault_place, hex_fault};
+use cip_tool::{HexFault, fault_place, hex_fault, number};
 use cip_topology::Excerpt;
 use std::alloc::Global;
 use thiserror::Error;
@@ -81,8 +81,9 @@ pub enum Explained {
     Fault(ScriptFault),
 }
 
-// What stands behind a word of scripts.
-fn usage_of(word: &str) -> Option<&'static str> {
+/// What stands behind the first word of a line: the names of its words, with spaces between them.
+/// None where scripts have no such word.
+pub fn usage_of(word: &str) -> Option<&'static str> {
     match word {
         "send" => Some("M OP TICK TICKS PATH REQUEST"),
         "open" | "large" => {
@@ -129,8 +130,8 @@ fn is_numeral(word: &str) -> bool {
 
 // Why a word is no number up to the greatest.
 fn number_fault(field: &str, word: &str, most: u64) -> Option<WordFault> {
-    match text::number(word) {
-        Some(number) if number > most => Some(WordFault::MoreThan(most)),
+    match number(word) {
+        Some(found) if found > most => Some(WordFault::MoreThan(most)),
         Some(0) if field == "MS" => Some(WordFault::LessThanOne),
         Some(_) => None,
         None if is_numeral(word) => Some(WordFault::MoreThan(most)),

@@ -2,6 +2,7 @@
 use cip_base::NoMemory;
 use cip_check::NotUtf8;
 use cip_console::{ConsoleFault, Explained, OptionsFault, Usage};
+use cip_script::Frames;
 use cip_threads::RunFault;
 use cip_world::FrameName;
 use std::fmt;
@@ -42,29 +43,6 @@ impl fmt::Display for Escaped<'_> {
     }
 }
 
-// The most frames that are listed.
-const MOST: usize = 20;
-
-/// The names of frames, with commas between them.
-#[derive(Clone, Copy)]
-struct Frames<'a>(&'a Vec<FrameName>);
-
-impl fmt::Display for Frames<'_> {
-    fn fmt<W: fmt::Write>(&self, f: &mut fmt::Formatter<W>) -> fmt::Result {
-        if self.0.is_empty() {
-            return f.write_str("none");
-        }
-        for (i, frame) in self.0.iter().take(MOST).enumerate() {
-            let between = if i == 0 { "" } else { ", " };
-            write!(f, "{between}{}.{}", frame.entry, frame.output)?;
-        }
-        if self.0.len() > MOST {
-            write!(f, " and {} more", self.0.len() - MOST)?;
-        }
-        Ok(())
-    }
-}
-
 /// Why the program ends before its work is done, with the file that it is about.
 #[derive(Debug, Drop, Error)]
 pub enum Fault {
@@ -92,7 +70,7 @@ pub enum Fault {
     #[error("{}:{}: {}; allowed: {}", Escaped(.0), .1, .2, .3)]
     NoModule(String, usize, Explained, String),
     /// A line of the script that names no frame that waits, and those that wait.
-    #[error("{}:{}: {}; waiting: {}", Escaped(.0), .1, .2, Frames(.3))]
+    #[error("{}:{}: {}; waiting: {}", Escaped(.0), .1, .2, Frames(.3.as_slice()))]
     NoFrame(String, usize, Explained, Vec<FrameName>),
     /// A text that was asked for can't be written.
     #[error("standard output can't be written")]

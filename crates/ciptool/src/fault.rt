@@ -1,8 +1,12 @@
 //! Why the program ends with an exit status above 0.
 
 use crate::options::USAGE;
+use cip_base::NoMemory;
 use cip_check::NotUtf8;
+use cip_script::Explained;
 use cip_tool::AnswerFault;
+use cip_wide::LineFault;
+use std::alloc::AllocError;
 use thiserror::Error;
 
 /// Why a file gives no bytes.
@@ -40,9 +44,18 @@ pub enum Fault {
     /// A topology file is no text.
     #[error("{0}: {1}")]
     NotText(String, NotUtf8),
-    /// A topology file has so many faults, which were told.
+    /// A topology file has so many faults, or rooms too small for scripts, which were told.
     #[error("{0}: {1} faults")]
-    Topology(String, usize),
+    Faults(String, usize),
+    /// A topology file breaks a rule; which.
+    #[error("{0}: {1}")]
+    Topology(String, String),
+    /// A line of a script, and what is wrong with it.
+    #[error("{0}:{1}: {2}")]
+    Script(String, usize, Explained),
+    /// A line of a wide script, and what is wrong with it.
+    #[error("{0}:{1}: {2}")]
+    Line(String, usize, LineFault),
     #[error("standard output can't be written")]
     Write,
     #[error("out of memory")]
@@ -50,7 +63,7 @@ pub enum Fault {
 }
 
 impl Fault {
-    /// The exit status: 1 where what was asked for has no answer, 2 for the options, 3 for a
+    /// The exit status: 1 where what was asked for has no answer, or a line of a wide script is faulty, 2 for the options, 3 for a
     /// topology file, 4 for reading and writing, 5 where memory ran out.
     pub fn status(&self) -> u8 {
         match self {
@@ -59,12 +72,27 @@ impl Fault {
             Fault::Usage(_) => 2,
             Fault::Argument(_) => 2,
             Fault::NotText(..) => 3,
+            Fault::Faults(..) => 3,
             Fault::Topology(..) => 3,
+            Fault::Script(..) => 1,
+            Fault::Line(..) => 1,
             Fault::Read(_, Unread::NoMemory) => 5,
             Fault::Read(..) => 4,
             Fault::Write => 4,
             Fault::NoMemory => 5,
         }
+    }
+}
+
+impl From<NoMemory> for Fault {
+    fn from(_refused: NoMemory) -> Fault {
+        Fault::NoMemory
+    }
+}
+
+impl From<AllocError> for Fault {
+    fn from(_refused: AllocError) -> Fault {
+        Fault::NoMemory
     }
 }
 
