@@ -25,7 +25,7 @@ pub enum Unmet {
     NoDatum { kind: Excerpt, place: Excerpt },
     #[error("{kind}: at {place} stands {}, and not {}", Pairs(.found.as_slice()), Pairs(.wanted.as_slice()))]
     Datum { kind: Excerpt, place: Excerpt, found: Bytes, wanted: Bytes },
-    #[error("assembly: {0} has no such assembly")]
+    #[error("assembly: there is no assembly {0}")]
     NoAssembly(Excerpt),
     #[error("open: {0} is not open")]
     NotOpen(Excerpt),
