@@ -226,7 +226,7 @@ fn run(
     requires stand { ⟦<World as Shown>⟧.stands world.old }
     ensures stand { ⟦<World as Shown>⟧.stands world.new }
 {
-    for _ in 0..limit {
+    'frames: for _ in 0..limit {
         match world.deliver_least() {
             Ok(true) => look(alloc, world, line, watch)?,
             Ok(false) => return Ok(()),
@@ -274,7 +274,7 @@ fn play_all(
 {
     let steps = read_steps(alloc, Mode::InTurn, names, script)?;
     let mut left = VecDeque::from(steps);
-    while let Some(numbered) = left.pop_front() {
+    'steps: while let Some(numbered) = left.pop_front() {
         play(alloc, world, numbered.step, numbered.line, watch)?;
     }
     Ok(())

@@ -6,7 +6,7 @@ use crate::ops::{Ops, name_of};
 use crate::outcomes::{Code, Sought, newest, newest_refused};
 use crate::unmet::Unmet;
 use cip_base::{Bytes, ModuleId};
-use cip_tool::{hex_fault, number_u32};
+use cip_tool::{HexFault, hex_fault, number_u32};
 use cip_topology::{Excerpt, Topology};
 use cip_world::{Shown, World, WorldFault};
 use hex::FromHexError;
@@ -58,7 +58,10 @@ fn bytes_of(alloc: Global, word: &str) -> Result<Bytes, LineError> {
     match hex::decode(alloc, word) {
         Ok(bytes) => Ok(Bytes::of(bytes)),
         Err(FromHexError::OutOfMemory) => Err(LineError::NoMemory),
-        Err(_) => Err(wrong_word("expect", "BYTES", word, WordFault::NoStatus)),
+        Err(_) => {
+            let why = WordFault::NoBytes(HexFault::Odd(word.len()));
+            Err(wrong_word("expect", "BYTES", word, why))
+        }
     }
 }
 

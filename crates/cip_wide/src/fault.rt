@@ -150,7 +150,11 @@ pub(crate) fn unknown_word(word: &str) -> LineError {
 
 /// So many words stand behind the first one, where these are needed.
 pub(crate) fn wrong_count(word: &'static str, found: usize, needed: &'static str) -> LineError {
-    LineError::Fault(LineFault::Count { word, found, needed })
+    LineError::Fault(LineFault::Count {
+        word,
+        found,
+        needed,
+    })
 }
 
 /// A word that is none that may stand there.

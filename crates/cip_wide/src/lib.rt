@@ -5,8 +5,8 @@
 mod blocks;
 mod expecting;
 mod fault;
-mod links;
 mod lines;
+mod links;
 mod narrowing;
 mod ops;
 mod outcomes;

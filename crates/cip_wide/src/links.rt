@@ -78,12 +78,7 @@ pub(crate) fn module_at(
 }
 
 // The link that a word of a line names.
-fn link_at(
-    alloc: Global,
-    topology: &Topology,
-    word: &str,
-    name: &str,
-) -> Result<usize, LineError> {
+fn link_at(alloc: Global, topology: &Topology, word: &str, name: &str) -> Result<usize, LineError> {
     match link_named(topology, name) {
         Some(link) => Ok(link),
         None => {

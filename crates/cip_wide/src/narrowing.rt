@@ -133,18 +133,14 @@ fn play_lines(
 {
     let mut lines = lines;
     lines.reverse();
-    while let Some(line) = lines.pop() {
+    'lines: while let Some(line) = lines.pop() {
         play_plain(alloc, world, narrow, Plain { line, new: None })?;
     }
     Ok(())
 }
 
 // A line for each of the frames.
-fn frame_lines(
-    alloc: Global,
-    word: &str,
-    frames: &[FrameName],
-) -> Result<Vec<String>, AllocError> {
+fn frame_lines(alloc: Global, word: &str, frames: &[FrameName]) -> Result<Vec<String>, AllocError> {
     let mut lines = Vec::new(alloc);
     for frame in frames {
         let mut line = String::new(alloc);
@@ -276,7 +272,7 @@ fn play_all(
     let mut turns = Vec::new(alloc);
     let mut at = 0;
     let mut number = 1;
-    for _ in 0..MOST_LINES {
+    'all: for _ in 0..MOST_LINES {
         let Some(line) = lines.get(at) else {
             return Ok(());
         };

@@ -53,12 +53,7 @@ impl Ops {
     }
 
     /// The op of this number of the module has this name from now on.
-    pub(crate) fn name(
-        &mut self,
-        name: Name,
-        at: ModuleId,
-        number: u32,
-    ) -> Result<(), AllocError> {
+    pub(crate) fn name(&mut self, name: Name, at: ModuleId, number: u32) -> Result<(), AllocError> {
         self.note(at, number);
         self.named.push(Op { name, at, number })?;
         Ok(())

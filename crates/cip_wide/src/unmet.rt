@@ -14,17 +14,32 @@ pub enum Unmet {
     #[error("done: {0} is not done")]
     NotDone(Excerpt),
     #[error("done: {op} is done with {found}, and not with {wanted}")]
-    Done { op: Excerpt, found: Code, wanted: Code },
+    Done {
+        op: Excerpt,
+        found: Code,
+        wanted: Code,
+    },
     #[error("done: {0} is done with bytes that are no reply")]
     NoReply(Excerpt),
     #[error("refused: the last command was not refused")]
     NotRefused,
     #[error("refused: the last command was refused with {found:?}, and not with {wanted}")]
-    Refused { found: Refused, wanted: Excerpt },
+    Refused {
+        found: Refused,
+        wanted: Excerpt,
+    },
     #[error("{kind}: no datum came to {place}")]
-    NoDatum { kind: Excerpt, place: Excerpt },
+    NoDatum {
+        kind: Excerpt,
+        place: Excerpt,
+    },
     #[error("{kind}: at {place} stands {}, and not {}", Pairs(.found.as_slice()), Pairs(.wanted.as_slice()))]
-    Datum { kind: Excerpt, place: Excerpt, found: Bytes, wanted: Bytes },
+    Datum {
+        kind: Excerpt,
+        place: Excerpt,
+        found: Bytes,
+        wanted: Bytes,
+    },
     #[error("assembly: there is no assembly {0}")]
     NoAssembly(Excerpt),
     #[error("open: {0} is not open")]

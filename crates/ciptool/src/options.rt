@@ -144,7 +144,11 @@ fn status_command<'a>(alloc: Global) -> Result<Command<'a>, AllocError> {
 fn check_command<'a>(alloc: Global) -> Result<Command<'a>, AllocError> {
     Command::new(alloc, "check")
         .arg(word(alloc, "FILE").required(true))?
-        .arg(word(alloc, "SCRIPT").num_args(0..).action(ArgAction::Append))
+        .arg(
+            word(alloc, "SCRIPT")
+                .num_args(0..)
+                .action(ArgAction::Append),
+        )
 }
 
 fn script_command<'a>(alloc: Global) -> Result<Command<'a>, AllocError> {
@@ -316,7 +320,10 @@ pub fn read_task(alloc: Global, words: &[String]) -> Result<Task, OptionsFault> 
     match command(alloc)?.try_get_matches_from(words) {
         Ok(matches) => match matches.subcommand() {
             Some((name, matches)) => task_of(alloc, name, matches),
-            None => Err(wrong(alloc, "what is asked for? path, params, status, check or script")),
+            None => Err(wrong(
+                alloc,
+                "what is asked for? path, params, status, check or script",
+            )),
         },
         Err(error) => task_for(alloc, &error),
     }
