@@ -3,6 +3,7 @@
 
 mod bytes;
 mod checking;
+mod escaped;
 mod explaining;
 mod reached;
 mod repairing;
@@ -13,6 +14,7 @@ mod tables;
 
 pub use bytes::{NotUtf8, text_of};
 pub use checking::check;
+pub use escaped::Escaped;
 pub use explaining::explain_load;
 pub use report::Report;
 pub use rooms::{RoomsFault, small_rooms};

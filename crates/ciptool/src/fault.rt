@@ -2,7 +2,7 @@
 
 use crate::options::USAGE;
 use cip_base::NoMemory;
-use cip_check::NotUtf8;
+use cip_check::{Escaped, NotUtf8};
 use cip_script::Explained;
 use cip_tool::AnswerFault;
 use cip_wide::LineFault;
@@ -39,22 +39,22 @@ pub enum Fault {
     #[error("{0}")]
     Answer(AnswerFault),
     /// A file can't be read.
-    #[error("{0}: {1}")]
+    #[error("{}: {}", Escaped(.0.as_str()), .1)]
     Read(String, Unread),
     /// A topology file is no text.
-    #[error("{0}: {1}")]
+    #[error("{}: {}", Escaped(.0.as_str()), .1)]
     NotText(String, NotUtf8),
     /// A topology file has so many faults, or rooms too small for scripts, which were told.
-    #[error("{0}: {1} faults")]
+    #[error("{}: {} faults", Escaped(.0.as_str()), .1)]
     Faults(String, usize),
     /// A topology file breaks a rule; which.
-    #[error("{0}: {1}")]
+    #[error("{}: {}", Escaped(.0.as_str()), .1)]
     Topology(String, String),
     /// A line of a script, and what is wrong with it.
-    #[error("{0}:{1}: {2}")]
+    #[error("{}:{}: {}", Escaped(.0.as_str()), .1, .2)]
     Script(String, usize, Explained),
     /// A line of a wide script, and what is wrong with it.
-    #[error("{0}:{1}: {2}")]
+    #[error("{}:{}: {}", Escaped(.0.as_str()), .1, .2)]
     Line(String, usize, LineFault),
     #[error("standard output can't be written")]
     Write,

@@ -2,8 +2,7 @@
 
 use crate::fault::{Fault, Unread};
 use crate::options::{HELP, OptionsFault, Task, VERSION, read_task};
-use cip_base::NoMemory;
-use cip_check::{Report, RoomsFault, check, explain_load, small_rooms, text_of};
+use cip_check::{Escaped, Report, RoomsFault, check, explain_load, small_rooms, text_of};
 use cip_indexed::{NewModule, new_modules};
 use cip_module::Module;
 use cip_open::Params;
@@ -117,6 +116,7 @@ fn bytes_at(rt: &HostRuntime, alloc: Global, name: &str) -> Result<Vec<u8>, Unre
 
 // The lines of a report, each behind a name.
 fn say_lines(rt: &HostRuntime, name: &str, between: &str, report: &Report) -> Result<(), Fault> {
+    let name = Escaped(name);
     for line in report.lines() {
         if println!(rt; "{name}:{between}{line}").is_err() {
             return Err(Fault::Write);
@@ -125,23 +125,23 @@ fn say_lines(rt: &HostRuntime, name: &str, between: &str, report: &Report) -> Re
     Ok(())
 }
 
-// New modules of a topology, each in its box.
-fn boxed(
-    alloc: Global,
-    made: Vec<NewModule>,
-    modules: &mut Vec<Box<dyn Module + Send>>,
-) -> Result<(), NoMemory> {
-    for new in made {
-        let pushed = match new {
-            NewModule::Plain(module_) => modules.push(module_),
-            NewModule::Adapter(module_) => modules.push(module_),
-            NewModule::Indexed(module_) => modules.push(module_),
-        };
-        if pushed.is_err() {
-            return Err(NoMemory);
+// New modules, each in its box. A function that made boxes of any module and handed them out could
+// not say what is in them.
+macro_rules! boxes {
+    ($alloc:expr, $made:expr, $refused:expr) => {{
+        let mut modules: Vec<Box<dyn Module + Send>> = Vec::new($alloc);
+        for new in $made {
+            let pushed = match new {
+                NewModule::Plain(module_) => modules.push(module_),
+                NewModule::Adapter(module_) => modules.push(module_),
+                NewModule::Indexed(module_) => modules.push(module_),
+            };
+            if pushed.is_err() {
+                return Err($refused);
+            }
         }
-    }
-    Ok(())
+        modules
+    }};
 }
 
 fn rooms_of(alloc: Global, text: &str, script: &[u8]) -> Result<Report, RoomsFault> {
@@ -149,8 +149,7 @@ fn rooms_of(alloc: Global, text: &str, script: &[u8]) -> Result<Report, RoomsFau
         return Err(RoomsFault::NoMemory);
     };
     let made = new_modules(alloc, topology.configs())?;
-    let mut modules = Vec::new(alloc);
-    boxed(alloc, made, &mut modules)?;
+    let modules = boxes!(alloc, made, RoomsFault::NoMemory);
     small_rooms(alloc, topology, modules, script)
 }
 
@@ -278,8 +277,7 @@ fn script_name(alloc: Global, name: Option<String>) -> Result<String, Fault> {
 // The script that a wide script over new modules of a topology is.
 fn narrow_over(alloc: Global, topology: Topology, wide: &[u8]) -> Result<String, WideFault> {
     let made = new_modules(alloc, topology.configs())?;
-    let mut modules = Vec::new(alloc);
-    boxed(alloc, made, &mut modules)?;
+    let modules = boxes!(alloc, made, WideFault::NoMemory);
     narrow(alloc, topology, modules, wide)
 }
 
