@@ -53,7 +53,8 @@ fn broken_rules(
 
 /// Every rule that the text of a topology file breaks, in the order of `docs/TOPOLOGY.md`, each in
 /// the words of `explain_load`; each key that means nothing, with the nearest that does; and each
-/// module that no path reaches. What is no TOML is one fault. NoMemory where an allocation is refused.
+/// module that no path reaches. What is no TOML is one fault. NoMemory where an allocation is
+/// refused.
 ///
 /// To find the next fault the file is mended where the last one was: a name that is missing gets
 /// one, and a port that stands nowhere stands on a link of its own.

@@ -33,7 +33,8 @@ pub enum Unmet {
         kind: Excerpt,
         place: Excerpt,
     },
-    #[error("{kind}: at {place} stands {}, and not {}", Pairs(.found.as_slice()), Pairs(.wanted.as_slice()))]
+    #[error("{kind}: at {place} stands {}, \
+        and not {}", Pairs(.found.as_slice()), Pairs(.wanted.as_slice()))]
     Datum {
         kind: Excerpt,
         place: Excerpt,

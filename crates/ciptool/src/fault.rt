@@ -63,8 +63,8 @@ pub enum Fault {
 }
 
 impl Fault {
-    /// The exit status: 1 where what was asked for has no answer, or a line of a wide script is faulty, 2 for the options, 3 for a
-    /// topology file, 4 for reading and writing, 5 where memory ran out.
+    /// The exit status: 1 where what was asked for has no answer or a line of a script is faulty, 2
+    /// for the options, 3 for a topology file, 4 for reading and writing, 5 where memory ran out.
     pub fn status(&self) -> u8 {
         match self {
             Fault::Answer(AnswerFault::NoMemory) => 5,
