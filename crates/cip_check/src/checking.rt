@@ -1,5 +1,6 @@
 //! Every fault of a topology file.
 
+use crate::explaining::explain_load;
 use crate::reached::unreached;
 use crate::repairing::repair;
 use crate::report::Report;
@@ -21,7 +22,7 @@ fn fault_of(alloc: Global, text: &str, report: &mut Report) -> Result<Option<Loa
         }
         Err(LoadFault::NoMemory) => Err(NoMemory),
         Err(fault) => {
-            report.fault(alloc, &fault)?;
+            report.fault(alloc, &explain_load(alloc, text, &fault)?)?;
             Ok(Some(fault))
         }
     }
@@ -50,9 +51,10 @@ fn broken_rules(
     Ok(())
 }
 
-/// Every rule that the text of a topology file breaks, in the order of `docs/TOPOLOGY.md`, each as
-/// `load` tells it; each key that means nothing, with the nearest that does; and each module that
-/// no path reaches. What is no TOML is one fault. NoMemory where an allocation is refused.
+/// Every rule that the text of a topology file breaks, in the order of `docs/TOPOLOGY.md`, each in
+/// the words of `explain_load`; each key that means nothing, with the nearest that does; and each
+/// module that no path reaches. What is no TOML is one fault. NoMemory where an allocation is
+/// refused.
 ///
 /// To find the next fault the file is mended where the last one was: a name that is missing gets
 /// one, and a port that stands nowhere stands on a link of its own.

@@ -4,8 +4,8 @@ use cip_topology::{Key, LoadFault, Place};
 use std::alloc::{AllocError, Global};
 use toml::{Table, Value};
 
-// The link on which ports stand that had no place of their own.
-const SPARE: &str = "spare-link";
+/// The link on which ports stand that had no place of their own.
+pub(crate) const SPARE: &str = "spare-link";
 
 const SPARE_LINK: &str = r#"
 name = "spare-link"
@@ -44,8 +44,15 @@ fn text(alloc: Global, text: &str) -> Result<Value, AllocError> {
     Ok(Value::String(String::from_str(alloc, text)?))
 }
 
-// A name, or the bytes of an address in hexadecimal, that no other repair took: the four digits of
-// the turn as characters.
+// A name that no other repair took.
+fn fresh_name(alloc: Global, turn: usize) -> Result<Value, AllocError> {
+    let mut text = String::new(alloc);
+    write!(text, "mended-{turn}")?;
+    Ok(Value::String(text))
+}
+
+// The bytes of an address in hexadecimal, that no other repair took: the four digits of the turn as
+// characters.
 fn fresh_text(alloc: Global, turn: usize) -> Result<Value, AllocError> {
     let mut text = String::new(alloc);
     for tens in [1000, 100, 10, 1] {
@@ -214,7 +221,7 @@ fn value_for(alloc: Global, key: Key, turn: usize) -> Result<Value, AllocError> 
     match key {
         Key::Link | Key::Module => one_table(alloc, SPARE_LINK),
         Key::Assembly => Ok(empty_array(alloc)),
-        Key::Name => fresh_text(alloc, turn),
+        Key::Name => fresh_name(alloc, turn),
         Key::ProductName => text(alloc, ""),
         Key::Vendor | Key::Serial | Key::Number | Key::Instance => Ok(Value::Integer(fresh(turn))),
         Key::Last => Ok(Value::Integer(255)),

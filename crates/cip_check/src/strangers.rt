@@ -1,16 +1,17 @@
 //! Keys that mean nothing.
 
 use crate::report::Report;
-use cip_topology::{Name, Place};
+use crate::tables::{entries_of, name_of};
+use cip_topology::Place;
 use std::alloc::{AllocError, Global};
 use strsim::levenshtein;
 use toml::{Table, Value};
 
-const FILE: [&'static str; 2] = ["link", "module"];
+static FILE: [&str; 2] = ["link", "module"];
 
-const LINK: [&'static str; 5] = ["name", "kind", "first", "last", "longest"];
+static LINK: [&str; 5] = ["name", "kind", "first", "last", "longest"];
 
-const MODULE: [&'static str; 17] = [
+static MODULE: [&str; 17] = [
     "name",
     "kind",
     "vendor",
@@ -30,9 +31,9 @@ const MODULE: [&'static str; 17] = [
     "assembly",
 ];
 
-const PORT: [&'static str; 3] = ["number", "link", "address"];
+static PORT: [&str; 3] = ["number", "link", "address"];
 
-const ASSEMBLY: [&'static str; 2] = ["instance", "size"];
+static ASSEMBLY: [&str; 2] = ["instance", "size"];
 
 // The most edits from a key to the nearest one that is told.
 const NEAR: usize = 3;
@@ -116,20 +117,36 @@ fn keys_of(
     Ok(())
 }
 
-// The tables of a kind, as far as they are there.
-fn entries_of<'a>(table: &'a Table, key: &str) -> &'a [Value] {
-    match table.get(key) {
-        Some(Value::Array(entries)) => entries.as_slice(),
-        _ => &[],
+/// The keys that a table at this place has.
+pub(crate) fn known_at(place: &Place) -> &'static [&'static str] {
+    match place {
+        Place::File => &FILE,
+        Place::Link { .. } => &LINK,
+        Place::Module { .. } => &MODULE,
+        Place::Port { .. } => &PORT,
+        Place::Assembly { .. } => &ASSEMBLY,
     }
 }
 
-// The name that a table has, where it can be read.
-fn name_of(table: &Table) -> Option<Name> {
-    match table.get("name") {
-        Some(Value::String(name)) => Name::read(name.as_str().as_bytes()),
-        _ => None,
+/// Of the keys that mean nothing in a table, the nearest to one that is missing, if one is near.
+pub(crate) fn nearest_stranger<'a>(
+    alloc: Global,
+    table: &'a Table,
+    known: &[&'static str],
+    missing: &str,
+) -> Result<Option<&'a str>, AllocError> {
+    let mut nearest = None;
+    let mut least = NEAR + 1;
+    for key in table.keys() {
+        if !is_known(known, key.as_str()) {
+            let edits = levenshtein(alloc, key.as_str(), missing)?;
+            if edits < least {
+                least = edits;
+                nearest = Some(key.as_str());
+            }
+        }
     }
+    Ok(nearest)
 }
 
 fn strange_links(alloc: Global, document: &Table, report: &mut Report) -> Result<(), AllocError> {

@@ -7,7 +7,7 @@ ghost use Rattle.cip_script.specs.Steps.{steps};
 ghost use Rattle.cip_transcript.specs.Show.{names_of};
 ghost use Rattle.cip_console.specs.declared.console.ConsoleFault.TheVariants.{NoMemory as NoConsoleMemory};
 
-use crate::playing::{PlayFault, flush, play};
+use crate::playing::{PlayFault, flush, play, tell_waiting};
 use crate::source::{ReadFault, SCRIPT_LIMIT, Sink, Source, WriteFault, read_script};
 use cip_base::{Bytes, NoMemory};
 use cip_module::Module;
@@ -88,7 +88,10 @@ fn run_steps<W: Sink>(
         match play(alloc, world, names, numbered.step, writer, &mut text) {
             Ok(()) => {}
             Err(PlayFault::Stopped(fault)) => match flush(writer, &mut text, 0) {
-                Ok(()) => return Err(ConsoleFault::Script(line, fault)),
+                Ok(()) => {
+                    tell_waiting(world, writer);
+                    return Err(ConsoleFault::Script(line, fault));
+                }
                 Err(WriteFault) => return Err(ConsoleFault::Write),
             },
             Err(PlayFault::Write) => return Err(ConsoleFault::Write),

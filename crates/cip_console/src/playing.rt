@@ -74,6 +74,16 @@ fn tell<W: Sink>(world: &World, writer: &mut W)
     }
 }
 
+/// Which frames wait, where a run has stopped.
+pub(crate) fn tell_waiting<W: Sink>(world: &World, writer: &mut W)
+    ensures contents { W.contents writer.new ≡ W.contents writer.old }
+    ensures taken { W.has_refused writer.new → W.has_refused writer.old }
+{
+    if let Ok(waiting) = world.waiting() {
+        writer.tell_waiting(waiting);
+    }
+}
+
 // Once enough text was gathered it is written, and how far the run is may be told.
 #[inline(always)]
 fn flush_if_full<W: Sink>(

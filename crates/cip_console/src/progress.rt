@@ -2,6 +2,7 @@
 ghost use Rattle.std.specs.Prelude.{◌≡◌};
 
 use crate::source::Sink;
+use cip_world::FrameName;
 use std::{fmt, io};
 
 /// How long a run is before it is first told how far it is, in milliseconds.
@@ -50,6 +51,7 @@ pub struct Watched<W, S> {
     // when the screen is told next, in milliseconds from the beginning
     due: u64,
     is_shown: bool,
+    waiting: Option<Vec<FrameName>>,
 }
 
 impl<W, S: Screen> Watched<W, S> {
@@ -62,7 +64,15 @@ impl<W, S: Screen> Watched<W, S> {
             screen,
             due: FIRST,
             is_shown: false,
+            waiting: None,
         }
+    }
+
+    /// The frames that wait where a run has stopped, once; None where none has.
+    pub fn take_waiting(&mut self) -> Option<Vec<FrameName>>
+        ensures { self.new.inner ≡ self.old.inner }
+    {
+        self.waiting.take()
     }
 
     /// Takes the line away, at the end of a run.
@@ -103,5 +113,9 @@ impl<W: Sink, S: Screen> Sink for Watched<W, S> {
         self.screen.show(Line::Progress { done, waiting });
         self.is_shown = true;
         self.due = self.screen.elapsed().saturating_add(AGAIN);
+    }
+
+    fn tell_waiting(&mut self, waiting: Vec<FrameName>) {
+        self.waiting = Some(waiting);
     }
 }

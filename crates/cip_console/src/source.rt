@@ -8,6 +8,7 @@ ghost use Rattle.std.specs.Io.KnownBytes.{Appends, ReadConsumes, WriteAppends};
 ghost use Rattle.cip_console.specs.Known.{AppendsFront};
 ghost use Rattle.cip_console.specs.declared.source.ReadFault.TheVariants.{NoMemory};
 
+use cip_world::FrameName;
 use std::alloc::{AllocError, Global};
 use std::io;
 use std::io::{Read, Write};
@@ -151,6 +152,12 @@ pub trait Sink {
     /// How far the run is: so many entries are done, and so many frames wait. Nothing of it goes
     /// where the transcript goes.
     fn tell(&mut self, _done: usize, _waiting: usize)
+        ensures contents { contents self.new ≡ contents self.old }
+        ensures taken { has_refused self.new → has_refused self.old }
+    {}
+
+    /// A run has stopped, and these frames wait. Nothing of it goes where the transcript goes.
+    fn tell_waiting(&mut self, _waiting: Vec<FrameName>)
         ensures contents { contents self.new ≡ contents self.old }
         ensures taken { has_refused self.new → has_refused self.old }
     {}

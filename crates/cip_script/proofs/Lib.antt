@@ -1,5 +1,3 @@
-pub mod Digits
-pub mod Numerals
 pub mod BytesLaws
 pub mod WordsLaws
 pub mod LinesLaws

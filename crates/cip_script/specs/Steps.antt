@@ -30,7 +30,8 @@ use Rattle.cip_script.specs.declared.steps.StepFault.{StepFault}
 use Rattle.cip_script.specs.declared.steps.StepFault.TheVariants as step_fault
 use Rattle.cip_script.specs.declared.steps.StepsFault.{StepsFault}
 use Rattle.cip_script.specs.declared.steps.StepsFault.TheVariants as steps_fault
-use Rattle.cip_script.specs.Text.{words_of, number_of, below, bytes_of, is_dot}
+use Rattle.cip_script.specs.Text.{words_of, bytes_of, is_dot}
+use Rattle.cip_tool.specs.Numbers.{number_of, below}
 
 -- what references lead to
 abbrev pub texts : List (Bor (List ℕ)) → List (List ℕ)

@@ -4,7 +4,7 @@ use crate::steps::ScriptFault;
 use crate::text;
 use cip_base::NoMemory;
 use cip_segment::{PathFault, view_path};
-use cip_tool::{HexFault, fault_place, hex_fault};
+use cip_tool::{HexFault, fault_place, hex_fault, number};
 use cip_topology::Excerpt;
 use std::alloc::Global;
 use thiserror::Error;
@@ -70,6 +70,8 @@ pub enum Explained {
         found: Excerpt,
         why: WordFault,
     },
+    #[error("not text: the line begins with a byte order mark, EF BB BF; save it without one")]
+    Mark,
     #[error("byte {place} of the line is a carriage return, 0D; lines end with 0A, or with 0D 0A")]
     Return {
         place: usize,
@@ -79,8 +81,9 @@ pub enum Explained {
     Fault(ScriptFault),
 }
 
-// What stands behind a word of scripts.
-fn usage_of(word: &str) -> Option<&'static str> {
+/// What stands behind the first word of a line: the names of its words, with spaces between them.
+/// None where scripts have no such word.
+pub fn usage_of(word: &str) -> Option<&'static str> {
     match word {
         "send" => Some("M OP TICK TICKS PATH REQUEST"),
         "open" | "large" => {
@@ -127,8 +130,8 @@ fn is_numeral(word: &str) -> bool {
 
 // Why a word is no number up to the greatest.
 fn number_fault(field: &str, word: &str, most: u64) -> Option<WordFault> {
-    match text::number(word) {
-        Some(number) if number > most => Some(WordFault::MoreThan(most)),
+    match number(word) {
+        Some(found) if found > most => Some(WordFault::MoreThan(most)),
         Some(0) if field == "MS" => Some(WordFault::LessThanOne),
         Some(_) => None,
         None if is_numeral(word) => Some(WordFault::MoreThan(most)),
@@ -268,8 +271,11 @@ fn explain_text(
     }
 }
 
-// The first byte that is not ASCII.
+// The first byte that is not ASCII, or a byte order mark.
 fn explain_byte(line: &[u8]) -> Explained {
+    if line.starts_with(&[0xEF, 0xBB, 0xBF]) {
+        return Explained::Mark;
+    }
     for (i, byte) in line.iter().enumerate() {
         if !byte.is_ascii() {
             return Explained::NotText {

@@ -1,15 +1,14 @@
 //! Lines, words, numbers and bytes as they stand in a script.
 
-ghost use Rattle.std.specs.Prelude.{◌≡◌, ◌==◌, ◌^◌, ◌↔◌, ◌≤◌, ◌*◌, ◌++◌, ◌∷◌, [], length, take};
+ghost use Rattle.std.specs.Prelude.{◌≡◌, ◌==◌, ◌↔◌, ◌≤◌, ◌*◌, ◌++◌, ◌∷◌, [], length, take};
 ghost use Rattle.std.specs.Prelude.{map, IfOk, OnOk, IfSome, slice_index, IsSome, option_map};
 ghost use Rattle.std.specs.Prelude.{if◌then◌else◌};
-ghost use Rattle.std.specs.Char.{digit_value};
 ghost use Rattle.std.specs.Str.{IsAscii};
 ghost use Rattle.std.specs.Str.Lines.{lines, strip_carriage_return};
 ghost use Rattle.hex.specs.Hex.{decode_of};
-ghost use Rattle.cip_script.specs.Text.{words_of, kept_words, numeral, number_of, below, bytes_of};
-ghost use Rattle.cip_script.specs.Text.{ok_bytes, is_newline};
+ghost use Rattle.cip_script.specs.Text.{words_of, kept_words, bytes_of, ok_bytes, is_newline};
 
+use cip_tool::digit;
 use std::alloc::{AllocError, Global};
 
 /// The line as a text, if it is ASCII.
@@ -85,60 +84,6 @@ pub(crate) fn words<'a>(line: &'a str, found: &mut Vec<&'a str>) -> Result<(), A
         }
     }
     push_word(&line[start..], found)
-}
-
-// The value of each byte as a digit in any radix up to 36, and 36 for what is no digit.
-static DIGITS: [u8; 256] = [
-    36, 36, 36, 36, 36, 36, 36, 36, 36, 36, 36, 36, 36, 36, 36, 36, 36, 36, 36, 36, 36, 36, 36, 36,
-    36, 36, 36, 36, 36, 36, 36, 36, 36, 36, 36, 36, 36, 36, 36, 36, 36, 36, 36, 36, 36, 36, 36, 36,
-    0, 1, 2, 3, 4, 5, 6, 7, 8, 9, 36, 36, 36, 36, 36, 36, 36, 10, 11, 12, 13, 14, 15, 16, 17, 18,
-    19, 20, 21, 22, 23, 24, 25, 26, 27, 28, 29, 30, 31, 32, 33, 34, 35, 36, 36, 36, 36, 36, 36, 10,
-    11, 12, 13, 14, 15, 16, 17, 18, 19, 20, 21, 22, 23, 24, 25, 26, 27, 28, 29, 30, 31, 32, 33, 34,
-    35, 36, 36, 36, 36, 36, 36, 36, 36, 36, 36, 36, 36, 36, 36, 36, 36, 36, 36, 36, 36, 36, 36, 36,
-    36, 36, 36, 36, 36, 36, 36, 36, 36, 36, 36, 36, 36, 36, 36, 36, 36, 36, 36, 36, 36, 36, 36, 36,
-    36, 36, 36, 36, 36, 36, 36, 36, 36, 36, 36, 36, 36, 36, 36, 36, 36, 36, 36, 36, 36, 36, 36, 36,
-    36, 36, 36, 36, 36, 36, 36, 36, 36, 36, 36, 36, 36, 36, 36, 36, 36, 36, 36, 36, 36, 36, 36, 36,
-    36, 36, 36, 36, 36, 36, 36, 36, 36, 36, 36, 36, 36, 36, 36, 36, 36, 36, 36, 36, 36, 36, 36, 36,
-    36, 36, 36, 36, 36, 36, 36, 36, 36, 36, 36, 36, 36, 36,
-];
-
-// The value of a digit, and 36 for what is no digit.
-#[inline(always)]
-fn digit(byte: u8) -> u8
-    ensures { result ≡ digit_value byte }
-{
-    DIGITS[byte as usize]
-}
-
-// The number that digits of this radix write.
-#[inline(always)]
-fn numeral(digits: &[u8], radix: u8) -> Option<u64>
-    requires { 1 ≤ radix }
-    ensures { result ≡ below (2 ^ 64) (numeral radix digits.now) }
-{
-    if digits.is_empty() {
-        return None;
-    }
-    let mut number: u64 = 0;
-    for byte in digits {
-        let digit = digit(*byte);
-        if radix <= digit {
-            return None;
-        }
-        let tens = number.checked_mul(u64::from(radix))?;
-        number = tens.checked_add(u64::from(digit))?;
-    }
-    Some(number)
-}
-
-/// A number, in decimal digits or after `0x` in hexadecimal ones.
-pub(crate) fn number(word: &str) -> Option<u64>
-    ensures { result ≡ below (2 ^ 64) (number_of word.now) }
-{
-    match word.strip_prefix("0x") {
-        Some(digits) => numeral(digits.as_bytes(), 16),
-        None => numeral(word.as_bytes(), 10),
-    }
 }
 
 // The bytes of pairs of hexadecimal digits; false where one is no digit.

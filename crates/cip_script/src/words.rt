@@ -11,6 +11,7 @@ use crate::steps::{ScriptFault, StepFault};
 use crate::text;
 use cip_base::{Bytes, ModuleId, Ms, NoMemory, Timing};
 use cip_segment::{Path, view_path};
+use cip_tool::number;
 use cip_world::FrameName;
 use std::alloc::{AllocError, Global};
 
@@ -36,7 +37,7 @@ pub(crate) fn module_of(names: &[Bytes], word: &str) -> Result<ModuleId, StepFau
 pub(crate) fn number_u8(word: &str) -> Result<u8, StepFault>
     ensures { Gives result (bounded (2 ^ 8) word.now) }
 {
-    match text::number(word) {
+    match number(word) {
         Some(n) => match u8::try_from(n) {
             Ok(n) => Ok(n),
             Err(_) => Err(StepFault::Fault(ScriptFault::BadNumber)),
@@ -49,7 +50,7 @@ pub(crate) fn number_u8(word: &str) -> Result<u8, StepFault>
 pub(crate) fn number_u16(word: &str) -> Result<u16, StepFault>
     ensures { Gives result (bounded (2 ^ 16) word.now) }
 {
-    match text::number(word) {
+    match number(word) {
         Some(n) => match u16::try_from(n) {
             Ok(n) => Ok(n),
             Err(_) => Err(StepFault::Fault(ScriptFault::BadNumber)),
@@ -62,7 +63,7 @@ pub(crate) fn number_u16(word: &str) -> Result<u16, StepFault>
 pub(crate) fn number_u32(word: &str) -> Result<u32, StepFault>
     ensures { Gives result (bounded (2 ^ 32) word.now) }
 {
-    match text::number(word) {
+    match number(word) {
         Some(n) => match u32::try_from(n) {
             Ok(n) => Ok(n),
             Err(_) => Err(StepFault::Fault(ScriptFault::BadNumber)),
@@ -75,7 +76,7 @@ pub(crate) fn number_u32(word: &str) -> Result<u32, StepFault>
 pub(crate) fn number_usize(word: &str) -> Result<usize, StepFault>
     ensures { Gives result (bounded (2 ^ 64) word.now) }
 {
-    match text::number(word) {
+    match number(word) {
         Some(n) => Ok(n as usize),
         None => Err(StepFault::Fault(ScriptFault::BadNumber)),
     }

@@ -18,9 +18,9 @@ static DIGITS: [u8; 256] = [
     36, 36, 36, 36, 36, 36, 36, 36, 36, 36, 36, 36, 36, 36,
 ];
 
-// The value of a digit, and 36 for what is no digit.
+/// The value of a digit in any radix up to 36, and 36 for what is no digit.
 #[inline(always)]
-fn digit(byte: u8) -> u8
+pub fn digit(byte: u8) -> u8
     ensures { result ≡ digit_value byte }
 {
     DIGITS[byte as usize]
@@ -47,8 +47,8 @@ fn numeral(digits: &[u8], radix: u8) -> Option<u64>
     Some(number)
 }
 
-/// A number, in decimal digits or after `0x` in hexadecimal ones.
-pub(crate) fn number(word: &str) -> Option<u64>
+/// A number below 18,446,744,073,709,551,616, in decimal digits or after `0x` in hexadecimal ones.
+pub fn number(word: &str) -> Option<u64>
     ensures { result ≡ below (2 ^ 64) (number_of word.now) }
 {
     match word.strip_prefix("0x") {

@@ -1,9 +1,10 @@
 //! Why the program ends with an exit status above 0.
 use cip_base::NoMemory;
+use cip_check::{Escaped, NotUtf8};
 use cip_console::{ConsoleFault, Explained, OptionsFault, Usage};
+use cip_script::Frames;
 use cip_threads::RunFault;
-use cip_topology::LoadFault;
-use std::fmt;
+use cip_world::FrameName;
 use thiserror::Error;
 
 // What stands behind a fault of the options.
@@ -24,23 +25,6 @@ pub enum Unread {
     Failed,
 }
 
-/// A name, each byte of it that can't be printed as its number.
-#[derive(Clone, Copy)]
-struct Escaped<'a>(&'a String);
-
-impl fmt::Display for Escaped<'_> {
-    fn fmt<W: fmt::Write>(&self, f: &mut fmt::Formatter<W>) -> fmt::Result {
-        for c in self.0.as_str().chars() {
-            if c.is_control() {
-                write!(f, "\\x{:02X}", u32::from(c))?;
-            } else {
-                f.write_char(c)?;
-            }
-        }
-        Ok(())
-    }
-}
-
 /// Why the program ends before its work is done, with the file that it is about.
 #[derive(Debug, Drop, Error)]
 pub enum Fault {
@@ -52,21 +36,24 @@ pub enum Fault {
     /// A word of the command line, from 1, is no text.
     #[error("argument {0}: not UTF-8")]
     Argument(usize),
-    /// The topology file, or the chassis that stands where none is given, breaks a rule.
-    #[error("{}: {}", Escaped(.0), .1)]
-    Topology(String, LoadFault),
+    /// The topology file, or the chassis that stands where none is given, breaks a rule; which.
+    #[error("{}: {}", Escaped(.0.as_str()), .1)]
+    Topology(String, String),
     /// The topology file is no text.
-    #[error("{}: not UTF-8", Escaped(.0))]
-    NotText(String),
+    #[error("{}: {}", Escaped(.0.as_str()), .1)]
+    NotText(String, NotUtf8),
     /// A file can't be read, or is too long.
-    #[error("{}: {}", Escaped(.0), .1)]
+    #[error("{}: {}", Escaped(.0.as_str()), .1)]
     Read(String, Unread),
     /// A line of the script, and what is wrong with it.
-    #[error("{}:{}: {}", Escaped(.0), .1, .2)]
+    #[error("{}:{}: {}", Escaped(.0.as_str()), .1, .2)]
     Script(String, usize, Explained),
     /// A line of the script that names no module, and the modules that there are.
-    #[error("{}:{}: {}; allowed: {}", Escaped(.0), .1, .2, .3)]
+    #[error("{}:{}: {}; allowed: {}", Escaped(.0.as_str()), .1, .2, .3)]
     NoModule(String, usize, Explained, String),
+    /// A line of the script that names no frame that waits, and those that wait.
+    #[error("{}:{}: {}; waiting: {}", Escaped(.0.as_str()), .1, .2, Frames(.3.as_slice()))]
+    NoFrame(String, usize, Explained, Vec<FrameName>),
     /// A text that was asked for can't be written.
     #[error("standard output can't be written")]
     Say,
@@ -111,14 +98,14 @@ impl Fault {
             Fault::Options(OptionsFault::Usage(Usage::Wrong)) => 2,
             Fault::Options(OptionsFault::NoMemory) => 5,
             Fault::Argument(_) => 2,
-            Fault::Topology(_, LoadFault::NoMemory) => 5,
             Fault::Topology(..) => 3,
-            Fault::NotText(_) => 3,
+            Fault::NotText(..) => 3,
             Fault::Usage(_) => 2,
             Fault::Read(..) => 4,
             Fault::Say => 4,
             Fault::Script(..) => 1,
             Fault::NoModule(..) => 1,
+            Fault::NoFrame(..) => 1,
             Fault::Console(fault) => status_of(fault),
             Fault::NoMemory => 5,
         }

@@ -4,6 +4,7 @@ use crate::fault::{Fault, Unread};
 use crate::noted::Noted;
 use crate::terminal::Terminal;
 use cip_base::NoMemory;
+use cip_check::{explain_load, text_of};
 use cip_console::{
     ConsoleFault, Options, OptionsFault, Out, ReadFault, Script, ScriptFault, Usage, Watched,
     explain, explain_options, read_options, read_script, run, run_live,
@@ -12,6 +13,7 @@ use cip_indexed::{NewModule, new_modules};
 use cip_module::Module;
 use cip_threads::OpenGate;
 use cip_topology::{CHASSIS, LoadFault, Topology, load};
+use cip_world::FrameName;
 use std::alloc::Global;
 use std::env::Env;
 use std::fs::File;
@@ -52,20 +54,29 @@ fn names_of(alloc: Global, topology: &Topology) -> Result<String, NoMemory> {
     Ok(names)
 }
 
-// A fault of a line of the script, with what is wrong there.
+// A fault of a line of the script, with what is wrong there; of a run that has stopped, with the
+// frames that wait.
 fn script_fault(
     alloc: Global,
     asked: Asked<'_>,
     line: usize,
     fault: ScriptFault,
+    waiting: Option<Vec<FrameName>>,
 ) -> Result<Fault, NoMemory> {
     let name = String::from_str(alloc, asked.name)?;
     let explained = explain(alloc, asked.script, line, fault)?;
-    if fault == ScriptFault::NoModule {
-        let names = String::from_str(alloc, asked.modules)?;
-        return Ok(Fault::NoModule(name, line, explained, names));
+    match fault {
+        ScriptFault::NoModule => {
+            let names = String::from_str(alloc, asked.modules)?;
+            Ok(Fault::NoModule(name, line, explained, names))
+        }
+        ScriptFault::NoFrame => {
+            // Want of memory alone keeps them back.
+            let waiting = waiting.ok_or(NoMemory)?;
+            Ok(Fault::NoFrame(name, line, explained, waiting))
+        }
+        _ => Ok(Fault::Script(name, line, explained)),
     }
-    Ok(Fault::Script(name, line, explained))
 }
 
 // A script, its name, and the names of the modules that it is for.
@@ -76,13 +87,32 @@ struct Asked<'a> {
     modules: &'a str,
 }
 
+// What the console says, and the frames that wait where a run has stopped.
+#[derive(Drop)]
+struct Stopped {
+    fault: ConsoleFault,
+    waiting: Option<Vec<FrameName>>,
+}
+
+impl From<NoMemory> for Stopped {
+    fn from(_refused: NoMemory) -> Stopped {
+        Stopped {
+            fault: ConsoleFault::NoMemory,
+            waiting: None,
+        }
+    }
+}
+
 // What the console says, with the name of the script, and of a line what is wrong there.
-fn fault_of(alloc: Global, asked: Asked<'_>, fault: ConsoleFault) -> Fault {
-    match fault {
-        ConsoleFault::Script(line, fault) => match script_fault(alloc, asked, line, fault) {
-            Ok(fault) => fault,
-            Err(NoMemory) => Fault::NoMemory,
-        },
+fn fault_of(alloc: Global, asked: Asked<'_>, stopped: Stopped) -> Fault {
+    let waiting = stopped.waiting;
+    match stopped.fault {
+        ConsoleFault::Script(line, fault) => {
+            match script_fault(alloc, asked, line, fault, waiting) {
+                Ok(fault) => fault,
+                Err(NoMemory) => Fault::NoMemory,
+            }
+        }
         ConsoleFault::Read => unread(alloc, asked.name, Unread::Failed),
         ConsoleFault::Write => Fault::Console(ConsoleFault::Write),
         ConsoleFault::NoMemory => Fault::NoMemory,
@@ -166,27 +196,31 @@ fn bytes_at(rt: &HostRuntime, alloc: Global, path: &str) -> Result<Vec<u8>, Faul
     bytes_of(alloc, path, &mut file)
 }
 
-// The topology of a file.
-fn topology_at(rt: &HostRuntime, alloc: Global, path: &str) -> Result<Topology, Fault> {
-    let bytes = bytes_at(rt, alloc, path)?;
-    let Ok(text) = std::str::from_utf8(bytes.as_slice()) else {
-        return Err(Fault::NotText(named(alloc, path)?));
-    };
+// The topology of a text of this name.
+fn loaded(alloc: Global, name: &str, text: &str) -> Result<Topology, Fault> {
     match load(alloc, text) {
         Ok(topology) => Ok(topology),
         Err(LoadFault::NoMemory) => Err(Fault::NoMemory),
-        Err(fault) => Err(Fault::Topology(named(alloc, path)?, fault)),
+        Err(fault) => {
+            let told = explain_load(alloc, text, &fault)?;
+            Err(Fault::Topology(named(alloc, name)?, told))
+        }
+    }
+}
+
+// The topology of a file.
+fn topology_at(rt: &HostRuntime, alloc: Global, path: &str) -> Result<Topology, Fault> {
+    let bytes = bytes_at(rt, alloc, path)?;
+    match text_of(bytes.as_slice()) {
+        Ok(text) => loaded(alloc, path, text),
+        Err(fault) => Err(Fault::NotText(named(alloc, path)?, fault)),
     }
 }
 
 fn topology(rt: &HostRuntime, alloc: Global, options: &Options) -> Result<Topology, Fault> {
     match &options.topology {
         Some(path) => topology_at(rt, alloc, path.as_str()),
-        None => match load(alloc, CHASSIS) {
-            Ok(topology) => Ok(topology),
-            Err(LoadFault::NoMemory) => Err(Fault::NoMemory),
-            Err(fault) => Err(Fault::Topology(named(alloc, "the chassis")?, fault)),
-        },
+        None => loaded(alloc, "the chassis", CHASSIS),
     }
 }
 
@@ -219,7 +253,7 @@ fn play_over<T: Threads + Wait + Sync>(
     script: &[u8],
     topology: Topology,
     modules: Vec<Box<dyn Module + Send>>,
-) -> Result<(), ConsoleFault> {
+) -> Result<(), Stopped> {
     let alloc = rt.alloc();
     let mut reader = Script { rest: script };
     let out = Out {
@@ -241,7 +275,13 @@ fn play_over<T: Threads + Wait + Sync>(
         run(alloc, &mut reader, &mut writer, topology, modules)
     };
     writer.clear();
-    result
+    match result {
+        Ok(()) => Ok(()),
+        Err(fault) => Err(Stopped {
+            fault,
+            waiting: writer.take_waiting(),
+        }),
+    }
 }
 
 // Makes the modules of a topology, each in its box, and runs a script over them.
@@ -251,7 +291,7 @@ fn play<T: Threads + Wait + Sync>(
     options: &Options,
     script: &[u8],
     topology: Topology,
-) -> Result<(), ConsoleFault> {
+) -> Result<(), Stopped> {
     let alloc = rt.alloc();
     let made = new_modules(alloc, topology.configs())?;
     let mut modules: Vec<Box<dyn Module + Send>> = Vec::new(alloc);
@@ -262,7 +302,7 @@ fn play<T: Threads + Wait + Sync>(
             NewModule::Indexed(module_) => modules.push(module_),
         };
         if pushed.is_err() {
-            return Err(ConsoleFault::NoMemory);
+            return Err(Stopped::from(NoMemory));
         }
     }
     play_over(rt, workers, options, script, topology, modules)

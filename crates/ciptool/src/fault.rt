@@ -1,8 +1,30 @@
 //! Why the program ends with an exit status above 0.
 
 use crate::options::USAGE;
+use cip_base::NoMemory;
+use cip_check::{Escaped, NotUtf8};
+use cip_script::Explained;
 use cip_tool::AnswerFault;
+use cip_wide::LineFault;
+use std::alloc::AllocError;
 use thiserror::Error;
+
+/// Why a file gives no bytes.
+#[derive(Clone, Copy, Debug, PartialEq, Eq, Error)]
+pub enum Unread {
+    #[error("there is no such file")]
+    Missing,
+    #[error("is a directory")]
+    Directory,
+    #[error("no permission to read it")]
+    NoPermission,
+    #[error("has more than 1,048,576 bytes")]
+    TooLong,
+    #[error("can't be read")]
+    Failed,
+    #[error("out of memory")]
+    NoMemory,
+}
 
 /// Why the program ends before its work is done.
 #[derive(Debug, Drop, Error)]
@@ -17,13 +39,23 @@ pub enum Fault {
     #[error("{0}")]
     Answer(AnswerFault),
     /// A file can't be read.
-    #[error("{0}: can't be read, or has more than 1,048,576 bytes")]
-    Read(String),
-    #[error("{0}: not UTF-8")]
-    NotText(String),
-    /// A topology file has so many faults, which were told.
-    #[error("{0}: {1} faults")]
-    Topology(String, usize),
+    #[error("{}: {}", Escaped(.0.as_str()), .1)]
+    Read(String, Unread),
+    /// A topology file is no text.
+    #[error("{}: {}", Escaped(.0.as_str()), .1)]
+    NotText(String, NotUtf8),
+    /// A topology file has so many faults, or rooms too small for scripts, which were told.
+    #[error("{}: {} faults", Escaped(.0.as_str()), .1)]
+    Faults(String, usize),
+    /// A topology file breaks a rule; which.
+    #[error("{}: {}", Escaped(.0.as_str()), .1)]
+    Topology(String, String),
+    /// A line of a script, and what is wrong with it.
+    #[error("{}:{}: {}", Escaped(.0.as_str()), .1, .2)]
+    Script(String, usize, Explained),
+    /// A line of a wide script, and what is wrong with it.
+    #[error("{}:{}: {}", Escaped(.0.as_str()), .1, .2)]
+    Line(String, usize, LineFault),
     #[error("standard output can't be written")]
     Write,
     #[error("out of memory")]
@@ -31,20 +63,36 @@ pub enum Fault {
 }
 
 impl Fault {
-    /// The exit status: 1 where what was asked for has no answer, 2 for the options, 3 for a
-    /// topology file, 4 for reading and writing, 5 where memory ran out.
+    /// The exit status: 1 where what was asked for has no answer or a line of a script is faulty, 2
+    /// for the options, 3 for a topology file, 4 for reading and writing, 5 where memory ran out.
     pub fn status(&self) -> u8 {
         match self {
             Fault::Answer(AnswerFault::NoMemory) => 5,
             Fault::Answer(_) => 1,
             Fault::Usage(_) => 2,
             Fault::Argument(_) => 2,
-            Fault::NotText(_) => 3,
+            Fault::NotText(..) => 3,
+            Fault::Faults(..) => 3,
             Fault::Topology(..) => 3,
-            Fault::Read(_) => 4,
+            Fault::Script(..) => 1,
+            Fault::Line(..) => 1,
+            Fault::Read(_, Unread::NoMemory) => 5,
+            Fault::Read(..) => 4,
             Fault::Write => 4,
             Fault::NoMemory => 5,
         }
+    }
+}
+
+impl From<NoMemory> for Fault {
+    fn from(_refused: NoMemory) -> Fault {
+        Fault::NoMemory
+    }
+}
+
+impl From<AllocError> for Fault {
+    fn from(_refused: AllocError) -> Fault {
+        Fault::NoMemory
     }
 }
 

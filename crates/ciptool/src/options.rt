@@ -29,8 +29,16 @@ pub enum Task {
     },
     /// A general status, and perhaps an additional one.
     Status(String, Option<String>),
-    /// A topology file.
-    Check(String),
+    /// A topology file, and scripts for it.
+    Check {
+        topology: String,
+        scripts: Vec<String>,
+    },
+    /// A wide script, the standard input where no file is named, over the topology of a file.
+    Script {
+        topology: Option<String>,
+        script: Option<String>,
+    },
 }
 
 /// Why there is no task.
@@ -56,7 +64,8 @@ usage: ciptool path PATH
        ciptool params [--large] NUMBER
        ciptool params [--large] --size SIZE TYPE [--priority PRIORITY] [--variable] [--redundant]
        ciptool status GENERAL [ADDITIONAL]
-       ciptool check FILE
+       ciptool check FILE [SCRIPT ..]
+       ciptool script [--topology FILE] [FILE]
 `ciptool --help` says more";
 
 /// What the program does, and its options.
@@ -67,7 +76,8 @@ usage: ciptool path PATH
        ciptool params [--large] NUMBER
        ciptool params [--large] --size SIZE TYPE [--priority PRIORITY] [--variable] [--redundant]
        ciptool status GENERAL [ADDITIONAL]
-       ciptool check FILE
+       ciptool check FILE [SCRIPT ..]
+       ciptool script [--topology FILE] [FILE]
 
   path     a path in words as hexadecimal, in its shortest spelling; or a path in hexadecimal
            in words
@@ -82,14 +92,18 @@ usage: ciptool path PATH
              PRIORITY                low, high, scheduled or urgent; without it low
   status   the name of a status of a reply: GENERAL, or ADDITIONAL behind 01
   check    every fault of a topology file, keys that mean nothing, and modules that no path
-           reaches
+           reaches; and rooms that are too small for the scripts
+  script   a wide script, a FILE or the standard input, as a script for cipbridge: names for
+           ops, paths in words, cut and pass for what waits on a link, tickall, repeat, expect;
+           over the topology of a file, or the chassis that cipbridge has without one
   -h, --help      this text
   -V, --version   the version
 
 A number is decimal, or hexadecimal behind 0x.
 
-exit status: 0 done, 1 there is no answer, 2 wrong options, 3 a faulty topology, 4 a file that
-can't be read or output that can't be written, 5 no memory";
+exit status: 0 done, 1 there is no answer or a line is faulty or not as expected, 2 wrong
+options, 3 a faulty topology, 4 a file that can't be read or output that can't be written, 5 no
+memory";
 
 fn flag<'a>(alloc: Global, name: &'a str) -> Arg<'a> {
     Arg::new(alloc, name).long(name).action(ArgAction::SetTrue)
@@ -128,7 +142,19 @@ fn status_command<'a>(alloc: Global) -> Result<Command<'a>, AllocError> {
 }
 
 fn check_command<'a>(alloc: Global) -> Result<Command<'a>, AllocError> {
-    Command::new(alloc, "check").arg(word(alloc, "FILE").required(true))
+    Command::new(alloc, "check")
+        .arg(word(alloc, "FILE").required(true))?
+        .arg(
+            word(alloc, "SCRIPT")
+                .num_args(0..)
+                .action(ArgAction::Append),
+        )
+}
+
+fn script_command<'a>(alloc: Global) -> Result<Command<'a>, AllocError> {
+    Command::new(alloc, "script")
+        .arg(value(alloc, "topology"))?
+        .arg(word(alloc, "FILE"))
 }
 
 fn command<'a>(alloc: Global) -> Result<Command<'a>, AllocError> {
@@ -139,7 +165,8 @@ fn command<'a>(alloc: Global) -> Result<Command<'a>, AllocError> {
         .subcommand(path_command(alloc)?)?
         .subcommand(params_command(alloc)?)?
         .subcommand(status_command(alloc)?)?
-        .subcommand(check_command(alloc)?)
+        .subcommand(check_command(alloc)?)?
+        .subcommand(script_command(alloc)?)
 }
 
 fn wrong(alloc: Global, text: &str) -> OptionsFault {
@@ -158,6 +185,21 @@ fn text_at(
         Some(text) => Ok(Some(String::from_str(alloc, text)?)),
         None => Ok(None),
     }
+}
+
+fn texts_at(
+    alloc: Global,
+    matches: &ArgMatches<'_>,
+    id: &str,
+) -> Result<Vec<String>, OptionsFault> {
+    let mut texts = Vec::new(alloc);
+    for text in matches.get_raw(id).unwrap_or(&[]) {
+        let text = String::from_str(alloc, text)?;
+        if texts.push(text).is_err() {
+            return Err(OptionsFault::NoMemory);
+        }
+    }
+    Ok(texts)
 }
 
 fn needed_at(alloc: Global, matches: &ArgMatches<'_>, id: &str) -> Result<String, OptionsFault> {
@@ -230,7 +272,14 @@ fn task_of(alloc: Global, name: &str, matches: &ArgMatches<'_>) -> Result<Task, 
     match name {
         "path" => Ok(Task::Path(needed_at(alloc, matches, "PATH")?)),
         "params" => params_task(alloc, matches),
-        "check" => Ok(Task::Check(needed_at(alloc, matches, "FILE")?)),
+        "check" => Ok(Task::Check {
+            topology: needed_at(alloc, matches, "FILE")?,
+            scripts: texts_at(alloc, matches, "SCRIPT")?,
+        }),
+        "script" => Ok(Task::Script {
+            topology: text_at(alloc, matches, "topology")?,
+            script: text_at(alloc, matches, "FILE")?,
+        }),
         _ => Ok(Task::Status(
             needed_at(alloc, matches, "GENERAL")?,
             text_at(alloc, matches, "ADDITIONAL")?,
@@ -271,7 +320,10 @@ pub fn read_task(alloc: Global, words: &[String]) -> Result<Task, OptionsFault> 
     match command(alloc)?.try_get_matches_from(words) {
         Ok(matches) => match matches.subcommand() {
             Some((name, matches)) => task_of(alloc, name, matches),
-            None => Err(wrong(alloc, "what is asked for? path, params, status or check")),
+            None => Err(wrong(
+                alloc,
+                "what is asked for? path, params, status, check or script",
+            )),
         },
         Err(error) => task_for(alloc, &error),
     }

@@ -1,15 +1,20 @@
 //! What the program does: it reads its options, and writes the answer.
 
-use crate::fault::Fault;
+use crate::fault::{Fault, Unread};
 use crate::options::{HELP, OptionsFault, Task, VERSION, read_task};
-use cip_check::check;
+use cip_check::{Escaped, Report, RoomsFault, check, explain_load, small_rooms, text_of};
+use cip_indexed::{NewModule, new_modules};
+use cip_module::Module;
 use cip_open::Params;
+use cip_script::explain;
 use cip_tool::{params_answer, params_of, path_answer, size_of, status_answer};
-use std::alloc::{AllocError, Global};
-use std::env;
+use cip_topology::{CHASSIS, LoadFault, Topology, load};
+use cip_wide::{WideFault, narrow};
+use std::alloc::Global;
 use std::env::Env;
 use std::fs::File;
-use std::io::Read;
+use std::io::{ErrorKind, Read};
+use std::{env, io};
 
 // The most bytes of one word of the command line, as Linux has it.
 const WORD_LIMIT: usize = 131_072;
@@ -68,53 +73,235 @@ const FILE_LIMIT: usize = 1_048_576;
 // How often a file is read at most: once for each byte, and once for the end.
 const ASKS: usize = 1_048_577;
 
-// The bytes of a file; None where it can't be read, or has more than are allowed.
-fn bytes_of(alloc: Global, file: &mut File) -> Result<Option<Vec<u8>>, AllocError> {
+fn unread_by(error: &io::Error) -> Unread {
+    match error.kind() {
+        ErrorKind::NotFound => Unread::Missing,
+        ErrorKind::PermissionDenied => Unread::NoPermission,
+        ErrorKind::IsADirectory => Unread::Directory,
+        _ => Unread::Failed,
+    }
+}
+
+// All that a reader gives, at most as many bytes as a file may have.
+fn bytes_of<R: Read>(alloc: Global, reader: &mut R) -> Result<Vec<u8>, Unread> {
     let mut bytes = Vec::new(alloc);
     let mut piece = [0u8; 4096];
     for _ in 0..ASKS {
-        let Ok(count) = file.read(&mut piece) else {
-            return Ok(None);
+        let count = match reader.read(&mut piece) {
+            Ok(count) => count,
+            Err(error) => return Err(unread_by(&error)),
         };
         if count == 0 {
-            return Ok(Some(bytes));
+            return Ok(bytes);
         }
         if bytes.len().saturating_add(count) > FILE_LIMIT {
-            return Ok(None);
+            return Err(Unread::TooLong);
         }
-        bytes.extend_from_slice(&piece[..count])?;
+        if bytes.extend_from_slice(&piece[..count]).is_err() {
+            return Err(Unread::NoMemory);
+        }
     }
-    Ok(None)
+    Err(Unread::TooLong)
 }
 
-fn say_report(rt: &HostRuntime, alloc: Global, name: String, text: &str) -> Result<(), Fault> {
-    let Ok(report) = check(alloc, text) else {
-        return Err(Fault::NoMemory);
-    };
+fn bytes_at(rt: &HostRuntime, alloc: Global, name: &str) -> Result<Vec<u8>, Unread> {
+    match File::open(rt, name) {
+        Ok(file) => {
+            let mut file = file;
+            bytes_of(alloc, &mut file)
+        }
+        Err(error) => Err(unread_by(&error)),
+    }
+}
+
+// The lines of a report, each behind a name.
+fn say_lines(rt: &HostRuntime, name: &str, between: &str, report: &Report) -> Result<(), Fault> {
+    let name = Escaped(name);
     for line in report.lines() {
-        if println!(rt; "{name}: {line}").is_err() {
+        if println!(rt; "{name}:{between}{line}").is_err() {
             return Err(Fault::Write);
         }
     }
-    match report.faults() {
-        0 => Ok(()),
-        count => Err(Fault::Topology(name, count)),
+    Ok(())
+}
+
+// New modules, each in its box. A function that made boxes of any module and handed them out could
+// not say what is in them.
+macro_rules! boxes {
+    ($alloc:expr, $made:expr, $refused:expr) => {{
+        let mut modules: Vec<Box<dyn Module + Send>> = Vec::new($alloc);
+        for new in $made {
+            let pushed = match new {
+                NewModule::Plain(module_) => modules.push(module_),
+                NewModule::Adapter(module_) => modules.push(module_),
+                NewModule::Indexed(module_) => modules.push(module_),
+            };
+            if pushed.is_err() {
+                return Err($refused);
+            }
+        }
+        modules
+    }};
+}
+
+fn rooms_of(alloc: Global, text: &str, script: &[u8]) -> Result<Report, RoomsFault> {
+    let Ok(topology) = load(alloc, text) else {
+        return Err(RoomsFault::NoMemory);
+    };
+    let made = new_modules(alloc, topology.configs())?;
+    let modules = boxes!(alloc, made, RoomsFault::NoMemory);
+    small_rooms(alloc, topology, modules, script)
+}
+
+// Tells of the rooms that are too small for a script, and how many they are.
+fn check_script(
+    rt: &HostRuntime,
+    alloc: Global,
+    text: &str,
+    name: &String,
+) -> Result<usize, Fault> {
+    let script = match bytes_at(rt, alloc, name.as_str()) {
+        Ok(script) => script,
+        Err(why) => return Err(Fault::Read(String::from_str(alloc, name.as_str())?, why)),
+    };
+    match rooms_of(alloc, text, script.as_slice()) {
+        Ok(report) => {
+            say_lines(rt, name.as_str(), "", &report)?;
+            Ok(report.faults())
+        }
+        Err(RoomsFault::Script(line, fault)) => {
+            let explained = explain(alloc, script.as_slice(), line, fault)?;
+            let name = String::from_str(alloc, name.as_str())?;
+            Err(Fault::Script(name, line, explained))
+        }
+        Err(RoomsFault::NoMemory) => Err(Fault::NoMemory),
     }
 }
 
-// Checks a topology file.
-fn check_file(rt: &HostRuntime, alloc: Global, name: String) -> Result<(), Fault> {
-    let Ok(mut file) = File::open(rt, name.as_str()) else {
-        return Err(Fault::Read(name));
+// The same of all scripts.
+fn check_scripts(
+    rt: &HostRuntime,
+    alloc: Global,
+    text: &str,
+    scripts: &[String],
+) -> Result<usize, Fault> {
+    let mut count = 0usize;
+    for name in scripts {
+        count = count.saturating_add(check_script(rt, alloc, text, name)?);
+    }
+    Ok(count)
+}
+
+// Tells what is wrong with a topology file, and, where nothing is, what with its rooms.
+fn check_text(
+    rt: &HostRuntime,
+    alloc: Global,
+    name: String,
+    text: &str,
+    scripts: &[String],
+) -> Result<(), Fault> {
+    let Ok(report) = check(alloc, text) else {
+        return Err(Fault::NoMemory);
     };
-    let bytes = match bytes_of(alloc, &mut file) {
-        Ok(Some(bytes)) => bytes,
-        Ok(None) => return Err(Fault::Read(name)),
-        Err(_) => return Err(Fault::NoMemory),
+    say_lines(rt, name.as_str(), " ", &report)?;
+    let count = match report.faults() {
+        0 => check_scripts(rt, alloc, text, scripts)?,
+        count => count,
     };
-    match std::str::from_utf8(bytes.as_slice()) {
-        Ok(text) => say_report(rt, alloc, name, text),
-        Err(_) => Err(Fault::NotText(name)),
+    match count {
+        0 => Ok(()),
+        count => Err(Fault::Faults(name, count)),
+    }
+}
+
+// Checks a topology file, over scripts.
+fn check_file(
+    rt: &HostRuntime,
+    alloc: Global,
+    name: String,
+    scripts: &[String],
+) -> Result<(), Fault> {
+    let bytes = match bytes_at(rt, alloc, name.as_str()) {
+        Ok(bytes) => bytes,
+        Err(why) => return Err(Fault::Read(name, why)),
+    };
+    match text_of(bytes.as_slice()) {
+        Ok(text) => check_text(rt, alloc, name, text, scripts),
+        Err(fault) => Err(Fault::NotText(name, fault)),
+    }
+}
+
+// The topology of a text of this name.
+fn loaded(alloc: Global, name: &str, text: &str) -> Result<Topology, Fault> {
+    match load(alloc, text) {
+        Ok(topology) => Ok(topology),
+        Err(LoadFault::NoMemory) => Err(Fault::NoMemory),
+        Err(fault) => {
+            let told = explain_load(alloc, text, &fault)?;
+            Err(Fault::Topology(String::from_str(alloc, name)?, told))
+        }
+    }
+}
+
+// The topology of a file, or the chassis where none is named.
+fn topology_of(rt: &HostRuntime, alloc: Global, name: Option<String>) -> Result<Topology, Fault> {
+    let Some(name) = name else {
+        return loaded(alloc, "the chassis", CHASSIS);
+    };
+    let bytes = match bytes_at(rt, alloc, name.as_str()) {
+        Ok(bytes) => bytes,
+        Err(why) => return Err(Fault::Read(name, why)),
+    };
+    match text_of(bytes.as_slice()) {
+        Ok(text) => loaded(alloc, name.as_str(), text),
+        Err(fault) => Err(Fault::NotText(name, fault)),
+    }
+}
+
+// The bytes of a wide script.
+fn script_of(rt: &HostRuntime, alloc: Global, name: &Option<String>) -> Result<Vec<u8>, Unread> {
+    match name {
+        Some(name) => bytes_at(rt, alloc, name.as_str()),
+        None => bytes_of(alloc, &mut rt.reader()),
+    }
+}
+
+// The name of a wide script, as faults have it.
+fn script_name(alloc: Global, name: Option<String>) -> Result<String, Fault> {
+    match name {
+        Some(name) => Ok(name),
+        None => Ok(String::from_str(alloc, "<stdin>")?),
+    }
+}
+
+// The script that a wide script over new modules of a topology is.
+fn narrow_over(alloc: Global, topology: Topology, wide: &[u8]) -> Result<String, WideFault> {
+    let made = new_modules(alloc, topology.configs())?;
+    let modules = boxes!(alloc, made, WideFault::NoMemory);
+    narrow(alloc, topology, modules, wide)
+}
+
+// Writes the script that a wide script is.
+fn narrow_file(
+    rt: &HostRuntime,
+    alloc: Global,
+    topology: Option<String>,
+    script: Option<String>,
+) -> Result<(), Fault> {
+    let topology = topology_of(rt, alloc, topology)?;
+    let bytes = match script_of(rt, alloc, &script) {
+        Ok(bytes) => bytes,
+        Err(why) => return Err(Fault::Read(script_name(alloc, script)?, why)),
+    };
+    match narrow_over(alloc, topology, bytes.as_slice()) {
+        Ok(text) => match print!(rt; "{text}") {
+            Ok(()) => Ok(()),
+            Err(_) => Err(Fault::Write),
+        },
+        Err(WideFault::Line(line, fault)) => {
+            Err(Fault::Line(script_name(alloc, script)?, line, fault))
+        }
+        Err(WideFault::NoMemory) => Err(Fault::NoMemory),
     }
 }
 
@@ -122,7 +309,8 @@ fn answer(rt: &HostRuntime, alloc: Global, task: Task) -> Result<(), Fault> {
     match task {
         Task::Help => say(rt, HELP),
         Task::Version => say_version(rt),
-        Task::Check(name) => check_file(rt, alloc, name),
+        Task::Check { topology, scripts } => check_file(rt, alloc, topology, scripts.as_slice()),
+        Task::Script { topology, script } => narrow_file(rt, alloc, topology, script),
         Task::Path(text) => {
             let text = path_answer(alloc, text.as_str())?;
             say(rt, text.as_str())

@@ -8,7 +8,11 @@ type Explained = (&'static [u8], &'static str);
 
 const OPENED: &[u8] = b"open S 1 7 250 0205 1 0 1 10000 0x4806 10000 0x14804";
 
-const TOLD: [Explained; 24] = [
+const TOLD: [Explained; 25] = [
+    (
+        b"run 0\n\xEF\xBB\xBFrun 0",
+        "not text: the line begins with a byte order mark, EF BB BF; save it without one",
+    ),
     (
         b"# caf\xE9",
         "not text: byte 6 of the line is E9; allowed: 00 to 7F",

@@ -34,7 +34,7 @@ returns-in-Ok-flush-clause-wrote g c =
     let whole = subst (λ l. Prints (g.W.Sink.contents c.play.new.writer) (g.W.Sink.contents c.flush.new.writer) c.play.new.text.items l [])
     (c.in-Ok-flush.ensures.all refl) c.in-Ok-flush.ensures.ok in
     let (stop, wrote) = running_stops t c.args.steps.items _ _ _ _ _ _ j c.in-Some.numbered c.pop_front.new.self.items _ running full whole in
-    (rw c.in-Err-Stopped.field-0-is stop, wrote)
+    rw c.tell_waiting.ensures.contents (rw c.in-Err-Stopped.field-0-is stop, wrote)
 
 pub returns-in-Err-clause-wrote : goal.returns-in-Err-clause-wrote
 returns-in-Err-clause-wrote g c =

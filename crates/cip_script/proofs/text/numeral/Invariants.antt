@@ -1,9 +1,0 @@
-use Rattle.std.proofs.Common.{◌≡◌, ◌<◌, ◌^◌, drop}
-use Rattle.cip_script.proofs.Numerals.{read_after}
-use Rattle.cip_script.proofs.text.numeral.Given as goal
-
-abbrev pub invariant-loop-byte : goal.invariant-loop-byte
-invariant-loop-byte l = record {
-  fits : l.number < 2 ^ 64;
-  rest : read_after l.radix l.number (drop l.byte-index l.digits) ≡ read_after l.radix 0 l.digits;
-}

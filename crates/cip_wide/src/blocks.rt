@@ -1,0 +1,88 @@
+//! Lines that are repeated.
+
+use crate::fault::{LineFault, WideFault, WordFault, wrong_count, wrong_word};
+use crate::lines::Line;
+use cip_tool::number_u32;
+use std::alloc::Global;
+
+// How many blocks stand in one another at most.
+const DEEPEST: usize = 16;
+
+// How often a block is played at most.
+const MOST: u32 = 1_000_000;
+
+/// A block that is played: the place of its first line, and how often it is still to be played.
+#[derive(Clone, Copy)]
+pub(crate) struct Turn {
+    pub(crate) start: usize,
+    pub(crate) left: u32,
+}
+
+/// How often a block is played whose first line is this one; None where the line begins no block.
+pub(crate) fn count_of(line: &Line<'_>) -> Result<Option<u32>, WideFault> {
+    let (count, rest) = match line.words.as_slice() {
+        ["repeat", count, rest @ ..] => (*count, rest),
+        ["repeat"] => return Err(wrong_count("repeat", 0, "2, N {").at(line.number)),
+        _ => return Ok(None),
+    };
+    match rest {
+        ["{"] => {}
+        _ => {
+            let found = rest.len().saturating_add(1);
+            return Err(wrong_count("repeat", found, "2, N {").at(line.number));
+        }
+    }
+    match number_u32(count) {
+        Some(count) if count >= 1 && count <= MOST => Ok(Some(count)),
+        _ => {
+            let why = WordFault::NoNumber(1, MOST);
+            Err(wrong_word("repeat", "N", count, why).at(line.number))
+        }
+    }
+}
+
+/// Whether the line ends a block.
+pub(crate) fn is_end(line: &Line<'_>) -> Result<bool, WideFault> {
+    match line.words.as_slice() {
+        ["}"] => Ok(true),
+        ["}", rest @ ..] => Err(wrong_count("}", rest.len(), "0").at(line.number)),
+        _ => Ok(false),
+    }
+}
+
+/// Each block has its end, and they stand at most 16 in one another.
+pub(crate) fn check_blocks(alloc: Global, lines: &[Line<'_>]) -> Result<(), WideFault> {
+    let mut open: Vec<usize> = Vec::new(alloc);
+    for line in lines {
+        if count_of(line)?.is_some() {
+            if open.len() >= DEEPEST {
+                return Err(WideFault::Line(line.number, LineFault::TooDeep));
+            }
+            open.push(line.number)?;
+        } else if is_end(line)? && open.pop().is_none() {
+            return Err(WideFault::Line(line.number, LineFault::NotOpened));
+        }
+    }
+    match open.last() {
+        Some(number) => Err(WideFault::Line(*number, LineFault::NotClosed)),
+        None => Ok(()),
+    }
+}
+
+/// The place of the line to go on with behind the end of a block at this place.
+pub(crate) fn after_end(turns: &mut Vec<Turn>, at: usize) -> usize {
+    match turns.pop() {
+        Some(turn) if turn.left > 1 => {
+            let again = Turn {
+                start: turn.start,
+                left: turn.left - 1,
+            };
+            // There is room: one was taken away.
+            match turns.push(again) {
+                Ok(()) => turn.start,
+                Err(_) => at.saturating_add(1),
+            }
+        }
+        _ => at.saturating_add(1),
+    }
+}

@@ -1,0 +1,181 @@
+//! Why a wide script is none, or does not come out as it expects.
+
+use crate::unmet::Unmet;
+use cip_base::NoMemory;
+use cip_script::{Explained, Frames};
+use cip_tool::{AnswerFault, HexFault};
+use cip_topology::Excerpt;
+use cip_world::FrameName;
+use std::alloc::{AllocError, AllocFailed};
+use thiserror::Error;
+
+/// Why a word is none that may stand there.
+#[derive(Debug, Drop, Error)]
+pub enum WordFault {
+    /// The modules that there are.
+    #[error("no module of the topology; allowed: {0}")]
+    NoModule(String),
+    /// The links that there are.
+    #[error("no link of the topology; allowed: {0}")]
+    NoLink(String),
+    #[error("no module with a port on the link")]
+    NotThere,
+    #[error("no op of the module that was named before")]
+    NoOp,
+    #[error("no op; allowed: the name of one, or MODULE.NUMBER")]
+    NoOpWord,
+    #[error("a name for which the module has no number left")]
+    Spent,
+    #[error("no number from {0} to {1}; allowed: decimal digits, or 0x and hexadecimal digits")]
+    NoNumber(u32, u32),
+    #[error("no status; allowed: two hexadecimal digits, and / and four more, as 01/0109")]
+    NoStatus,
+    #[error("no bytes: {0}")]
+    NoBytes(HexFault),
+    #[error("no reason; allowed: OpUsed, NotOpen, WrongSize, ReservedService, NoInstance")]
+    NoReason,
+    #[error("nothing to expect; allowed: done, refused, arrived, consumed, assembly, open, closed, \
+        quiet")]
+    NoKind,
+}
+
+/// What is wrong with a line of a wide script.
+#[derive(Debug, Drop, Error)]
+pub enum LineFault {
+    /// A line of the script's own words is faulty.
+    #[error("{0}")]
+    Script(Explained),
+    /// It names no module; the modules that there are.
+    #[error("{0}; allowed: {1}")]
+    NoModule(Explained, String),
+    /// It names no frame that waits; the frames that wait.
+    #[error("{}; waiting: {}", .0, Frames(.1.as_slice()))]
+    NoFrame(Explained, Vec<FrameName>),
+    #[error("unknown word: {0}; allowed: send, open, large, close, enter, set, produce, tick, \
+        deliver, lose, run, tables, trail, chain, cut, pass, tickall, repeat, expect")]
+    UnknownWord(Excerpt),
+    #[error("{word}: wrong number of words: {found} behind it; needed: {needed}")]
+    Count {
+        word: &'static str,
+        found: usize,
+        needed: &'static str,
+    },
+    #[error("{word}: {field}: {found} is {why}")]
+    Word {
+        word: Excerpt,
+        field: &'static str,
+        found: Excerpt,
+        why: WordFault,
+    },
+    /// A path in words that is none.
+    #[error("{0}: PATH: {1}")]
+    Path(Excerpt, AnswerFault),
+    #[error("}} closes no repeat")]
+    NotOpened,
+    #[error("repeat: no }} closes it")]
+    NotClosed,
+    #[error("repeat: more than 16 stand in one another")]
+    TooDeep,
+    #[error("more than 1,000,000 lines are played")]
+    TooMany,
+    #[error("the script that comes out has more than 1,048,576 bytes")]
+    TooLong,
+    /// What was expected did not come.
+    #[error("expect: {0}")]
+    Unmet(Unmet),
+}
+
+/// Why there is no script: a line, from 1, and what is wrong with it; or an allocation was refused.
+#[derive(Debug, Drop)]
+pub enum WideFault {
+    Line(usize, LineFault),
+    NoMemory,
+}
+
+impl From<AllocError> for WideFault {
+    fn from(_refused: AllocError) -> WideFault {
+        WideFault::NoMemory
+    }
+}
+
+impl<T: Drop> From<AllocFailed<T>> for WideFault {
+    fn from(_refused: AllocFailed<T>) -> WideFault {
+        WideFault::NoMemory
+    }
+}
+
+impl From<NoMemory> for WideFault {
+    fn from(_refused: NoMemory) -> WideFault {
+        WideFault::NoMemory
+    }
+}
+
+/// Why a line gave nothing.
+#[derive(Debug, Drop)]
+pub(crate) enum LineError {
+    Fault(LineFault),
+    NoMemory,
+}
+
+impl From<AllocError> for LineError {
+    fn from(_refused: AllocError) -> LineError {
+        LineError::NoMemory
+    }
+}
+
+impl From<NoMemory> for LineError {
+    fn from(_refused: NoMemory) -> LineError {
+        LineError::NoMemory
+    }
+}
+
+impl LineError {
+    /// At the line of this number.
+    pub(crate) fn at(self, line: usize) -> WideFault {
+        match self {
+            LineError::Fault(fault) => WideFault::Line(line, fault),
+            LineError::NoMemory => WideFault::NoMemory,
+        }
+    }
+}
+
+fn excerpt(word: &str) -> Excerpt {
+    Excerpt::of(word.as_bytes())
+}
+
+/// The first word of a line is none that there is.
+pub(crate) fn unknown_word(word: &str) -> LineError {
+    LineError::Fault(LineFault::UnknownWord(excerpt(word)))
+}
+
+/// So many words stand behind the first one, where these are needed.
+pub(crate) fn wrong_count(word: &'static str, found: usize, needed: &'static str) -> LineError {
+    LineError::Fault(LineFault::Count {
+        word,
+        found,
+        needed,
+    })
+}
+
+/// A word that is none that may stand there.
+pub(crate) fn wrong_word(
+    word: &str,
+    field: &'static str,
+    found: &str,
+    why: WordFault,
+) -> LineError {
+    LineError::Fault(LineFault::Word {
+        word: excerpt(word),
+        field,
+        found: excerpt(found),
+        why,
+    })
+}
+
+/// A path in words that is none.
+pub(crate) fn wrong_path(word: &str, why: AnswerFault) -> LineError {
+    match why {
+        AnswerFault::NoMemory => LineError::NoMemory,
+        why => LineError::Fault(LineFault::Path(excerpt(word), why)),
+    }
+}

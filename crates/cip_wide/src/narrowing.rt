@@ -1,0 +1,328 @@
+//! A wide script, played, and the script that it is.
+
+use crate::blocks::{Turn, after_end, check_blocks, count_of, is_end};
+use crate::expecting::expect;
+use crate::fault::{LineError, LineFault, WideFault, unknown_word, wrong_count};
+use crate::lines::{Line, first_not_ascii, lines_of};
+use crate::links::{frames_at, module_names};
+use crate::ops::Ops;
+use crate::plain::{NewOp, Plain, plain_line};
+use cip_base::{Bytes, NoMemory};
+use cip_module::Module;
+use cip_script::{
+    Mode, PlayFault, ScriptFault, Step, StepsFault, explain, play_step, read_steps, usage_of,
+};
+use cip_topology::Topology;
+use cip_transcript::names_of;
+use cip_world::{FrameName, Shown, World};
+use std::alloc::{AllocError, Global};
+
+// How many lines are played at most.
+const MOST_LINES: usize = 1_000_000;
+
+// How many bytes a script has at most.
+const MOST_BYTES: usize = 1_048_576;
+
+// What is kept beside the world.
+#[derive(Drop)]
+struct Narrow {
+    // the names of the modules
+    names: Vec<Bytes>,
+    ops: Ops,
+    // the script so far
+    script: String,
+}
+
+// What is wrong with a line that stands in no script, or stops there.
+fn script_fault(
+    alloc: Global,
+    world: &World,
+    line: &str,
+    fault: ScriptFault,
+) -> Result<LineFault, NoMemory> {
+    let explained = explain(alloc, line.as_bytes(), 1, fault)?;
+    match fault {
+        ScriptFault::NoModule => {
+            let names = module_names(alloc, world.topology())?;
+            Ok(LineFault::NoModule(explained, names))
+        }
+        ScriptFault::NoFrame => Ok(LineFault::NoFrame(explained, world.waiting()?)),
+        _ => Ok(LineFault::Script(explained)),
+    }
+}
+
+fn stopped(alloc: Global, world: &World, line: &str, fault: ScriptFault) -> LineError {
+    match script_fault(alloc, world, line, fault) {
+        Ok(fault) => LineError::Fault(fault),
+        Err(NoMemory) => LineError::NoMemory,
+    }
+}
+
+// The one step of a line.
+fn step_of(
+    alloc: Global,
+    world: &World,
+    names: &[Bytes],
+    line: &str,
+) -> Result<Option<Step>, LineError> {
+    match read_steps(alloc, Mode::InTurn, names, line.as_bytes()) {
+        Ok(steps) => {
+            let mut steps = steps;
+            Ok(steps.pop().map(|numbered| numbered.step))
+        }
+        Err(StepsFault::Script(_, fault)) => Err(stopped(alloc, world, line, fault)),
+        Err(StepsFault::NoMemory) => Err(LineError::NoMemory),
+    }
+}
+
+// One more line of the script.
+fn put_line(narrow: &mut Narrow, line: &str) -> Result<(), LineError> {
+    narrow.script.push_str(line)?;
+    narrow.script.push('\n')?;
+    if narrow.script.len() > MOST_BYTES {
+        return Err(LineError::Fault(LineFault::TooLong));
+    }
+    Ok(())
+}
+
+// An op was asked for.
+fn note(ops: &mut Ops, new: NewOp) -> Result<(), AllocError> {
+    match new.name {
+        Some(name) => ops.name(name, new.at, new.number),
+        None => {
+            ops.note(new.at, new.number);
+            Ok(())
+        }
+    }
+}
+
+// A line that stands in the script is played.
+fn play_plain(
+    alloc: Global,
+    world: &mut World,
+    narrow: &mut Narrow,
+    plain: Plain,
+) -> Result<(), LineError>
+    requires stand { ⟦<World as Shown>⟧.stands world.old }
+    ensures stand { ⟦<World as Shown>⟧.stands world.new }
+{
+    let Plain { line, new } = plain;
+    let step = step_of(alloc, world, narrow.names.as_slice(), line.as_str())?;
+    if let Some(new) = new {
+        note(&mut narrow.ops, new)?;
+    }
+    let Some(step) = step else {
+        return Ok(());
+    };
+    match play_step(world, step) {
+        Ok(()) => put_line(narrow, line.as_str()),
+        Err(PlayFault::Stopped(fault)) => Err(stopped(alloc, world, line.as_str(), fault)),
+        Err(PlayFault::NoMemory) => Err(LineError::NoMemory),
+    }
+}
+
+// Lines that name no ops are played.
+fn play_lines(
+    alloc: Global,
+    world: &mut World,
+    narrow: &mut Narrow,
+    lines: Vec<String>,
+) -> Result<(), LineError>
+    requires stand { ⟦<World as Shown>⟧.stands world.old }
+    ensures stand { ⟦<World as Shown>⟧.stands world.new }
+{
+    let mut lines = lines;
+    lines.reverse();
+    'lines: while let Some(line) = lines.pop() {
+        play_plain(alloc, world, narrow, Plain { line, new: None })?;
+    }
+    Ok(())
+}
+
+// A line for each of the frames.
+fn frame_lines(alloc: Global, word: &str, frames: &[FrameName]) -> Result<Vec<String>, AllocError> {
+    let mut lines = Vec::new(alloc);
+    for frame in frames {
+        let mut line = String::new(alloc);
+        write!(line, "{word} {}.{}", frame.entry, frame.output)?;
+        lines.push(line)?;
+    }
+    Ok(lines)
+}
+
+// A tick for each of the modules.
+fn tick_lines(alloc: Global, topology: &Topology, ms: &str) -> Result<Vec<String>, AllocError> {
+    let mut lines = Vec::new(alloc);
+    for config in topology.configs() {
+        let mut line = String::new(alloc);
+        let name = std::str::from_utf8(config.settings().name.as_slice()).unwrap_or("");
+        write!(line, "tick {name} {ms}")?;
+        lines.push(line)?;
+    }
+    Ok(lines)
+}
+
+// The line itself, as a comment of the script.
+fn put_comment(alloc: Global, narrow: &mut Narrow, words: &[&str]) -> Result<(), LineError> {
+    let mut line = String::from_str(alloc, "#")?;
+    for word in words {
+        line.push(' ')?;
+        line.push_str(word)?;
+    }
+    put_line(narrow, line.as_str())
+}
+
+// A line of the script's own words.
+fn play_own(
+    alloc: Global,
+    world: &mut World,
+    narrow: &mut Narrow,
+    word: &str,
+    args: &[&str],
+) -> Result<(), LineError>
+    requires stand { ⟦<World as Shown>⟧.stands world.old }
+    ensures stand { ⟦<World as Shown>⟧.stands world.new }
+{
+    match usage_of(word) {
+        Some(usage) => {
+            let plain = plain_line(alloc, world.topology(), &narrow.ops, word, usage, args)?;
+            play_plain(alloc, world, narrow, plain)
+        }
+        None => Err(unknown_word(word)),
+    }
+}
+
+// The lines that a line of a wide script alone stands for.
+fn lines_for(alloc: Global, world: &World, words: &[&str]) -> Result<Vec<String>, LineError> {
+    match words {
+        ["cut", args @ ..] => {
+            let frames = frames_at(alloc, world, "cut", args)?;
+            Ok(frame_lines(alloc, "lose", frames.as_slice())?)
+        }
+        ["pass", args @ ..] => {
+            let frames = frames_at(alloc, world, "pass", args)?;
+            Ok(frame_lines(alloc, "deliver", frames.as_slice())?)
+        }
+        ["tickall", ms] => Ok(tick_lines(alloc, world.topology(), ms)?),
+        ["tickall", args @ ..] => Err(wrong_count("tickall", args.len(), "1, MS")),
+        _ => Ok(Vec::new(alloc)),
+    }
+}
+
+// A line that begins or ends no block.
+fn play_words(
+    alloc: Global,
+    world: &mut World,
+    narrow: &mut Narrow,
+    words: &[&str],
+) -> Result<(), LineError>
+    requires stand { ⟦<World as Shown>⟧.stands world.old }
+    ensures stand { ⟦<World as Shown>⟧.stands world.new }
+{
+    match words {
+        ["cut" | "pass" | "tickall", ..] => {
+            let lines = lines_for(alloc, world, words)?;
+            put_comment(alloc, narrow, words)?;
+            play_lines(alloc, world, narrow, lines)
+        }
+        ["expect", args @ ..] => {
+            expect(alloc, world, &narrow.ops, args)?;
+            put_comment(alloc, narrow, words)
+        }
+        [word, args @ ..] => play_own(alloc, world, narrow, word, args),
+        [] => Ok(()),
+    }
+}
+
+// The line at a place, and the place to go on with.
+fn play_line(
+    alloc: Global,
+    world: &mut World,
+    narrow: &mut Narrow,
+    turns: &mut Vec<Turn>,
+    at: usize,
+    line: &Line<'_>,
+) -> Result<usize, WideFault>
+    requires stand { ⟦<World as Shown>⟧.stands world.old }
+    ensures stand { ⟦<World as Shown>⟧.stands world.new }
+{
+    let next = at.saturating_add(1);
+    if let Some(left) = count_of(line)? {
+        turns.push(Turn { start: next, left })?;
+        return Ok(next);
+    }
+    if is_end(line)? {
+        return Ok(after_end(turns, at));
+    }
+    match play_words(alloc, world, narrow, line.words.as_slice()) {
+        Ok(()) => Ok(next),
+        Err(error) => Err(error.at(line.number)),
+    }
+}
+
+fn play_all(
+    alloc: Global,
+    world: &mut World,
+    narrow: &mut Narrow,
+    lines: &[Line<'_>],
+) -> Result<(), WideFault>
+    requires stand { ⟦<World as Shown>⟧.stands world.old }
+    ensures stand { ⟦<World as Shown>⟧.stands world.new }
+{
+    let mut turns = Vec::new(alloc);
+    let mut at = 0;
+    let mut number = 1;
+    'all: for _ in 0..MOST_LINES {
+        let Some(line) = lines.get(at) else {
+            return Ok(());
+        };
+        number = line.number;
+        at = play_line(alloc, world, narrow, &mut turns, at, line)?;
+    }
+    Err(WideFault::Line(number, LineFault::TooMany))
+}
+
+fn not_text(alloc: Global, wide: &[u8], line: usize) -> WideFault {
+    match explain(alloc, wide, line, ScriptFault::NotText) {
+        Ok(explained) => WideFault::Line(line, LineFault::Script(explained)),
+        Err(NoMemory) => WideFault::NoMemory,
+    }
+}
+
+fn ascii_of(alloc: Global, wide: &[u8]) -> Result<&str, WideFault> {
+    if let Some(line) = first_not_ascii(wide) {
+        return Err(not_text(alloc, wide, line));
+    }
+    match std::str::from_utf8(wide) {
+        Ok(text) => Ok(text),
+        Err(_) => Err(not_text(alloc, wide, 1)),
+    }
+}
+
+/// The script of `cipbridge` that a wide script over the modules of a topology is, in its order and
+/// each as at its beginning. It is played over a world to find the frames that it names, and to see
+/// that what it expects comes. Line is the first line, from 1, that is faulty or not as expected;
+/// NoMemory where an allocation is refused.
+pub fn narrow(
+    alloc: Global,
+    topology: Topology,
+    modules: Vec<Box<dyn Module + Send>>,
+    wide: &[u8],
+) -> Result<String, WideFault> {
+    let text = ascii_of(alloc, wide)?;
+    let lines = lines_of(alloc, text)?;
+    check_blocks(alloc, lines.as_slice())?;
+    let names = names_of(alloc, &topology)?;
+    let ops = Ops::new(alloc, names.len())?;
+    // Of new modules memory alone can be wanting.
+    let Ok(mut world) = World::new(alloc, topology, modules) else {
+        return Err(WideFault::NoMemory);
+    };
+    let mut narrow = Narrow {
+        names,
+        ops,
+        script: String::new(alloc),
+    };
+    play_all(alloc, &mut world, &mut narrow, lines.as_slice())?;
+    Ok(narrow.script)
+}

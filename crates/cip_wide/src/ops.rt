@@ -1,0 +1,81 @@
+//! The ops that have names.
+
+use cip_base::ModuleId;
+use cip_topology::Name;
+use std::alloc::{AllocError, Global};
+
+#[derive(Drop)]
+struct Op {
+    name: Name,
+    at: ModuleId,
+    number: u32,
+}
+
+/// The ops that were named, and the greatest number of an op that each module was given.
+#[derive(Drop)]
+pub(crate) struct Ops {
+    named: Vec<Op>,
+    greatest: Vec<u32>,
+}
+
+/// The name that a word is: one of a topology file that begins with a letter.
+pub(crate) fn name_of(word: &str) -> Option<Name> {
+    match word.as_bytes() {
+        [first, ..] if first.is_ascii_alphabetic() => Name::read(word.as_bytes()),
+        _ => None,
+    }
+}
+
+impl Ops {
+    /// None, for so many modules.
+    pub(crate) fn new(alloc: Global, modules: usize) -> Result<Ops, AllocError> {
+        Ok(Ops {
+            named: Vec::new(alloc),
+            greatest: Vec::from_elem(alloc, 0u32, modules)?,
+        })
+    }
+
+    /// A number above those that the module was given.
+    pub(crate) fn fresh(&self, at: ModuleId) -> Option<u32> {
+        match self.greatest.get(at.0) {
+            Some(greatest) => greatest.checked_add(1),
+            None => None,
+        }
+    }
+
+    /// The module was given an op of this number.
+    pub(crate) fn note(&mut self, at: ModuleId, number: u32) {
+        if let Some(greatest) = self.greatest.get_mut(at.0) {
+            if *greatest < number {
+                *greatest = number;
+            }
+        }
+    }
+
+    /// The op of this number of the module has this name from now on.
+    pub(crate) fn name(&mut self, name: Name, at: ModuleId, number: u32) -> Result<(), AllocError> {
+        self.note(at, number);
+        self.named.push(Op { name, at, number })?;
+        Ok(())
+    }
+
+    /// The number of the module's op that got the name last.
+    pub(crate) fn number(&self, name: &Name, at: ModuleId) -> Option<u32> {
+        for op in self.named.iter().rev() {
+            if op.at == at && op.name == *name {
+                return Some(op.number);
+            }
+        }
+        None
+    }
+
+    /// The module and the number of the op that got the name last.
+    pub(crate) fn find(&self, name: &Name) -> Option<(ModuleId, u32)> {
+        for op in self.named.iter().rev() {
+            if op.name == *name {
+                return Some((op.at, op.number));
+            }
+        }
+        None
+    }
+}

@@ -1,0 +1,129 @@
+//! Lines of the script's own words, with their names and paths in words replaced.
+
+use crate::fault::{LineError, WordFault, wrong_path, wrong_word};
+use crate::ops::{Ops, name_of};
+use cip_base::ModuleId;
+use cip_tool::{number_u32, path_answer};
+use cip_topology::{Name, Topology};
+use std::alloc::Global;
+
+/// An op that a line asks for.
+#[derive(Drop)]
+pub(crate) struct NewOp {
+    pub(crate) name: Option<Name>,
+    pub(crate) at: ModuleId,
+    pub(crate) number: u32,
+}
+
+/// A line as a script has it, and the op that it asks for.
+#[derive(Drop)]
+pub(crate) struct Plain {
+    pub(crate) line: String,
+    pub(crate) new: Option<NewOp>,
+}
+
+// Whether the first word of a line asks for a new op.
+fn asks(word: &str) -> bool {
+    word == "send" || word == "open" || word == "large" || word == "close"
+}
+
+// Whether a word is a path in words.
+fn is_in_words(word: &str) -> bool {
+    word.contains(',') || word.contains('@') || word.contains('=')
+}
+
+// The op that the line asks for by this word.
+fn new_op(ops: &Ops, at: ModuleId, word: &str, found: &str) -> Result<Option<NewOp>, LineError> {
+    let Some(name) = name_of(found) else {
+        return Ok(number_u32(found).map(|number| NewOp {
+            name: None,
+            at,
+            number,
+        }));
+    };
+    match ops.fresh(at) {
+        Some(number) => Ok(Some(NewOp {
+            name: Some(name),
+            at,
+            number,
+        })),
+        None => Err(wrong_word(word, "OP", found, WordFault::Spent)),
+    }
+}
+
+// The op that was named before.
+fn put_old_op(
+    ops: &Ops,
+    at: ModuleId,
+    word: &str,
+    field: &'static str,
+    found: &str,
+    line: &mut String,
+) -> Result<(), LineError> {
+    let Some(name) = name_of(found) else {
+        line.push_str(found)?;
+        return Ok(());
+    };
+    match ops.number(&name, at) {
+        Some(number) => {
+            write!(line, "{number}")?;
+            Ok(())
+        }
+        None => Err(wrong_word(word, field, found, WordFault::NoOp)),
+    }
+}
+
+fn put_path(alloc: Global, word: &str, found: &str, line: &mut String) -> Result<(), LineError> {
+    if !is_in_words(found) {
+        line.push_str(found)?;
+        return Ok(());
+    }
+    match path_answer(alloc, found) {
+        Ok(path) => {
+            line.push_str(path.as_str())?;
+            Ok(())
+        }
+        Err(why) => Err(wrong_path(word, why)),
+    }
+}
+
+// The module that a line is for, if it is one.
+fn module_of(topology: &Topology, args: &[&str]) -> Option<ModuleId> {
+    match args.first() {
+        Some(name) => topology.by_name(name.as_bytes()),
+        None => None,
+    }
+}
+
+/// The line of these words, of which the names of the words behind the first one are the usage.
+pub(crate) fn plain_line(
+    alloc: Global,
+    topology: &Topology,
+    ops: &Ops,
+    word: &str,
+    usage: &'static str,
+    args: &[&str],
+) -> Result<Plain, LineError> {
+    let mut line = String::from_str(alloc, word)?;
+    let mut new = None;
+    let mut fields = usage.split(' ');
+    let at = module_of(topology, args);
+    for found in args {
+        let field = fields.next().unwrap_or("");
+        line.push(' ')?;
+        match (field, at) {
+            ("OP", Some(at)) if asks(word) => {
+                new = new_op(ops, at, word, found)?;
+                match &new {
+                    Some(op) => write!(line, "{}", op.number)?,
+                    None => line.push_str(found)?,
+                }
+            }
+            ("OP", Some(at)) => put_old_op(ops, at, word, "OP", found, &mut line)?,
+            ("OF", Some(at)) => put_old_op(ops, at, word, "OF", found, &mut line)?,
+            ("PATH", _) => put_path(alloc, word, found, &mut line)?,
+            _ => line.push_str(found)?,
+        }
+    }
+    Ok(Plain { line, new })
+}
