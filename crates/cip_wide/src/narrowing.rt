@@ -25,7 +25,7 @@ const MOST_BYTES: usize = 1_048_576;
 
 // What is kept beside the world.
 #[derive(Drop)]
-struct Narrow {
+struct Kept {
     // the names of the modules
     names: Vec<Bytes>,
     ops: Ops,
@@ -76,7 +76,7 @@ fn step_of(
 }
 
 // One more line of the script.
-fn put_line(narrow: &mut Narrow, line: &str) -> Result<(), LineError> {
+fn put_line(narrow: &mut Kept, line: &str) -> Result<(), LineError> {
     narrow.script.push_str(line)?;
     narrow.script.push('\n')?;
     if narrow.script.len() > MOST_BYTES {
@@ -100,7 +100,7 @@ fn note(ops: &mut Ops, new: NewOp) -> Result<(), AllocError> {
 fn play_plain(
     alloc: Global,
     world: &mut World,
-    narrow: &mut Narrow,
+    narrow: &mut Kept,
     plain: Plain,
 ) -> Result<(), LineError>
     requires stand { ⟦<World as Shown>⟧.stands world.old }
@@ -125,7 +125,7 @@ fn play_plain(
 fn play_lines(
     alloc: Global,
     world: &mut World,
-    narrow: &mut Narrow,
+    narrow: &mut Kept,
     lines: Vec<String>,
 ) -> Result<(), LineError>
     requires stand { ⟦<World as Shown>⟧.stands world.old }
@@ -163,7 +163,7 @@ fn tick_lines(alloc: Global, topology: &Topology, ms: &str) -> Result<Vec<String
 }
 
 // The line itself, as a comment of the script.
-fn put_comment(alloc: Global, narrow: &mut Narrow, words: &[&str]) -> Result<(), LineError> {
+fn put_comment(alloc: Global, narrow: &mut Kept, words: &[&str]) -> Result<(), LineError> {
     let mut line = String::from_str(alloc, "#")?;
     for word in words {
         line.push(' ')?;
@@ -176,7 +176,7 @@ fn put_comment(alloc: Global, narrow: &mut Narrow, words: &[&str]) -> Result<(),
 fn play_own(
     alloc: Global,
     world: &mut World,
-    narrow: &mut Narrow,
+    narrow: &mut Kept,
     word: &str,
     args: &[&str],
 ) -> Result<(), LineError>
@@ -213,7 +213,7 @@ fn lines_for(alloc: Global, world: &World, words: &[&str]) -> Result<Vec<String>
 fn play_words(
     alloc: Global,
     world: &mut World,
-    narrow: &mut Narrow,
+    narrow: &mut Kept,
     words: &[&str],
 ) -> Result<(), LineError>
     requires stand { ⟦<World as Shown>⟧.stands world.old }
@@ -238,7 +238,7 @@ fn play_words(
 fn play_line(
     alloc: Global,
     world: &mut World,
-    narrow: &mut Narrow,
+    narrow: &mut Kept,
     turns: &mut Vec<Turn>,
     at: usize,
     line: &Line<'_>,
@@ -263,7 +263,7 @@ fn play_line(
 fn play_all(
     alloc: Global,
     world: &mut World,
-    narrow: &mut Narrow,
+    narrow: &mut Kept,
     lines: &[Line<'_>],
 ) -> Result<(), WideFault>
     requires stand { ⟦<World as Shown>⟧.stands world.old }
@@ -318,7 +318,7 @@ pub fn narrow(
     let Ok(mut world) = World::new(alloc, topology, modules) else {
         return Err(WideFault::NoMemory);
     };
-    let mut narrow = Narrow {
+    let mut narrow = Kept {
         names,
         ops,
         script: String::new(alloc),
