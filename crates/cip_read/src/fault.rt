@@ -1,6 +1,7 @@
 //! Why a line is none of a transcript.
 ghost use Rattle.std.specs.Prelude.{◌≡◌};
 ghost use Rattle.cip_read.specs.declared.fault.LineFault.TheVariants.{NoMemory as NoLineMemory};
+ghost use Rattle.cip_read.specs.declared.fault.ReadFault.TheVariants.{NoMemory as NoReadMemory};
 
 use cip_base::NoMemory;
 use cip_topology::Excerpt;
@@ -80,12 +81,16 @@ pub enum ReadFault {
 }
 
 impl From<NoMemory> for ReadFault {
+    ghost from_gives = { λ _ fault. fault ≡ NoReadMemory };
+
     fn from(_refused: NoMemory) -> ReadFault {
         ReadFault::NoMemory
     }
 }
 
 impl From<AllocError> for ReadFault {
+    ghost from_gives = { λ _ fault. fault ≡ NoReadMemory };
+
     fn from(_refused: AllocError) -> ReadFault {
         ReadFault::NoMemory
     }

@@ -1,9 +1,9 @@
 //! Reading a transcript, line by line.
-ghost use Rattle.std.specs.Prelude.{◌≡◌, ◌<◌, ◌^◌, length, map, true};
+ghost use Rattle.std.specs.Prelude.{◌≡◌, ◌+◌, ◌-◌, ◌<◌, ◌^◌, min, length, map, true, IfOk};
 ghost use Rattle.std.specs.Str.{IsAscii};
 ghost use Rattle.cip_read.specs.Fields.{nth, texts};
 ghost use Rattle.cip_read.specs.Lines.{numbered_of, is_indented, is_head, words_line};
-ghost use Rattle.cip_read.specs.Lines.{line_of, Reads};
+ghost use Rattle.cip_read.specs.Lines.{line_of, Reads, IsShown};
 
 use crate::fault::{Expected, LineFault, ReadFault};
 use crate::fields::{nth, usize_at};
@@ -135,7 +135,10 @@ fn told(alloc: Global, line: usize, text: &[u8], fault: LineFault) -> ReadFault 
 
 impl<'a> Reader<'a> {
     /// A reader of transcripts of a topology.
-    pub fn new(topology: &'a Topology) -> Reader<'a> {
+    pub fn new(topology: &'a Topology) -> Reader<'a>
+        ensures over { result.topology.now ≡ topology.now }
+        ensures lines { result.lines ≡ 0 }
+    {
         Reader {
             topology,
             lines: 0,
@@ -145,12 +148,17 @@ impl<'a> Reader<'a> {
     }
 
     /// How many lines were read.
-    pub fn lines(&self) -> usize {
+    pub fn lines(&self) -> usize
+        ensures { result ≡ self.now.lines }
+    {
         self.lines
     }
 
     // The number of an entry is the one that comes next, where that is known.
-    fn take_entry(&mut self, entry: usize) -> Result<(), LineFault> {
+    fn take_entry(&mut self, entry: usize) -> Result<(), LineFault>
+        ensures over { self.new.topology ≡ self.old.topology }
+        ensures lines { self.new.lines ≡ self.old.lines }
+    {
         match self.next_entry {
             Some(next) if next != entry => Err(LineFault::Word(0, Expected::Entry(next))),
             _ => {
@@ -162,7 +170,10 @@ impl<'a> Reader<'a> {
     }
 
     // The number of an output likewise.
-    fn take_output(&mut self, index: usize) -> Result<(), LineFault> {
+    fn take_output(&mut self, index: usize) -> Result<(), LineFault>
+        ensures over { self.new.topology ≡ self.old.topology }
+        ensures lines { self.new.lines ≡ self.old.lines }
+    {
         match self.next_output {
             Some(next) if next != index => Err(LineFault::Word(2, Expected::Output(next))),
             _ => {
@@ -172,7 +183,10 @@ impl<'a> Reader<'a> {
         }
     }
 
-    fn take(&mut self, line: &Line) -> Result<(), LineFault> {
+    fn take(&mut self, line: &Line) -> Result<(), LineFault>
+        ensures over { self.new.topology ≡ self.old.topology }
+        ensures lines { self.new.lines ≡ self.old.lines }
+    {
         match line {
             Line::Step { entry, .. } => self.take_entry(*entry),
             Line::Lost { entry, .. } => self.take_entry(*entry),
@@ -181,14 +195,24 @@ impl<'a> Reader<'a> {
         }
     }
 
-    fn read_next(&mut self, alloc: Global, text: &[u8]) -> Result<Line, LineFault> {
+    fn read_next(&mut self, alloc: Global, text: &[u8]) -> Result<Line, LineFault>
+        ensures shown { IsAscii text.now
+            → IfOk result (λ line. IsShown line (line_of self.old.topology.now text.now)) }
+        ensures over { self.new.topology ≡ self.old.topology }
+        ensures lines { self.new.lines ≡ self.old.lines }
+    {
         let line = read_line(alloc, self.topology, text)?;
         self.take(&line)?;
         Ok(line)
     }
 
     /// The next line, without its end: what it shows, or what is wrong with it.
-    pub fn read(&mut self, alloc: Global, text: &[u8]) -> Result<Line, ReadFault> {
+    pub fn read(&mut self, alloc: Global, text: &[u8]) -> Result<Line, ReadFault>
+        ensures shown { IsAscii text.now
+            → IfOk result (λ line. IsShown line (line_of self.old.topology.now text.now)) }
+        ensures over { self.new.topology ≡ self.old.topology }
+        ensures lines { self.new.lines ≡ min (self.old.lines + 1) (2 ^ 64 - 1) }
+    {
         self.lines = self.lines.saturating_add(1);
         match self.read_next(alloc, text) {
             Ok(line) => Ok(line),
