@@ -122,10 +122,8 @@ pub(crate) fn payload(output: &Output) -> &[u8]
         Output::Done { reply, .. } => reply.as_slice(),
         Output::Consumed { bytes, .. } => bytes.as_slice(),
         Output::Arrived { bytes, .. } => bytes.as_slice(),
-        Output::Refused(_)
-        | Output::Expired { .. }
-        | Output::Ended { .. }
-        | Output::Dropped(_) => &[],
+        Output::Refused(_) | Output::Expired { .. } | Output::Ended { .. } | Output::Dropped(_) =>
+            &[],
     }
 }
 

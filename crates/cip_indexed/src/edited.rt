@@ -36,11 +36,7 @@ fn edited(came: Bytes, edit: Edit) -> Bytes
 
 /// What a reaction to these bytes puts out, in a place that there is for it. It takes no memory.
 #[inline(always)]
-pub(crate) fn put_out(
-    mut outputs: Vec<Output>,
-    reaction: Reaction,
-    came: Bytes,
-) -> Vec<Output>
+pub(crate) fn put_out(mut outputs: Vec<Output>, reaction: Reaction, came: Bytes) -> Vec<Output>
     requires none { outputs.items ≡ [] }
     requires room { 0 < vec_capacity outputs }
     requires possible { CanPutOut came reaction }

@@ -93,7 +93,9 @@ unborn_draws config s e h = refl
 none_drawn : (config : ModuleSettings) (s : State) (es : List Effect) → gain births es ≡ 0 → drawn_from config drawn_ids s es ≡ 0
 none_drawn config s [] h = refl
 none_drawn config s (e ∷ es) h =
-    let here = unborn_draws config s e (omega (arith, h)) in let there = none_drawn config (apply config s e) es (omega (arith, h)) in omega (arith, here, there)
+    let here = unborn_draws config s e (omega (arith, h)) in
+    let there = none_drawn config (apply config s e) es (omega (arith, h)) in
+    omega (arith, here, there)
 
 first_is : (before after : List Effect) (e : Effect) (o : Opening) → opened_by e ≡ Some o → gain births (before ++ (e ∷ after)) ≤ 1
     → first_opened (before ++ (e ∷ after)) ≡ Some o
@@ -181,10 +183,12 @@ opened_draws config s (Begins sending opening) o h = let same : opening ≡ o = 
 opened_draws config s (Accepts opening open_ link) o h = let same : opening ≡ o = cc in ap ids_drawn same
 opened_draws config s e o h = absurd (cc)
 
-by_first : (config : ModuleSettings) (s : State) (e : Effect) (es : List Effect) (o : Opening) (n : ℕ) (x : Option Opening) → opened_by e ≡ x → or_else x (first_opened es) ≡ Some o
+by_first : (config : ModuleSettings) (s : State) (e : Effect) (es : List Effect) (o : Opening) (n : ℕ) (x : Option Opening) → opened_by e ≡ x
+    → or_else x (first_opened es) ≡ Some o
     → (first_opened es ≡ Some o → ids_drawn o ≤ n) → ids_drawn o ≤ drawn_ids config s e + n
 by_first config s e es o n None t r later = let rest = later r in omega (arith, rest)
-by_first config s e es o n (Some p) t r later = let same : p ≡ o = cc in let here = opened_draws config s e o (t ∙ ap (λ (y : Opening). Some y) same) in omega (arith, here)
+by_first config s e es o n (Some p) t r later =
+    let same : p ≡ o = cc in let here = opened_draws config s e o (t ∙ ap (λ (y : Opening). Some y) same) in omega (arith, here)
 
 first_draws : (config : ModuleSettings) (s : State) (es : List Effect) (o : Opening) → first_opened es ≡ Some o
     → ids_drawn o ≤ drawn_from config drawn_ids s es

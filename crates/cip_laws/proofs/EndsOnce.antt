@@ -278,7 +278,8 @@ module _ (op : ℕ) (config : ModuleSettings) (turn : Turn) (turns : List Turn) 
           let two : Some (IsOpening opens.opening opens.ids) ≡ Some (IsOpening o.opening o.ids) = sym opens.at ∙ was in
           let one : opens.opening ≡ o.opening = cc in
           let asks : asking_op told.entry.up ≡ Some op =
-          sym (past_up config o.number told.entry opens.opening opens.ids turns opens.of) ∙ ap (λ (x : Opening). op_of x.up) (one ∙ sym (ap opening_of o.is)) ∙ named in
+          sym (past_up config o.number told.entry opens.opening opens.ids turns opens.of)
+          ∙ ap (λ (x : Opening). op_of x.up) (one ∙ sym (ap opening_of o.is)) ∙ named in
           inl (waits_counted (Local op) s0 o.number told.entry waits (same_local op told.entry.up asks))
 
       by_case : HeldCase mid e q (Open hop) → IsHeldBy op s0
@@ -419,13 +420,15 @@ module _ (op : ℕ) (config : ModuleSettings) (turn : Turn) (turns : List Turn) 
       let parts = outputs-append config then0 g.before (Answers v asked ∷ g.after) in
       let to = ap (Rattle.cip_laws.specs.Weights.is_to (Local op)) (reply_up_to v bytes) in
       let done_all = ap (weight_in (is_reply (Local op))) (sym outs ∙ parts) in
-      let done_first = weight_in-append (is_reply (Local op)) (outputs_of config then0 g.before) (output_of config mid (Answers v asked) ++ outputs_of config reset g.after) in
+      let done_first = weight_in-append (is_reply (Local op)) (outputs_of config then0 g.before)
+      (output_of config mid (Answers v asked) ++ outputs_of config reset g.after) in
       let done_last = weight_in-append (is_reply (Local op)) (output_of config mid (Answers v asked)) (outputs_of config reset g.after) in
       let done_here = answered_alone (is_reply (Local op)) (λ o. refl) config mid v asked in
       let none_first = first.replies in
       let none_last = last.replies in
       let end_all = ap (weight_in (is_ended op)) (sym outs ∙ parts) in
-      let end_first = weight_in-append (is_ended op) (outputs_of config then0 g.before) (output_of config mid (Answers v asked) ++ outputs_of config reset g.after) in
+      let end_first = weight_in-append (is_ended op) (outputs_of config then0 g.before)
+      (output_of config mid (Answers v asked) ++ outputs_of config reset g.after) in
       let end_last = weight_in-append (is_ended op) (output_of config mid (Answers v asked)) (outputs_of config reset g.after) in
       let end_up = no_end_up op v bytes in
       let end_here = told_once op (resets config mid asked) mid in
@@ -437,7 +440,8 @@ module _ (op : ℕ) (config : ModuleSettings) (turn : Turn) (turns : List Turn) 
       ap (λ (s : State). s.pendings) (sym state) ∙ last.still.1 ∙ ap (λ b. (answered_state b config mid asked).pendings) did in
       let hops : then1.hops ≡ (answered_state true config mid asked).hops =
       ap (λ (s : State). s.hops) (sym state) ∙ last.still.0 ∙ ap (λ b. (answered_state b config mid asked).hops) did in
-      let waits : waits_for (Local op) then1 ≡ waits_for (Local op) (answered_state true config mid asked) = λ i. waits_for (Local op) (record then1 { pendings = pendings i }) in
+      let waits : waits_for (Local op) then1 ≡ waits_for (Local op) (answered_state true config mid asked) =
+      λ i. waits_for (Local op) (record then1 { pendings = pendings i }) in
       let none = none_after config mid asked in
       let less = still_unspent op config turn turns h in record {
         done = omega (arith, done_all, done_first, done_last, done_here, none_first, none_last, to, used, spent, taken, taken_sum);

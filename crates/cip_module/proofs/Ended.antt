@@ -79,8 +79,8 @@ module _ (config : ModuleSettings) (s : State) (up : UpSide) (r : Request) (read
       let none : lacks_incarnation config s r ≡ false = both _ (not (can_reset s)) true false reads (ap not can) in record {
         state = ap (λ b. answered_state b config s r) yes ∙ sym done;
         out = ap (λ b. reply_up up (reply_bytes (here_answer config s r)) ∷ (ended_by b s ++ [])) yes
-            ∙ ap (λ b. reply_up up (reply_bytes (cond b (plain_reply r.service 0x0C []) (target_answer (objects_of config s) r))) ∷ (all_ended (held_ops s) ++ []))
-            none
+            ∙ ap (λ b. reply_up up (reply_bytes (cond b (plain_reply r.service 0x0C []) (target_answer (objects_of config s) r)))
+            ∷ (all_ended (held_ops s) ++ [])) none
             ∙ ap (λ (x : TargetRow). reply_up up (reply_bytes (answer_of r.service x)) ∷ (all_ended (held_ops s) ++ [])) row
             ∙ ap (λ n. reply_up up (reply_bytes (answer_of n Reset)) ∷ (all_ended (held_ops s) ++ [])) service
             ∙ ap (λ (os : List Output). reply_up up (reply_bytes (answer_of 0x05 Reset)) ∷ os) (append-nil (all_ended (held_ops s)))
@@ -102,12 +102,14 @@ module _ (config : ModuleSettings) (s : State) (op : ℕ) (u : Unconnected) wher
   same_ended true = refl
   same_ended false = refl
 
-  later : (row : UnconnectedRow) → applied config (used s) (unconnected_effects (Local op) u row) ≡ used (applied config s (unconnected_effects (Local op) u row))
+  later : (row : UnconnectedRow) → applied config (used s) (unconnected_effects (Local op) u row)
+      ≡ used (applied config s (unconnected_effects (Local op) u row))
   later (Refuses refusal) = refl
   later (AnsweredHere embedded) = later_answer (resets config s embedded) embedded
   later (Forwarded port address rest) = refl
 
-  same_out : (row : UnconnectedRow) → outputs_of config (used s) (unconnected_effects (Local op) u row) ≡ outputs_of config s (unconnected_effects (Local op) u row)
+  same_out : (row : UnconnectedRow) → outputs_of config (used s) (unconnected_effects (Local op) u row)
+      ≡ outputs_of config s (unconnected_effects (Local op) u row)
   same_out (Refuses refusal) = refl
   same_out (AnsweredHere embedded) =
       ap (λ (os : List Output). reply_up (Local op) (reply_bytes (here_answer config s embedded)) ∷ (os ++ [])) (same_ended (resets config s embedded))

@@ -246,7 +246,8 @@ module _ (old new : Device) where
   narrowed m More Fewer es (Err fault) more reacts = reacts
 
   -- what is whole is so however bytes are made
-  pub whole_so : {E : Type 0} (m : Making) (Came : List ℕ → Type 0) (es : List Effect) (r : Result Reaction E) → ReactsWhole old new es r → Reacts m Came old new es r
+  pub whole_so : {E : Type 0} (m : Making) (Came : List ℕ → Type 0) (es : List Effect) (r : Result Reaction E) → ReactsWhole old new es r
+      → Reacts m Came old new es r
   whole_so m Came es (Ok (reactions.Whole o)) reacts = reacts
   whole_so m Came es (Ok (reactions.Edited o edit)) reacts = absurd (reacts.0)
   whole_so m Came es (Ok (reactions.Several all)) reacts = reacts

@@ -26,6 +26,7 @@ const RESET: u8 = 0x05;
 
 // General statuses (Volume 1, Appendix B).
 const SUCCESS: u8 = 0x00;
+
 const OBJECT_STATE_CONFLICT: u8 = 0x0C;
 
 // Keeps the ops whose requests wait.

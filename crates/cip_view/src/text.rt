@@ -128,8 +128,7 @@ impl<'a> TextView<'a> {
             }
             Output::Ended { op } => {
                 self.book.done(*op);
-                let text = "    the module was reset: what this op asked for, or had opened, is gone\n";
-                self.out.push_str(text)?;
+                self.out.push_str("    the module was reset: the op and all it opened are gone\n")?;
                 Ok(())
             }
             Output::Dropped(reason) => {

@@ -65,7 +65,8 @@ module _ (config : ModuleSettings) (turns : List Turn) (turn : Turn) (h : IsHist
   abbrev s0 : State
   s0 = state_after config turns
 
-  refused_so : (fault : Refused) (mid : State) (e : _) → EndedBy config s0 turn.event mid e (outputs.Refused fault) → refused_by (command_row s0 command) ≡ None → ⊥
+  refused_so : (fault : Refused) (mid : State) (e : _) → EndedBy config s0 turn.event mid e (outputs.Refused fault)
+      → refused_by (command_row s0 command) ≡ None → ⊥
   refused_so fault mid e (ByTimeOut triad effect_is x_is told) none = cc
   refused_so fault mid e (ByReset up asked op effect_is x_is resets has told) none = cc
   refused_so fault mid e (ByDrop reason effect_is x_is told) none = cc
@@ -79,7 +80,8 @@ module _ (config : ModuleSettings) (turns : List Turn) (turn : Turn) (h : IsHist
   taken_by none fault has =
       let now = newest config turn turns h in
       let g = gave_by config s0 turn.event (state_after config (turn ∷ turns)) turn.outputs (outputs.Refused fault) now has in
-      refused_so fault (applied config s0 g.before) g.effect (ended_by (outputs.Refused fault) refl config s0 turn.event (applied config s0 g.before) g.effect g.tells g.gives) none
+      refused_so fault (applied config s0 g.before) g.effect
+      (ended_by (outputs.Refused fault) refl config s0 turn.event (applied config s0 g.before) g.effect g.tells g.gives) none
 
 -- an Enter of the size of its connection
 pub enter_taken : (s : State) (of : ℕ) (bytes : List ℕ) (hop : Hop) → hop_by_op s.hops of ≡ Some hop → length bytes ≡ hop.opening.ot_size

@@ -205,8 +205,8 @@ pub record SentIn (t : Plan) (j : Journal) (m : ℕ) (op : OpNumber) (k : ℕ) (
   pub event_is : step.taken.event ≡ events.Command (commands.Send op timing path request)
   pub unrefused : list_any is_refusal step.outputs ≡ false
 
--- The bytes are the answer of the module's own objects to the request, at the module to which the walk of the
--- path leads, in its state before the last entry of the trail.
+-- The bytes are the answer of the module's own objects to the request, at the module to which the
+-- walk of the path leads, in its state before the last entry of the trail.
 pub record AnsweredThere (t : Plan) (j : Journal) (ks : List ℕ) (m : ℕ)
     (path request bytes : Octets) : Type 0 where
   pub place : ℕ

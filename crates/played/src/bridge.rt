@@ -94,8 +94,8 @@ impl<M: Module> Bridge<M> {
         }
     }
 
-    /// The bridge is reset: it forgets what waits and what is open, and has all numbers and ids of its
-    /// next incarnation.
+    /// The bridge is reset: it forgets what waits and what is open, and has all numbers and ids of
+    /// its next incarnation.
     pub fn reset(&mut self) -> Result<(), Fault> {
         let bytes = self.bytes(&RESET)?;
         match self.step(from_above(Body::Request { number: 1, bytes }))? {

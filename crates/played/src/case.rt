@@ -180,8 +180,8 @@ fn long_turns<M: Module>(
     Ok(())
 }
 
-// After so many turns the bridge is reset, before the 65,535 numbers of its incarnation are spent: a
-// turn takes two at most, and the tables as many as they have room for.
+// After so many turns the bridge is reset, before the 65,535 numbers of its incarnation are spent:
+// a turn takes two at most, and the tables as many as they have room for.
 const ROUND: u32 = 30_000;
 
 impl Case {

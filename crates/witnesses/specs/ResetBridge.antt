@@ -12,7 +12,6 @@ use Rattle.cip_world.specs.declared.journal.Input.TheVariants.{Command, Frame}
 use Rattle.cip_world.specs.declared.journal.Entry.TheVariants.{Step}
 use Rattle.cip_world.specs.Journals.{Journal}
 
-
 abbrev pub sends : Journal
 sends = Step (record { 0 = 0 })
     (Command (commands.Send 2 (record { tick = 7; ticks = 250 }) (2 ∷ 5 ∷ []) reset))

@@ -1,5 +1,5 @@
--- A module that resets itself while an open of its own is under way, and uses its first number again
--- under the next incarnation. The reply to the open comes late.
+-- A module that resets itself while an open of its own is under way, and uses its first number
+-- again under the next incarnation. The reply to the open comes late.
 use Rattle.std.specs.Prelude.{ℕ, List, [], ◌∷◌}
 use Rattle.cip_event.specs.declared.event.Command.TheVariants as commands
 use Rattle.cip_event.specs.declared.event.Body.TheVariants as bodies

@@ -81,8 +81,8 @@ pub fn a_module_resets_itself()
     ensures { IsRun plant resets.comes_late }
 {}
 
-/// A bridge that is reset under an open connection: a datum of it is unknown there, and what is asked
-/// through the bridge again goes on under the first number of the next incarnation.
+/// A bridge that is reset under an open connection: a datum of it is unknown there, and what is
+/// asked through the bridge again goes on under the first number of the next incarnation.
 pub fn a_bridge_is_reset()
     ensures { IsRun row reset_bridge.is_answered }
 {}

@@ -80,8 +80,8 @@ abbrev pub IsEdited : Making → Type 0
 IsEdited makings.Anew = ⊥
 IsEdited makings.Edited = Unit {0}
 
--- The effects were done. Their outputs are whole; or there is one, which lacks its bytes, where they
--- are edited, and gets them from any that came so.
+-- The effects were done. Their outputs are whole; or there is one, which lacks its bytes, where
+-- they are edited, and gets them from any that came so.
 abbrev pub Reacted : Making → (Octets → Type 0) → Device → Device → List Effect → Reaction → Type 0
 Reacted making Came old new es (reactions.Whole output) = Handled old new es (output ∷ [])
 Reacted making Came old new es (reactions.Edited output edit) =

@@ -10,7 +10,8 @@ pub returns-then-not-can_reset-clause-handled : goal.returns-then-not-can_reset-
 returns-then-not-can_reset-clause-handled c =
     let m = c.args.self.now in
     record {
-      does = conflicts m.config (state_of_device m) c.args.up (request_of c.args.asked) c.requires c.reply_to.result (sym c.can_reset.ensures ∙ c.if-not-can_reset.true)
+      does = conflicts m.config (state_of_device m) c.args.up (request_of c.args.asked) c.requires c.reply_to.result
+          (sym c.can_reset.ensures ∙ c.if-not-can_reset.true)
           (c.reply_to.ensures ∙ ap (reply_up c.args.up) (c.in_ok-bytes.ensures ∙ ap (failure_bytes 0x05) c.plain_status.ensures));
       same_config = refl;
     }
