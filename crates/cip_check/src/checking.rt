@@ -13,6 +13,18 @@ use toml::Table;
 // The most faults that are told.
 const MOST: usize = 1_000;
 
+// A line that tells a fault of a document, and what else the document says of it.
+fn tell_fault(
+    alloc: Global,
+    text: &str,
+    fault: &LoadFault,
+    report: &mut Report,
+) -> Result<(), NoMemory> {
+    let line = explain_load(alloc, text, fault)?;
+    report.fault(alloc, &line)?;
+    Ok(())
+}
+
 // The fault of a document, if it has one.
 fn fault_of(alloc: Global, text: &str, report: &mut Report) -> Result<Option<LoadFault>, NoMemory> {
     match load(alloc, text) {
@@ -22,7 +34,7 @@ fn fault_of(alloc: Global, text: &str, report: &mut Report) -> Result<Option<Loa
         }
         Err(LoadFault::NoMemory) => Err(NoMemory),
         Err(fault) => {
-            report.fault(alloc, &explain_load(alloc, text, &fault)?)?;
+            tell_fault(alloc, text, &fault, report)?;
             Ok(Some(fault))
         }
     }
