@@ -23,6 +23,7 @@ pub fn general_status(status: u8) -> Option<&'static str> {
         0x04 => Some("path segment error"),
         0x05 => Some("path destination unknown"),
         0x08 => Some("service not supported"),
+        0x0C => Some("object state conflict"),
         0x0E => Some("attribute not settable"),
         0x13 => Some("not enough data"),
         0x14 => Some("attribute not supported"),
