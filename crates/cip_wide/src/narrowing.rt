@@ -87,10 +87,11 @@ fn put_line(narrow: &mut Kept, line: &str) -> Result<(), LineError> {
 
 // An op was asked for.
 fn note(ops: &mut Ops, new: NewOp) -> Result<(), AllocError> {
-    match new.name {
-        Some(name) => ops.name(name, new.at, new.number),
+    let NewOp { at, number, name } = new;
+    match name {
+        Some(name) => ops.name(name, at, number),
         None => {
-            ops.note(new.at, new.number);
+            ops.note(at, number);
             Ok(())
         }
     }
