@@ -1,12 +1,12 @@
 //! Messages as JSON: functions of the records that reading gave.
 use crate::bytes::Pairs;
 use crate::fields::{intervals, kind_name, priority_name, tick_length, trigger_name};
-use crate::names::{service_name, status_name};
 use crate::reply::{Answer, Reply};
 use crate::request::{Meaning, Request};
 use cip_base::{KeyFields, Status, Timing, Triad};
 use cip_close::{CloseReply, CloseView};
 use cip_message::{ConnectionFailure, RequestView, read_request};
+use cip_names::{service_name, status_name};
 use cip_open::{OpenFields, OpenReply, OpenView, open_params};
 use cip_segment::{PathView, SegmentView, split_first};
 use cip_unconnected::{UnconnectedView, inner};

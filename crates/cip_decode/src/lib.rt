@@ -6,7 +6,6 @@
 mod bytes;
 mod fields;
 mod json;
-mod names;
 mod reply;
 mod reply_text;
 mod request;
@@ -15,7 +14,6 @@ mod segments;
 
 pub use bytes::Pairs;
 pub use json::{path_json, reply_json, request_json, triad_json};
-pub use names::{connection_status, general_status, service_name, status_name};
 pub use reply::{Answer, Reply, decode_reply};
 pub use reply_text::StatusText;
 pub use request::{Asked, Meaning, Request, decode_request};

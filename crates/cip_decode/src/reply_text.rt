@@ -1,12 +1,12 @@
 //! A reply as a text: a function of the record that reading gave.
 use crate::bytes::Rest;
 use crate::fields::TriadText;
-use crate::names::status_name;
 use crate::reply::{Answer, Reply};
 use crate::request_text::ServiceText;
 use cip_base::Status;
 use cip_close::CloseReply;
 use cip_message::ConnectionFailure;
+use cip_names::status_name;
 use cip_open::OpenReply;
 use std::fmt;
 

@@ -1,11 +1,11 @@
 //! A request as a text: a function of the record that reading gave.
 use crate::bytes::Rest;
 use crate::fields::{OpenText, TimingText, TriadText};
-use crate::names::service_name;
 use crate::request::{Asked, Meaning, Request};
 use crate::segments::PathText;
 use cip_close::CloseView;
 use cip_message::{RequestView, read_request};
+use cip_names::service_name;
 use cip_open::OpenView;
 use cip_unconnected::{UnconnectedView, inner};
 use std::fmt;

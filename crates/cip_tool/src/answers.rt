@@ -7,8 +7,8 @@ use crate::parameters::{ParamsOptions, params_word, reserved_bits};
 use crate::route::route_path;
 use crate::shown::Shown;
 use crate::spelling::{SpellingFault, spell_path};
-use crate::statuses::status_name;
 use cip_base::NoMemory;
+use cip_names::{connection_status, general_status};
 use cip_open::{Params, open_params};
 use cip_segment::{PathFault, view_path};
 use hex::FromHexError;
@@ -245,7 +245,7 @@ pub fn status_answer(
         return Err(number_fault(alloc, "status", general, 255));
     };
     let Some(word) = additional else {
-        return match status_name(status, None) {
+        return match general_status(status) {
             Some(name) => Ok(String::from_str(alloc, name)?),
             None => Err(status_fault(alloc, general)),
         };
@@ -253,8 +253,9 @@ pub fn status_answer(
     let Some(number) = number_u16(word) else {
         return Err(number_fault(alloc, "status", word, 65_535));
     };
-    match status_name(status, Some(number)) {
-        Some(name) => Ok(String::from_str(alloc, name)?),
-        None => Err(status_fault(alloc, word)),
+    // Additional statuses stand behind 01 alone.
+    match connection_status(number) {
+        Some(name) if status == 0x01 => Ok(String::from_str(alloc, name)?),
+        _ => Err(status_fault(alloc, word)),
     }
 }

@@ -11,7 +11,6 @@ mod reading;
 mod route;
 mod shown;
 mod spelling;
-mod statuses;
 mod words;
 
 pub use answers::{AnswerFault, params_answer, params_of, path_answer, size_of, status_answer};
@@ -24,4 +23,3 @@ pub use parameters::{
 pub use route::{read_route, route_path};
 pub use shown::Shown;
 pub use spelling::{SpellingFault, spell_path};
-pub use statuses::status_name;

@@ -1,7 +1,8 @@
 //! What a frame holds, in short.
 use cip_base::Status;
-use cip_decode::{decode_reply, decode_request, service_name};
+use cip_decode::{decode_reply, decode_request};
 use cip_event::Body;
+use cip_names::service_name;
 use std::fmt;
 
 /// What kind of frame it is.

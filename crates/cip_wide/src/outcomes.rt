@@ -3,7 +3,7 @@
 use cip_base::{Bytes, ModuleId, Status};
 use cip_message::read_reply;
 use cip_module::{Output, Refused};
-use cip_tool::status_name;
+use cip_names::status_name;
 use cip_world::{Entry, Input};
 use std::fmt;
 

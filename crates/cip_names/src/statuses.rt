@@ -1,7 +1,7 @@
 //! The names of the statuses of replies.
 
-// The name of a general status.
-fn general_name(status: u8) -> Option<&'static str> {
+/// The name of a general status (Volume 1, Appendix B); None for one that has no name here.
+pub fn general_status(status: u8) -> Option<&'static str> {
     match status {
         0x00 => Some("success"),
         0x01 => Some("connection failure"),
@@ -19,8 +19,8 @@ fn general_name(status: u8) -> Option<&'static str> {
     }
 }
 
-// The name of an additional status below 0200, with general status 01.
-fn connection_name(status: u16) -> Option<&'static str> {
+// The names of additional statuses that end the opening of a connection.
+fn opening_status(status: u16) -> Option<&'static str> {
     match status {
         0x0100 => Some("connection in use or duplicate Forward_Open"),
         0x0103 => Some("transport class and trigger combination not supported"),
@@ -38,8 +38,8 @@ fn connection_name(status: u16) -> Option<&'static str> {
     }
 }
 
-// The name of an additional status from 0200 on, with general status 01.
-fn route_name(status: u16) -> Option<&'static str> {
+// The names of additional statuses that end the way along a path.
+fn routing_status(status: u16) -> Option<&'static str> {
     match status {
         0x0204 => Some("unconnected request timed out"),
         0x0205 => Some("parameter error in an unconnected request"),
@@ -52,14 +52,20 @@ fn route_name(status: u16) -> Option<&'static str> {
     }
 }
 
-/// The name of a general status, or of an additional one behind it (Volume 1, Appendix B, and of
-/// connections chapter 3). None where no reply of this project has it; additional statuses stand
-/// behind 01 alone.
-pub fn status_name(general: u8, additional: Option<u16>) -> Option<&'static str> {
-    match (general, additional) {
-        (_, None) => general_name(general),
-        (0x01, Some(status)) if status < 0x0200 => connection_name(status),
-        (0x01, Some(status)) => route_name(status),
-        _ => None,
+/// The name of an additional status, beside the general status 01 (Volume 1, chapter 3 and Appendix
+/// B); None for one that has no name here.
+pub fn connection_status(status: u16) -> Option<&'static str> {
+    match opening_status(status) {
+        Some(name) => Some(name),
+        None => routing_status(status),
+    }
+}
+
+/// The name of a status: that of the additional status beside the general status 01 where there is
+/// one, else that of the general status; None for one that has no name here.
+pub fn status_name(general: u8, extra: Option<u16>) -> Option<&'static str> {
+    match (general, extra) {
+        (0x01, Some(word)) => connection_status(word),
+        _ => general_status(general),
     }
 }
