@@ -1,3 +1,5 @@
 pub mod Digits
 pub mod Numerals
 pub mod Routed
+pub mod Spelled
+pub mod Texts

@@ -1,4 +1,5 @@
 pub mod Numbers
 pub mod Words
 pub mod Routes
+pub mod Spelling
 pub mod Parameters
