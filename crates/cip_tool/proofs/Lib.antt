@@ -3,3 +3,4 @@ pub mod Numerals
 pub mod Routed
 pub mod Spelled
 pub mod Texts
+pub mod Joined

@@ -1,10 +1,14 @@
 -- Which characters stand in what is written, and where it is parted.
-use Rattle.std.proofs.Common.{◌≡◌, ℕ, zero, suc, ◌≤◌, ◌<◌, ◌^◌, ◌/◌, ◌%◌, ◌++◌, ◌∷◌, ◌==◌, ◌&&◌, Bool, true, false, not, List, [], length, get_or, take, drop, Some, Ok, refl, sym, ap, ◌∙◌, arith, rules, inl, inr}
+use Rattle.std.proofs.Common.{◌≡◌, ℕ, zero, suc, ◌≤◌, ◌<◌, ◌^◌, ◌/◌, ◌%◌, ◌++◌, ◌∷◌, ◌==◌, ◌&&◌, Bool, true, false, not, List, [], length, get_or, take, drop, Some, Result, Ok, Err, refl, sym, ap, ◌∙◌, append_assoc, append-nil, ◌+◌, arith, rules, inl, inr}
 use Rattle.std.proofs.Common.{if◌then◌else◌}
-use Rattle.std.specs.Prelude.{nat_lt, decimal, codes, All, map}
+use Rattle.std.specs.Prelude.{nat_lt, decimal, codes, All, map, OnOk}
 use Rattle.std.specs.Char.{digit_value}
 use Rattle.std.specs.List.{list_all, list_any, slice_split, join_with_byte}
-use Rattle.std.specs.Str.{bytes_eq}
+use Rattle.std.specs.Str.{bytes_eq, IsUtf8, IsAscii}
+use Rattle.std.proofs.lemmas.Str.{IsUtf8-from_ascii, encode_ascii}
+use Rattle.std.proofs.lemmas.Str.Ascii.{IsAscii-nil, IsAscii-cons}
+use Rattle.std.specs.Char.{encode_utf8}
+use Rattle.std.proofs.lemmas.List.{drop_all, drop_more}
 use Rattle.std.specs.Str.Parse.{digits_value}
 use Rattle.std.proofs.Math.Bool.{and-false}
 use Rattle.std.proofs.lemmas.Bool.{cases_Bool, and_parts}
@@ -17,7 +21,7 @@ use Rattle.std.proofs.lemmas.Slice.Eq.{bytes_eq-Decides}
 use Rattle.std.proofs.lemmas.Str.Parse.{IsNumeralModel, numerals_by_value}
 use Rattle.hex.specs.Hex.{encode_upper, encode_with, upper_digits}
 use Rattle.cip_tool.specs.Numbers.{number_of, below, numeral}
-use Rattle.cip_tool.specs.Words.{is_decimal_digit, is_marked, is_equals, is_slash, is_plain}
+use Rattle.cip_tool.specs.Words.{is_decimal_digit, is_marked, is_equals, is_slash, is_plain, is_name}
 use Rattle.cip_tool.specs.Routes.{is_comma, is_segment}
 
 -- a text in which no character passes the test
@@ -90,6 +94,15 @@ table_at q [] i h z = z
 table_at q (b ∷ more) zero h z = (and_parts (q b) (list_all q more) h).0
 table_at q (b ∷ more) (suc i) h z = table_at q more i (and_parts (q b) (list_all q more) h).1 z
 
+plain_small : (b : ℕ) → is_plain b ≡ true → b < 128
+plain_small b h = grind (arith, nat_tests)
+
+plain_ascii : (word : List ℕ) → list_all is_plain word ≡ true → IsAscii word
+plain_ascii [] h = IsAscii-nil
+plain_ascii (b ∷ more) h =
+    let parts = and_parts (is_plain b) (list_all is_plain more) h in
+    IsAscii-cons b more (plain_small b parts.0) (plain_ascii more parts.1)
+
 -- what holds of each digit holds of each pair
 pub pairs_all : (q : ℕ → Bool) (bytes : List ℕ) → list_all q upper_digits ≡ true → q 0 ≡ true → list_all q (encode_upper bytes) ≡ true
 unfolding encode_with
@@ -104,6 +117,16 @@ pairs_no_comma bytes = pairs_all (λ b. not (is_comma b)) bytes refl refl
 
 pub pairs_no_equals : (bytes : List ℕ) → lacks is_equals (encode_upper bytes) ≡ true
 pairs_no_equals bytes = pairs_all (λ b. not (is_equals b)) bytes refl refl
+
+-- characters that stand for themselves are a text
+pub plain_utf8 : (word : List ℕ) → list_all is_plain word ≡ true → IsUtf8 word
+plain_utf8 word h = IsUtf8-from_ascii word (plain_ascii word h)
+
+-- a name has none but such characters
+pub name_plain : (word : List ℕ) → is_name word ≡ true → list_all is_plain word ≡ true
+name_plain word h =
+    let front = and_parts (nat_lt 1 (length word) && nat_lt (length word) 17 && not (is_marked word) && list_all is_plain word) (not (list_all is_decimal_digit word)) h in
+    (and_parts (nat_lt 1 (length word) && nat_lt (length word) 17 && not (is_marked word)) (list_all is_plain word) front.0).1
 
 -- digits are no text that begins with something else
 pub digits_other : (word : List ℕ) (c : ℕ) (more : List ℕ) → list_all is_decimal_digit word ≡ true → is_decimal_digit c ≡ false
@@ -168,3 +191,30 @@ split_joined p c at word [] h k = slice_split_none p word (none_pass p word h)
 split_joined p c at word (next ∷ words) h k =
     slice_split_at p word c (join_with_byte c (next ∷ words)) (none_pass p word h) at
     ∙ ap (λ (l : List (List ℕ)). word ∷ l) (split_joined p c at next words k.0 k.1)
+
+digit_small : (i : ℕ) → get_or upper_digits i 0 < 128
+digit_small i = let small = table_at (λ c. nat_lt c 128) upper_digits i refl refl in grind (arith, nat_tests)
+
+-- two digits that were put are a pair
+pub pair_put : (old middle new : List ℕ) (b d e : ℕ) → middle ≡ old ++ encode_utf8 d → new ≡ middle ++ encode_utf8 e → d ≡ get_or upper_digits (b / 16) 0
+    → e ≡ get_or upper_digits (b % 16) 0 → new ≡ old ++ encode_upper (b ∷ [])
+unfolding encode_with
+pair_put old middle new b d e first second is_first is_second =
+    let one : encode_utf8 d ≡ get_or upper_digits (b / 16) 0 ∷ [] = rw is_first (encode_ascii (get_or upper_digits (b / 16) 0) (digit_small (b / 16))) in
+    let other : encode_utf8 e ≡ get_or upper_digits (b % 16) 0 ∷ [] = rw is_second (encode_ascii (get_or upper_digits (b % 16) 0) (digit_small (b % 16))) in
+    rw (second, first, one, other, append_assoc) refl
+
+pub pairs_step : (all old new bytes : List ℕ) (i : ℕ) → i < length bytes → new ≡ old ++ encode_upper (get_or bytes i 0 ∷ [])
+    → old ++ encode_upper (drop i bytes) ≡ all → new ++ encode_upper (drop (i + 1) bytes) ≡ all
+unfolding encode_with
+pairs_step all old new bytes i h put rest =
+    let more : old ++ encode_upper (get_or bytes i 0 ∷ drop (i + 1) bytes) ≡ all = rw (drop_more bytes i 0 h) at rest in
+    rw (put, append_assoc) more
+
+pub pairs_done : (all text bytes : List ℕ) (i : ℕ) → length bytes ≤ i → text ++ encode_upper (drop i bytes) ≡ all → text ≡ all
+unfolding encode_with
+pairs_done all text bytes i h rest = rw (drop_all i bytes h, append-nil) at rest
+
+pub always : {A E P : Type 0} (r : Result A E) → P → OnOk r P
+always (Ok x) h = h
+always (Err e) h = tt

@@ -6,7 +6,7 @@ use crate::numbers::{number_u8, number_u16, number_u32};
 use crate::parameters::{ParamsOptions, params_word, reserved_bits};
 use crate::route::route_path;
 use crate::shown::Shown;
-use crate::spelling::{SpellingFault, spell_path};
+use crate::spelling::spell_path;
 use cip_base::NoMemory;
 use cip_names::{connection_status, general_status};
 use cip_open::{Params, open_params};
@@ -30,8 +30,6 @@ pub enum AnswerFault {
     Size(u16),
     /// No reply has this status.
     Status(String),
-    /// A path of which what was written is not read.
-    Unspelled,
     NoMemory,
 }
 
@@ -94,7 +92,6 @@ impl fmt::Display for AnswerFault {
                 "{}: no reply has this status; see docs/STATUSES.md",
                 Shown(word.as_str())
             ),
-            AnswerFault::Unspelled => write!(f, "{}", SpellingFault::Unspelled),
             AnswerFault::NoMemory => write!(f, "out of memory"),
         }
     }
@@ -137,11 +134,7 @@ fn words_of_bytes(alloc: Global, bytes: &[u8]) -> Result<String, AnswerFault> {
         Ok(path) => path,
         Err(fault) => return Err(AnswerFault::Path(fault_place(bytes), fault)),
     };
-    match spell_path(alloc, path) {
-        Ok(text) => Ok(text),
-        Err(SpellingFault::Unspelled) => Err(AnswerFault::Unspelled),
-        Err(SpellingFault::NoMemory) => Err(AnswerFault::NoMemory),
-    }
+    Ok(spell_path(alloc, path)?)
 }
 
 fn words_of_hex(alloc: Global, text: &str) -> Result<String, AnswerFault> {

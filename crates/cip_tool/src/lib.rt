@@ -24,4 +24,4 @@ pub use parameters::{
 };
 pub use route::{read_route, route_path};
 pub use shown::Shown;
-pub use spelling::{SpellingFault, spell_path};
+pub use spelling::spell_path;

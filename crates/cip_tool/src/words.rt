@@ -8,6 +8,7 @@ ghost use Rattle.cip_tool.specs.Words.{is_plain, is_decimal_digit};
 ghost use Rattle.cip_tool.specs.Words.{is_name, is_marked, hex_of, if_address, address_of};
 ghost use Rattle.cip_tool.specs.Words.{object_by, object_of, key_fields, key_by, key_of};
 ghost use Rattle.cip_tool.specs.Words.{data_of, if_symbol, symbol_of, named_of};
+ghost use Rattle.cip_tool.specs.Spelling.{is_symbol};
 
 use crate::fault::{WordError, WordFault};
 use crate::numbers::{number_u8, number_u16, number_u32};
@@ -249,7 +250,9 @@ fn if_symbol(bytes: Vec<u8>) -> Result<Segment, WordError>
 }
 
 /// Whether a symbol is written by its characters.
-pub(crate) fn is_symbol(text: &str) -> bool {
+pub(crate) fn is_symbol(text: &str) -> bool
+    ensures { result ≡ is_symbol text.now }
+{
     behind_mark(text).is_none() && are_plain(text.as_bytes())
 }
 
