@@ -1,5 +1,5 @@
 -- What each segment adds is what its words are joined to.
-use Rattle.std.proofs.Common.{◌≡◌, ℕ, ◌++◌, ◌∷◌, List, [], refl, sym, ap, ◌∙◌, append_assoc, append-nil, ◌+◌, ◌<◌, ◌≤◌, length, get_or, take, drop, Result, Ok, Err, Bor}
+use Rattle.std.proofs.Common.{◌≡◌, ℕ, ◌++◌, ◌∷◌, List, [], sym, ap, ◌∙◌, append_assoc, append-nil, ◌+◌, ◌<◌, ◌≤◌, length, get_or, take, drop, Result, Ok, Err}
 use Rattle.std.specs.Prelude.{decimal, codes, All, IfOk, OnOk}
 use Rattle.std.specs.List.{join_with_byte}
 use Rattle.std.proofs.lemmas.List.{drop_all, drop_more, take_all}

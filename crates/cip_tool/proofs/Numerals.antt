@@ -17,10 +17,10 @@ use Rattle.cip_tool.specs.Numbers.{numeral, below, number_of}
 abbrev pub read_after : ℕ → ℕ → List ℕ → Option ℕ
 read_after radix n ds = below (2 ^ 64) (if list_all (λ c. nat_lt (digit_value c) radix) ds then Some (digits_value_after radix n ds) else None)
 
-lt_true : (m n : ℕ) → m < n → nat_lt m n ≡ true
+pub lt_true : (m n : ℕ) → m < n → nat_lt m n ≡ true
 lt_true m n h = grind (arith, nat_tests)
 
-lt_false : (m n : ℕ) → n ≤ m → nat_lt m n ≡ false
+pub lt_false : (m n : ℕ) → n ≤ m → nat_lt m n ≡ false
 lt_false m n h = grind (arith, nat_tests)
 
 after_le : (radix n : ℕ) (ds : List ℕ) → 1 ≤ radix → n ≤ digits_value_after radix n ds

@@ -1,6 +1,6 @@
 -- What is written of segments is read as them.
-use Rattle.std.proofs.Common.{◌≡◌, ℕ, ◌+◌, ◌≤◌, ◌<◌, ◌^◌, ◌%◌, ◌++◌, ◌∷◌, ◌==◌, ◌&&◌, Bool, true, false, not, List, [], length, Some, Result, Ok, Err, refl, sym, ap, ◌∙◌, arith, inl, inr}
-use Rattle.std.specs.Prelude.{nat_lt, decimal, codes, All, map}
+use Rattle.std.proofs.Common.{◌≡◌, ℕ, ◌+◌, ◌≤◌, ◌<◌, ◌^◌, ◌%◌, ◌++◌, ◌∷◌, ◌==◌, Bool, true, false, not, List, [], length, Ok, refl, ap, ◌∙◌, arith, inl, inr}
+use Rattle.std.specs.Prelude.{decimal, codes, All, map}
 use Rattle.std.specs.List.{list_all, slice_split, join_with_byte}
 use Rattle.std.specs.Str.{bytes_eq}
 use Rattle.std.proofs.Math.Bool.{and-false}
@@ -9,7 +9,7 @@ use Rattle.std.proofs.lemmas.Bool.Decides.{nat_tests}
 use Rattle.std.proofs.lemmas.List.Elements.{All-head, All-tail}
 use Rattle.std.proofs.lemmas.List.Splits.{slice_split_none}
 use Rattle.std.proofs.lemmas.Slice.Eq.{bytes_eq-Decides}
-use Rattle.hex.specs.Hex.{encode_upper, decode_of}
+use Rattle.hex.specs.Hex.{encode_upper}
 use Rattle.hex.proofs.HexLemmas.{decode_of-encode_upper}
 use Rattle.cip_base.specs.Fields.{IsBytes}
 use Rattle.cip_base.specs.declared.key.KeyFields.{KeyFields}
@@ -19,26 +19,17 @@ use Rattle.cip_segment.specs.Short.{IsRanged, IsWritable}
 use Rattle.cip_tool.specs.declared.fault.WordFault.{WordFault}
 use Rattle.cip_tool.specs.declared.fault.WordFault.TheVariants as faults
 use Rattle.cip_tool.specs.Numbers.{number_of}
-use Rattle.cip_tool.specs.Words.{is_decimal_digit, is_marked, is_equals, is_slash, is_plain, is_name, bounded, or_fault, port_of, address_of, object_of, object_by, key_of, key_by}
-use Rattle.cip_tool.specs.Words.{data_of, symbol_of, named_of, hex_of, decoded, ◌>>=◌}
-use Rattle.cip_tool.specs.Routes.{is_comma, is_segment, segments_of, hop_at, placed, words_from, route_of, named_by, one, before}
-use Rattle.cip_tool.specs.Spelling.{slashed, marked, address_text, symbol_text, is_symbol, object_text, key_text, words_of, spelling_of, HasBytes}
+use Rattle.cip_tool.specs.Words.{is_decimal_digit, is_marked, is_equals, is_slash, is_plain, is_name, bounded, or_fault, port_of, address_of, object_by, key_by}
+use Rattle.cip_tool.specs.Words.{symbol_of, named_of, hex_of, decoded}
+use Rattle.cip_tool.specs.Routes.{is_comma, is_segment, segments_of, hop_at, placed, words_from, route_of, named_by, before}
+use Rattle.cip_tool.specs.Spelling.{slashed, address_text, symbol_text, is_symbol, object_text, key_text, words_of, spelling_of, HasBytes}
+use Rattle.cip_tool.proofs.Numerals.{lt_true, lt_false}
 use Rattle.cip_tool.proofs.Routed.{segment_first, hop_first, none_left}
-use Rattle.cip_tool.proofs.Texts.{lacks, none_pass, all_both, are_digits, digits_no_comma, digits_no_slash, digits_no_equals, plain_no_comma, plain_no_equals}
-use Rattle.cip_tool.proofs.Texts.{pairs_no_comma, pairs_no_equals, digits_other, digits_not_marked, digits_no_segment, number_back, AllLack, split_joined}
-
-lt_true : (m n : ℕ) → m < n → nat_lt m n ≡ true
-lt_true m n h = grind (arith, nat_tests)
-
-lt_false : (m n : ℕ) → n ≤ m → nat_lt m n ≡ false
-lt_false m n h = grind (arith, nat_tests)
+use Rattle.cip_tool.proofs.Texts.{lacks, not_true, none_pass, all_both, are_digits, digits_no_comma, digits_no_slash, digits_no_equals, plain_no_comma, plain_no_equals}
+use Rattle.cip_tool.proofs.Texts.{pairs_no_comma, pairs_no_equals, digits_other, digits_not_marked, digits_no_segment, number_back, AllLack, split_joined, name_plain}
 
 eq_false : (m n : ℕ) → n < m → (m == n) ≡ false
 eq_false m n h = grind (arith, nat_tests)
-
-not_true : (b : Bool) → not b ≡ true → b ≡ false
-not_true true e = absurd cc
-not_true false e = refl
 
 -- numbers below a bound of the formats
 bounded_back : (fault : WordFault) (bound n : ℕ) → n < bound → n < 2 ^ 64 → bounded fault bound (decimal n) ≡ Ok n
@@ -54,7 +45,7 @@ no_equals : (n : ℕ) → n < 2 ^ 64 → lacks is_equals (decimal n) ≡ true
 no_equals n h = digits_no_equals (decimal n) (are_digits n h)
 
 -- words that are read as the segments, and in none of them a comma
-pub record Reads (words : List (List ℕ)) (segments : List Segment) : Type 0 where
+record Reads (words : List (List ℕ)) (segments : List Segment) : Type 0 where
   clean : AllLack is_comma words
   read : (n : ℕ) → words_from n words ≡ Ok segments
 
@@ -80,9 +71,12 @@ reads_hop : (port : ℕ) (address : List ℕ) (words : List (List ℕ)) (rest : 
 reads_hop port address words rest low high clean is k =
     let digits = are_digits port (omega (arith, high)) in
     let names_port : port_of (decimal port) ≡ Ok port =
-      rw (digits_other (decimal port) 98 (97 ∷ 99 ∷ 107 ∷ 112 ∷ 108 ∷ 97 ∷ 110 ∷ 101 ∷ []) digits refl,
+    rw (
+      digits_other (decimal port) 98 (97 ∷ 99 ∷ 107 ∷ 112 ∷ 108 ∷ 97 ∷ 110 ∷ 101 ∷ []) digits refl,
       digits_other (decimal port) 101 (110 ∷ 101 ∷ 116 ∷ []) digits refl,
-      bounded_back faults.Port (2 ^ 16) port high (omega (arith, high)), eq_false port 0 (omega arith)) refl in
+      bounded_back faults.Port (2 ^ 16) port high (omega (arith, high)),
+      eq_false port 0 (omega arith),
+    ) refl in
     let hop : (n : ℕ) → hop_at n (decimal port) (address_text address) ≡ Ok (Port port address ∷ []) = λ n. rw (names_port, is) refl in
     record {
       clean = (digits_no_comma (decimal port) digits, (clean, k.clean));
@@ -103,26 +97,31 @@ object_one c hc =
 object_two : (c i : ℕ) → c < 65536 → i < 4294967296 → Names (object_text (c ∷ i ∷ [])) (Class c ∷ Instance i ∷ [])
 object_two c i hc hi =
     let split : slice_split is_slash (slashed (c ∷ i ∷ [])) ≡ decimal c ∷ decimal i ∷ [] =
-      split_joined is_slash 47 refl (decimal c) (decimal i ∷ []) (no_slash c (omega arith)) (no_slash i (omega arith), tt) in
+    split_joined is_slash 47 refl (decimal c) (decimal i ∷ []) (no_slash c (omega arith)) (no_slash i (omega arith), tt) in
     record {
       clean = all_both (λ b. not (is_comma b)) (decimal c) (47 ∷ decimal i) (no_comma c (omega arith)) (no_comma i (omega arith));
       segment = refl;
-      read = ap object_by split ∙ rw (bounded_back faults.Class (2 ^ 16) c (omega arith) (omega arith),
-          bounded_back faults.Instance (2 ^ 32) i (omega arith) (omega arith)) refl;
+      read = ap object_by split ∙ rw (
+        bounded_back faults.Class (2 ^ 16) c (omega arith) (omega arith),
+        bounded_back faults.Instance (2 ^ 32) i (omega arith) (omega arith),
+      ) refl;
     }
 
 object_three : (c i a : ℕ) → c < 65536 → i < 4294967296 → a < 65536
     → Names (object_text (c ∷ i ∷ a ∷ [])) (Class c ∷ Instance i ∷ Attribute a ∷ [])
 object_three c i a hc hi ha =
     let split : slice_split is_slash (slashed (c ∷ i ∷ a ∷ [])) ≡ decimal c ∷ decimal i ∷ decimal a ∷ [] =
-      split_joined is_slash 47 refl (decimal c) (decimal i ∷ decimal a ∷ []) (no_slash c (omega arith)) (no_slash i (omega arith), (no_slash a (omega arith), tt)) in
+    split_joined is_slash 47 refl (decimal c) (decimal i ∷ decimal a ∷ []) (no_slash c (omega arith))
+    (no_slash i (omega arith), (no_slash a (omega arith), tt)) in
     record {
       clean = all_both (λ b. not (is_comma b)) (decimal c) (47 ∷ slashed (i ∷ a ∷ [])) (no_comma c (omega arith))
           (all_both (λ b. not (is_comma b)) (decimal i) (47 ∷ decimal a) (no_comma i (omega arith)) (no_comma a (omega arith)));
       segment = refl;
-      read = ap object_by split ∙ rw (bounded_back faults.Class (2 ^ 16) c (omega arith) (omega arith),
-          bounded_back faults.Instance (2 ^ 32) i (omega arith) (omega arith),
-          bounded_back faults.Attribute (2 ^ 16) a (omega arith) (omega arith)) refl;
+      read = ap object_by split ∙ rw (
+        bounded_back faults.Class (2 ^ 16) c (omega arith) (omega arith),
+        bounded_back faults.Instance (2 ^ 32) i (omega arith) (omega arith),
+        bounded_back faults.Attribute (2 ^ 16) a (omega arith) (omega arith),
+      ) refl;
     }
 
 -- NAME=VALUE
@@ -180,7 +179,7 @@ five_lack : (p : ℕ → Bool) → ((n : ℕ) → n < 2 ^ 64 → lacks p (decima
     → v < 2 ^ 64 → t < 2 ^ 64 → q < 2 ^ 64 → j < 2 ^ 64 → m < 2 ^ 64 → lacks p (slashed (v ∷ t ∷ q ∷ j ∷ m ∷ [])) ≡ true
 five_lack p each slash v t q j m hv ht hq hj hm =
     let behind : (n : ℕ) (more : List ℕ) → n < 2 ^ 64 → lacks p more ≡ true → lacks p (decimal n ++ 47 ∷ more) ≡ true =
-      λ n more h k. all_both (λ b. not (p b)) (decimal n) (47 ∷ more) (each n h) (rw slash k) in
+    λ n more h k. all_both (λ b. not (p b)) (decimal n) (47 ∷ more) (each n h) (rw slash k) in
     behind v _ hv (behind t _ ht (behind q _ hq (behind j _ hj (each m hm))))
 
 key_named : (key : KeyFields) → IsRanged (Key key) → Names (key_text key) (Key key ∷ [])
@@ -193,14 +192,20 @@ key_named key h =
     let m : key.minor < 2 ^ 64 = omega (arith, h.4) in
     let numbers : List ℕ = key.vendor ∷ key.device_type ∷ key.product ∷ key.major ∷ key.minor ∷ [] in
     let split : slice_split is_slash (slashed numbers) ≡ map decimal numbers =
-      split_joined is_slash 47 refl (decimal key.vendor) (decimal key.device_type ∷ decimal key.product ∷ decimal key.major ∷ decimal key.minor ∷ [])
-      (no_slash key.vendor v) (no_slash key.device_type t, (no_slash key.product q, (no_slash key.major j, (no_slash key.minor m, tt)))) in
+    split_joined is_slash 47 refl (decimal key.vendor) (decimal key.device_type ∷ decimal key.product ∷ decimal key.major ∷ decimal key.minor ∷ [])
+    (no_slash key.vendor v) (no_slash key.device_type t, (no_slash key.product q, (no_slash key.major j, (no_slash key.minor m, tt)))) in
     record {
       clean = five_lack is_comma no_comma refl key.vendor key.device_type key.product key.major key.minor v t q j m;
       segment = refl;
-      read = named_back (codes "key") (slashed numbers) (Key key) (five_lack is_equals no_equals refl key.vendor key.device_type key.product key.major key.minor v t q j m)
-          (ap key_by split ∙ rw (bounded_back faults.Key (2 ^ 16) key.vendor h.0 v, bounded_back faults.Key (2 ^ 16) key.device_type h.1 t,
-          bounded_back faults.Key (2 ^ 16) key.product h.2 q, bounded_back faults.Key (2 ^ 8) key.major h.3 j, bounded_back faults.Key (2 ^ 8) key.minor h.4 m) refl);
+      read = named_back (codes "key") (slashed numbers) (Key key)
+          (five_lack is_equals no_equals refl key.vendor key.device_type key.product key.major key.minor v t q j m)
+          (ap key_by split ∙ rw (
+            bounded_back faults.Key (2 ^ 16) key.vendor h.0 v,
+            bounded_back faults.Key (2 ^ 16) key.device_type h.1 t,
+            bounded_back faults.Key (2 ^ 16) key.product h.2 q,
+            bounded_back faults.Key (2 ^ 8) key.major h.3 j,
+            bounded_back faults.Key (2 ^ 8) key.minor h.4 m,
+          ) refl);
     }
 
 -- bytes
@@ -250,21 +255,22 @@ address_back : (bytes : List ℕ) → IsBytes bytes → 1 ≤ length bytes → l
 address_back [] h least most = absurd (omega arith)
 address_back (b ∷ []) h least most =
     let small : b < 256 = h 0 in
-    let digits = are_digits b (omega arith) in
-    (digits_no_comma (decimal b) digits,
-      rw (digits_no_name (decimal b) digits, digits_not_marked (decimal b) digits, bounded_back faults.Address (2 ^ 8) b small (omega arith)) refl)
+    let digits = are_digits b (omega arith) in (
+      digits_no_comma (decimal b) digits,
+      rw (digits_no_name (decimal b) digits, digits_not_marked (decimal b) digits, bounded_back faults.Address (2 ^ 8) b small (omega arith)) refl,
+    )
 address_back (a ∷ b ∷ more) h least most =
     let some = lt_true 0 (length (a ∷ b ∷ more)) (omega arith) in
     let few = lt_true (length (a ∷ b ∷ more)) 17 (omega arith) in
     let many : (length (a ∷ b ∷ more) == 1) ≡ false = eq_false (length (a ∷ b ∷ more)) 1 (omega arith) in
     rw many (elim (cases_Bool (is_name (a ∷ b ∷ more))) [
       | inl is ↦
-          let plain = (and_parts (nat_lt 1 (length (a ∷ b ∷ more)) && nat_lt (length (a ∷ b ∷ more)) 17 && not (is_marked (a ∷ b ∷ more)) && list_all is_plain (a ∷ b ∷ more)) _ is).0 in
-          let each = (and_parts (nat_lt 1 (length (a ∷ b ∷ more)) && nat_lt (length (a ∷ b ∷ more)) 17 && not (is_marked (a ∷ b ∷ more))) (list_all is_plain (a ∷ b ∷ more)) plain).1 in
-          rw is (plain_no_comma (a ∷ b ∷ more) each, rw is refl)
+          rw is (plain_no_comma (a ∷ b ∷ more) (name_plain (a ∷ b ∷ more) is), rw is refl)
       | inr other ↦
-          rw other (pairs_no_comma (a ∷ b ∷ more),
-            rw (marked_no_name (encode_upper (a ∷ b ∷ more)), hex_back faults.Address (a ∷ b ∷ more) h, some, few) refl)
+          rw other (
+            pairs_no_comma (a ∷ b ∷ more),
+            rw (marked_no_name (encode_upper (a ∷ b ∷ more)), hex_back faults.Address (a ∷ b ∷ more) h, some, few) refl,
+          )
     ])
 
 -- every list of segments
@@ -274,9 +280,10 @@ AllFit (g ∷ rest) = (IsRanged g × HasBytes g × IsWritable g) × AllFit rest
 
 all_fit : (s : List Segment) → All IsRanged s → All HasBytes s → All IsWritable s → AllFit s
 all_fit [] h k m = tt
-all_fit (g ∷ rest) h k m =
-    ((All-head IsRanged g rest h, All-head HasBytes g rest k, All-head IsWritable g rest m),
-      all_fit rest (All-tail IsRanged g rest h) (All-tail HasBytes g rest k) (All-tail IsWritable g rest m))
+all_fit (g ∷ rest) h k m = (
+  (All-head IsRanged g rest h, All-head HasBytes g rest k, All-head IsWritable g rest m),
+  all_fit rest (All-tail IsRanged g rest h) (All-tail HasBytes g rest k) (All-tail IsWritable g rest m),
+)
 
 reads : (s : List Segment) → AllFit s → Reads (words_of s) s
 unfolding words_of
@@ -307,7 +314,7 @@ joined_back : (word : List ℕ) (words : List (List ℕ)) (segments : List Segme
 joined_back word words segments h =
     let text : List ℕ = join_with_byte 44 (word ∷ words) in
     let split : slice_split is_comma (join_with_byte 44 (word ∷ words)) ≡ word ∷ words =
-      split_joined is_comma 44 refl word words h.clean.0 h.clean.1 in
+    split_joined is_comma 44 refl word words h.clean.0 h.clean.1 in
     let read : words_from 1 (slice_split is_comma (join_with_byte 44 (word ∷ words))) ≡ Ok segments = rw split (h.read 1) in
     elim (cases_Bool (bytes_eq (join_with_byte 44 (word ∷ words)) (45 ∷ []))) [
       | inl same ↦

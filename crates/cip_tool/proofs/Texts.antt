@@ -1,7 +1,6 @@
 -- Which characters stand in what is written, and where it is parted.
-use Rattle.std.proofs.Common.{◌≡◌, ℕ, zero, suc, ◌≤◌, ◌<◌, ◌^◌, ◌/◌, ◌%◌, ◌++◌, ◌∷◌, ◌==◌, ◌&&◌, Bool, true, false, not, List, [], length, get_or, take, drop, Some, Result, Ok, Err, refl, sym, ap, ◌∙◌, append_assoc, append-nil, ◌+◌, arith, rules, inl, inr}
-use Rattle.std.proofs.Common.{if◌then◌else◌}
-use Rattle.std.specs.Prelude.{nat_lt, decimal, codes, All, map, OnOk}
+use Rattle.std.proofs.Common.{◌≡◌, ℕ, zero, suc, ◌≤◌, ◌<◌, ◌^◌, ◌/◌, ◌%◌, ◌++◌, ◌∷◌, ◌==◌, ◌&&◌, Bool, true, false, not, List, [], length, get_or, drop, Some, Result, Ok, Err, refl, ap, ◌∙◌, append_assoc, append-nil, ◌+◌, arith, rules, inl, inr}
+use Rattle.std.specs.Prelude.{nat_lt, decimal, All, OnOk}
 use Rattle.std.specs.Char.{digit_value}
 use Rattle.std.specs.List.{list_all, list_any, slice_split, join_with_byte}
 use Rattle.std.specs.Str.{bytes_eq, IsUtf8, IsAscii}
@@ -20,15 +19,16 @@ use Rattle.std.proofs.lemmas.List.Splits.{slice_split_at, slice_split_none}
 use Rattle.std.proofs.lemmas.Slice.Eq.{bytes_eq-Decides}
 use Rattle.std.proofs.lemmas.Str.Parse.{IsNumeralModel, numerals_by_value}
 use Rattle.hex.specs.Hex.{encode_upper, encode_with, upper_digits}
-use Rattle.cip_tool.specs.Numbers.{number_of, below, numeral}
+use Rattle.cip_tool.specs.Numbers.{number_of, below}
 use Rattle.cip_tool.specs.Words.{is_decimal_digit, is_marked, is_equals, is_slash, is_plain, is_name}
 use Rattle.cip_tool.specs.Routes.{is_comma, is_segment}
+use Rattle.cip_tool.proofs.Numerals.{lt_true}
 
 -- a text in which no character passes the test
 abbrev pub lacks : (ℕ → Bool) → List ℕ → Bool
 lacks p word = list_all (λ b. not (p b)) word
 
-not_true : (b : Bool) → not b ≡ true → b ≡ false
+pub not_true : (b : Bool) → not b ≡ true → b ≡ false
 not_true true e = absurd cc
 not_true false e = refl
 
@@ -125,8 +125,8 @@ plain_utf8 word h = IsUtf8-from_ascii word (plain_ascii word h)
 -- a name has none but such characters
 pub name_plain : (word : List ℕ) → is_name word ≡ true → list_all is_plain word ≡ true
 name_plain word h =
-    let front = and_parts (nat_lt 1 (length word) && nat_lt (length word) 17 && not (is_marked word) && list_all is_plain word) (not (list_all is_decimal_digit word)) h in
-    (and_parts (nat_lt 1 (length word) && nat_lt (length word) 17 && not (is_marked word)) (list_all is_plain word) front.0).1
+    let front : Bool = nat_lt 1 (length word) && nat_lt (length word) 17 && not (is_marked word) in
+    (and_parts front (list_all is_plain word) (and_parts (front && list_all is_plain word) (not (list_all is_decimal_digit word)) h).0).1
 
 -- digits are no text that begins with something else
 pub digits_other : (word : List ℕ) (c : ℕ) (more : List ℕ) → list_all is_decimal_digit word ≡ true → is_decimal_digit c ≡ false
@@ -165,9 +165,6 @@ digits_no_segment (a ∷ more) h =
 value_below : (c : ℕ) → is_decimal_digit c ≡ true → nat_lt (digit_value c) 10 ≡ true
 value_below c h = grind (arith, nat_tests)
 
-lt_true : (m n : ℕ) → m < n → nat_lt m n ≡ true
-lt_true m n h = grind (arith, nat_tests)
-
 -- a number is read in its digits
 pub number_back : (bound n : ℕ) → n < bound → n < 2 ^ 64 → below bound (number_of (decimal n)) ≡ Some n
 unfolding number_of
@@ -175,7 +172,8 @@ number_back bound n h k =
     let digits = are_digits n k in
     let plain : is_marked (decimal n) ≡ false = digits_not_marked (decimal n) digits in
     let some = lt_true 0 (length (decimal n)) (decimal_nonempty n k) in
-    let are : list_all (λ c. nat_lt (digit_value c) 10) (decimal n) ≡ true = all_wider is_decimal_digit (λ c. nat_lt (digit_value c) 10) value_below (decimal n) digits in
+    let are : list_all (λ c. nat_lt (digit_value c) 10) (decimal n) ≡ true =
+    all_wider is_decimal_digit (λ c. nat_lt (digit_value c) 10) value_below (decimal n) digits in
     let value : digits_value 10 (decimal n) ≡ n = digits_value-decimal own n k in
     rw (plain, some, are, value, lt_true n bound h) refl
 

@@ -91,16 +91,10 @@ fn name_in(bytes: &[u8]) -> Option<&str>
     ensures { option_map (λ text. text.now) result
         ≡ (if is_name bytes.now then Some bytes.now else None) }
 {
-    match std::str::from_utf8(bytes) {
-        Ok(text) => {
-            if is_name(text) {
-                Some(text)
-            } else {
-                None
-            }
-        }
-        Err(_) => None,
-    }
+    let Ok(text) = std::str::from_utf8(bytes) else {
+        return None;
+    };
+    if is_name(text) { Some(text) } else { None }
 }
 
 // An address: the number of a byte, a text, or bytes behind 0x.
@@ -133,16 +127,10 @@ fn symbol_in(bytes: &[u8]) -> Option<&str>
     ensures { option_map (λ text. text.now) result
         ≡ (if is_symbol bytes.now then Some bytes.now else None) }
 {
-    match std::str::from_utf8(bytes) {
-        Ok(text) => {
-            if is_symbol(text) {
-                Some(text)
-            } else {
-                None
-            }
-        }
-        Err(_) => None,
-    }
+    let Ok(text) = std::str::from_utf8(bytes) else {
+        return None;
+    };
+    if is_symbol(text) { Some(text) } else { None }
 }
 
 // The characters of a symbol, or its bytes behind 0x.
@@ -226,9 +214,7 @@ fn put_next(text: &mut String, behind: Behind, segment: &Segment) -> Result<(), 
 {
     match (behind, segment) {
         (Behind::Class, Segment::Instance(number)) => put_numbered(text, "/", *number),
-        (Behind::Instance, Segment::Attribute(number)) => {
-            put_u16(text, "/", *number)
-        }
+        (Behind::Instance, Segment::Attribute(number)) => put_u16(text, "/", *number),
         _ => {
             put(text, ",")?;
             put_alone(text, segment)
