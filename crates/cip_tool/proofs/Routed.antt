@@ -1,12 +1,12 @@
 -- Words of a path, one after the other.
-use Rattle.std.proofs.Common.{◌≡◌, ℕ, ◌+◌, ◌≤◌, true, false, List, [], ◌∷◌, ◌++◌, refl, sym, ap, ◌∙◌, append_assoc, append-nil, Result, Ok, Err, arith, drop, length, Bor, MatchResult}
+use Rattle.std.proofs.Common.{◌≡◌, ℕ, ◌+◌, ◌≤◌, Bool, true, false, List, [], ◌∷◌, ◌++◌, refl, sym, ap, ◌∙◌, append_assoc, append-nil, Result, Ok, Err, arith, drop, length, Bor, MatchResult}
 use Rattle.std.proofs.lemmas.List.{drop_all}
 use Rattle.cip_segment.specs.declared.segment.Segment.{Segment}
 use Rattle.cip_tool.specs.declared.fault.WordFault.{WordFault}
 use Rattle.cip_tool.specs.declared.fault.RouteFault.{RouteFault}
 use Rattle.cip_tool.specs.declared.fault.RouteFault.TheVariants.{NoMemory, TooLong, Word}
 use Rattle.cip_tool.specs.Words.{port_of, texts}
-use Rattle.cip_tool.specs.Routes.{Routed, before, placed, is_segment, segments_of, hop_at, lone_by, words_from, IsTaken, RouteFails}
+use Rattle.cip_tool.specs.Routes.{Routed, before, joined, placed, is_segment, segments_of, hop_at, lone_by, words_from, IsTaken, RouteFails}
 
 before_none : (more : List Segment) → Ok more ≡ before more (Ok [])
 before_none more = ap Ok (sym (append-nil more))

@@ -1,5 +1,5 @@
 -- Numbers as they stand in a text.
-use Rattle.std.specs.Prelude.{ℕ, List, length, take, drop, nat_lt}
+use Rattle.std.specs.Prelude.{ℕ, Bool, List, [], length, take, drop, nat_lt, ◌==◌}
 use Rattle.std.specs.Prelude.{◌&&◌, if◌then◌else◌, Option, Some, None, option_and_then, codes}
 use Rattle.std.specs.List.{list_all}
 use Rattle.std.specs.Str.Parse.{digits_value}

@@ -1,10 +1,11 @@
 -- What the words of a path in words name.
 use Rattle.std.specs.Prelude.{◌≡◌, ℕ, Bool, List, [], ◌∷◌, map, length, take, ◌==◌, ◌&&◌, ◌%◌, ◌^◌, not, nat_lt, if◌then◌else◌, Option, Some, None, codes, Result, Ok, Err, drop}
-use Rattle.std.specs.List.{slice_split, list_all}
+use Rattle.std.specs.List.{slice_split, list_all, list_any}
 use Rattle.std.specs.Str.{bytes_eq}
 use denote.Ref.{Bor}
 use Rattle.hex.specs.Hex.{decode_of}
 use Rattle.hex.specs.declared.error.FromHexError.{FromHexError}
+use Rattle.cip_base.specs.declared.key.KeyFields.{KeyFields}
 use Rattle.cip_segment.specs.declared.segment.Segment.{Segment}
 use Rattle.cip_segment.specs.declared.segment.Segment.TheVariants as segments
 use Rattle.cip_tool.specs.declared.fault.WordFault.{WordFault}
