@@ -5,9 +5,10 @@ use Rattle.cip_event.specs.declared.event.Event.TheVariants as events
 use Rattle.cip_event.specs.declared.event.Body.TheVariants as bodies
 use Rattle.cip_event.specs.declared.event.Output.TheVariants as outputs
 use Rattle.cip_module.specs.State.{initial_state}
-use Rattle.cip_event.specs.declared.event.Event.{Event}
+use Rattle.cip_event.specs.declared.event.Command.{Command}
 use Rattle.witnesses.specs.Plans.{scanner, adapter, cell, triad, params}
 use Rattle.witnesses.proofs.Maps.{none_waits, none_held, held_get, held_first, held_entries, held_none, pendings_none, bytes_get, entry_get, Gives}
+use Rattle.witnesses.proofs.Steps.{and_command, and_frame, and_tick}
 use Rattle.cip_world.specs.Runs.{IsRun, state_in}
 use Rattle.cip_message.specs.Counted.{counted_at, counted_path_at}
 use Rattle.cip_message.specs.ReplyAt.{reply_at}
@@ -24,10 +25,10 @@ use Rattle.cip_segment.specs.Scan.{bytes_at, padded_at, narrow_at, double_at, po
 use Rattle.cip_target.specs.Ends.{end_row}
 use Rattle.witnesses.specs.ConnectedRun.{open_sent, success, ticked, begins, ends_there, stands, first_datum, second_datum, entered, lost, entered_again, taken}
 
-abbrev open_command : Event
-open_command = events.Command (commands.Open 1 (record { tick = 7; ticks = 250 }) (2 ∷ 7 ∷ 32 ∷ 4 ∷ 36 ∷ 100 ∷ 44 ∷ 101 ∷ 44 ∷ 102 ∷ []) params)
+abbrev opening : Command
+opening = commands.Open 1 (record { tick = 7; ticks = 250 }) (2 ∷ 7 ∷ 32 ∷ 4 ∷ 36 ∷ 100 ∷ 44 ∷ 101 ∷ 44 ∷ 102 ∷ []) params
 
-opens : Gives scanner (initial_state scanner) open_command (outputs.Send 2 (7 ∷ []) (bodies.Request 1 open_sent) ∷ [])
+opens : Gives scanner (initial_state scanner) (events.Command opening) (outputs.Send 2 (7 ∷ []) (bodies.Request 1 open_sent) ∷ [])
 unfolding behind bytes_at counted_at counted_path_at data_row double_at end_row hop_of link_refusal logical_at narrow_at number_at open_at
     open_reply_at open_row other_at padded_at path_at plain_port_at point_at port_at reply_at reply_row request_at request_row segment_at segments_of
     segments_within size_at words_at
@@ -75,89 +76,21 @@ takes = simp (none_held, held_first, held_get, held_entries, held_none, bytes_ge
 -- ---- entry by entry
 
 run_ticked : IsRun cell ticked
-run_ticked = (
-  tt,
-  record {
-    event = events.Tick 1;
-    given = refl;
-    config = adapter 0 2;
-    is_module = refl;
-    new = ticks.0;
-    step = ticks.1;
-  },
-)
+run_ticked = and_tick cell [] 1 (adapter 0 2) 1 _ tt refl ticks
 
 run_begins : IsRun cell begins
-run_begins = (
-  run_ticked,
-  record {
-    event = open_command;
-    given = refl;
-    config = scanner;
-    is_module = refl;
-    new = opens.0;
-    step = opens.1;
-  },
-)
+run_begins = and_command cell ticked 0 scanner opening _ run_ticked refl opens
 
 run_ends_there : IsRun cell ends_there
-run_ends_there = (
-  run_begins,
-  record {
-    event = events.Frame 2 (1 ∷ []) (bodies.Request 1 open_sent);
-    given = record {
-      waits = record {
-        flight = record { way = record { at = 0; port = 2; address = 7 ∷ [] }; body = bodies.Request 1 open_sent };
-        there = record { at = 1; port = 2; address = 1 ∷ [] };
-        sent = refl;
-        leads = refl;
-        fresh = refl;
-      };
-      here = refl;
-      event_is = refl;
-    };
-    config = adapter 0 2;
-    is_module = refl;
-    new = accepts.0;
-    step = accepts.1;
-  },
-)
+run_ends_there = and_frame cell begins _ (record { at = 0; port = 2; address = 7 ∷ [] }) (record { at = 1; port = 2; address = 1 ∷ [] }) (adapter 0 2)
+    (bodies.Request 1 open_sent) _ run_begins refl refl refl refl accepts
 
 run_stands : IsRun cell stands
-run_stands = (
-  run_ends_there,
-  record {
-    event = events.Frame 2 (7 ∷ []) (bodies.Reply 1 success);
-    given = record {
-      waits = record {
-        flight = record { way = record { at = 1; port = 2; address = 1 ∷ [] }; body = bodies.Reply 1 success };
-        there = record { at = 0; port = 2; address = 7 ∷ [] };
-        sent = refl;
-        leads = refl;
-        fresh = refl;
-      };
-      here = refl;
-      event_is = refl;
-    };
-    config = scanner;
-    is_module = refl;
-    new = finishes.0;
-    step = finishes.1;
-  },
-)
+run_stands = and_frame cell ends_there _ (record { at = 1; port = 2; address = 1 ∷ [] }) (record { at = 0; port = 2; address = 7 ∷ [] }) scanner
+    (bodies.Reply 1 success) _ run_ends_there refl refl refl refl finishes
 
 run_entered : IsRun cell entered
-run_entered = (
-  run_stands,
-  record {
-    event = events.Command (commands.Enter 1 first_datum);
-    given = refl;
-    config = scanner;
-    is_module = refl;
-    new = enters.0;
-    step = enters.1;
-  },
-)
+run_entered = and_command cell stands 0 scanner (commands.Enter 1 first_datum) _ run_stands refl enters
 
 run_lost : IsRun cell lost
 run_lost = (
@@ -172,38 +105,9 @@ run_lost = (
 )
 
 run_entered_again : IsRun cell entered_again
-run_entered_again = (
-  run_lost,
-  record {
-    event = events.Command (commands.Enter 1 second_datum);
-    given = refl;
-    config = scanner;
-    is_module = refl;
-    new = enters_again.0;
-    step = enters_again.1;
-  },
-)
+run_entered_again = and_command cell lost 0 scanner (commands.Enter 1 second_datum) _ run_lost refl enters_again
 
 -- the whole run
 pub connected_run : IsRun cell taken
-connected_run = (
-  run_entered_again,
-  record {
-    event = events.Frame 2 (1 ∷ []) (bodies.Data 65 second_datum);
-    given = record {
-      waits = record {
-        flight = record { way = record { at = 0; port = 2; address = 7 ∷ [] }; body = bodies.Data 65 second_datum };
-        there = record { at = 1; port = 2; address = 1 ∷ [] };
-        sent = refl;
-        leads = refl;
-        fresh = refl;
-      };
-      here = refl;
-      event_is = refl;
-    };
-    config = adapter 0 2;
-    is_module = refl;
-    new = takes.0;
-    step = takes.1;
-  },
-)
+connected_run = and_frame cell entered_again _ (record { at = 0; port = 2; address = 7 ∷ [] }) (record { at = 1; port = 2; address = 1 ∷ [] })
+    (adapter 0 2) (bodies.Data 65 second_datum) _ run_entered_again refl refl refl refl takes

@@ -8,6 +8,7 @@ use Rattle.cip_module.specs.State.{initial_state}
 use Rattle.cip_world.specs.Runs.{IsRun, state_in}
 use Rattle.witnesses.specs.Plans.{scanner, first_bridge, second_bridge, plant, params}
 use Rattle.witnesses.proofs.Maps.{Gives, none_waits, none_held, held_first, held_get, entry_get}
+use Rattle.witnesses.proofs.Steps.{and_command, and_frame}
 use Rattle.cip_message.specs.Counted.{counted_at, counted_path_at}
 use Rattle.cip_message.specs.Failure.{failure_at}
 use Rattle.cip_message.specs.ReplyAt.{reply_at}
@@ -68,107 +69,21 @@ unfolding behind bytes_at counted_at counted_path_at double_at end_row failure_a
 by_ends = simp (none_waits, none_held, held_first, held_get, entry_get) (_, refl)
 
 run_asks : IsRun plant asks
-run_asks = (
-  tt,
-  record {
-    event = events.Command (commands.Open 1 (record { tick = 7; ticks = 250 }) path params);
-    given = refl;
-    config = scanner;
-    is_module = refl;
-    new = by_asks.0;
-    step = by_asks.1;
-  },
-)
+run_asks = and_command plant [] 0 scanner (commands.Open 1 (record { tick = 7; ticks = 250 }) path params) _ tt refl by_asks
 
 run_goes_on : IsRun plant goes_on
-run_goes_on = (
-  run_asks,
-  record {
-    event = events.Frame 2 (1 ∷ []) (bodies.Request 1 first_request);
-    given = record {
-      waits = record {
-        flight = record { way = record { at = 0; port = 2; address = 5 ∷ [] }; body = bodies.Request 1 first_request };
-        there = record { at = 1; port = 2; address = 1 ∷ [] };
-        sent = refl;
-        leads = refl;
-        fresh = refl;
-      };
-      here = refl;
-      event_is = refl;
-    };
-    config = first_bridge;
-    is_module = refl;
-    new = by_goes_on.0;
-    step = by_goes_on.1;
-  },
-)
+run_goes_on = and_frame plant asks _ (record { at = 0; port = 2; address = 5 ∷ [] }) (record { at = 1; port = 2; address = 1 ∷ [] }) first_bridge
+    (bodies.Request 1 first_request) _ run_asks refl refl refl refl by_goes_on
 
 run_refuses : IsRun plant refuses
-run_refuses = (
-  run_goes_on,
-  record {
-    event = events.Frame 1 (0 ∷ []) (bodies.Request 1 second_request);
-    given = record {
-      waits = record {
-        flight = record { way = record { at = 1; port = 1; address = 3 ∷ [] }; body = bodies.Request 1 second_request };
-        there = record { at = 2; port = 1; address = 0 ∷ [] };
-        sent = refl;
-        leads = refl;
-        fresh = refl;
-      };
-      here = refl;
-      event_is = refl;
-    };
-    config = second_bridge;
-    is_module = refl;
-    new = by_refuses.0;
-    step = by_refuses.1;
-  },
-)
+run_refuses = and_frame plant goes_on _ (record { at = 1; port = 1; address = 3 ∷ [] }) (record { at = 2; port = 1; address = 0 ∷ [] }) second_bridge
+    (bodies.Request 1 second_request) _ run_goes_on refl refl refl refl by_refuses
 
 run_passes : IsRun plant passes
-run_passes = (
-  run_refuses,
-  record {
-    event = events.Frame 1 (3 ∷ []) (bodies.Reply 1 failure);
-    given = record {
-      waits = record {
-        flight = record { way = record { at = 2; port = 1; address = 0 ∷ [] }; body = bodies.Reply 1 failure };
-        there = record { at = 1; port = 1; address = 3 ∷ [] };
-        sent = refl;
-        leads = refl;
-        fresh = refl;
-      };
-      here = refl;
-      event_is = refl;
-    };
-    config = first_bridge;
-    is_module = refl;
-    new = by_passes.0;
-    step = by_passes.1;
-  },
-)
+run_passes = and_frame plant refuses _ (record { at = 2; port = 1; address = 0 ∷ [] }) (record { at = 1; port = 1; address = 3 ∷ [] }) first_bridge
+    (bodies.Reply 1 failure) _ run_refuses refl refl refl refl by_passes
 
 -- the whole run
 pub failed_open : IsRun plant ends
-failed_open = (
-  run_passes,
-  record {
-    event = events.Frame 2 (5 ∷ []) (bodies.Reply 1 failure);
-    given = record {
-      waits = record {
-        flight = record { way = record { at = 1; port = 2; address = 1 ∷ [] }; body = bodies.Reply 1 failure };
-        there = record { at = 0; port = 2; address = 5 ∷ [] };
-        sent = refl;
-        leads = refl;
-        fresh = refl;
-      };
-      here = refl;
-      event_is = refl;
-    };
-    config = scanner;
-    is_module = refl;
-    new = by_ends.0;
-    step = by_ends.1;
-  },
-)
+failed_open = and_frame plant passes _ (record { at = 1; port = 2; address = 1 ∷ [] }) (record { at = 0; port = 2; address = 5 ∷ [] }) scanner
+    (bodies.Reply 1 failure) _ run_passes refl refl refl refl by_ends

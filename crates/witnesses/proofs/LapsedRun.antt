@@ -37,6 +37,7 @@ use Rattle.witnesses.specs.LapsedRun.{lapses, of_scanner, of_adapter, upper, low
 use Rattle.witnesses.proofs.Maps.{Gives, none_waits, none_held, held_first, held_none, held_get, held_entries, held_gone, held_twice, pendings_none, bytes_get, entry_get, entry_gone}
 use Rattle.witnesses.proofs.OneAfterTheOther.{run_stands}
 use Rattle.witnesses.proofs.Topologies.{cell_is}
+use Rattle.witnesses.proofs.Steps.{and_tick}
 
 by_lapses : Gives scanner (state_in scanner 0 stands) (events.Tick 41) (outputs.Expired triad ∷ [])
 unfolding behind bytes_at close_at close_reply_at close_row counted_at counted_path_at data_row double_at end_row failure_at hop_of link_refusal logical_at
@@ -45,17 +46,7 @@ unfolding behind bytes_at close_at close_reply_at close_row counted_at counted_p
 by_lapses = simp (none_waits, none_held, held_first, held_none, held_get, held_entries, held_gone, held_twice, pendings_none, entry_get, entry_gone) (_, refl)
 
 pub lapsed_run : IsRun cell lapses
-lapsed_run = (
-  run_stands,
-  record {
-    event = events.Tick 41;
-    given = refl;
-    config = scanner;
-    is_module = refl;
-    new = by_lapses.0;
-    step = by_lapses.1;
-  },
-)
+lapsed_run = and_tick cell stands 0 scanner 41 _ run_stands refl by_lapses
 
 pub older : IsOlder stands lapses
 older = inr (itself stands)

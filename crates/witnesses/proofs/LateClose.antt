@@ -9,6 +9,7 @@ use Rattle.cip_module.specs.State.{initial_state}
 use Rattle.cip_world.specs.Runs.{IsRun, state_in}
 use Rattle.witnesses.specs.Plans.{scanner, adapter, cell, triad, params}
 use Rattle.witnesses.proofs.Maps.{Gives, none_waits, none_held, held_first, held_none, held_get, held_entries, held_gone, held_twice, pendings_none, bytes_get, entry_first, entry_get, entry_entries, entry_gone}
+use Rattle.witnesses.proofs.Steps.{and_command, and_frame, and_tick}
 use Rattle.cip_message.specs.Counted.{counted_at, counted_path_at}
 use Rattle.cip_message.specs.Failure.{failure_at}
 use Rattle.cip_message.specs.ReplyAt.{reply_at}
@@ -178,218 +179,45 @@ by_answered = simp (
 -- ---- entry by entry
 
 run_opens : IsRun cell opens
-run_opens = (
-  tt,
-  record {
-    event = events.Command (commands.Open 1 (record { tick = 7; ticks = 250 }) path params);
-    given = refl;
-    config = scanner;
-    is_module = refl;
-    new = by_opens.0;
-    step = by_opens.1;
-  },
-)
+run_opens = and_command cell [] 0 scanner (commands.Open 1 (record { tick = 7; ticks = 250 }) path params) _ tt refl by_opens
 
 run_accepted : IsRun cell accepted
-run_accepted = (
-  run_opens,
-  record {
-    event = events.Frame 2 (1 ∷ []) (bodies.Request 1 first_request);
-    given = record {
-      waits = record {
-        flight = record { way = record { at = 0; port = 2; address = 7 ∷ [] }; body = bodies.Request 1 first_request };
-        there = record { at = 1; port = 2; address = 1 ∷ [] };
-        sent = refl;
-        leads = refl;
-        fresh = refl;
-      };
-      here = refl;
-      event_is = refl;
-    };
-    config = adapter 0 2;
-    is_module = refl;
-    new = by_accepted.0;
-    step = by_accepted.1;
-  },
-)
+run_accepted = and_frame cell opens _ (record { at = 0; port = 2; address = 7 ∷ [] }) (record { at = 1; port = 2; address = 1 ∷ [] }) (adapter 0 2)
+    (bodies.Request 1 first_request) _ run_opens refl refl refl refl by_accepted
 
 run_stands : IsRun cell stands
-run_stands = (
-  run_accepted,
-  record {
-    event = events.Frame 2 (7 ∷ []) (bodies.Reply 1 first_success);
-    given = record {
-      waits = record {
-        flight = record { way = record { at = 1; port = 2; address = 1 ∷ [] }; body = bodies.Reply 1 first_success };
-        there = record { at = 0; port = 2; address = 7 ∷ [] };
-        sent = refl;
-        leads = refl;
-        fresh = refl;
-      };
-      here = refl;
-      event_is = refl;
-    };
-    config = scanner;
-    is_module = refl;
-    new = by_stands.0;
-    step = by_stands.1;
-  },
-)
+run_stands = and_frame cell accepted _ (record { at = 1; port = 2; address = 1 ∷ [] }) (record { at = 0; port = 2; address = 7 ∷ [] }) scanner
+    (bodies.Reply 1 first_success) _ run_accepted refl refl refl refl by_stands
 
 run_asked_to_close : IsRun cell asked_to_close
-run_asked_to_close = (
-  run_stands,
-  record {
-    event = events.Command (commands.Close 2 1 (record { tick = 7; ticks = 250 }));
-    given = refl;
-    config = scanner;
-    is_module = refl;
-    new = by_asked_to_close.0;
-    step = by_asked_to_close.1;
-  },
-)
+run_asked_to_close = and_command cell stands 0 scanner (commands.Close 2 1 (record { tick = 7; ticks = 250 })) _ run_stands refl by_asked_to_close
 
 run_lapsed : IsRun cell lapsed
-run_lapsed = (
-  run_asked_to_close,
-  record {
-    event = events.Tick 41;
-    given = refl;
-    config = adapter 0 2;
-    is_module = refl;
-    new = by_lapsed.0;
-    step = by_lapsed.1;
-  },
-)
+run_lapsed = and_tick cell asked_to_close 1 (adapter 0 2) 41 _ run_asked_to_close refl by_lapsed
 
 run_given_up : IsRun cell given_up
-run_given_up = (
-  run_lapsed,
-  record {
-    event = events.Tick 32001;
-    given = refl;
-    config = scanner;
-    is_module = refl;
-    new = by_given_up.0;
-    step = by_given_up.1;
-  },
-)
+run_given_up = and_tick cell lapsed 0 scanner 32001 _ run_lapsed refl by_given_up
 
 run_opens_again : IsRun cell opens_again
-run_opens_again = (
-  run_given_up,
-  record {
-    event = events.Command (commands.Open 3 (record { tick = 7; ticks = 250 }) path params);
-    given = refl;
-    config = scanner;
-    is_module = refl;
-    new = by_opens_again.0;
-    step = by_opens_again.1;
-  },
-)
+run_opens_again = and_command cell given_up 0 scanner (commands.Open 3 (record { tick = 7; ticks = 250 }) path params) _ run_given_up refl
+    by_opens_again
 
 run_accepted_again : IsRun cell accepted_again
-run_accepted_again = (
-  run_opens_again,
-  record {
-    event = events.Frame 2 (1 ∷ []) (bodies.Request 3 second_request);
-    given = record {
-      waits = record {
-        flight = record { way = record { at = 0; port = 2; address = 7 ∷ [] }; body = bodies.Request 3 second_request };
-        there = record { at = 1; port = 2; address = 1 ∷ [] };
-        sent = refl;
-        leads = refl;
-        fresh = refl;
-      };
-      here = refl;
-      event_is = refl;
-    };
-    config = adapter 0 2;
-    is_module = refl;
-    new = by_accepted_again.0;
-    step = by_accepted_again.1;
-  },
-)
+run_accepted_again = and_frame cell opens_again _ (record { at = 0; port = 2; address = 7 ∷ [] }) (record { at = 1; port = 2; address = 1 ∷ [] })
+    (adapter 0 2) (bodies.Request 3 second_request) _ run_opens_again refl refl refl refl by_accepted_again
 
 run_stands_again : IsRun cell stands_again
-run_stands_again = (
-  run_accepted_again,
-  record {
-    event = events.Frame 2 (7 ∷ []) (bodies.Reply 3 second_success);
-    given = record {
-      waits = record {
-        flight = record { way = record { at = 1; port = 2; address = 1 ∷ [] }; body = bodies.Reply 3 second_success };
-        there = record { at = 0; port = 2; address = 7 ∷ [] };
-        sent = refl;
-        leads = refl;
-        fresh = refl;
-      };
-      here = refl;
-      event_is = refl;
-    };
-    config = scanner;
-    is_module = refl;
-    new = by_stands_again.0;
-    step = by_stands_again.1;
-  },
-)
+run_stands_again = and_frame cell accepted_again _ (record { at = 1; port = 2; address = 1 ∷ [] }) (record { at = 0; port = 2; address = 7 ∷ [] })
+    scanner (bodies.Reply 3 second_success) _ run_accepted_again refl refl refl refl by_stands_again
 
 run_closed_late : IsRun cell closed_late
-run_closed_late = (
-  run_stands_again,
-  record {
-    event = events.Frame 2 (1 ∷ []) (bodies.Request 2 close_request);
-    given = record {
-      waits = record {
-        flight = record { way = record { at = 0; port = 2; address = 7 ∷ [] }; body = bodies.Request 2 close_request };
-        there = record { at = 1; port = 2; address = 1 ∷ [] };
-        sent = refl;
-        leads = refl;
-        fresh = refl;
-      };
-      here = refl;
-      event_is = refl;
-    };
-    config = adapter 0 2;
-    is_module = refl;
-    new = by_closed_late.0;
-    step = by_closed_late.1;
-  },
-)
+run_closed_late = and_frame cell stands_again _ (record { at = 0; port = 2; address = 7 ∷ [] }) (record { at = 1; port = 2; address = 1 ∷ [] })
+    (adapter 0 2) (bodies.Request 2 close_request) _ run_stands_again refl refl refl refl by_closed_late
 
 run_entered : IsRun cell entered
-run_entered = (
-  run_closed_late,
-  record {
-    event = events.Command (commands.Enter 3 datum);
-    given = refl;
-    config = scanner;
-    is_module = refl;
-    new = by_entered.0;
-    step = by_entered.1;
-  },
-)
+run_entered = and_command cell closed_late 0 scanner (commands.Enter 3 datum) _ run_closed_late refl by_entered
 
 -- the whole run
 pub late_close : IsRun cell answered
-late_close = (
-  run_entered,
-  record {
-    event = events.Frame 2 (7 ∷ []) (bodies.Reply 2 close_success);
-    given = record {
-      waits = record {
-        flight = record { way = record { at = 1; port = 2; address = 1 ∷ [] }; body = bodies.Reply 2 close_success };
-        there = record { at = 0; port = 2; address = 7 ∷ [] };
-        sent = refl;
-        leads = refl;
-        fresh = refl;
-      };
-      here = refl;
-      event_is = refl;
-    };
-    config = scanner;
-    is_module = refl;
-    new = by_answered.0;
-    step = by_answered.1;
-  },
-)
+late_close = and_frame cell entered _ (record { at = 1; port = 2; address = 1 ∷ [] }) (record { at = 0; port = 2; address = 7 ∷ [] }) scanner
+    (bodies.Reply 2 close_success) _ run_entered refl refl refl refl by_answered

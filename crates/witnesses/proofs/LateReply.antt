@@ -9,6 +9,7 @@ use Rattle.cip_module.specs.State.{initial_state}
 use Rattle.cip_world.specs.Runs.{IsRun, state_in}
 use Rattle.witnesses.specs.Plans.{scanner, first_bridge, second_bridge, plant}
 use Rattle.witnesses.proofs.Maps.{Gives, none_waits, held_none, pendings_none, entry_get, entry_remove, entry_entries}
+use Rattle.witnesses.proofs.Steps.{and_command, and_frame, and_tick}
 use Rattle.cip_message.specs.Counted.{counted_at, counted_path_at}
 use Rattle.cip_message.specs.Failure.{failure_at}
 use Rattle.cip_message.specs.ReplyAt.{reply_at}
@@ -69,97 +70,20 @@ unfolding behind bytes_at counted_at counted_path_at double_at end_row failure_a
 by_comes_late = simp (none_waits, entry_get, entry_entries, pendings_none, held_none, entry_remove) (_, refl)
 
 run_asks : IsRun plant asks
-run_asks = (
-  tt,
-  record {
-    event = events.Command (commands.Send 1 (record { tick = 0; ticks = 5 }) path asked);
-    given = refl;
-    config = scanner;
-    is_module = refl;
-    new = by_asks.0;
-    step = by_asks.1;
-  },
-)
+run_asks = and_command plant [] 0 scanner (commands.Send 1 (record { tick = 0; ticks = 5 }) path asked) _ tt refl by_asks
 
 run_goes_on : IsRun plant goes_on
-run_goes_on = (
-  run_asks,
-  record {
-    event = events.Frame 2 (1 ∷ []) (bodies.Request 1 sent_on);
-    given = record {
-      waits = record {
-        flight = record { way = record { at = 0; port = 2; address = 5 ∷ [] }; body = bodies.Request 1 sent_on };
-        there = record { at = 1; port = 2; address = 1 ∷ [] };
-        sent = refl;
-        leads = refl;
-        fresh = refl;
-      };
-      here = refl;
-      event_is = refl;
-    };
-    config = first_bridge;
-    is_module = refl;
-    new = by_goes_on.0;
-    step = by_goes_on.1;
-  },
-)
+run_goes_on = and_frame plant asks _ (record { at = 0; port = 2; address = 5 ∷ [] }) (record { at = 1; port = 2; address = 1 ∷ [] }) first_bridge
+    (bodies.Request 1 sent_on) _ run_asks refl refl refl refl by_goes_on
 
 run_answers : IsRun plant answers
-run_answers = (
-  run_goes_on,
-  record {
-    event = events.Frame 1 (0 ∷ []) (bodies.Request 1 asked);
-    given = record {
-      waits = record {
-        flight = record { way = record { at = 1; port = 1; address = 3 ∷ [] }; body = bodies.Request 1 asked };
-        there = record { at = 2; port = 1; address = 0 ∷ [] };
-        sent = refl;
-        leads = refl;
-        fresh = refl;
-      };
-      here = refl;
-      event_is = refl;
-    };
-    config = second_bridge;
-    is_module = refl;
-    new = by_answers.0;
-    step = by_answers.1;
-  },
-)
+run_answers = and_frame plant goes_on _ (record { at = 1; port = 1; address = 3 ∷ [] }) (record { at = 2; port = 1; address = 0 ∷ [] }) second_bridge
+    (bodies.Request 1 asked) _ run_goes_on refl refl refl refl by_answers
 
 pub run_times_out : IsRun plant times_out
-run_times_out = (
-  run_answers,
-  record {
-    event = events.Tick 4;
-    given = refl;
-    config = first_bridge;
-    is_module = refl;
-    new = by_times_out.0;
-    step = by_times_out.1;
-  },
-)
+run_times_out = and_tick plant answers 1 first_bridge 4 _ run_answers refl by_times_out
 
 -- the whole run
 pub late_reply : IsRun plant comes_late
-late_reply = (
-  run_times_out,
-  record {
-    event = events.Frame 1 (3 ∷ []) (bodies.Reply 1 answer);
-    given = record {
-      waits = record {
-        flight = record { way = record { at = 2; port = 1; address = 0 ∷ [] }; body = bodies.Reply 1 answer };
-        there = record { at = 1; port = 1; address = 3 ∷ [] };
-        sent = refl;
-        leads = refl;
-        fresh = refl;
-      };
-      here = refl;
-      event_is = refl;
-    };
-    config = first_bridge;
-    is_module = refl;
-    new = by_comes_late.0;
-    step = by_comes_late.1;
-  },
-)
+late_reply = and_frame plant times_out _ (record { at = 2; port = 1; address = 0 ∷ [] }) (record { at = 1; port = 1; address = 3 ∷ [] }) first_bridge
+    (bodies.Reply 1 answer) _ run_times_out refl refl refl refl by_comes_late

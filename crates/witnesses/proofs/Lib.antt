@@ -1,4 +1,6 @@
 pub mod Maps
+pub mod Steps
+pub mod ChainOfRow
 pub mod Topologies
 pub mod StoredRun
 pub mod ConnectedRun

@@ -14,6 +14,7 @@ use Rattle.cip_module.specs.State.{State, initial_state}
 use Rattle.cip_world.specs.Runs.{IsRun, state_in}
 use Rattle.witnesses.specs.Plans.{scanner, adapter, cell, triad, params}
 use Rattle.witnesses.proofs.Maps.{Gives, none_waits, none_held, held_first, held_none, held_get, held_entries, held_gone, held_twice, bytes_get, entry_get, entry_gone}
+use Rattle.witnesses.proofs.Steps.{and_command, and_frame}
 use Rattle.cip_message.specs.Counted.{counted_at, counted_path_at}
 use Rattle.cip_message.specs.Failure.{failure_at}
 use Rattle.cip_message.specs.ReplyAt.{reply_at}
@@ -172,251 +173,50 @@ by_taken = subst (λ s. Gives (adapter 0 2) s (events.Frame 2 (1 ∷ []) (bodies
 -- ---- entry by entry
 
 run_opens : IsRun cell opens
-run_opens = (
-  tt,
-  record {
-    event = events.Command (commands.Open 1 (record { tick = 7; ticks = 250 }) path params);
-    given = refl;
-    config = scanner;
-    is_module = refl;
-    new = by_opens.0;
-    step = by_opens.1;
-  },
-)
+run_opens = and_command cell [] 0 scanner (commands.Open 1 (record { tick = 7; ticks = 250 }) path params) _ tt refl by_opens
 
 run_accepted : IsRun cell accepted
-run_accepted = (
-  run_opens,
-  record {
-    event = events.Frame 2 (1 ∷ []) (bodies.Request 1 first_request);
-    given = record {
-      waits = record {
-        flight = record { way = record { at = 0; port = 2; address = 7 ∷ [] }; body = bodies.Request 1 first_request };
-        there = record { at = 1; port = 2; address = 1 ∷ [] };
-        sent = refl;
-        leads = refl;
-        fresh = refl;
-      };
-      here = refl;
-      event_is = refl;
-    };
-    config = adapter 0 2;
-    is_module = refl;
-    new = by_accepted.0;
-    step = by_accepted.1;
-  },
-)
+run_accepted = and_frame cell opens _ (record { at = 0; port = 2; address = 7 ∷ [] }) (record { at = 1; port = 2; address = 1 ∷ [] }) (adapter 0 2)
+    (bodies.Request 1 first_request) _ run_opens refl refl refl refl by_accepted
 
 pub run_stands : IsRun cell stands
-run_stands = (
-  run_accepted,
-  record {
-    event = events.Frame 2 (7 ∷ []) (bodies.Reply 1 first_success);
-    given = record {
-      waits = record {
-        flight = record { way = record { at = 1; port = 2; address = 1 ∷ [] }; body = bodies.Reply 1 first_success };
-        there = record { at = 0; port = 2; address = 7 ∷ [] };
-        sent = refl;
-        leads = refl;
-        fresh = refl;
-      };
-      here = refl;
-      event_is = refl;
-    };
-    config = scanner;
-    is_module = refl;
-    new = by_stands.0;
-    step = by_stands.1;
-  },
-)
+run_stands = and_frame cell accepted _ (record { at = 1; port = 2; address = 1 ∷ [] }) (record { at = 0; port = 2; address = 7 ∷ [] }) scanner
+    (bodies.Reply 1 first_success) _ run_accepted refl refl refl refl by_stands
 
 run_entered : IsRun cell entered
-run_entered = (
-  run_stands,
-  record {
-    event = events.Command (commands.Enter 1 first_datum);
-    given = refl;
-    config = scanner;
-    is_module = refl;
-    new = by_entered.0;
-    step = by_entered.1;
-  },
-)
+run_entered = and_command cell stands 0 scanner (commands.Enter 1 first_datum) _ run_stands refl by_entered
 
 run_asked_to_close : IsRun cell asked_to_close
-run_asked_to_close = (
-  run_entered,
-  record {
-    event = events.Command (commands.Close 2 1 (record { tick = 7; ticks = 250 }));
-    given = refl;
-    config = scanner;
-    is_module = refl;
-    new = by_asked_to_close.0;
-    step = by_asked_to_close.1;
-  },
-)
+run_asked_to_close = and_command cell entered 0 scanner (commands.Close 2 1 (record { tick = 7; ticks = 250 })) _ run_entered refl by_asked_to_close
 
 run_closed : IsRun cell closed
-run_closed = (
-  run_asked_to_close,
-  record {
-    event = events.Frame 2 (1 ∷ []) (bodies.Request 2 close_request);
-    given = record {
-      waits = record {
-        flight = record { way = record { at = 0; port = 2; address = 7 ∷ [] }; body = bodies.Request 2 close_request };
-        there = record { at = 1; port = 2; address = 1 ∷ [] };
-        sent = refl;
-        leads = refl;
-        fresh = refl;
-      };
-      here = refl;
-      event_is = refl;
-    };
-    config = adapter 0 2;
-    is_module = refl;
-    new = by_closed.0;
-    step = by_closed.1;
-  },
-)
+run_closed = and_frame cell asked_to_close _ (record { at = 0; port = 2; address = 7 ∷ [] }) (record { at = 1; port = 2; address = 1 ∷ [] })
+    (adapter 0 2) (bodies.Request 2 close_request) _ run_asked_to_close refl refl refl refl by_closed
 
 run_closed_here : IsRun cell closed_here
-run_closed_here = (
-  run_closed,
-  record {
-    event = events.Frame 2 (7 ∷ []) (bodies.Reply 2 close_success);
-    given = record {
-      waits = record {
-        flight = record { way = record { at = 1; port = 2; address = 1 ∷ [] }; body = bodies.Reply 2 close_success };
-        there = record { at = 0; port = 2; address = 7 ∷ [] };
-        sent = refl;
-        leads = refl;
-        fresh = refl;
-      };
-      here = refl;
-      event_is = refl;
-    };
-    config = scanner;
-    is_module = refl;
-    new = by_closed_here.0;
-    step = by_closed_here.1;
-  },
-)
+run_closed_here = and_frame cell closed _ (record { at = 1; port = 2; address = 1 ∷ [] }) (record { at = 0; port = 2; address = 7 ∷ [] }) scanner
+    (bodies.Reply 2 close_success) _ run_closed refl refl refl refl by_closed_here
 
 run_opens_again : IsRun cell opens_again
-run_opens_again = (
-  run_closed_here,
-  record {
-    event = events.Command (commands.Open 3 (record { tick = 7; ticks = 250 }) path params);
-    given = refl;
-    config = scanner;
-    is_module = refl;
-    new = by_opens_again.0;
-    step = by_opens_again.1;
-  },
-)
+run_opens_again = and_command cell closed_here 0 scanner (commands.Open 3 (record { tick = 7; ticks = 250 }) path params) _ run_closed_here refl
+    by_opens_again
 
 run_accepted_again : IsRun cell accepted_again
-run_accepted_again = (
-  run_opens_again,
-  record {
-    event = events.Frame 2 (1 ∷ []) (bodies.Request 3 second_request);
-    given = record {
-      waits = record {
-        flight = record { way = record { at = 0; port = 2; address = 7 ∷ [] }; body = bodies.Request 3 second_request };
-        there = record { at = 1; port = 2; address = 1 ∷ [] };
-        sent = refl;
-        leads = refl;
-        fresh = refl;
-      };
-      here = refl;
-      event_is = refl;
-    };
-    config = adapter 0 2;
-    is_module = refl;
-    new = by_accepted_again.0;
-    step = by_accepted_again.1;
-  },
-)
+run_accepted_again = and_frame cell opens_again _ (record { at = 0; port = 2; address = 7 ∷ [] }) (record { at = 1; port = 2; address = 1 ∷ [] })
+    (adapter 0 2) (bodies.Request 3 second_request) _ run_opens_again refl refl refl refl by_accepted_again
 
 run_stands_again : IsRun cell stands_again
-run_stands_again = (
-  run_accepted_again,
-  record {
-    event = events.Frame 2 (7 ∷ []) (bodies.Reply 3 second_success);
-    given = record {
-      waits = record {
-        flight = record { way = record { at = 1; port = 2; address = 1 ∷ [] }; body = bodies.Reply 3 second_success };
-        there = record { at = 0; port = 2; address = 7 ∷ [] };
-        sent = refl;
-        leads = refl;
-        fresh = refl;
-      };
-      here = refl;
-      event_is = refl;
-    };
-    config = scanner;
-    is_module = refl;
-    new = by_stands_again.0;
-    step = by_stands_again.1;
-  },
-)
+run_stands_again = and_frame cell accepted_again _ (record { at = 1; port = 2; address = 1 ∷ [] }) (record { at = 0; port = 2; address = 7 ∷ [] })
+    scanner (bodies.Reply 3 second_success) _ run_accepted_again refl refl refl refl by_stands_again
 
 run_dropped : IsRun cell dropped
-run_dropped = (
-  run_stands_again,
-  record {
-    event = events.Frame 2 (1 ∷ []) (bodies.Data 65 first_datum);
-    given = record {
-      waits = record {
-        flight = record { way = record { at = 0; port = 2; address = 7 ∷ [] }; body = bodies.Data 65 first_datum };
-        there = record { at = 1; port = 2; address = 1 ∷ [] };
-        sent = refl;
-        leads = refl;
-        fresh = refl;
-      };
-      here = refl;
-      event_is = refl;
-    };
-    config = adapter 0 2;
-    is_module = refl;
-    new = by_dropped.0;
-    step = by_dropped.1;
-  },
-)
+run_dropped = and_frame cell stands_again _ (record { at = 0; port = 2; address = 7 ∷ [] }) (record { at = 1; port = 2; address = 1 ∷ [] })
+    (adapter 0 2) (bodies.Data 65 first_datum) _ run_stands_again refl refl refl refl by_dropped
 
 run_entered_again : IsRun cell entered_again
-run_entered_again = (
-  run_dropped,
-  record {
-    event = events.Command (commands.Enter 3 second_datum);
-    given = refl;
-    config = scanner;
-    is_module = refl;
-    new = by_entered_again.0;
-    step = by_entered_again.1;
-  },
-)
+run_entered_again = and_command cell dropped 0 scanner (commands.Enter 3 second_datum) _ run_dropped refl by_entered_again
 
 -- the whole run
 pub one_after_the_other : IsRun cell taken
-one_after_the_other = (
-  run_entered_again,
-  record {
-    event = events.Frame 2 (1 ∷ []) (bodies.Data 66 second_datum);
-    given = record {
-      waits = record {
-        flight = record { way = record { at = 0; port = 2; address = 7 ∷ [] }; body = bodies.Data 66 second_datum };
-        there = record { at = 1; port = 2; address = 1 ∷ [] };
-        sent = refl;
-        leads = refl;
-        fresh = refl;
-      };
-      here = refl;
-      event_is = refl;
-    };
-    config = adapter 0 2;
-    is_module = refl;
-    new = by_taken.0;
-    step = by_taken.1;
-  },
-)
+one_after_the_other = and_frame cell entered_again _ (record { at = 0; port = 2; address = 7 ∷ [] }) (record { at = 1; port = 2; address = 1 ∷ [] })
+    (adapter 0 2) (bodies.Data 66 second_datum) _ run_entered_again refl refl refl refl by_taken

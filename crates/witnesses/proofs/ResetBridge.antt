@@ -31,7 +31,8 @@ use Rattle.cip_segment.specs.Scan.{bytes_at, double_at, logical_at, narrow_at, n
 use Rattle.cip_target.specs.Ends.{end_row}
 use Rattle.cip_target.specs.Rows.{target_row}
 use Rattle.cip_unconnected.specs.UnconnectedAt.{unconnected_at}
-use Rattle.witnesses.proofs.Maps.{Gives, none_waits, none_held, held_first, held_none, held_get, held_entries, held_twice, entry_first, entry_get, entry_gone, entry_entries, pendings_none, bytes_none}
+use Rattle.witnesses.proofs.Maps.{Gives, none_waits, none_held, held_first, held_none, held_get, held_entries, held_twice, entry_get, entry_gone, pendings_none, bytes_none}
+use Rattle.witnesses.proofs.Steps.{and_command, and_frame}
 use Rattle.witnesses.specs.ResetRun.{reset, done}
 use Rattle.witnesses.specs.ResetBridge.{sends, resets, is_told, enters, is_unknown, asks, goes_on, answers, passes, is_answered}
 
@@ -116,202 +117,40 @@ unfolding behind bytes_at close_at close_reply_at close_row counted_at counted_p
 by_is_answered = simp (none_waits, none_held, held_first, held_none, held_get, held_entries, held_twice, entry_get, entry_gone) (_, refl)
 
 run_sends : IsRun row sends
-run_sends = (
-  chained_stands,
-  record {
-    event = events.Command (commands.Send 2 (record { tick = 7; ticks = 250 }) (2 ∷ 5 ∷ []) reset);
-    given = refl;
-    config = scanner;
-    is_module = refl;
-    new = by_sends.0;
-    step = by_sends.1;
-  },
-)
+run_sends = and_command row stands 0 scanner (commands.Send 2 (record { tick = 7; ticks = 250 }) (2 ∷ 5 ∷ []) reset) _ chained_stands refl by_sends
 
 run_resets : IsRun row resets
-run_resets = (
-  run_sends,
-  record {
-    event = events.Frame 2 (1 ∷ []) (bodies.Request 2 reset);
-    given = record {
-      waits = record {
-        flight = record { way = record { at = 0; port = 2; address = 5 ∷ [] }; body = bodies.Request 2 reset };
-        there = record { at = 1; port = 2; address = 1 ∷ [] };
-        sent = refl;
-        leads = refl;
-        fresh = refl;
-      };
-      here = refl;
-      event_is = refl;
-    };
-    config = first_bridge;
-    is_module = refl;
-    new = by_resets.0;
-    step = by_resets.1;
-  },
-)
+run_resets = and_frame row sends _ (record { at = 0; port = 2; address = 5 ∷ [] }) (record { at = 1; port = 2; address = 1 ∷ [] }) first_bridge
+    (bodies.Request 2 reset) _ run_sends refl refl refl refl by_resets
 
 run_is_told : IsRun row is_told
-run_is_told = (
-  run_resets,
-  record {
-    event = events.Frame 2 (5 ∷ []) (bodies.Reply 2 done);
-    given = record {
-      waits = record {
-        flight = record { way = record { at = 1; port = 2; address = 1 ∷ [] }; body = bodies.Reply 2 done };
-        there = record { at = 0; port = 2; address = 5 ∷ [] };
-        sent = refl;
-        leads = refl;
-        fresh = refl;
-      };
-      here = refl;
-      event_is = refl;
-    };
-    config = scanner;
-    is_module = refl;
-    new = by_is_told.0;
-    step = by_is_told.1;
-  },
-)
+run_is_told = and_frame row resets _ (record { at = 1; port = 2; address = 1 ∷ [] }) (record { at = 0; port = 2; address = 5 ∷ [] }) scanner
+    (bodies.Reply 2 done) _ run_resets refl refl refl refl by_is_told
 
 run_enters : IsRun row enters
-run_enters = (
-  run_is_told,
-  record {
-    event = events.Command (commands.Enter 1 datum);
-    given = refl;
-    config = scanner;
-    is_module = refl;
-    new = by_enters.0;
-    step = by_enters.1;
-  },
-)
+run_enters = and_command row is_told 0 scanner (commands.Enter 1 datum) _ run_is_told refl by_enters
 
 run_is_unknown : IsRun row is_unknown
-run_is_unknown = (
-  run_enters,
-  record {
-    event = events.Frame 2 (1 ∷ []) (bodies.Data 34 datum);
-    given = record {
-      waits = record {
-        flight = record { way = record { at = 0; port = 2; address = 5 ∷ [] }; body = bodies.Data 34 datum };
-        there = record { at = 1; port = 2; address = 1 ∷ [] };
-        sent = refl;
-        leads = refl;
-        fresh = refl;
-      };
-      here = refl;
-      event_is = refl;
-    };
-    config = first_bridge;
-    is_module = refl;
-    new = by_is_unknown.0;
-    step = by_is_unknown.1;
-  },
-)
+run_is_unknown = and_frame row enters _ (record { at = 0; port = 2; address = 5 ∷ [] }) (record { at = 1; port = 2; address = 1 ∷ [] }) first_bridge
+    (bodies.Data 34 datum) _ run_enters refl refl refl refl by_is_unknown
 
 run_asks : IsRun row asks
-run_asks = (
-  run_is_unknown,
-  record {
-    event = events.Command (commands.Send 3 (record { tick = 0; ticks = 5 }) (2 ∷ 5 ∷ 1 ∷ 3 ∷ []) asked);
-    given = refl;
-    config = scanner;
-    is_module = refl;
-    new = by_asks.0;
-    step = by_asks.1;
-  },
-)
+run_asks = and_command row is_unknown 0 scanner (commands.Send 3 (record { tick = 0; ticks = 5 }) (2 ∷ 5 ∷ 1 ∷ 3 ∷ []) asked) _ run_is_unknown refl
+    by_asks
 
 run_goes_on : IsRun row goes_on
-run_goes_on = (
-  run_asks,
-  record {
-    event = events.Frame 2 (1 ∷ []) (bodies.Request 3 sent_on);
-    given = record {
-      waits = record {
-        flight = record { way = record { at = 0; port = 2; address = 5 ∷ [] }; body = bodies.Request 3 sent_on };
-        there = record { at = 1; port = 2; address = 1 ∷ [] };
-        sent = refl;
-        leads = refl;
-        fresh = refl;
-      };
-      here = refl;
-      event_is = refl;
-    };
-    config = first_bridge;
-    is_module = refl;
-    new = by_goes_on.0;
-    step = by_goes_on.1;
-  },
-)
+run_goes_on = and_frame row asks _ (record { at = 0; port = 2; address = 5 ∷ [] }) (record { at = 1; port = 2; address = 1 ∷ [] }) first_bridge
+    (bodies.Request 3 sent_on) _ run_asks refl refl refl refl by_goes_on
 
 run_answers : IsRun row answers
-run_answers = (
-  run_goes_on,
-  record {
-    event = events.Frame 1 (0 ∷ []) (bodies.Request 65537 asked);
-    given = record {
-      waits = record {
-        flight = record { way = record { at = 1; port = 1; address = 3 ∷ [] }; body = bodies.Request 65537 asked };
-        there = record { at = 2; port = 1; address = 0 ∷ [] };
-        sent = refl;
-        leads = refl;
-        fresh = refl;
-      };
-      here = refl;
-      event_is = refl;
-    };
-    config = second_bridge;
-    is_module = refl;
-    new = by_answers.0;
-    step = by_answers.1;
-  },
-)
+run_answers = and_frame row goes_on _ (record { at = 1; port = 1; address = 3 ∷ [] }) (record { at = 2; port = 1; address = 0 ∷ [] }) second_bridge
+    (bodies.Request 65537 asked) _ run_goes_on refl refl refl refl by_answers
 
 run_passes : IsRun row passes
-run_passes = (
-  run_answers,
-  record {
-    event = events.Frame 1 (3 ∷ []) (bodies.Reply 65537 answer);
-    given = record {
-      waits = record {
-        flight = record { way = record { at = 2; port = 1; address = 0 ∷ [] }; body = bodies.Reply 65537 answer };
-        there = record { at = 1; port = 1; address = 3 ∷ [] };
-        sent = refl;
-        leads = refl;
-        fresh = refl;
-      };
-      here = refl;
-      event_is = refl;
-    };
-    config = first_bridge;
-    is_module = refl;
-    new = by_passes.0;
-    step = by_passes.1;
-  },
-)
+run_passes = and_frame row answers _ (record { at = 2; port = 1; address = 0 ∷ [] }) (record { at = 1; port = 1; address = 3 ∷ [] }) first_bridge
+    (bodies.Reply 65537 answer) _ run_answers refl refl refl refl by_passes
 
 -- the whole run
 pub reset_bridge : IsRun row is_answered
-reset_bridge = (
-  run_passes,
-  record {
-    event = events.Frame 2 (5 ∷ []) (bodies.Reply 3 answer);
-    given = record {
-      waits = record {
-        flight = record { way = record { at = 1; port = 2; address = 1 ∷ [] }; body = bodies.Reply 3 answer };
-        there = record { at = 0; port = 2; address = 5 ∷ [] };
-        sent = refl;
-        leads = refl;
-        fresh = refl;
-      };
-      here = refl;
-      event_is = refl;
-    };
-    config = scanner;
-    is_module = refl;
-    new = by_is_answered.0;
-    step = by_is_answered.1;
-  },
-)
+reset_bridge = and_frame row passes _ (record { at = 1; port = 2; address = 1 ∷ [] }) (record { at = 0; port = 2; address = 5 ∷ [] }) scanner
+    (bodies.Reply 3 answer) _ run_passes refl refl refl refl by_is_answered

@@ -30,7 +30,8 @@ use Rattle.cip_segment.specs.Scan.{bytes_at, double_at, logical_at, narrow_at, n
 use Rattle.cip_target.specs.Ends.{end_row}
 use Rattle.cip_target.specs.Rows.{target_row}
 use Rattle.cip_unconnected.specs.UnconnectedAt.{unconnected_at}
-use Rattle.witnesses.proofs.Maps.{Gives, none_waits, none_held, held_first, held_none, held_get, held_entries, held_twice, entry_first, entry_get, entry_gone, entry_entries, pendings_none, bytes_none}
+use Rattle.witnesses.proofs.Maps.{Gives, none_waits, none_held, held_first, held_none, held_get, held_entries, entry_first, entry_get, entry_gone, entry_entries, pendings_none, bytes_none}
+use Rattle.witnesses.proofs.Steps.{and_command, and_frame}
 use Rattle.witnesses.specs.ResetRun.{reset, done, opens, resets, asks, goes_on, refuses, passes, comes_late}
 
 by_opens : Gives scanner (state_in scanner 0 [])
@@ -90,133 +91,27 @@ unfolding behind bytes_at close_at close_reply_at close_row counted_at counted_p
 by_comes_late = simp (none_waits, none_held, held_first, entry_first, entry_get, bytes_none) (_, refl)
 
 run_opens : IsRun plant opens
-run_opens = (
-  tt,
-  record {
-    event = events.Command (commands.Open 1 (record { tick = 7; ticks = 250 }) path params);
-    given = refl;
-    config = scanner;
-    is_module = refl;
-    new = by_opens.0;
-    step = by_opens.1;
-  },
-)
+run_opens = and_command plant [] 0 scanner (commands.Open 1 (record { tick = 7; ticks = 250 }) path params) _ tt refl by_opens
 
 run_resets : IsRun plant resets
-run_resets = (
-  run_opens,
-  record {
-    event = events.Command (commands.Send 2 (record { tick = 7; ticks = 250 }) [] reset);
-    given = refl;
-    config = scanner;
-    is_module = refl;
-    new = by_resets.0;
-    step = by_resets.1;
-  },
-)
+run_resets = and_command plant opens 0 scanner (commands.Send 2 (record { tick = 7; ticks = 250 }) [] reset) _ run_opens refl by_resets
 
 run_asks : IsRun plant asks
-run_asks = (
-  run_resets,
-  record {
-    event = events.Command (commands.Send 3 (record { tick = 7; ticks = 250 }) (2 ∷ 5 ∷ []) asked);
-    given = refl;
-    config = scanner;
-    is_module = refl;
-    new = by_asks.0;
-    step = by_asks.1;
-  },
-)
+run_asks = and_command plant resets 0 scanner (commands.Send 3 (record { tick = 7; ticks = 250 }) (2 ∷ 5 ∷ []) asked) _ run_resets refl by_asks
 
 run_goes_on : IsRun plant goes_on
-run_goes_on = (
-  run_asks,
-  record {
-    event = events.Frame 2 (1 ∷ []) (bodies.Request 1 first_request);
-    given = record {
-      waits = record {
-        flight = record { way = record { at = 0; port = 2; address = 5 ∷ [] }; body = bodies.Request 1 first_request };
-        there = record { at = 1; port = 2; address = 1 ∷ [] };
-        sent = refl;
-        leads = refl;
-        fresh = refl;
-      };
-      here = refl;
-      event_is = refl;
-    };
-    config = first_bridge;
-    is_module = refl;
-    new = by_goes_on.0;
-    step = by_goes_on.1;
-  },
-)
+run_goes_on = and_frame plant asks _ (record { at = 0; port = 2; address = 5 ∷ [] }) (record { at = 1; port = 2; address = 1 ∷ [] }) first_bridge
+    (bodies.Request 1 first_request) _ run_asks refl refl refl refl by_goes_on
 
 run_refuses : IsRun plant refuses
-run_refuses = (
-  run_goes_on,
-  record {
-    event = events.Frame 1 (0 ∷ []) (bodies.Request 1 second_request);
-    given = record {
-      waits = record {
-        flight = record { way = record { at = 1; port = 1; address = 3 ∷ [] }; body = bodies.Request 1 second_request };
-        there = record { at = 2; port = 1; address = 0 ∷ [] };
-        sent = refl;
-        leads = refl;
-        fresh = refl;
-      };
-      here = refl;
-      event_is = refl;
-    };
-    config = second_bridge;
-    is_module = refl;
-    new = by_refuses.0;
-    step = by_refuses.1;
-  },
-)
+run_refuses = and_frame plant goes_on _ (record { at = 1; port = 1; address = 3 ∷ [] }) (record { at = 2; port = 1; address = 0 ∷ [] }) second_bridge
+    (bodies.Request 1 second_request) _ run_goes_on refl refl refl refl by_refuses
 
 run_passes : IsRun plant passes
-run_passes = (
-  run_refuses,
-  record {
-    event = events.Frame 1 (3 ∷ []) (bodies.Reply 1 failure);
-    given = record {
-      waits = record {
-        flight = record { way = record { at = 2; port = 1; address = 0 ∷ [] }; body = bodies.Reply 1 failure };
-        there = record { at = 1; port = 1; address = 3 ∷ [] };
-        sent = refl;
-        leads = refl;
-        fresh = refl;
-      };
-      here = refl;
-      event_is = refl;
-    };
-    config = first_bridge;
-    is_module = refl;
-    new = by_passes.0;
-    step = by_passes.1;
-  },
-)
+run_passes = and_frame plant refuses _ (record { at = 2; port = 1; address = 0 ∷ [] }) (record { at = 1; port = 1; address = 3 ∷ [] }) first_bridge
+    (bodies.Reply 1 failure) _ run_refuses refl refl refl refl by_passes
 
 -- the whole run
 pub reset_under_way : IsRun plant comes_late
-reset_under_way = (
-  run_passes,
-  record {
-    event = events.Frame 2 (5 ∷ []) (bodies.Reply 1 failure);
-    given = record {
-      waits = record {
-        flight = record { way = record { at = 1; port = 2; address = 1 ∷ [] }; body = bodies.Reply 1 failure };
-        there = record { at = 0; port = 2; address = 5 ∷ [] };
-        sent = refl;
-        leads = refl;
-        fresh = refl;
-      };
-      here = refl;
-      event_is = refl;
-    };
-    config = scanner;
-    is_module = refl;
-    new = by_comes_late.0;
-    step = by_comes_late.1;
-  },
-)
+reset_under_way = and_frame plant passes _ (record { at = 1; port = 2; address = 1 ∷ [] }) (record { at = 0; port = 2; address = 5 ∷ [] }) scanner
+    (bodies.Reply 1 failure) _ run_passes refl refl refl refl by_comes_late

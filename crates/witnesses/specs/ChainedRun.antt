@@ -1,6 +1,6 @@
 -- A run through two bridges: an open, a datum that goes down the connection, and another that comes
 -- up.
-use Rattle.std.specs.Prelude.{ℕ, false, List, [], ◌∷◌, Some, None}
+use Rattle.std.specs.Prelude.{ℕ, Bool, false, List, [], ◌∷◌, Some, None}
 use Rattle.cip_hops.specs.declared.hop.Hop.{Hop}
 use Rattle.cip_hops.specs.declared.opening.Opening.{Opening}
 use Rattle.cip_hops.specs.declared.opening.HopUp.{HopUp}
@@ -194,6 +194,10 @@ of_adapter = record {
 -- the end's connection before any datum came to it
 abbrev pub at_end : Hop
 at_end = record of_adapter { consumed = None; produced = None }
+
+-- the same connection, as a large open or a small one opened it
+abbrev pub of_kind : Bool → Hop → Hop
+of_kind large hop = record hop { opening = record hop.opening { large = large } }
 
 abbrev pub first_member : Member
 first_member = record { at = 0; hop = of_scanner }

@@ -11,7 +11,7 @@ use Rattle.cip_world.specs.Journals.{Journal}
 use Rattle.cip_world.specs.Chains.{Member}
 use Rattle.witnesses.specs.Plans.{frame}
 use Rattle.witnesses.specs.ChainedRun as chained
-use Rattle.witnesses.specs.ChainedRun.{path}
+use Rattle.witnesses.specs.ChainedRun.{path, of_kind}
 
 -- the chained run's parameters: the kind and the priority in the high word, the size in the low one
 abbrev pub large_params : LargeParams
@@ -89,20 +89,17 @@ stands = Step (record { 0 = 0 })
 
 -- ---- the chain of the op: that of the chained run, opened large
 
-abbrev pub of_large : Hop → Hop
-of_large hop = record hop { opening = record hop.opening { large = true } }
-
 abbrev pub of_scanner : Hop
-of_scanner = of_large chained.of_scanner
+of_scanner = of_kind true chained.of_scanner
 
 abbrev pub of_first : Hop
-of_first = of_large chained.of_first
+of_first = of_kind true chained.of_first
 
 abbrev pub of_second : Hop
-of_second = of_large chained.of_second
+of_second = of_kind true chained.of_second
 
 abbrev pub of_adapter : Hop
-of_adapter = of_large chained.at_end
+of_adapter = of_kind true chained.at_end
 
 abbrev pub first_member : Member
 first_member = record { at = 0; hop = of_scanner }
