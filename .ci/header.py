@@ -1,11 +1,17 @@
 """What the crate cip_device exports, as a C file that compiles only if cip_device.h says the same.
 
-python3 .ci/header.py > check.c: each constant, the size of each struct and the place of each field, and each function.
+python3 .ci/header.py > check.c: each constant, the size of each struct and the place of each field, and each function. On standard
+error it says which names the header has beyond them.
 """
 import pathlib
 import re
+import sys
 
-SOURCE = pathlib.Path(__file__).resolve().parent.parent / "crates" / "cip_device" / "src"
+TOP = pathlib.Path(__file__).resolve().parent.parent
+SOURCE = TOP / "crates" / "cip_device" / "src"
+HEADER = TOP / "examples" / "device" / "cip_device.h"
+# What the header alone has: the empty handle, a bound on the bytes of outputs, its guard, and a status in words.
+OWN = {"CIP_DEVICE_EMPTY", "CIP_MOST_BYTES", "CIP_DEVICE_H", "cip_error_text"}
 WORDS = {"u8": "uint8_t", "u16": "uint16_t", "u32": "uint32_t", "u64": "uint64_t", "usize": "size_t", "*mut u8": "void *"}
 
 
@@ -67,5 +73,15 @@ def header_check():
     return "\n".join(lines) + "\n"
 
 
+def foreign_names():
+    """The functions, constants and structs of the header that the crate does not export."""
+    text = re.sub(r"/\*.*?\*/", "", HEADER.read_text(), flags=re.S)
+    check = header_check()
+    named = set(re.findall(r"\b(cip_\w+)\(", text)) | set(re.findall(r"\bCIP_\w+", text))
+    named |= set(re.findall(r"\} (cip_\w+);", text))
+    return sorted(named - set(re.findall(r"\w+", check)) - OWN)
+
+
 if __name__ == "__main__":
     print(header_check(), end="")
+    print("beyond the crate:", foreign_names(), file=sys.stderr)

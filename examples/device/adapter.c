@@ -1,9 +1,9 @@
 /* An EtherNet/IP adapter: encapsulation over TCP and UDP port 44818, class 1 data over UDP port
  * 2222. All of CIP is the library's; here are sockets and the encapsulation alone.
  *
- * adapter [ADDRESS [MILLISECONDS]]: on 127.0.0.1 for 5,000 ms, if not said; then it ends. It has
- * the assemblies 100 (configuration), 101 (it consumes 4 bytes) and 102 (it produces 2, a counter).
- */
+ * adapter [ADDRESS [MILLISECONDS [LOG]]]: on 127.0.0.1 for 5,000 ms, if not said; then it ends. It
+ * has the assemblies 100 (configuration), 101 (it consumes 4 bytes) and 102 (it produces 2, a
+ * counter). Each datum goes into the log, if one is named. */
 #include "cip_device.h"
 #include "enip.h"
 #include <poll.h>
@@ -32,6 +32,7 @@ static waiting asked[MOST_WAITING];
 static uint32_t last_number, last_session, sent;
 static unsigned long consumed, expired, dropped;
 static int data_socket;
+static FILE *data_log;
 static uint8_t identity[64]; /* what Get_Attributes_All of the Identity object says */
 static size_t identity_length;
 
@@ -69,10 +70,12 @@ static void take_outputs(void) {
             reply_to(output.number, bytes, output.length);
             break;
         case CIP_OUT_DATA:
+            note(data_log, "out", bytes, output.length);
             send_datum(data_socket, output.to, output.to_length, output.number, ++sent, bytes,
                        output.length);
             break;
         case CIP_OUT_CONSUMED:
+            note(data_log, "in", bytes, output.length);
             consumed++;
             break;
         case CIP_OUT_EXPIRED:
@@ -269,6 +272,8 @@ static uint32_t make_device(void) {
 int main(int count, char **words) {
     if (count > 1)
         address = words[1];
+    if (count > 3)
+        data_log = log_at(words[3]);
     uint32_t status = make_device();
     if (status != CIP_DONE) {
         fprintf(stderr, "no device: %s\n", cip_error_text(status));
@@ -309,6 +314,8 @@ int main(int count, char **words) {
     close(udp);
     close(data_socket);
     cip_free(&device);
+    if (data_log != 0)
+        fclose(data_log);
     printf("consumed %lu, expired %lu, dropped %lu\n", consumed, expired, dropped);
     return 0;
 }

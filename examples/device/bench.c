@@ -32,25 +32,46 @@ int main(int argc, char **argv) {
         CIP_DONE)
         return 4;
     drain(&device);
+    static const char *const names[] = {"data",     "produce",    "identity", "tick",
+                                        "deadline", "connection", "empty"};
+    int what = 0;
+    while (what < 6 && strcmp(argv[1], names[what]) != 0)
+        what++;
     long count = atol(argv[2]);
     for (long i = 0; i < count; i++) {
         uint32_t status;
-        if (!strcmp(argv[1], "data")) {
+        uint64_t milliseconds;
+        cip_connection_row row;
+        cip_device none = CIP_DEVICE_EMPTY;
+        switch (what) {
+        case 0:
             datum[0] = (uint8_t)(i & 0x7F);
             status = cip_data(&device, ADAPTER_PORT, scanner, 1, 0x41, datum, sizeof datum);
-        } else if (!strcmp(argv[1], "produce")) {
+            break;
+        case 1:
             if (cip_set(&device, 102, produced, 2) != CIP_DONE)
                 return 6;
             drain(&device);
             status = cip_produce(&device, 102);
-        } else if (!strcmp(argv[1], "identity")) {
+            break;
+        case 2:
             status = cip_request(&device, ADAPTER_PORT, scanner, 1, (uint32_t)i + 2, identity,
                                  sizeof identity);
-        } else if (!strcmp(argv[1], "empty")) {
-            cip_device none = CIP_DEVICE_EMPTY;
-            status = cip_tick(&none, 1) == CIP_NO_DEVICE ? CIP_DONE : 7;
-        } else
+            break;
+        case 3:
             status = cip_tick(&device, 1);
+            break;
+        case 4:
+            status = cip_next_deadline(&device, &milliseconds);
+            sum += milliseconds;
+            break;
+        case 5:
+            status = cip_connection(&device, 0, &row);
+            sum += row.up_id;
+            break;
+        default: /* a handle without a device, for what the loop itself takes */
+            status = cip_tick(&none, 1) == CIP_NO_DEVICE ? CIP_DONE : 7;
+        }
         if (status != CIP_DONE)
             return 5;
         drain(&device);

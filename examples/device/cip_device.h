@@ -40,7 +40,9 @@ enum cip_status {
     CIP_BAD_ARGUMENT = 4, /* an argument is out of its range: each call says which */
     CIP_NO_MEMORY = 5,    /* an allocation was refused: the same call may succeed later */
     CIP_CLOCK_FULL = 6,   /* cip_tick: exactly where the clock would pass 2^63 - 1 microseconds */
-    CIP_NOTHING = 7,      /* cip_next: exactly where no output waits; cip_get: no such assembly */
+    CIP_NOTHING = 7,      /* cip_next: exactly where no output waits; cip_get: no such assembly;
+                             cip_connection, cip_pending: past the last one; cip_next_deadline:
+                             nothing ever happens by itself */
     CIP_SHORT = 8         /* the buffer is shorter than output->length, or *length, which is told */
 };
 
@@ -126,6 +128,46 @@ typedef struct cip_output {
     size_t length;            /* of the bytes, which are in the buffer after CIP_DONE */
 } cip_output;
 
+/* Where a connection or a request comes from or goes to. */
+typedef struct cip_side {
+    uint32_t is_link;         /* 1: a node by this port at this address; 0: an op of this device's
+                                 own, or an end here, and both are 0 */
+    uint32_t number;          /* what the node there knows it by, a connection id or a request
+                                 number; or the op; 0 at an end */
+    uint16_t port, address_length;
+    uint8_t address[16];
+} cip_side;
+
+/* A connection that is open. Times are those of the device's clock in microseconds: config->clock
+ * and all that cip_tick gave since. */
+typedef struct cip_connection_row {
+    uint32_t originator;      /* its originator's serial number */
+    uint16_t serial, vendor;  /* of the connection, of its originator */
+    cip_side up, down;        /* towards its originator, towards its target */
+    uint32_t up_id, down_id;  /* the ids under which this device is sent data by each side, and 0
+                                 where that is no link */
+    uint32_t configuration, consumed, produced; /* its assemblies where it ends here, and else 0 */
+    uint16_t ot_size, to_size;                  /* bytes of a datum, from and to its originator */
+    uint64_t up_deadline, down_deadline;        /* when each side has been silent for too long, and
+                                                   0 where it is no link */
+} cip_connection_row;
+
+enum cip_pending_kind {
+    CIP_PENDING_SEND = 1,     /* an Unconnected_Send */
+    CIP_PENDING_OPEN = 2,     /* a Forward_Open */
+    CIP_PENDING_LARGE_OPEN = 3, /* a Large_Forward_Open */
+    CIP_PENDING_CLOSE = 4     /* a Forward_Close */
+};
+
+/* A request that was sent on and waits for its reply. */
+typedef struct cip_pending_row {
+    uint64_t deadline;        /* when it is given up, in microseconds of the device's clock */
+    uint32_t kind;
+    uint32_t originator;      /* of the connection that it opens or closes; 0 at CIP_PENDING_SEND */
+    uint16_t serial, vendor;
+    cip_side up, down;        /* whom the reply goes to, where the request went */
+} cip_pending_row;
+
 /* The longest bytes of an output: a buffer of so many always holds them. */
 #define CIP_MOST_BYTES 66000
 
@@ -179,6 +221,20 @@ uint32_t cip_next(cip_device *device, cip_output *output, uint8_t *buffer, size_
  * outputs may wait. */
 uint32_t cip_get(cip_device *device, uint16_t instance, size_t *length, uint8_t *buffer,
     size_t room);
+
+/* The connection at this place among those that are open, in rising triad (connection serial
+ * number, vendor, originator), or the request at this place among those that wait, in rising
+ * number; places count from 0. NOTHING only past the last one. Nothing changes, and outputs may
+ * wait. A call reads all tables, in memory that it gives back: a walk over n of them takes n times
+ * that. A step between two calls may move the places. */
+uint32_t cip_connection(cip_device *device, size_t at, cip_connection_row *connection);
+uint32_t cip_pending(cip_device *device, size_t at, cip_pending_row *pending);
+
+/* How long nothing happens of itself: any shorter tick changes the time alone, and at a tick of
+ * *milliseconds, which is at least 1, a request is given up or a connection expires. It may be more
+ * than one cip_tick can take; what comes in before may change it. NOTHING only where no tick does
+ * anything. Nothing changes, and outputs may wait. A call reads all tables, as the two above. */
+uint32_t cip_next_deadline(cip_device *device, uint64_t *milliseconds);
 
 /* CIP_VERSION of the header that the library belongs to. */
 uint32_t cip_version(void);

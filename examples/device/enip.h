@@ -1,5 +1,6 @@
-/* What an adapter and a scanner share of EtherNet/IP: the encapsulation and the items of the common
- * packet format (Volume 2, chapter 2), sockets and the clock. Numbers are little-endian. */
+/* What an adapter, a scanner and a bridge share of EtherNet/IP: the encapsulation and the items of
+ * the common packet format (Volume 2, chapter 2), sockets and the clock. Numbers are little-endian.
+ */
 #ifndef ENIP_H
 #define ENIP_H
 
@@ -150,6 +151,24 @@ static inline void send_datum(int socket, const uint8_t *to, size_t to_length, u
         return;
     (void)sendto(socket, frame, whole, 0, (struct sockaddr *)&at,
                  sizeof at); /* lost as on a wire */
+}
+
+/* A log of data, a line for each. */
+static inline FILE *log_at(const char *path) {
+    FILE *log = fopen(path, "w");
+    if (log != 0)
+        setvbuf(log, 0, _IOLBF, 0);
+    return log;
+}
+
+/* A datum that went out or came in, for whoever compares them at the end. */
+static inline void note(FILE *log, const char *way, const uint8_t *bytes, size_t length) {
+    if (log == 0)
+        return;
+    fprintf(log, "%s ", way);
+    for (size_t i = 0; i < length; i++)
+        fprintf(log, "%02X", bytes[i]);
+    fprintf(log, "\n");
 }
 
 static inline uint64_t milliseconds(void) {

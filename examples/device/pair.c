@@ -34,6 +34,31 @@ static void outputs(const char *name, cip_device *device, uint8_t own) {
     }
 }
 
+/* What waits, and how long nothing happens. */
+static void waiting(cip_device *device) {
+    cip_pending_row row;
+    uint64_t milliseconds;
+    for (size_t at = 0; cip_pending(device, at, &row) == CIP_DONE; at++)
+        printf("waits: kind %u number %u to %u of op %u\n", row.kind, row.down.number,
+               row.down.address[0], row.up.number);
+    if (cip_next_deadline(device, &milliseconds) == CIP_DONE)
+        printf("nothing for %u ms\n", (unsigned)milliseconds);
+}
+
+/* What is open, and how long nothing happens. */
+static void connections(const char *name, cip_device *device) {
+    cip_connection_row row;
+    uint64_t milliseconds;
+    for (size_t at = 0; cip_connection(device, at, &row) == CIP_DONE; at++)
+        printf("%s serial %04X up %u %u down %u %u ids %u %u assemblies %u %u sizes %u %u\n", name,
+               row.serial, row.up.is_link, row.up.number, row.down.is_link, row.down.number,
+               row.up_id, row.down_id, row.consumed, row.produced, row.ot_size, row.to_size);
+    if (cip_next_deadline(device, &milliseconds) == CIP_DONE)
+        printf("%s: nothing for %u ms\n", name, (unsigned)milliseconds);
+    else
+        printf("%s: nothing waits or is open\n", name);
+}
+
 int main(void) {
     const cip_config config = {.kind = CIP_PLAIN,
                                .first_id = 0x11,
@@ -90,6 +115,8 @@ int main(void) {
             break;
         }
         printf("step %d: status %u\n", step, status);
+        if (step <= 1)
+            waiting(&scanner);
         outputs("S", &scanner, 5);
         outputs("E", &adapter, 7);
         while (first < last) {
@@ -103,6 +130,10 @@ int main(void) {
             if (status != CIP_DONE)
                 printf("frame: status %u\n", status);
             outputs(f.to == 7 ? "E" : "S", to, f.to);
+        }
+        if (step == 1 || step == 5) {
+            connections("S", &scanner);
+            connections("E", &adapter);
         }
     }
     uint8_t assembly[8];

@@ -48,6 +48,55 @@ static void drain(cip_device *device) {
     }
 }
 
+static void tell(const void *at, size_t length) {
+    memcpy(told + told_length, at, length);
+    told_length += length;
+}
+
+static uint32_t scanner_new(cip_device *device) {
+    const cip_config config = {.kind = CIP_PLAIN,
+                               .first_id = 1,
+                               .first_number = 9,
+                               .pending_room = 4,
+                               .hop_room = 4,
+                               .vendor = 0x0101,
+                               .major = 1,
+                               .minor = 3};
+    const cip_port port = {.number = 2, .last = 0xFE, .address_length = 1, .address = {5}};
+    static const cip_assembly none[1];
+    return cip_new(device, &config, (const uint8_t *)"S", 1, (const uint8_t *)"SC", 2, &port, 1,
+                   none, 0);
+}
+
+static uint32_t read_connection(cip_device *device) {
+    cip_connection_row row;
+    uint32_t status = cip_connection(device, 0, &row);
+    if (status == CIP_DONE) {
+        tell(&row.serial, sizeof row.serial);
+        tell(row.up.address, row.up.address_length);
+        tell(&row.up_deadline, sizeof row.up_deadline);
+    }
+    return status;
+}
+
+static uint32_t read_pending(cip_device *device) {
+    cip_pending_row row;
+    uint32_t status = cip_pending(device, 0, &row);
+    if (status == CIP_DONE) {
+        tell(&row.down.number, sizeof row.down.number);
+        tell(&row.deadline, sizeof row.deadline);
+    }
+    return status;
+}
+
+static uint32_t read_deadline(cip_device *device) {
+    uint64_t milliseconds;
+    uint32_t status = cip_next_deadline(device, &milliseconds);
+    if (status == CIP_DONE)
+        tell(&milliseconds, sizeof milliseconds);
+    return status;
+}
+
 /* Answers whether some call was refused. */
 static bool run(long refuse_at) {
     static const uint8_t identity[] = {0x01, 0x02, 0x20, 0x01, 0x24, 0x01};
@@ -58,11 +107,15 @@ static bool run(long refuse_at) {
         0x48, 0x01, 0x04, 0x20, 0x04, 0x24, 0x64, 0x2C, 0x65, 0x2C, 0x66,
     };
     static const uint8_t datum[] = {0x01, 0x00, 0xDE, 0xAD, 0xBE, 0xEF}, produced[] = {0xCA, 0xFE};
-    cip_device device = CIP_DEVICE_EMPTY;
+    static const uint8_t path[] = {0x02, 0x07};
+    const cip_timing timing = {7, 0xF9};
+    cip_device device = CIP_DEVICE_EMPTY, second = CIP_DEVICE_EMPTY;
+    size_t length;
+    uint8_t assembly[8];
     bool was_refused = false;
     told_length = 0;
     before_refusal = refuse_at;
-    for (int step = 0; step < 8;) {
+    for (int step = 0; step < 15;) {
         uint32_t status = CIP_DONE;
         switch (step) {
         case 0:
@@ -85,10 +138,31 @@ static bool run(long refuse_at) {
             status = cip_produce(&device, 102);
             break;
         case 6:
-            status = cip_tick(&device, 100);
+            status = read_connection(&device);
             break;
         case 7:
+            status = read_deadline(&device);
+            break;
+        case 8:
+            status = cip_get(&device, 102, &length, assembly, sizeof assembly);
+            break;
+        case 9:
+            status = cip_tick(&device, 100);
+            break;
+        case 10:
             status = cip_tick(&device, 1000);
+            break;
+        case 11:
+            status = scanner_new(&second);
+            break;
+        case 12:
+            status = cip_send(&second, 1, timing, path, sizeof path, identity, sizeof identity);
+            break;
+        case 13:
+            status = read_pending(&second);
+            break;
+        case 14:
+            status = read_deadline(&second);
             break;
         }
         if (status == CIP_NO_MEMORY) {
@@ -107,11 +181,12 @@ static bool run(long refuse_at) {
             printf("step %d: status %u\n", step, status);
             exit(1);
         }
-        if (step > 0)
-            drain(&device);
+        drain(&device);
+        drain(&second);
         step++;
     }
     cip_free(&device);
+    cip_free(&second);
     if (live != 0) {
         printf("%ld blocks are left\n", live);
         exit(1);

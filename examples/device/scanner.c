@@ -1,22 +1,28 @@
-/* An EtherNet/IP scanner: asks an adapter for its identity, opens a connection to it, sends it a
- * datum and takes one each 10 ms, and closes. All of CIP is the library's.
+/* An EtherNet/IP scanner: asks an adapter for its identity and an assembly, opens a connection to
+ * it, sends it a datum and takes one each 10 ms, and closes. A connection that expires is opened
+ * again. All of CIP is the library's.
  *
- * scanner [TARGET [OWN [MILLISECONDS]]]: 127.0.0.1 from 127.0.0.2 for 1,000 ms, if not said. Status
- * 0 where identity, open and close succeeded and data came both ways. */
+ * scanner [TARGET [OWN [MILLISECONDS [BY FINAL [LOG]]]]]: 127.0.0.1 from 127.0.0.2 for 1,000 ms, if
+ * not said. With BY and FINAL the target is a bridge, and the adapter FINAL stands on the network
+ * of its port BY. Each datum goes into the log, if one is named. Status 0 where all was answered,
+ * open and close succeeded and data came both ways. */
 #include "cip_device.h"
 #include "enip.h"
 #include <poll.h>
 
-enum { PORT = 2, PERIOD = 10, ASK = 1, OPEN = 2, CLOSE = 3 };
+enum { PORT = 2, PERIOD = 10, RETRY = 10, SERIAL = 0x1234 };
 
 static cip_device device = CIP_DEVICE_EMPTY;
 static const char *target = "127.0.0.1", *own = "127.0.0.2";
 static int tcp, data_socket;
+static FILE *data_log;
 static uint32_t session, sent;
-static unsigned long arrived, gaps, others;
-static int state[4]; /* by op: 0 not done, 1 succeeded, -1 failed */
-static uint8_t in[MOST_FRAME];
-static size_t filled;
+static unsigned long arrived, gaps, others, opened, expired;
+static uint32_t ops;     /* the last op that was given */
+static uint32_t open_op; /* the op of the open, once it succeeded; 0 where none is open */
+static int answer;       /* to the last op: 0 none yet, 1 it succeeded, -1 it failed */
+static uint8_t path[64], in[MOST_FRAME];
+static size_t path_length, filled;
 
 static void to_target(uint16_t command, uint32_t number, uint8_t *frame, size_t data) {
     uint8_t context[8] = {0};
@@ -28,6 +34,7 @@ static void to_target(uint16_t command, uint32_t number, uint8_t *frame, size_t 
 
 static void take_outputs(void) {
     static uint8_t bytes[CIP_MOST_BYTES];
+    static uint32_t last_op;
     static uint16_t last_count;
     uint8_t frame[MOST_FRAME];
     cip_output output;
@@ -40,18 +47,30 @@ static void take_outputs(void) {
                       put_message(frame + HEADER, bytes, output.length));
             break;
         case CIP_OUT_DATA:
+            note(data_log, "out", bytes, output.length);
             send_datum(data_socket, output.to, output.to_length, output.number, ++sent, bytes,
                        output.length);
             break;
         case CIP_OUT_DONE:
-            state[output.number] = output.length > 2 && bytes[2] == 0 ? 1 : -1;
-            printf("op %u: %s, %zu bytes\n", output.number,
-                   state[output.number] > 0 ? "done" : "failed", output.length);
+            if (output.number == ops)
+                answer = output.length > 2 && bytes[2] == 0 ? 1 : -1;
+            printf("op %u:", output.number);
+            for (size_t i = 0; i < output.length; i++)
+                printf(" %02X", bytes[i]);
+            printf("\n");
             break;
         case CIP_OUT_ARRIVED:
-            if (arrived++ > 0 && word(bytes) != (uint16_t)(last_count + 1))
+            note(data_log, "in", bytes, output.length);
+            arrived++;
+            if (output.number == last_op && word(bytes) != (uint16_t)(last_count + 1))
                 gaps++;
+            last_op = output.number;
             last_count = word(bytes);
+            break;
+        case CIP_OUT_EXPIRED:
+            expired++;
+            open_op = 0;
+            answer = 0;
             break;
         default:
             others++;
@@ -91,11 +110,15 @@ static void from_data(void) {
         take_outputs();
 }
 
-/* Runs for at most so long, until *until is not 0; a datum goes out each PERIOD where sending. */
-static void run(uint64_t for_ms, const int *until, bool sending) {
-    static uint16_t count;
+static void pass(uint64_t by) {
+    if (by > 0 && cip_tick(&device, (uint16_t)by) == CIP_DONE)
+        take_outputs();
+}
+
+/* Runs for at most so long, or until the last op is answered. */
+static void run(uint64_t for_ms, bool until_answer, void (*each_period)(void)) {
     uint64_t last = milliseconds(), end = last + for_ms;
-    while (last < end && (until == 0 || *until == 0)) {
+    while (last < end && !(until_answer && answer != 0)) {
         struct pollfd fds[] = {{tcp, POLLIN, 0}, {data_socket, POLLIN, 0}};
         poll(fds, 2, PERIOD / 2);
         if (fds[0].revents)
@@ -103,19 +126,67 @@ static void run(uint64_t for_ms, const int *until, bool sending) {
         if (fds[1].revents & POLLIN)
             from_data();
         uint64_t now = milliseconds();
-        if (now > last && cip_tick(&device, (uint16_t)(now - last)) == CIP_DONE)
-            take_outputs();
-        if (sending && now / PERIOD != last / PERIOD) {
-            uint8_t datum[6];
-            count++;
-            put_double(put_word(datum, count), 0xBEEF0000u + count);
-            if (cip_enter(&device, OPEN, datum, sizeof datum) == CIP_DONE)
-                take_outputs();
-        }
+        pass(now - last);
+        if (each_period != 0 && now / PERIOD != last / PERIOD)
+            each_period();
         last = now;
     }
 }
 
+static const cip_timing timing = {4, 125}; /* an answer within 2,000 ms */
+
+/* Each open has an op and a serial number of its own. */
+static void ask_for_open(void) {
+    static const uint8_t points[] = {0x20, 0x04, 0x24, 0x64, 0x2C, 0x65, 0x2C, 0x66};
+    const cip_open_params params = {.ot_rpi = 10000,
+                                    .to_rpi = 10000,
+                                    .ot_params = 0x4806,
+                                    .to_params = 0x4804,
+                                    .serial = (uint16_t)(SERIAL + ++ops),
+                                    .multiplier = 5 /* 128 intervals */,
+                                    .transport = 1};
+    uint8_t whole[sizeof path + sizeof points];
+    memcpy(whole, path, path_length);
+    memcpy(whole + path_length, points, sizeof points);
+    answer = 0;
+    if (cip_open(&device, ops, timing, whole, path_length + sizeof points, &params) == CIP_DONE)
+        take_outputs();
+}
+
+/* A datum goes out by the connection; where none is open, one is asked for again and again. */
+static void send_or_open(void) {
+    static uint16_t count;
+    static unsigned waits;
+    uint8_t datum[6];
+    if (open_op == 0 && answer > 0) {
+        open_op = ops;
+        opened++;
+        waits = 0;
+    }
+    if (open_op == 0) {
+        if (waits == 0 || (answer < 0 && waits >= RETRY)) {
+            ask_for_open();
+            waits = 0;
+        }
+        waits++;
+        return;
+    }
+    count++;
+    put_double(put_word(datum, count), 0xBEEF0000u + count);
+    if (cip_enter(&device, open_op, datum, sizeof datum) == CIP_DONE)
+        take_outputs();
+}
+
+/* One request along the path; whether it succeeded. */
+static bool ask(const uint8_t *request, size_t length) {
+    answer = 0;
+    if (cip_send(&device, ++ops, timing, path, path_length, request, length) == CIP_DONE)
+        take_outputs();
+    run(3000, true, 0);
+    return answer > 0;
+}
+
+/* The serial number is its address, so that two scanners are two originators. */
 static uint32_t make_device(void) {
     const cip_config config = {.kind = CIP_PLAIN,
                                .first_id = 0x00010001,
@@ -125,7 +196,7 @@ static uint32_t make_device(void) {
                                .vendor = 0x0101,
                                .device_type = 14,
                                .product = 9,
-                               .serial = 0x0A0B0C0D,
+                               .serial = ntohl(at_address(own, 0).sin_addr.s_addr),
                                .major = 1,
                                .minor = 3};
     cip_port port = {
@@ -136,34 +207,32 @@ static uint32_t make_device(void) {
                    &none, 0);
 }
 
-/* A port segment by PORT to the target, then what stands behind it; how many bytes. */
-static size_t path_to(uint8_t *path, const uint8_t *rest, size_t rest_length) {
-    size_t length = strlen(target);
-    path[0] = 0x10 | PORT; /* with an extended link address */
-    path[1] = (uint8_t)length;
-    memcpy(path + 2, target, length);
+/* One more port segment of the path. */
+static void add_to_path(uint8_t port, const char *address) {
+    size_t length = strlen(address);
+    if (length > 15 || path_length + 18 > sizeof path)
+        exit(2);
+    uint8_t *at = path + path_length;
+    at[0] = 0x10 | port; /* with an extended link address */
+    at[1] = (uint8_t)length;
+    memcpy(at + 2, address, length);
     if (length % 2 == 1)
-        path[2 + length++] = 0;
-    memcpy(path + 2 + length, rest, rest_length);
-    return 2 + length + rest_length;
+        at[2 + length++] = 0;
+    path_length += 2 + length;
 }
 
 int main(int count, char **words) {
     static const uint8_t get_all[] = {0x01, 0x02, 0x20, 0x01, 0x24, 0x01};
-    static const uint8_t points[] = {0x20, 0x04, 0x24, 0x64, 0x2C, 0x65, 0x2C, 0x66};
-    const cip_timing timing = {7, 0xF9};
-    const cip_open_params params = {.ot_rpi = 10000,
-                                    .to_rpi = 10000,
-                                    .ot_params = 0x4806,
-                                    .to_params = 0x4804,
-
-                                    .serial = 0x1234,
-                                    .multiplier = 4 /* 64 intervals */,
-                                    .transport = 1};
+    static const uint8_t get_data[] = {0x0E, 0x03, 0x20, 0x04, 0x24, 0x66, 0x30, 0x03};
     if (count > 1)
         target = words[1];
     if (count > 2)
         own = words[2];
+    add_to_path(PORT, target);
+    if (count > 5)
+        add_to_path((uint8_t)atoi(words[4]), words[5]);
+    if (count > 6)
+        data_log = log_at(words[6]);
     if (make_device() != CIP_DONE)
         return 1;
     tcp = bound(SOCK_STREAM, own, 0);
@@ -173,27 +242,27 @@ int main(int count, char **words) {
         perror("connect");
         return 1;
     }
-    uint8_t frame[MOST_FRAME], path[64];
+    uint8_t frame[MOST_FRAME];
     put_double(frame + HEADER, 1); /* version 1, no options */
     to_target(REGISTER, 0, frame, 4);
     while (session == 0)
         from_target();
-    if (cip_send(&device, ASK, timing, path, path_to(path, 0, 0), get_all, sizeof get_all) ==
-        CIP_DONE)
+    bool is_answered = ask(get_all, sizeof get_all);
+    is_answered = ask(get_data, sizeof get_data) && is_answered;
+    answer = 0;
+    run(count > 3 ? strtoull(words[3], 0, 10) : 1000, false, send_or_open);
+    answer = 0;
+    if (open_op != 0 && cip_close(&device, ++ops, open_op, timing) == CIP_DONE)
         take_outputs();
-    run(2000, &state[ASK], false);
-    if (cip_open(&device, OPEN, timing, path, path_to(path, points, sizeof points), &params) ==
-        CIP_DONE)
-        take_outputs();
-    run(2000, &state[OPEN], false);
-    run(count > 3 ? strtoull(words[3], 0, 10) : 1000, 0, true);
-    if (cip_close(&device, CLOSE, OPEN, timing) == CIP_DONE)
-        take_outputs();
-    run(2000, &state[CLOSE], false);
+    run(3000, true, 0);
+    bool is_closed = answer > 0;
     to_target(UNREGISTER, 0, frame, 0);
     close(tcp);
     close(data_socket);
     cip_free(&device);
-    printf("sent %u, arrived %lu, gaps %lu, others %lu\n", sent, arrived, gaps, others);
-    return state[ASK] > 0 && state[OPEN] > 0 && state[CLOSE] > 0 && sent > 0 && arrived > 0 ? 0 : 1;
+    if (data_log != 0)
+        fclose(data_log);
+    printf("sent %u, arrived %lu, gaps %lu, opened %lu, expired %lu, others %lu\n", sent, arrived,
+           gaps, opened, expired, others);
+    return is_answered && is_closed && sent > 0 && arrived > 0 ? 0 : 1;
 }

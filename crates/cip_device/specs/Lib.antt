@@ -4,3 +4,5 @@ pub mod Outputs
 pub mod Settings
 pub mod Given
 pub mod Reads
+pub mod Rows
+pub mod Deadlines

@@ -7,9 +7,13 @@ ghost use Rattle.cip_module.specs.Views.{ShowsState};
 ghost use Rattle.cip_device.specs.Shown.{shown_of, IsDeviceStep, IsFull, IsReady, IsWhy};
 ghost use Rattle.cip_device.specs.Outputs.{IsNext};
 ghost use Rattle.cip_device.specs.Reads.{is_row_of, IsRead, HasNone};
+ghost use Rattle.cip_device.specs.Rows.{IsConnectionAt, IsPendingAt, NoConnectionAt, NoPendingAt};
+ghost use Rattle.cip_device.specs.Deadlines.{IsSoonest, IsAtRest};
 
+use crate::deadlines::{first_due, milliseconds_until};
 use crate::numbers::{CLOCK_FULL, DONE, NO_MEMORY, NOTHING, SHORT, UNREAD};
 use crate::output::{CipOutput, outline, payload};
+use crate::rows::{CipConnectionRow, CipPendingRow, connection_of, pending_of};
 use cip_base::NoMemory;
 use cip_indexed::NewModule;
 use cip_module::{AssemblyRow, Event, Module, ModuleConfig, Output, StepFault, Tables};
@@ -141,6 +145,55 @@ impl Held {
             return SHORT;
         }
         buffer[..bytes.len()].copy_from_slice(bytes);
+        DONE
+    }
+
+    /// The connection at this place: NOTHING past the last one, NO_MEMORY.
+    pub(crate) fn connection(&self, at: usize, out: &mut CipConnectionRow) -> u32
+        ensures done { result ≡ 0 → IsConnectionAt (shown_of self.now) at out.new }
+        ensures known { result ≢ 1 }
+        ensures nothing { result ≡ 7 → NoConnectionAt (Some (shown_of self.now)) at }
+    {
+        let Ok(tables) = module_tables(&self.module_) else {
+            return NO_MEMORY;
+        };
+        let Some(row) = tables.hops.as_slice().get(at) else {
+            return NOTHING;
+        };
+        *out = connection_of(row);
+        DONE
+    }
+
+    /// The request that waits at this place: NOTHING past the last one, NO_MEMORY.
+    pub(crate) fn pending(&self, at: usize, out: &mut CipPendingRow) -> u32
+        ensures done { result ≡ 0 → IsPendingAt (shown_of self.now) at out.new }
+        ensures known { result ≢ 1 }
+        ensures nothing { result ≡ 7 → NoPendingAt (Some (shown_of self.now)) at }
+    {
+        let Ok(tables) = module_tables(&self.module_) else {
+            return NO_MEMORY;
+        };
+        let Some(row) = tables.pendings.as_slice().get(at) else {
+            return NOTHING;
+        };
+        *out = pending_of(row);
+        DONE
+    }
+
+    /// The shortest tick at which something happens: NOTHING where none does anything, NO_MEMORY.
+    pub(crate) fn next_deadline(&self, milliseconds: &mut u64) -> u32
+        ensures done { result ≡ 0 → IsSoonest (shown_of self.now) milliseconds.new }
+        ensures known { result ≢ 1 }
+        ensures nothing { result ≡ 7 → IsAtRest (Some (shown_of self.now)) }
+    {
+        let Ok(tables) = module_tables(&self.module_) else {
+            return NO_MEMORY;
+        };
+        let due = first_due(tables.pendings.as_slice(), tables.hops.as_slice());
+        let Some(deadline) = due else {
+            return NOTHING;
+        };
+        *milliseconds = milliseconds_until(tables.now, deadline);
         DONE
     }
 }

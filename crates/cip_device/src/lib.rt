@@ -3,6 +3,7 @@
 
 mod bare;
 mod commands;
+mod deadlines;
 mod frames;
 mod handle;
 mod held;
@@ -10,5 +11,7 @@ mod life;
 mod making;
 mod numbers;
 mod output;
+mod rows;
 mod settings;
 mod turn;
+mod walks;

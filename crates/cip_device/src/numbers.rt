@@ -17,7 +17,7 @@ pub const BAD_ARGUMENT: u32 = 4;
 pub const NO_MEMORY: u32 = 5;
 /// The tick would lead past the last time.
 pub const CLOCK_FULL: u32 = 6;
-/// No output waits.
+/// There is none: no output waits, or nothing stands there.
 pub const NOTHING: u32 = 7;
 /// The buffer is too short for the bytes of the output.
 pub const SHORT: u32 = 8;
@@ -69,3 +69,12 @@ pub const DROPPED_LATE: u32 = 2;
 pub const DROPPED_UNKNOWN_ID: u32 = 3;
 
 pub const DROPPED_WRONG_SIZE: u32 = 4;
+
+/// The kinds of a request that waits.
+pub const PENDING_SEND: u32 = 1;
+
+pub const PENDING_OPEN: u32 = 2;
+
+pub const PENDING_LARGE_OPEN: u32 = 3;
+
+pub const PENDING_CLOSE: u32 = 4;

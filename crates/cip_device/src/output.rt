@@ -51,7 +51,8 @@ const BLANK: CipOutput = CipOutput {
     length: 0,
 };
 
-fn padded(address: &Address) -> [u8; 16]
+/// The bytes of an address, and zeros.
+pub(crate) fn padded(address: &Address) -> [u8; 16]
     ensures { take (length address.now) result ≡ address.now }
 {
     let mut to = [0; 16];
@@ -60,7 +61,8 @@ fn padded(address: &Address) -> [u8; 16]
     to
 }
 
-fn short_length(address: &Address) -> u16
+/// How many bytes an address has.
+pub(crate) fn short_length(address: &Address) -> u16
     ensures { result ≡ length address.now }
 {
     let count = address.as_slice().len();
