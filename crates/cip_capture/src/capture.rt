@@ -1,4 +1,6 @@
 //! The capture of a transcript, packet by packet.
+ghost use Rattle.std.specs.Prelude.{◌≡◌, [], IfOk};
+
 use crate::blocks::{put_interface, put_names, put_packet, put_section};
 use crate::packets::{CLIENT, MOST, SERVER, Segment, Way, datum, message, tcp_packet, udp_packet};
 use cip_base::{ModuleId, NoMemory};
@@ -57,7 +59,9 @@ fn place_of(id: Option<ModuleId>) -> usize {
 
 impl<'a> CaptureView<'a> {
     /// The capture of a run over this topology; NoMemory where an allocation is refused.
-    pub fn new(alloc: Global, topology: &'a Topology) -> Result<CaptureView<'a>, NoMemory> {
+    pub fn new(alloc: Global, topology: &'a Topology) -> Result<CaptureView<'a>, NoMemory>
+        ensures { IfOk result (λ made. (made.now ≡ 0) × (made.head.items ≡ [])) }
+    {
         let mut out = Vec::new(alloc);
         put_section(alloc, &mut out)?;
         put_interface(alloc, &mut out)?;
@@ -205,6 +209,8 @@ impl<'a> CaptureView<'a> {
 }
 
 impl View for CaptureView<'_> {
+    ghost gathered = { λ s. s.out.items };
+
     fn line(&mut self, alloc: Global, text: &[u8], line: Line) -> Result<(), NoMemory> {
         match line {
             Line::Step { entry, at, given } => {

@@ -1,4 +1,6 @@
 //! The chart of a transcript, gathered line by line.
+ghost use Rattle.std.specs.Prelude.{◌≡◌, [], IfOk, string_bytes};
+
 use crate::cut::Cut;
 use crate::draw::put_svg;
 use crate::fold::fold;
@@ -42,7 +44,9 @@ impl<'a> ChartView<'a> {
         topology: &'a Topology,
         cut: Cut,
         is_page: bool,
-    ) -> Result<ChartView<'a>, NoMemory> {
+    ) -> Result<ChartView<'a>, NoMemory>
+        ensures { IfOk result (λ made. string_bytes made.out ≡ []) }
+    {
         let columns = cut.columns(alloc, topology.configs().len())?;
         Ok(ChartView {
             topology,
@@ -326,6 +330,8 @@ impl<'a> ChartView<'a> {
 }
 
 impl View for ChartView<'_> {
+    ghost gathered = { λ s. string_bytes s.out };
+
     fn line(&mut self, alloc: Global, _text: &[u8], line: Line) -> Result<(), NoMemory> {
         match line {
             Line::Step { entry, at, given } => self.take_step(entry, at, given),

@@ -1,4 +1,8 @@
 //! The bytes of a topology file as a text.
+ghost use Rattle.std.specs.Prelude.{◌≡◌, MatchResult};
+ghost use Rattle.std.specs.Str.{IsUtf8};
+ghost use Rattle.std.specs.Str.Lossy.{utf8_valid_len};
+ghost use Rattle.cip_check.specs.Bytes.{IsWhy};
 
 use thiserror::Error;
 
@@ -24,7 +28,9 @@ fn line_of(bytes: &[u8], place: usize) -> usize {
     line
 }
 
-fn fault_of(bytes: &[u8], place: usize) -> NotUtf8 {
+fn fault_of(bytes: &[u8], place: usize) -> NotUtf8
+    ensures { IsWhy bytes.now place result }
+{
     match bytes {
         [0xFF, 0xFE, ..] => NotUtf8::Wide(0xFF, 0xFE),
         [0xFE, 0xFF, ..] => NotUtf8::Wide(0xFE, 0xFF),
@@ -36,7 +42,10 @@ fn fault_of(bytes: &[u8], place: usize) -> NotUtf8 {
 }
 
 /// The text of these bytes, or the first byte that is none.
-pub fn text_of(bytes: &[u8]) -> Result<&str, NotUtf8> {
+pub fn text_of(bytes: &[u8]) -> Result<&str, NotUtf8>
+    ensures { MatchResult result (λ text. (text.now ≡ bytes.now) × IsUtf8 bytes.now)
+        (λ why. ¬ (IsUtf8 bytes.now) × IsWhy bytes.now (utf8_valid_len bytes.now) why) }
+{
     match std::str::from_utf8(bytes) {
         Ok(text) => Ok(text),
         Err(error) => Err(fault_of(bytes, error.valid_up_to())),

@@ -1,5 +1,8 @@
 //! Every fault of a topology file.
 
+ghost use Rattle.std.specs.Prelude.{◌≡◌, ◌≤◌, IfOk};
+ghost use Rattle.cip_check.specs.Taken.{IsTaken, IsTold};
+
 use crate::explaining::explain_load;
 use crate::reached::unreached;
 use crate::repairing::repair;
@@ -19,14 +22,20 @@ fn tell_fault(
     text: &str,
     fault: &LoadFault,
     report: &mut Report,
-) -> Result<(), NoMemory> {
+) -> Result<(), NoMemory>
+    ensures told { IfOk result (λ _. 1 ≤ report.new.faults) }
+    ensures more { report.old.faults ≤ report.new.faults }
+{
     let line = explain_load(alloc, text, fault)?;
     report.fault(alloc, &line)?;
     Ok(())
 }
 
 // The fault of a document, if it has one.
-fn fault_of(alloc: Global, text: &str, report: &mut Report) -> Result<Option<LoadFault>, NoMemory> {
+fn fault_of(alloc: Global, text: &str, report: &mut Report) -> Result<Option<LoadFault>, NoMemory>
+    ensures told { IfOk result (λ found. IsTold text.now report.new.faults found) }
+    ensures more { report.old.faults ≤ report.new.faults }
+{
     match load(alloc, text) {
         Ok(topology) => {
             unreached(alloc, &topology, report)?;
@@ -46,10 +55,12 @@ fn broken_rules(
     document: Table,
     first: LoadFault,
     report: &mut Report,
-) -> Result<(), NoMemory> {
+) -> Result<(), NoMemory>
+    ensures { report.old.faults ≤ report.new.faults }
+{
     let mut document = document;
     let mut fault = first;
-    for turn in 0..MOST {
+    'rules: for turn in 0..MOST {
         repair(alloc, &mut document, &fault, turn)?;
         // A date that was read can be written: memory alone can fail.
         let Ok(text) = toml::table_to_string(alloc, &document) else {
@@ -70,7 +81,10 @@ fn broken_rules(
 ///
 /// To find the next fault the file is mended where the last one was: a name that is missing gets
 /// one, and a port that stands nowhere stands on a link of its own.
-pub fn check(alloc: Global, text: &str) -> Result<Report, NoMemory> {
+pub fn check(alloc: Global, text: &str) -> Result<Report, NoMemory>
+    // A text of which no fault is told is TOML, and breaks no rule.
+    ensures { IfOk result (λ report. report.faults ≡ 0 → IsTaken text.now) }
+{
     let mut report = Report::new(alloc);
     let first = fault_of(alloc, text, &mut report)?;
     let document = match toml::table_from_str(alloc, text) {

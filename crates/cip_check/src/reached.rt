@@ -1,5 +1,7 @@
 //! Modules that no path reaches.
 
+ghost use Rattle.std.specs.Prelude.{◌≡◌};
+
 use crate::report::Report;
 use cip_config::ModuleConfig;
 use cip_topology::Topology;
@@ -53,9 +55,11 @@ pub(crate) fn unreached(
     alloc: Global,
     topology: &Topology,
     report: &mut Report,
-) -> Result<(), AllocError> {
+) -> Result<(), AllocError>
+    ensures { report.new.faults ≡ report.old.faults }
+{
     let configs = topology.configs();
-    for (i, config) in configs.iter().enumerate() {
+    'modules: for (i, config) in configs.iter().enumerate() {
         if !has_neighbour(configs, i, config) {
             report.warn(alloc, &Lonely(config.settings().name.as_slice()))?;
         }

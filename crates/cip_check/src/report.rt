@@ -1,5 +1,7 @@
 //! What was found in a topology file.
 
+ghost use Rattle.std.specs.Prelude.{◌≡◌, ◌≤◌, IfOk};
+
 use std::alloc::{AllocError, Global};
 use std::fmt;
 
@@ -11,7 +13,9 @@ pub struct Report {
 }
 
 impl Report {
-    pub(crate) fn new(alloc: Global) -> Report {
+    pub(crate) fn new(alloc: Global) -> Report
+        ensures { result.faults ≡ 0 }
+    {
         Report {
             lines: Vec::new(alloc),
             faults: 0,
@@ -24,7 +28,9 @@ impl Report {
     }
 
     /// How many of them are faults.
-    pub fn faults(&self) -> usize {
+    pub fn faults(&self) -> usize
+        ensures { result ≡ self.now.faults }
+    {
         self.faults
     }
 
@@ -33,7 +39,10 @@ impl Report {
         &mut self,
         alloc: Global,
         fault: &T,
-    ) -> Result<(), AllocError> {
+    ) -> Result<(), AllocError>
+        ensures told { IfOk result (λ _. 1 ≤ self.new.faults) }
+        ensures more { self.old.faults ≤ self.new.faults }
+    {
         let mut line = String::new(alloc);
         write!(line, "{fault}")?;
         self.lines.push(line)?;
@@ -46,7 +55,9 @@ impl Report {
         &mut self,
         alloc: Global,
         warning: &T,
-    ) -> Result<(), AllocError> {
+    ) -> Result<(), AllocError>
+        ensures { self.new.faults ≡ self.old.faults }
+    {
         let mut line = String::new(alloc);
         write!(line, "warning: {warning}")?;
         self.lines.push(line)?;

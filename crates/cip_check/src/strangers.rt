@@ -1,5 +1,7 @@
 //! Keys that mean nothing.
 
+ghost use Rattle.std.specs.Prelude.{◌≤◌};
+
 use crate::report::Report;
 use crate::tables::{entries_of, name_of};
 use cip_topology::Place;
@@ -106,8 +108,10 @@ fn keys_of(
     place: &Place,
     known: &[&'static str],
     report: &mut Report,
-) -> Result<(), AllocError> {
-    for key in table.keys() {
+) -> Result<(), AllocError>
+    ensures { report.old.faults ≤ report.new.faults }
+{
+    'keys: for key in table.keys() {
         if !is_known(known, key.as_str()) {
             let nearest = nearest_of(alloc, key.as_str(), known)?;
             let home = home_of(key.as_str());
@@ -149,8 +153,10 @@ pub(crate) fn nearest_stranger<'a>(
     Ok(nearest)
 }
 
-fn strange_links(alloc: Global, document: &Table, report: &mut Report) -> Result<(), AllocError> {
-    for (i, entry) in entries_of(document, "link").iter().enumerate() {
+fn strange_links(alloc: Global, document: &Table, report: &mut Report) -> Result<(), AllocError>
+    ensures { report.old.faults ≤ report.new.faults }
+{
+    'links: for (i, entry) in entries_of(document, "link").iter().enumerate() {
         if let Value::Table(table) = entry {
             let place = Place::Link {
                 number: i.saturating_add(1),
@@ -167,8 +173,10 @@ fn strange_ports(
     number: usize,
     module_: &Table,
     report: &mut Report,
-) -> Result<(), AllocError> {
-    for (i, entry) in entries_of(module_, "port").iter().enumerate() {
+) -> Result<(), AllocError>
+    ensures { report.old.faults ≤ report.new.faults }
+{
+    'ports: for (i, entry) in entries_of(module_, "port").iter().enumerate() {
         if let Value::Table(table) = entry {
             let place = Place::Port {
                 number,
@@ -186,8 +194,10 @@ fn strange_assemblies(
     number: usize,
     module_: &Table,
     report: &mut Report,
-) -> Result<(), AllocError> {
-    for (i, entry) in entries_of(module_, "assembly").iter().enumerate() {
+) -> Result<(), AllocError>
+    ensures { report.old.faults ≤ report.new.faults }
+{
+    'assemblies: for (i, entry) in entries_of(module_, "assembly").iter().enumerate() {
         if let Value::Table(table) = entry {
             let place = Place::Assembly {
                 number,
@@ -205,7 +215,9 @@ fn strange_module(
     number: usize,
     module_: &Table,
     report: &mut Report,
-) -> Result<(), AllocError> {
+) -> Result<(), AllocError>
+    ensures { report.old.faults ≤ report.new.faults }
+{
     let place = Place::Module {
         number,
         name: name_of(module_),
@@ -215,8 +227,10 @@ fn strange_module(
     strange_assemblies(alloc, number, module_, report)
 }
 
-fn strange_modules(alloc: Global, document: &Table, report: &mut Report) -> Result<(), AllocError> {
-    for (i, entry) in entries_of(document, "module").iter().enumerate() {
+fn strange_modules(alloc: Global, document: &Table, report: &mut Report) -> Result<(), AllocError>
+    ensures { report.old.faults ≤ report.new.faults }
+{
+    'modules: for (i, entry) in entries_of(document, "module").iter().enumerate() {
         if let Value::Table(table) = entry {
             strange_module(alloc, i.saturating_add(1), table, report)?;
         }
@@ -229,7 +243,9 @@ pub(crate) fn strange_keys(
     alloc: Global,
     document: &Table,
     report: &mut Report,
-) -> Result<(), AllocError> {
+) -> Result<(), AllocError>
+    ensures { report.old.faults ≤ report.new.faults }
+{
     keys_of(alloc, document, &Place::File, &FILE, report)?;
     strange_links(alloc, document, report)?;
     strange_modules(alloc, document, report)

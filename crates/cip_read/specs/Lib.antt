@@ -1,4 +1,5 @@
 pub mod Fields
 pub mod Heads
 pub mod Lines
+pub mod Orders
 pub mod Outputs

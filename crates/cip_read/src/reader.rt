@@ -1,9 +1,11 @@
 //! Reading a transcript, line by line.
 ghost use Rattle.std.specs.Prelude.{◌≡◌, ◌+◌, ◌-◌, ◌<◌, ◌^◌, min, length, map, true, IfOk};
+ghost use Rattle.std.specs.Prelude.{IfSome, None, Some};
 ghost use Rattle.std.specs.Str.{IsAscii};
 ghost use Rattle.cip_read.specs.Fields.{nth, texts};
 ghost use Rattle.cip_read.specs.Lines.{numbered_of, is_indented, is_head, words_line};
 ghost use Rattle.cip_read.specs.Lines.{line_of, Reads, IsShown};
+ghost use Rattle.cip_read.specs.Orders.{IsNext, behind, entry_after, output_after};
 
 use crate::fault::{Expected, LineFault, ReadFault};
 use crate::fields::{nth, usize_at};
@@ -138,6 +140,7 @@ impl<'a> Reader<'a> {
     pub fn new(topology: &'a Topology) -> Reader<'a>
         ensures over { result.topology.now ≡ topology.now }
         ensures lines { result.lines ≡ 0 }
+        ensures unknown { (result.next_entry ≡ None) × (result.next_output ≡ None) }
     {
         Reader {
             topology,
@@ -158,6 +161,9 @@ impl<'a> Reader<'a> {
     fn take_entry(&mut self, entry: usize) -> Result<(), LineFault>
         ensures over { self.new.topology ≡ self.old.topology }
         ensures lines { self.new.lines ≡ self.old.lines }
+        ensures next { IfOk result (λ _. IfSome self.old.next_entry (λ next. entry ≡ next)) }
+        ensures after { IfOk result
+            (λ _. (self.new.next_entry ≡ behind entry) × (self.new.next_output ≡ Some 0)) }
     {
         match self.next_entry {
             Some(next) if next != entry => Err(LineFault::Word(0, Expected::Entry(next))),
@@ -173,6 +179,9 @@ impl<'a> Reader<'a> {
     fn take_output(&mut self, index: usize) -> Result<(), LineFault>
         ensures over { self.new.topology ≡ self.old.topology }
         ensures lines { self.new.lines ≡ self.old.lines }
+        ensures next { IfOk result (λ _. IfSome self.old.next_output (λ next. index ≡ next)) }
+        ensures after { IfOk result (λ _. (self.new.next_entry ≡ self.old.next_entry)
+            × (self.new.next_output ≡ behind index)) }
     {
         match self.next_output {
             Some(next) if next != index => Err(LineFault::Word(2, Expected::Output(next))),
@@ -186,6 +195,11 @@ impl<'a> Reader<'a> {
     fn take(&mut self, line: &Line) -> Result<(), LineFault>
         ensures over { self.new.topology ≡ self.old.topology }
         ensures lines { self.new.lines ≡ self.old.lines }
+        ensures next { IfOk result
+            (λ _. IsNext self.old.next_entry self.old.next_output line.now) }
+        ensures after { IfOk result
+            (λ _. (self.new.next_entry ≡ entry_after self.old.next_entry line.now)
+            × (self.new.next_output ≡ output_after self.old.next_output line.now)) }
     {
         match line {
             Line::Step { entry, .. } => self.take_entry(*entry),
@@ -200,6 +214,10 @@ impl<'a> Reader<'a> {
             → IfOk result (λ line. IsShown line (line_of self.old.topology.now text.now)) }
         ensures over { self.new.topology ≡ self.old.topology }
         ensures lines { self.new.lines ≡ self.old.lines }
+        ensures next { IfOk result (IsNext self.old.next_entry self.old.next_output) }
+        ensures after { IfOk result
+            (λ line. (self.new.next_entry ≡ entry_after self.old.next_entry line)
+            × (self.new.next_output ≡ output_after self.old.next_output line)) }
     {
         let line = read_line(alloc, self.topology, text)?;
         self.take(&line)?;
@@ -212,6 +230,10 @@ impl<'a> Reader<'a> {
             → IfOk result (λ line. IsShown line (line_of self.old.topology.now text.now)) }
         ensures over { self.new.topology ≡ self.old.topology }
         ensures lines { self.new.lines ≡ min (self.old.lines + 1) (2 ^ 64 - 1) }
+        ensures next { IfOk result (IsNext self.old.next_entry self.old.next_output) }
+        ensures after { IfOk result
+            (λ line. (self.new.next_entry ≡ entry_after self.old.next_entry line)
+            × (self.new.next_output ≡ output_after self.old.next_output line)) }
     {
         self.lines = self.lines.saturating_add(1);
         match self.read_next(alloc, text) {

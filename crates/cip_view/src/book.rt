@@ -1,5 +1,8 @@
 //! What is known of a run while its transcript is read: the frames on their way, the connections
 //! that were opened, and the ops that have not ended.
+ghost use Rattle.std.specs.Prelude.{◌≡◌, Some, None, IfOk, option_map, unwrap_or, slice_get, codes};
+ghost use Rattle.cip_view.specs.Books.{at_of, arrived_of, made_at, Knows};
+
 use crate::label::{Kind, Label, label_of};
 use cip_base::{Address, ModuleId, NoMemory, PortNumber, Triad};
 use cip_decode::{Answer, Meaning, decode_reply, decode_request};
@@ -64,7 +67,10 @@ fn is_op(word: CommandWord) -> bool {
 
 impl<'a> Book<'a> {
     /// Nothing is known yet of a run over this topology.
-    pub fn new(alloc: Global, topology: &'a Topology) -> Book<'a> {
+    pub fn new(alloc: Global, topology: &'a Topology) -> Book<'a>
+        ensures over { result.topology.now ≡ topology.now }
+        ensures none { result.step ≡ None }
+    {
         Book {
             topology,
             frames: BTreeMap::new(alloc),
@@ -77,7 +83,10 @@ impl<'a> Book<'a> {
     }
 
     /// The name of a module.
-    pub fn name(&self, id: ModuleId) -> &[u8] {
+    pub fn name(&self, id: ModuleId) -> &[u8]
+        ensures { result.now ≡ unwrap_or
+            (option_map (λ c. c.name) (slice_get self.now.topology.now.modules id.0)) (codes "?") }
+    {
         match self.topology.name_of(id) {
             Some(name) => name,
             None => b"?",
@@ -85,7 +94,9 @@ impl<'a> Book<'a> {
     }
 
     /// The module that takes the step under way.
-    pub fn at(&self) -> Option<ModuleId> {
+    pub fn at(&self) -> Option<ModuleId>
+        ensures { result ≡ at_of self.now.step }
+    {
         match self.step {
             Some(step) => Some(step.at),
             None => None,
@@ -93,7 +104,9 @@ impl<'a> Book<'a> {
     }
 
     /// The frame that the step under way was given, where it is known.
-    pub fn arrived(&self) -> Option<Sent> {
+    pub fn arrived(&self) -> Option<Sent>
+        ensures { result ≡ arrived_of self.now.step }
+    {
         match self.step {
             Some(step) => step.arrived,
             None => None,
@@ -111,7 +124,10 @@ impl<'a> Book<'a> {
     }
 
     /// A module takes a step.
-    pub fn begin(&mut self, entry: usize, at: ModuleId, given: Given) -> Result<(), NoMemory> {
+    pub fn begin(&mut self, entry: usize, at: ModuleId, given: Given) -> Result<(), NoMemory>
+        ensures over { self.new.topology ≡ self.old.topology }
+        ensures at { IfOk result (λ _. at_of self.new.step ≡ Some at) }
+    {
         let arrived = match given {
             Given::Frame(name) => self.frames.remove(&name),
             _ => None,
@@ -131,13 +147,19 @@ impl<'a> Book<'a> {
     }
 
     /// A frame is lost: what is known of it.
-    pub fn lose(&mut self, frame: FrameName) -> Option<Sent> {
+    pub fn lose(&mut self, frame: FrameName) -> Option<Sent>
+        ensures over { self.new.topology ≡ self.old.topology }
+        ensures none { self.new.step ≡ None }
+    {
         self.step = None;
         self.frames.remove(&frame)
     }
 
     // The connection that a request opens.
-    fn open(&mut self, at: ModuleId, triad: Triad, to_id: u32, class: u8) -> Result<(), NoMemory> {
+    fn open(&mut self, at: ModuleId, triad: Triad, to_id: u32, class: u8) -> Result<(), NoMemory>
+        ensures over { self.new.topology ≡ self.old.topology }
+        ensures step { self.new.step ≡ self.old.step }
+    {
         self.classes.insert(triad, class)?;
         self.ids.insert((at.0, to_id), triad)?;
         if let Some(step) = self.step {
@@ -149,7 +171,10 @@ impl<'a> Book<'a> {
     }
 
     // What a request that goes out tells of connections.
-    fn learn_request(&mut self, at: ModuleId, bytes: &[u8]) -> Result<(), NoMemory> {
+    fn learn_request(&mut self, at: ModuleId, bytes: &[u8]) -> Result<(), NoMemory>
+        ensures over { self.new.topology ≡ self.old.topology }
+        ensures step { self.new.step ≡ self.old.step }
+    {
         if let Ok(request) = decode_request(bytes) {
             if let Meaning::Open(view) = request.meaning {
                 let fields = view.fields;
@@ -160,7 +185,10 @@ impl<'a> Book<'a> {
     }
 
     // What a reply that goes out tells of connections.
-    fn learn_reply(&mut self, at: ModuleId, bytes: &[u8]) -> Result<(), NoMemory> {
+    fn learn_reply(&mut self, at: ModuleId, bytes: &[u8]) -> Result<(), NoMemory>
+        ensures over { self.new.topology ≡ self.old.topology }
+        ensures step { self.new.step ≡ self.old.step }
+    {
         if let Ok(reply) = decode_reply(bytes) {
             if let Answer::Opened(opened) = reply.answer {
                 self.ids.insert((at.0, opened.ot_id), opened.triad)?;
@@ -169,7 +197,10 @@ impl<'a> Book<'a> {
         Ok(())
     }
 
-    fn learn(&mut self, at: ModuleId, body: &Body) -> Result<(), NoMemory> {
+    fn learn(&mut self, at: ModuleId, body: &Body) -> Result<(), NoMemory>
+        ensures over { self.new.topology ≡ self.old.topology }
+        ensures step { self.new.step ≡ self.old.step }
+    {
         match body {
             Body::Request { bytes, .. } => self.learn_request(at, bytes.as_slice()),
             Body::Reply { bytes, .. } => self.learn_reply(at, bytes.as_slice()),
@@ -179,7 +210,9 @@ impl<'a> Book<'a> {
 
     /// The module that made a failure which the step under way passes on or makes: that of the
     /// reply which it was given, or else its own.
-    pub fn made_at(&self) -> Option<ModuleId> {
+    pub fn made_at(&self) -> Option<ModuleId>
+        ensures { result ≡ made_at self.now.step }
+    {
         let step = self.step?;
         match step.arrived {
             Some(sent) if sent.label.kind == Kind::Reply => sent.made_at,
@@ -199,7 +232,12 @@ impl<'a> Book<'a> {
         port: PortNumber,
         to: &Address,
         body: &Body,
-    ) -> Result<Option<Sent>, NoMemory> {
+    ) -> Result<Option<Sent>, NoMemory>
+        ensures knows { IfOk result
+            (Knows self.old.topology.now self.old.step port to.now body.now) }
+        ensures over { self.new.topology ≡ self.old.topology }
+        ensures step { self.new.step ≡ self.old.step }
+    {
         let Some(step) = self.step else {
             return Ok(None);
         };
@@ -227,14 +265,20 @@ impl<'a> Book<'a> {
     }
 
     /// An op of the module of the step under way came to its end.
-    pub fn done(&mut self, op: u32) {
+    pub fn done(&mut self, op: u32)
+        ensures over { self.new.topology ≡ self.old.topology }
+        ensures step { self.new.step ≡ self.old.step }
+    {
         if let Some(step) = self.step {
             self.ops.remove(&(step.at.0, op));
         }
     }
 
     /// The command of the step under way was refused.
-    pub fn refused(&mut self) {
+    pub fn refused(&mut self)
+        ensures over { self.new.topology ≡ self.old.topology }
+        ensures step { self.new.step ≡ self.old.step }
+    {
         if let Some(step) = self.step {
             if let Given::Command(word, op) = step.given {
                 if is_op(word) {
@@ -245,14 +289,18 @@ impl<'a> Book<'a> {
     }
 
     /// What is known of a connection.
-    pub fn of_triad(&self, triad: Triad) -> Known {
+    pub fn of_triad(&self, triad: Triad) -> Known
+        ensures { result.triad ≡ Some triad }
+    {
         Known {
             triad: Some(triad),
             class_: self.classes.get(&triad).copied(),
         }
     }
 
-    fn of_found(&self, found: Option<Triad>) -> Known {
+    fn of_found(&self, found: Option<Triad>) -> Known
+        ensures { result.triad ≡ found }
+    {
         match found {
             Some(triad) => self.of_triad(triad),
             None => Known {

@@ -1,5 +1,7 @@
 //! A transcript as JSON: one object for each entry, on a line of its own, and one for each other
 //! line.
+ghost use Rattle.std.specs.Prelude.{◌≡◌, [], string_bytes};
+
 use crate::book::{Book, Known, Sent};
 use crate::label::NameText;
 use crate::reasons::{drop_word, refusal_word};
@@ -102,7 +104,9 @@ pub struct JsonView<'a> {
 
 impl<'a> JsonView<'a> {
     /// A view of a run over this topology.
-    pub fn new(alloc: Global, topology: &'a Topology) -> JsonView<'a> {
+    pub fn new(alloc: Global, topology: &'a Topology) -> JsonView<'a>
+        ensures { string_bytes result.out ≡ [] }
+    {
         JsonView {
             book: Book::new(alloc, topology),
             out: String::new(alloc),
@@ -340,6 +344,8 @@ impl<'a> JsonView<'a> {
 }
 
 impl View for JsonView<'_> {
+    ghost gathered = { λ s. string_bytes s.out };
+
     fn line(&mut self, alloc: Global, text: &[u8], line: Line) -> Result<(), NoMemory> {
         match line {
             Line::Step { entry, at, given } => self.take_step(alloc, entry, at, given),

@@ -1,4 +1,10 @@
 //! What a frame holds, in short.
+ghost use Rattle.std.specs.Prelude.{◌≡◌};
+ghost use Rattle.cip_message.specs.RequestAt.{request_at};
+ghost use Rattle.cip_message.specs.ReplyAt.{reply_at};
+ghost use Rattle.cip_view.specs.Labels.{label_of, request_label, reply_label};
+ghost use Rattle.cip_view.specs.Labels.{is_failure, is_unreadable};
+
 use cip_base::Status;
 use cip_decode::{decode_reply, decode_request};
 use cip_event::Body;
@@ -25,7 +31,9 @@ pub struct Label {
 
 impl Label {
     /// Whether it is a reply that tells of a failure.
-    pub fn is_failure(&self) -> bool {
+    pub fn is_failure(&self) -> bool
+        ensures { result ≡ is_failure self.now }
+    {
         match self.status {
             Some(status) => status.general != 0,
             None => false,
@@ -33,12 +41,16 @@ impl Label {
     }
 
     /// Whether it is a request or a reply that can't be read.
-    pub fn is_unreadable(&self) -> bool {
+    pub fn is_unreadable(&self) -> bool
+        ensures { result ≡ is_unreadable self.now }
+    {
         self.kind != Kind::Data && self.service.is_none()
     }
 }
 
-fn request_label(number: u32, bytes: &[u8]) -> Label {
+fn request_label(number: u32, bytes: &[u8]) -> Label
+    ensures { result ≡ request_label number (request_at bytes.now) }
+{
     let service = match decode_request(bytes) {
         Ok(request) => Some(request.view.service),
         Err(_) => None,
@@ -51,7 +63,9 @@ fn request_label(number: u32, bytes: &[u8]) -> Label {
     }
 }
 
-fn reply_label(number: u32, bytes: &[u8]) -> Label {
+fn reply_label(number: u32, bytes: &[u8]) -> Label
+    ensures { result ≡ reply_label number (reply_at bytes.now) }
+{
     let (service, status) = match decode_reply(bytes) {
         Ok(reply) => (Some(reply.view.service), Some(reply.view.status())),
         Err(_) => (None, None),
@@ -65,7 +79,9 @@ fn reply_label(number: u32, bytes: &[u8]) -> Label {
 }
 
 /// What a frame holds, in short.
-pub fn label_of(body: &Body) -> Label {
+pub fn label_of(body: &Body) -> Label
+    ensures { result ≡ label_of body.now }
+{
     match body {
         Body::Request { number, bytes } => request_label(*number, bytes.as_slice()),
         Body::Reply { number, bytes } => reply_label(*number, bytes.as_slice()),

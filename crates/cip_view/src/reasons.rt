@@ -1,4 +1,8 @@
 //! The words of a transcript in plain sentences.
+ghost use Rattle.std.specs.Prelude.{◌≡◌, Some};
+ghost use Rattle.cip_read.specs.Heads.{command_of};
+ghost use Rattle.cip_read.specs.Outputs.{refusal_of, drop_of};
+
 use cip_event::{Dropped, Refused};
 use cip_read::CommandWord;
 
@@ -15,7 +19,9 @@ pub fn refusal_reason(fault: Refused) -> &'static str {
 }
 
 /// The word of a refusal.
-pub fn refusal_word(fault: Refused) -> &'static str {
+pub fn refusal_word(fault: Refused) -> &'static str
+    ensures { refusal_of result.now ≡ Some fault }
+{
     match fault {
         Refused::OpUsed => "OpUsed",
         Refused::NotOpen => "NotOpen",
@@ -36,7 +42,9 @@ pub fn drop_reason(reason: Dropped) -> &'static str {
 }
 
 /// The word of a drop.
-pub fn drop_word(reason: Dropped) -> &'static str {
+pub fn drop_word(reason: Dropped) -> &'static str
+    ensures { drop_of result.now ≡ Some reason }
+{
     match reason {
         Dropped::Malformed => "Malformed",
         Dropped::Late => "Late",
@@ -46,7 +54,9 @@ pub fn drop_word(reason: Dropped) -> &'static str {
 }
 
 /// The word of a command.
-pub fn command_word(word: CommandWord) -> &'static str {
+pub fn command_word(word: CommandWord) -> &'static str
+    ensures { command_of result.now ≡ Some word }
+{
     match word {
         CommandWord::Send => "send",
         CommandWord::Open => "open",

@@ -1,4 +1,6 @@
 //! A transcript with what each message says on a line of its own below the entry.
+ghost use Rattle.std.specs.Prelude.{◌≡◌, [], string_bytes};
+
 use crate::book::{Book, Known, Sent};
 use crate::label::NameText;
 use crate::reasons::{command_word, drop_reason, refusal_reason};
@@ -20,7 +22,9 @@ pub struct TextView<'a> {
 
 impl<'a> TextView<'a> {
     /// A view of a run over this topology.
-    pub fn new(alloc: Global, topology: &'a Topology) -> TextView<'a> {
+    pub fn new(alloc: Global, topology: &'a Topology) -> TextView<'a>
+        ensures { string_bytes result.out ≡ [] }
+    {
         TextView {
             book: Book::new(alloc, topology),
             out: String::new(alloc),
@@ -170,6 +174,8 @@ impl<'a> TextView<'a> {
 }
 
 impl View for TextView<'_> {
+    ghost gathered = { λ s. string_bytes s.out };
+
     fn line(&mut self, _alloc: Global, text: &[u8], line: Line) -> Result<(), NoMemory> {
         self.copy(text)?;
         match line {

@@ -1,4 +1,6 @@
 //! A view: what is written while a transcript is read.
+ghost use Rattle.std.specs.Prelude.{◌≡◌, ℕ, List, []};
+
 use crate::pieces::Pieces;
 use cip_base::NoMemory;
 use cip_read::{Line, ReadFault, Reader};
@@ -15,6 +17,9 @@ pub struct Ending {
 
 /// What takes the lines of a transcript.
 pub trait View {
+    // what is gathered, and was not yet written
+    ghost gathered: { Self → List ℕ };
+
     /// A line, and what it shows.
     fn line(&mut self, alloc: Global, text: &[u8], line: Line) -> Result<(), NoMemory>;
 
@@ -22,10 +27,12 @@ pub trait View {
     fn end(&mut self, alloc: Global, rest: &[u8], ending: Ending) -> Result<(), NoMemory>;
 
     /// What is to be written.
-    fn written(&self) -> &[u8];
+    fn written(&self) -> &[u8]
+        ensures { result.now ≡ gathered self.now };
 
     /// What was to be written went out.
-    fn clear(&mut self);
+    fn clear(&mut self)
+        ensures { gathered self.new ≡ [] };
 }
 
 // The line is whole.

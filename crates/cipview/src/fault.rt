@@ -1,4 +1,7 @@
 //! Why the program ends with an exit status above 0.
+ghost use Rattle.std.specs.Prelude.{◌≡◌};
+ghost use Rattle.cipview.specs.Statuses.{status_of};
+
 use crate::options::{OptionsFault, Usage};
 use cip_base::NoMemory;
 use cip_read::ReadFault;
@@ -35,7 +38,9 @@ pub enum Fault {
 impl Fault {
     /// The exit status: 1 for the transcript, 2 for the options, 3 for the topology, 4 for reading
     /// and writing, 5 where memory ran out; 0 for a text that was asked for.
-    pub fn status(&self) -> u8 {
+    pub fn status(&self) -> u8
+        ensures { result ≡ status_of self.now }
+    {
         match self {
             Fault::Options(OptionsFault::Usage(Usage::Help)) => 0,
             Fault::Options(OptionsFault::Usage(Usage::Version)) => 0,

@@ -35,11 +35,16 @@ fn options(rt: &HostRuntime, alloc: Global) -> Result<Options, Fault> {
 }
 
 // What is to be written goes out.
-fn write_out<V: View>(rt: &HostRuntime, view: &mut V) -> Result<(), Fault> {
+fn write_out<V: View>(
+    rt: &HostRuntime,
+    terminal: &mut Terminal<'_>,
+    view: &mut V,
+) -> Result<(), Fault> {
     let bytes = view.written();
     if bytes.is_empty() {
         return Ok(());
     }
+    terminal.make_room();
     let mut out = io::writer(rt);
     if out.write_all(bytes).is_err() {
         return Err(Fault::Write);
@@ -49,17 +54,18 @@ fn write_out<V: View>(rt: &HostRuntime, view: &mut V) -> Result<(), Fault> {
 }
 
 // Shows the transcript that comes on the standard input.
-fn show<V: View>(
+fn show_all<V: View>(
     rt: &HostRuntime,
     alloc: Global,
+    terminal: &mut Terminal<'_>,
     topology: &Topology,
     view: &mut V,
 ) -> Result<(), Fault> {
     let mut reader = Reader::new(topology);
     let mut pieces = Pieces::new(alloc);
     let mut input = rt.reader();
-    let mut terminal = Terminal::new(rt);
     let mut piece = vec![in alloc; 0u8; PIECE]?;
+    let mut read = 0u64;
     for _ in 0..u64::MAX {
         let Ok(count) = input.read(piece.as_mut_slice()) else {
             return Err(Fault::Read(String::from_str(alloc, "<stdin>")?));
@@ -68,13 +74,26 @@ fn show<V: View>(
             break;
         }
         let fed = feed(alloc, &mut reader, &mut pieces, view, &piece[..count]);
-        write_out(rt, view)?;
-        terminal.tell(reader.lines());
+        write_out(rt, terminal, view)?;
         fed?;
+        read = read.saturating_add(count as u64);
+        terminal.tell(reader.lines(), read);
     }
-    terminal.clear();
     finish(alloc, &reader, &pieces, view)?;
-    write_out(rt, view)
+    write_out(rt, terminal, view)
+}
+
+// The same, and at its end, or at a fault, no line on the terminal is left.
+fn show<V: View>(
+    rt: &HostRuntime,
+    alloc: Global,
+    topology: &Topology,
+    view: &mut V,
+) -> Result<(), Fault> {
+    let mut terminal = Terminal::new(rt);
+    let shown = show_all(rt, alloc, &mut terminal, topology, view);
+    terminal.clear();
+    shown
 }
 
 // The part of the run that a chart shows.

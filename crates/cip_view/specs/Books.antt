@@ -1,0 +1,52 @@
+-- What is known of a run.
+use Rattle.std.specs.Prelude.{◌≡◌, ℕ, if◌then◌else◌, List, Option, Some, None, option_map}
+use Rattle.cip_base.specs.declared.numbers.ModuleId.{ModuleId}
+use Rattle.cip_event.specs.declared.event.Body.{Body}
+use Rattle.cip_read.specs.declared.line.Given.{Given}
+use Rattle.cip_read.specs.declared.line.Given.TheVariants.{Command, Tick, Frame}
+use Rattle.cip_topology.specs.Plan.{Plan}
+use Rattle.cip_topology.specs.Nodes.{node}
+use Rattle.cip_view.specs.declared.book.Sent.{Sent}
+use Rattle.cip_view.specs.declared.book.Step.{Step}
+use Rattle.cip_view.specs.declared.label.Kind.{Kind}
+use Rattle.cip_view.specs.declared.label.Kind.TheVariants as kinds
+use Rattle.cip_view.specs.Labels.{label_of, is_failure}
+
+-- the module of the step under way
+abbrev pub at_of : Option Step → Option ModuleId
+at_of None = None
+at_of (Some step) = Some step.at
+
+-- the frame that it was given
+abbrev pub arrived_of : Option Step → Option Sent
+arrived_of None = None
+arrived_of (Some step) = step.arrived
+
+abbrev pub maker_by : ModuleId → Sent → Kind → Option ModuleId
+maker_by at sent kinds.Reply = sent.made_at
+maker_by at sent kind = Some at
+
+abbrev pub maker_of : ModuleId → Given → Option Sent → Option ModuleId
+maker_of at given (Some sent) = maker_by at sent sent.label.kind
+maker_of at (Frame name) None = None
+maker_of at given None = Some at
+
+-- the module that made a failure: that of the reply that was given, or else the step's own
+abbrev pub made_at : Option Step → Option ModuleId
+made_at None = None
+made_at (Some step) = maker_of step.at step.given step.arrived
+
+-- what is known of a frame that goes out of the step under way: its sender, the module at the
+-- address, what it is in short, and of a failure who made it
+abbrev pub IsSent : Plan → Step → ℕ → List ℕ → Body → Sent → Type 0
+IsSent t step port to body sent =
+    (sent.from ≡ step.at)
+    × (option_map (λ m. m.0) sent.to ≡ node t step.at.0 port to)
+    × (sent.label ≡ label_of body)
+    × (sent.made_at ≡ (if is_failure (label_of body) then made_at (Some step) else None))
+
+-- nothing is known where no step is
+abbrev pub Knows : Plan → Option Step → ℕ → List ℕ → Body → Option Sent → Type 0
+Knows t None port to body found = found ≡ None
+Knows t (Some step) port to body None = ⊥
+Knows t (Some step) port to body (Some sent) = IsSent t step port to body sent
