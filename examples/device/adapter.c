@@ -1,14 +1,16 @@
 /* An EtherNet/IP adapter: encapsulation over TCP and UDP port 44818, class 1 data over UDP port
  * 2222. All of CIP is the library's; here are sockets and the encapsulation alone.
  *
- * adapter [ADDRESS [MILLISECONDS [LOG]]]: on 127.0.0.1 for 5,000 ms, if not said; then it ends. It
- * has the assemblies 100 (configuration), 101 (it consumes 4 bytes) and 102 (it produces 2, a
- * counter). Each datum goes into the log, if one is named. */
-#include "cip_device.h"
-#include "enip.h"
+ * adapter [-p DATA_PORT] [ADDRESS [MILLISECONDS [LOG]]]: on 127.0.0.1 for 5,000 ms, if not said;
+ * then it ends. It has the assemblies 100 (configuration), 101 and 103 (it consumes 4 bytes of
+ * each), 102 and 104 (it produces 2, a counter). It sends by each connection at that connection's
+ * own interval, to the port that a Sockaddr Info item beside the open names. It names ports in its
+ * reply where the open did, or where it takes data on another port than 2222. Each datum goes into
+ * the log, if one is named. */
+#include "flows.h"
 #include <poll.h>
 
-enum { PORT = 2, MOST_PEERS = 32, MOST_WAITING = 64, PERIOD = 10 };
+enum { PORT = 2, MOST_PEERS = 32, MOST_WAITING = 64, MOST_WAIT = 5 };
 
 typedef struct peer {
     int socket;
@@ -22,15 +24,18 @@ typedef struct peer {
 typedef struct waiting {
     uint32_t number, session;
     int peer;
+    data_ports ports; /* that stood beside it */
     uint8_t context[8];
 } waiting;
 
 static cip_device device = CIP_DEVICE_EMPTY;
 static const char *address = "127.0.0.1";
+static uint16_t own_port = DATA_PORT;
 static peer peers[MOST_PEERS];
 static waiting asked[MOST_WAITING];
 static uint32_t last_number, last_session, sent;
 static unsigned long consumed, expired, dropped;
+static bool has_changed; /* what is open, since the flows were looked at */
 static int data_socket;
 static FILE *data_log;
 static uint8_t identity[64]; /* what Get_Attributes_All of the Identity object says */
@@ -43,22 +48,56 @@ static void to_peer(peer *p, const uint8_t *frame, size_t length) {
     }
 }
 
-static void reply_to(uint32_t number, const uint8_t *bytes, size_t length) {
+/* The flow of a connection that was opened just now, and the ports to name in the reply. */
+static data_ports begin_flow(const cip_output *output, const opened *open, data_ports asked_for) {
+    flow *f = new_flow(&device, PORT, output->to, output->to_length, open->to_id);
+    if (f == 0)
+        return (data_ports){0, 0};
+    f->originator = open->originator;
+    f->interval = open->to_interval;
+    f->due = milliseconds() * 1000 + f->interval;
+    if (asked_for.to != 0)
+        f->data_port = asked_for.to;
+    has_changed = true;
+    bool is_named = asked_for.ot != 0 || asked_for.to != 0 || own_port != DATA_PORT;
+    return is_named ? (data_ports){own_port, f->data_port} : (data_ports){0, 0};
+}
+
+static void reply_to(const cip_output *output, const uint8_t *bytes) {
+    uint32_t number = output->number;
+    size_t length = output->length;
     waiting *w = &asked[number % MOST_WAITING];
+    opened open;
+    data_ports ports = {0, 0};
     if (number == 0) { /* our own request */
         identity_length = length < 4 || length - 4 > sizeof identity ? 0 : length - 4;
         memcpy(identity, bytes + 4, identity_length);
         return;
     }
-    if (w->number != number || length > MOST_FRAME - HEADER - 16)
+    if (length > 0 && (bytes[0] == 0xCE || bytes[0] == 0x85))
+        has_changed = true; /* a close, or a reset */
+    if (opened_in(bytes, length, &open))
+        ports = begin_flow(output, &open, w->number == number ? w->ports : ports);
+    if (w->number != number || length > MOST_MESSAGE)
         return;
     w->number = 0;
     peer *p = &peers[w->peer];
     if (p->socket < 0 || p->session != w->session)
         return; /* the session has ended */
     uint8_t frame[MOST_FRAME];
-    size_t data = put_message(frame + HEADER, bytes, length);
+    size_t data =
+        put_message(frame + HEADER, bytes, length, (endpoints){p->address, address}, ports);
     to_peer(p, frame, put_header(frame, SEND_RR_DATA, p->session, 0, w->context, data));
+}
+
+/* A datum goes out by its flow, if it is due there. */
+static void produced(const cip_output *output, const uint8_t *bytes) {
+    flow *f = flow_to(PORT, output->to, output->to_length, output->number);
+    if (f == 0 || !f->is_due)
+        return;
+    note(data_log, "out", bytes, output->length, f->originator);
+    send_datum(data_socket, output->to, output->to_length, f->data_port, output->number, ++sent,
+               bytes, output->length);
 }
 
 static void take_outputs(void) {
@@ -67,19 +106,18 @@ static void take_outputs(void) {
     while (cip_next(&device, &output, bytes, sizeof bytes) == CIP_DONE) {
         switch (output.kind) {
         case CIP_OUT_REPLY:
-            reply_to(output.number, bytes, output.length);
+            reply_to(&output, bytes);
             break;
         case CIP_OUT_DATA:
-            note(data_log, "out", bytes, output.length);
-            send_datum(data_socket, output.to, output.to_length, output.number, ++sent, bytes,
-                       output.length);
+            produced(&output, bytes);
             break;
         case CIP_OUT_CONSUMED:
-            note(data_log, "in", bytes, output.length);
+            note(data_log, "in", bytes, output.length, output.originator);
             consumed++;
             break;
         case CIP_OUT_EXPIRED:
             expired++;
+            has_changed = true;
             break;
         case CIP_OUT_DROPPED:
             dropped++;
@@ -117,7 +155,9 @@ static size_t list(uint16_t command, uint8_t *data) {
 static void ask(int which, const uint8_t *frame, size_t length) {
     peer *p = &peers[which];
     size_t message_length;
-    const uint8_t *message = message_in(frame + HEADER, length, &message_length);
+    data_ports ports;
+    const uint8_t *message = message_in(frame + HEADER, length, (endpoints){p->address, address},
+                                        &message_length, &ports);
     uint8_t back[MOST_FRAME];
     if (message == 0) {
         to_peer(p, back, put_header(back, SEND_RR_DATA, p->session, ENIP_BAD_DATA, frame + 12, 0));
@@ -125,7 +165,7 @@ static void ask(int which, const uint8_t *frame, size_t length) {
     }
     uint32_t number = last_number = last_number == UINT32_MAX ? 1 : last_number + 1;
     waiting *w = &asked[number % MOST_WAITING];
-    *w = (waiting){.number = number, .session = p->session, .peer = which};
+    *w = (waiting){.number = number, .session = p->session, .peer = which, .ports = ports};
     memcpy(w->context, frame + 12, 8);
     uint32_t status = cip_request(&device, PORT, (const uint8_t *)p->address, strlen(p->address),
                                   number, message, message_length);
@@ -233,20 +273,48 @@ static void new_peer(int listener) {
     inet_ntop(AF_INET, &from.sin_addr, peers[i].address, sizeof peers[i].address);
 }
 
-/* So much time went by; each PERIOD the counter goes on and is produced. */
 static void pass(uint64_t from, uint64_t to) {
-    static uint16_t counter;
     uint64_t by = to - from > 65535 ? 65535 : to - from;
     if (by > 0 && cip_tick(&device, (uint16_t)by) == CIP_DONE)
         take_outputs();
-    if (to / PERIOD == from / PERIOD)
-        return;
+}
+
+/* The counter goes on, and this assembly is sent by those connections of it that are due. The
+ * device counts for the others too: where connections of different intervals share an assembly, the
+ * slower ones see counts left out. */
+static void produce(uint32_t instance) {
+    static uint16_t counter;
     uint8_t datum[2];
     put_word(datum, ++counter);
-    if (cip_set(&device, 102, datum, sizeof datum) == CIP_DONE)
+    if (cip_set(&device, instance, datum, sizeof datum) == CIP_DONE)
         take_outputs();
-    if (cip_produce(&device, 102) == CIP_DONE)
+    if (cip_produce(&device, instance) == CIP_DONE)
         take_outputs();
+}
+
+/* Produces what is due; when something is due next. */
+static uint64_t produce_due(uint64_t now) {
+    uint64_t next = UINT64_MAX;
+    if (has_changed)
+        has_changed = !forget_closed(&device);
+    for (int i = 0; i < used_flows; i++)
+        flows[i].is_due = flows[i].port != 0 && flows[i].instance != 0 && flows[i].due <= now;
+    for (int i = 0; i < used_flows; i++) {
+        flow *first = &flows[i];
+        if (first->is_due)
+            produce(first->instance);
+        for (flow *f = first; first->is_due && f < flows + used_flows; f++)
+            if (f != first && f->instance == first->instance)
+                f->is_due = false; /* it was sent with the first */
+    }
+    for (int i = 0; i < used_flows; i++) {
+        flow *f = &flows[i];
+        if (f->port != 0 && f->due <= now)
+            f->due = due_after(f->due, f->interval, now);
+        if (f->port != 0 && f->due < next)
+            next = f->due;
+    }
+    return next;
 }
 
 static uint32_t make_device(void) {
@@ -264,12 +332,19 @@ static uint32_t make_device(void) {
     cip_port port = {
         .number = PORT, .is_text = 1, .last = 16, .address_length = (uint8_t)strlen(address)};
     memcpy(port.address, address, port.address_length);
-    const cip_assembly assemblies[] = {{100, 0}, {101, 4}, {102, 2}};
+    const cip_assembly assemblies[] = {{100, 0}, {101, 4}, {102, 2}, {103, 4}, {104, 2}};
     return cip_new(&device, &config, (const uint8_t *)"E", 1, (const uint8_t *)"EA", 2, &port, 1,
-                   assemblies, 3);
+                   assemblies, 5);
 }
 
 int main(int count, char **words) {
+    for (int option; (option = getopt(count, words, "p:")) != -1;) {
+        if (option != 'p')
+            return 2;
+        own_port = port_from(optarg);
+    }
+    count -= optind - 1;
+    words += optind - 1;
     if (count > 1)
         address = words[1];
     if (count > 3)
@@ -283,17 +358,18 @@ int main(int count, char **words) {
         peers[i].socket = -1;
     int listener = bound(SOCK_STREAM, address, TCP_PORT),
         udp = bound(SOCK_DGRAM, address, TCP_PORT);
-    data_socket = bound(SOCK_DGRAM, address, DATA_PORT);
+    data_socket = bound(SOCK_DGRAM, address, own_port);
     listen(listener, 16);
     printf("ready\n");
     fflush(stdout);
-    uint64_t last = milliseconds(), end = last + (count > 2 ? strtoull(words[2], 0, 10) : 5000);
+    uint64_t last = milliseconds(), next = UINT64_MAX,
+             end = last + (count > 2 ? strtoull(words[2], 0, 10) : 5000);
     while (last < end) {
         struct pollfd fds[3 + MOST_PEERS] = {
             {listener, POLLIN, 0}, {udp, POLLIN, 0}, {data_socket, POLLIN, 0}};
         for (int i = 0; i < MOST_PEERS; i++)
             fds[3 + i] = (struct pollfd){peers[i].socket, POLLIN, 0};
-        poll(fds, 3 + MOST_PEERS, PERIOD / 2);
+        poll(fds, 3 + MOST_PEERS, wait_until(next, last * 1000, MOST_WAIT));
         for (int i = 0; i < MOST_PEERS; i++)
             if (fds[3 + i].fd >= 0 && fds[3 + i].revents)
                 from_peer(i);
@@ -306,6 +382,7 @@ int main(int count, char **words) {
         uint64_t now = milliseconds();
         pass(last, now);
         last = now;
+        next = produce_due(now * 1000);
     }
     for (int i = 0; i < MOST_PEERS; i++)
         if (peers[i].socket >= 0)

@@ -5,10 +5,10 @@
  *
  * bridge FIRST SECOND [MILLISECONDS]: its own IP addresses on the networks of its ports 2 and 3. On
  * each it listens on TCP and UDP port 44818, takes data on UDP port 2222, and connects to others on
- * TCP port 44818. It ends after so long, or else at SIGTERM. At SIGUSR1 the cable of the second
+ * TCP port 44818. Data go to the port that a Sockaddr Info item beside the open, or beside the
+ * reply to it, names. It ends after so long, or else at SIGTERM. At SIGUSR1 the cable of the second
  * network is cut: its TCP connections end and data to it and from it are lost, until SIGUSR2. */
-#include "cip_device.h"
-#include "enip.h"
+#include "flows.h"
 #include <errno.h>
 #include <fcntl.h>
 #include <poll.h>
@@ -55,6 +55,7 @@ typedef struct waiting {
     uint32_t number, session;
     network *on;
     int peer;
+    data_ports ports; /* that stood beside it */
     uint8_t context[8];
 } waiting;
 
@@ -96,21 +97,50 @@ static uint32_t status_of(uint32_t status) {
 
 /* ---- what goes out */
 
-static void reply_to(uint32_t number, const uint8_t *bytes, size_t length) {
+/* Data under this id go to this UDP port there, or to 2222 where none is named. */
+static uint16_t send_to_port(const network *on, const uint8_t *to, size_t to_length, uint32_t id,
+                             uint16_t named) {
+    flow *f = flow_to(on->port, to, to_length, id);
+    if (f != 0)
+        f->port = 0; /* of an earlier connection */
+    if (named == 0 || named == DATA_PORT)
+        return DATA_PORT;
+    f = new_flow(&device, on->port, to, to_length, id);
+    if (f == 0)
+        return DATA_PORT;
+    return f->data_port = named;
+}
+
+static uint16_t port_of(const network *on, const cip_output *output) {
+    const flow *f = flow_to(on->port, output->to, output->to_length, output->number);
+    return f != 0 ? f->data_port : DATA_PORT;
+}
+
+static void reply_to(const cip_output *output, const uint8_t *bytes) {
+    uint32_t number = output->number;
+    size_t length = output->length;
     waiting *w = &asked[number % MOST_WAITING];
+    opened open;
+    data_ports ports = {0, 0};
     if (number == OWN) {
         identity_length = length < 4 || length - 4 > sizeof identity ? 0 : length - 4;
         memcpy(identity, bytes + 4, identity_length);
         return;
     }
-    if (w->number != number || length > MOST_FRAME - HEADER - 16)
+    if (w->number != number || length > MOST_MESSAGE)
         return;
     w->number = 0;
+    if (opened_in(bytes, length, &open)) {
+        uint16_t to = send_to_port(w->on, output->to, output->to_length, open.to_id, w->ports.to);
+        if (w->ports.ot != 0 || w->ports.to != 0)
+            ports = (data_ports){DATA_PORT, to};
+    }
     peer *p = &w->on->peers[w->peer];
     if (p->from.socket < 0 || p->session != w->session)
         return; /* the session has ended */
     uint8_t frame[MOST_FRAME];
-    size_t data = put_message(frame + HEADER, bytes, length);
+    size_t data =
+        put_message(frame + HEADER, bytes, length, (endpoints){p->address, w->on->address}, ports);
     replies++;
     put(&p->from, frame, put_header(frame, SEND_RR_DATA, p->session, 0, w->context, data));
 }
@@ -143,13 +173,14 @@ static void request_to(network *on, const cip_output *output, const uint8_t *byt
     uint8_t frame[MOST_FRAME], context[8] = {0};
     char address[17] = {0};
     memcpy(address, output->to, output->to_length);
-    if (output->length > MOST_FRAME - HEADER - 16 || output->to_length > 15)
+    if (output->length > MOST_MESSAGE || output->to_length > 15)
         return;
     link_to *l = link_at(on, address);
     if (l == 0)
         return;                          /* nobody is there: the time of the request runs out */
     put_double(context, output->number); /* it comes back with the reply */
-    size_t data = put_message(frame + HEADER, bytes, output->length);
+    size_t data = put_message(frame + HEADER, bytes, output->length,
+                              (endpoints){on->address, address}, (data_ports){0, 0});
     size_t length = put_header(frame, SEND_RR_DATA, l->session, 0, context, data);
     if (l->session != 0) {
         put(&l->to, frame, length);
@@ -169,15 +200,15 @@ static void take_outputs(void) {
             request_to(on, &output, bytes);
             break;
         case CIP_OUT_REPLY:
-            reply_to(output.number, bytes, output.length);
+            reply_to(&output, bytes);
             break;
         case CIP_OUT_DATA:
             passed++;
             if (on->cut)
                 lost++;
             else
-                send_datum(on->data, output.to, output.to_length, output.number, ++sent, bytes,
-                           output.length);
+                send_datum(on->data, output.to, output.to_length, port_of(on, &output),
+                           output.number, ++sent, bytes, output.length);
             break;
         case CIP_OUT_EXPIRED:
             expired++;
@@ -220,7 +251,9 @@ static size_t list(network *on, uint16_t command, uint8_t *data) {
 static void ask(network *on, int which, const uint8_t *frame, size_t length) {
     peer *p = &on->peers[which];
     size_t message_length;
-    const uint8_t *message = message_in(frame + HEADER, length, &message_length);
+    data_ports ports;
+    const uint8_t *message = message_in(
+        frame + HEADER, length, (endpoints){p->address, on->address}, &message_length, &ports);
     uint8_t back[MOST_FRAME];
     if (message == 0) {
         put(&p->from, back,
@@ -229,7 +262,8 @@ static void ask(network *on, int which, const uint8_t *frame, size_t length) {
     }
     uint32_t number = last_number = last_number == UINT32_MAX ? 1 : last_number + 1;
     waiting *w = &asked[number % MOST_WAITING];
-    *w = (waiting){.number = number, .session = p->session, .on = on, .peer = which};
+    *w =
+        (waiting){.number = number, .session = p->session, .on = on, .peer = which, .ports = ports};
     memcpy(w->context, frame + 12, 8);
     if (status_of(cip_request(&device, on->port, (const uint8_t *)p->address, strlen(p->address),
                               number, message, message_length)) == CIP_DONE)
@@ -274,9 +308,14 @@ static void frame_of_peer(network *on, int which, const uint8_t *frame, size_t l
 static void frame_of_link(network *on, int which, const uint8_t *frame, size_t length) {
     link_to *l = &on->links[which];
     size_t message_length = 0;
-    const uint8_t *message = message_in(frame + HEADER, length, &message_length);
+    data_ports ports;
+    opened open;
+    const uint8_t *message = message_in(
+        frame + HEADER, length, (endpoints){on->address, l->address}, &message_length, &ports);
     if (double_word(frame + 8) != 0)
         return; /* it refuses: the time of the request runs out */
+    if (word(frame) == SEND_RR_DATA && message != 0 && opened_in(message, message_length, &open))
+        send_to_port(on, (const uint8_t *)l->address, strlen(l->address), open.ot_id, ports.ot);
     if (word(frame) == REGISTER && l->session == 0) {
         l->session = double_word(frame + 4);
         for (size_t at = 0; at < l->waits; at += HEADER + word(l->out + at + 2))

@@ -46,6 +46,11 @@ enum cip_status {
     CIP_SHORT = 8         /* the buffer is shorter than output->length, or *length, which is told */
 };
 
+/* What each call can answer at all. cip_new: DONE, IN_USE, BAD_ARGUMENT, NO_MEMORY. The calls that
+ * give an event or a command: DONE, NO_DEVICE, UNREAD, NO_MEMORY, BAD_ARGUMENT where they say so,
+ * and cip_tick CLOCK_FULL. cip_next: DONE, NO_DEVICE, NOTHING, SHORT. cip_get: these and NO_MEMORY.
+ * cip_connection, cip_pending and cip_next_deadline: DONE, NO_DEVICE, NO_MEMORY, NOTHING. */
+
 enum cip_kind {
     CIP_PLAIN = 0,        /* originates, routes and answers */
     CIP_ADAPTER = 1,      /* answers alone, on one port */

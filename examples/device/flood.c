@@ -13,7 +13,7 @@ int main(int count, char **words) {
     uint64_t end = milliseconds() + strtoull(words[4], 0, 10);
     while (milliseconds() < end)
         for (int i = 0; i < 16; i++)
-            send_datum(s, (const uint8_t *)words[1], strlen(words[1]), id, ++sent, datum,
+            send_datum(s, (const uint8_t *)words[1], strlen(words[1]), DATA_PORT, id, ++sent, datum,
                        sizeof datum);
     close(s);
     printf("sent %u\n", sent);

@@ -1,23 +1,29 @@
 /* An EtherNet/IP scanner: asks an adapter for its identity and an assembly, opens a connection to
- * it, sends it a datum and takes one each 10 ms, and closes. A connection that expires is opened
- * again. All of CIP is the library's.
+ * it, sends it a datum and takes one at each interval, and closes. A connection that expires is
+ * opened again. All of CIP is the library's.
  *
- * scanner [TARGET [OWN [MILLISECONDS [BY FINAL [LOG]]]]]: 127.0.0.1 from 127.0.0.2 for 1,000 ms, if
- * not said. With BY and FINAL the target is a bridge, and the adapter FINAL stands on the network
- * of its port BY. Each datum goes into the log, if one is named. Status 0 where all was answered,
- * open and close succeeded and data came both ways. */
+ * scanner [-i INTERVAL] [-p DATA_PORT] [-s] [TARGET [OWN [MILLISECONDS [BY FINAL [LOG]]]]]:
+ * 127.0.0.1 from 127.0.0.2 for 1,000 ms, if not said. With BY and FINAL, and BY not 0, the target
+ * is a bridge, and the adapter FINAL stands on the network of its port BY. -i asks for another
+ * interval than 10 ms, -s for the assemblies 103 and 104 instead of 101 and 102; -p takes data on
+ * another port than 2222, and says so in a Sockaddr Info item. It sends to the port that the reply
+ * names. Each datum goes into the log, if one is named. Status 0 where all was answered, open and
+ * close succeeded and data came both ways. */
 #include "cip_device.h"
 #include "enip.h"
 #include <poll.h>
 
-enum { PORT = 2, PERIOD = 10, RETRY = 10, SERIAL = 0x1234 };
+enum { PORT = 2, MOST_WAIT = 5, RETRY = 100, SERIAL = 0x1234 };
 
 static cip_device device = CIP_DEVICE_EMPTY;
 static const char *target = "127.0.0.1", *own = "127.0.0.2";
+static uint16_t own_port = DATA_PORT, target_port = DATA_PORT;
+static uint32_t asked_interval = 10000, interval; /* microseconds; what was asked and what is */
+static bool is_second;
 static int tcp, data_socket;
 static FILE *data_log;
-static uint32_t session, sent;
-static unsigned long arrived, gaps, others, opened, expired;
+static uint32_t session, sent, own_serial;
+static unsigned long arrived, gaps, others, opens, expired;
 static uint32_t ops;     /* the last op that was given */
 static uint32_t open_op; /* the op of the open, once it succeeded; 0 where none is open */
 static int answer;       /* to the last op: 0 none yet, 1 it succeeded, -1 it failed */
@@ -32,26 +38,36 @@ static void to_target(uint16_t command, uint32_t number, uint8_t *frame, size_t 
         others++;
 }
 
+/* What to name beside a request of this service: an open says where data are taken. */
+static data_ports named_ports(uint8_t service) {
+    bool is_open = service == 0x54 || service == 0x5B;
+    return (data_ports){0, is_open && own_port != DATA_PORT ? own_port : 0};
+}
+
 static void take_outputs(void) {
     static uint8_t bytes[CIP_MOST_BYTES];
     static uint32_t last_op;
     static uint16_t last_count;
     uint8_t frame[MOST_FRAME];
+    opened open;
     cip_output output;
     while (cip_next(&device, &output, bytes, sizeof bytes) == CIP_DONE) {
         switch (output.kind) {
         case CIP_OUT_REQUEST:
-            if (output.length > MOST_FRAME - HEADER - 16)
+            if (output.length > MOST_MESSAGE)
                 break;
             to_target(SEND_RR_DATA, output.number, frame,
-                      put_message(frame + HEADER, bytes, output.length));
+                      put_message(frame + HEADER, bytes, output.length, (endpoints){own, target},
+                                  named_ports(bytes[0])));
             break;
         case CIP_OUT_DATA:
-            note(data_log, "out", bytes, output.length);
-            send_datum(data_socket, output.to, output.to_length, output.number, ++sent, bytes,
-                       output.length);
+            note(data_log, "out", bytes, output.length, own_serial);
+            send_datum(data_socket, output.to, output.to_length, target_port, output.number, ++sent,
+                       bytes, output.length);
             break;
         case CIP_OUT_DONE:
+            if (opened_in(bytes, output.length, &open))
+                interval = open.ot_interval;
             if (output.number == ops)
                 answer = output.length > 2 && bytes[2] == 0 ? 1 : -1;
             printf("op %u:", output.number);
@@ -60,7 +76,7 @@ static void take_outputs(void) {
             printf("\n");
             break;
         case CIP_OUT_ARRIVED:
-            note(data_log, "in", bytes, output.length);
+            note(data_log, "in", bytes, output.length, own_serial);
             arrived++;
             if (output.number == last_op && word(bytes) != (uint16_t)(last_count + 1))
                 gaps++;
@@ -87,7 +103,12 @@ static void from_target(void) {
     filled += (size_t)got;
     while (filled >= HEADER && filled - HEADER >= word(in + 2)) {
         size_t length = word(in + 2), message_length = 0;
-        const uint8_t *message = message_in(in + HEADER, length, &message_length);
+        data_ports ports;
+        opened open;
+        const uint8_t *message =
+            message_in(in + HEADER, length, (endpoints){own, target}, &message_length, &ports);
+        if (message != 0 && opened_in(message, message_length, &open))
+            target_port = ports.ot != 0 ? ports.ot : DATA_PORT;
         if (word(in) == REGISTER && double_word(in + 8) == 0)
             session = double_word(in + 4);
         if (word(in) == SEND_RR_DATA && double_word(in + 8) == 0 && message != 0 &&
@@ -115,21 +136,24 @@ static void pass(uint64_t by) {
         take_outputs();
 }
 
-/* Runs for at most so long, or until the last op is answered. */
-static void run(uint64_t for_ms, bool until_answer, void (*each_period)(void)) {
-    uint64_t last = milliseconds(), end = last + for_ms;
+/* Runs for at most so long, or until the last op is answered; what is due is done each interval. */
+static void run(uint64_t for_ms, bool until_answer, void (*each_interval)(void)) {
+    uint64_t last = milliseconds(), end = last + for_ms, due = last * 1000;
     while (last < end && !(until_answer && answer != 0)) {
         struct pollfd fds[] = {{tcp, POLLIN, 0}, {data_socket, POLLIN, 0}};
-        poll(fds, 2, PERIOD / 2);
+        poll(fds, 2, wait_until(due, last * 1000, MOST_WAIT));
         if (fds[0].revents)
             from_target();
         if (fds[1].revents & POLLIN)
             from_data();
         uint64_t now = milliseconds();
         pass(now - last);
-        if (each_period != 0 && now / PERIOD != last / PERIOD)
-            each_period();
         last = now;
+        if (due > now * 1000)
+            continue;
+        if (each_interval != 0)
+            each_interval();
+        due = due_after(due, interval, now * 1000);
     }
 }
 
@@ -137,9 +161,10 @@ static const cip_timing timing = {4, 125}; /* an answer within 2,000 ms */
 
 /* Each open has an op and a serial number of its own. */
 static void ask_for_open(void) {
-    static const uint8_t points[] = {0x20, 0x04, 0x24, 0x64, 0x2C, 0x65, 0x2C, 0x66};
-    const cip_open_params params = {.ot_rpi = 10000,
-                                    .to_rpi = 10000,
+    const uint8_t points[] = {
+        0x20, 0x04, 0x24, 0x64, 0x2C, is_second ? 0x67 : 0x65, 0x2C, is_second ? 0x68 : 0x66};
+    const cip_open_params params = {.ot_rpi = asked_interval,
+                                    .to_rpi = asked_interval,
                                     .ot_params = 0x4806,
                                     .to_params = 0x4804,
                                     .serial = (uint16_t)(SERIAL + ++ops),
@@ -156,19 +181,18 @@ static void ask_for_open(void) {
 /* A datum goes out by the connection; where none is open, one is asked for again and again. */
 static void send_or_open(void) {
     static uint16_t count;
-    static unsigned waits;
+    static uint64_t again; /* when to ask again; 0 where nothing is asked for */
     uint8_t datum[6];
     if (open_op == 0 && answer > 0) {
         open_op = ops;
-        opened++;
-        waits = 0;
+        opens++;
+        again = 0;
     }
     if (open_op == 0) {
-        if (waits == 0 || (answer < 0 && waits >= RETRY)) {
+        if (again == 0 || (answer < 0 && milliseconds() >= again)) {
             ask_for_open();
-            waits = 0;
+            again = milliseconds() + RETRY;
         }
-        waits++;
         return;
     }
     count++;
@@ -196,7 +220,7 @@ static uint32_t make_device(void) {
                                .vendor = 0x0101,
                                .device_type = 14,
                                .product = 9,
-                               .serial = ntohl(at_address(own, 0).sin_addr.s_addr),
+                               .serial = own_serial,
                                .major = 1,
                                .minor = 3};
     cip_port port = {
@@ -224,19 +248,33 @@ static void add_to_path(uint8_t port, const char *address) {
 int main(int count, char **words) {
     static const uint8_t get_all[] = {0x01, 0x02, 0x20, 0x01, 0x24, 0x01};
     static const uint8_t get_data[] = {0x0E, 0x03, 0x20, 0x04, 0x24, 0x66, 0x30, 0x03};
+    for (int option; (option = getopt(count, words, "i:p:s")) != -1;) {
+        if (option == 'i')
+            asked_interval = 1000 * (uint32_t)strtoul(optarg, 0, 10);
+        else if (option == 'p')
+            own_port = port_from(optarg);
+        else if (option == 's')
+            is_second = true;
+        else
+            return 2;
+    }
+    interval = asked_interval;
+    count -= optind - 1;
+    words += optind - 1;
     if (count > 1)
         target = words[1];
     if (count > 2)
         own = words[2];
     add_to_path(PORT, target);
-    if (count > 5)
+    if (count > 5 && atoi(words[4]) != 0)
         add_to_path((uint8_t)atoi(words[4]), words[5]);
     if (count > 6)
         data_log = log_at(words[6]);
+    own_serial = ntohl(at_address(own, 0).sin_addr.s_addr);
     if (make_device() != CIP_DONE)
         return 1;
     tcp = bound(SOCK_STREAM, own, 0);
-    data_socket = bound(SOCK_DGRAM, own, DATA_PORT);
+    data_socket = bound(SOCK_DGRAM, own, own_port);
     struct sockaddr_in to = at_address(target, TCP_PORT);
     if (connect(tcp, (struct sockaddr *)&to, sizeof to) != 0) {
         perror("connect");
@@ -263,6 +301,6 @@ int main(int count, char **words) {
     if (data_log != 0)
         fclose(data_log);
     printf("sent %u, arrived %lu, gaps %lu, opened %lu, expired %lu, others %lu\n", sent, arrived,
-           gaps, opened, expired, others);
+           gaps, opens, expired, others);
     return is_answered && is_closed && sent > 0 && arrived > 0 ? 0 : 1;
 }

@@ -7,6 +7,7 @@ use Rattle.cip_module.specs.Table.{table_step}
 use Rattle.cip_module.specs.declared.tables.HopRow.{HopRow}
 use Rattle.cip_module.specs.declared.tables.PendingRow.{PendingRow}
 use Rattle.cip_device.specs.Shown.{Shown}
+use Rattle.cip_device.specs.Statuses.{IsTableStatus}
 
 -- the request is given up at this time, or was before
 abbrev pub is_given_up : ℕ → PendingRow → Bool
@@ -50,8 +51,8 @@ IsAtRest (Some s) = (milliseconds : ℕ) → IsStill s milliseconds
 IsAtRest None = ⊥
 
 -- what is answered to who asks how long nothing happens: 0 exactly so long; 1 exactly where there
--- is no device, 7 only where no tick does anything
+-- is no device, 7 only where no tick does anything; 5 in place of 0 and 7, and nothing else
 abbrev pub IsDeadlineAnswer : ℕ → Option Shown → ℕ → Type 0
 IsDeadlineAnswer result old milliseconds =
     (result ≡ 0 → IsDeviceSoonest old milliseconds) × ((result ≡ 1) ↔ (old ≡ None))
-    × (result ≡ 7 → IsAtRest old)
+    × (result ≡ 7 → IsAtRest old) × IsTableStatus result

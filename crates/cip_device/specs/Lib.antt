@@ -1,3 +1,4 @@
+pub mod Statuses
 pub mod Shown
 pub mod Handle
 pub mod Outputs

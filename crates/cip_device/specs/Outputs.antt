@@ -1,5 +1,5 @@
 -- What C is told of an output.
-use Rattle.std.specs.Prelude.{◌≡◌, ◌≢◌, ◌↔◌, ◌<◌, ℕ, [], ◌∷◌, length, take, Option, Some, None}
+use Rattle.std.specs.Prelude.{◌≡◌, ◌≢◌, ◌↔◌, ◌<◌, ℕ, List, [], ◌∷◌, length, take, Option, Some, None}
 use Rattle.cip_base.specs.Words.{Octets, LinkAddress}
 use Rattle.cip_base.specs.declared.triad.Triad.{Triad}
 use Rattle.cip_event.specs.declared.event.Body.{Body}
@@ -11,6 +11,7 @@ use Rattle.cip_event.specs.declared.event.Refused.TheVariants.{OpUsed, NotOpen, 
 use Rattle.cip_event.specs.declared.event.Dropped.{Dropped}
 use Rattle.cip_event.specs.declared.event.Dropped.TheVariants as drops
 use Rattle.cip_device.specs.Shown.{Shown, IsReady}
+use Rattle.cip_device.specs.Statuses.{IsNextStatus}
 use Rattle.cip_device.specs.declared.output.CipOutput.{CipOutput}
 
 abbrev pub bytes_of_body : Body → Octets
@@ -89,11 +90,32 @@ IsDeviceNext (Some old) out buffer (Some new) = IsNext old out buffer new
 IsDeviceNext (Some old) out buffer None = ⊥
 IsDeviceNext None out buffer new = ⊥
 
+-- how many bytes the first output has
+abbrev pub next_length : List Output → ℕ
+next_length [] = 0
+next_length (output ∷ rest) = length (payload_of output)
+
+-- the first output is told but for its bytes
+abbrev pub IsNextOutline : List Output → CipOutput → Type 0
+IsNextOutline [] out = ⊥
+IsNextOutline (output ∷ rest) out = IsOutline output out
+
+-- the next output has more bytes than so many
+abbrev pub IsLonger : Option Shown → ℕ → Type 0
+IsLonger (Some old) room = room < next_length old.outputs
+IsLonger None room = ⊥
+
+abbrev pub IsDeviceOutline : Option Shown → CipOutput → Type 0
+IsDeviceOutline (Some old) out = IsNextOutline old.outputs out
+IsDeviceOutline None out = ⊥
+
 -- what is answered to who asks for the next output, with a buffer of so many bytes: 0 it was told,
 -- and else nothing has changed; 1 exactly where there is no device, 7 exactly where no output
--- waits, 8 only where the buffer is shorter than the length that is told
+-- waits, 8 exactly where it has more bytes than the buffer, and then it is told but for these; and
+-- nothing else
 abbrev pub IsNextAnswer : ℕ → Option Shown → CipOutput → ℕ → Octets → Option Shown → Type 0
 IsNextAnswer result old out room buffer new =
     (result ≡ 0 → IsDeviceNext old out buffer new) × (result ≢ 0 → new ≡ old)
     × ((result ≡ 1) ↔ (old ≡ None)) × ((result ≡ 7) ↔ IsReady old)
-    × (result ≡ 8 → room < out.length)
+    × (result ≡ 8 → room < out.length) × ((result ≡ 8) ↔ IsLonger old room)
+    × (result ≡ 8 → IsDeviceOutline old out) × IsNextStatus result

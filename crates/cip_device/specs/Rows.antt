@@ -18,6 +18,7 @@ use Rattle.cip_module.specs.Views.{hop_row_of, row_of}
 use Rattle.cip_module.specs.declared.tables.HopRow.{HopRow}
 use Rattle.cip_module.specs.declared.tables.PendingRow.{PendingRow}
 use Rattle.cip_device.specs.Shown.{Shown}
+use Rattle.cip_device.specs.Statuses.{IsTableStatus}
 use Rattle.cip_device.specs.declared.rows.CipConnectionRow.{CipConnectionRow}
 use Rattle.cip_device.specs.declared.rows.CipPendingRow.{CipPendingRow}
 use Rattle.cip_device.specs.declared.rows.CipSide.{CipSide}
@@ -97,11 +98,12 @@ NoConnectionAt (Some s) at = slice_get (connections_of s.state) at ≡ None
 NoConnectionAt None at = ⊥
 
 -- what is answered to who asks for the connection at a place, counted from 0: 0 it was told; 1
--- exactly where there is no device, 7 only past the last one
+-- exactly where there is no device, 7 only past the last one; 5 in place of 0 and 7, and nothing
+-- else
 abbrev pub IsConnectionAnswer : ℕ → Option Shown → ℕ → CipConnectionRow → Type 0
 IsConnectionAnswer result old at out =
     (result ≡ 0 → IsDeviceConnection old at out) × ((result ≡ 1) ↔ (old ≡ None))
-    × (result ≡ 7 → NoConnectionAt old at)
+    × (result ≡ 7 → NoConnectionAt old at) × IsTableStatus result
 
 -- ---- requests that wait
 
@@ -145,4 +147,4 @@ NoPendingAt None at = ⊥
 abbrev pub IsPendingAnswer : ℕ → Option Shown → ℕ → CipPendingRow → Type 0
 IsPendingAnswer result old at out =
     (result ≡ 0 → IsDevicePending old at out) × ((result ≡ 1) ↔ (old ≡ None))
-    × (result ≡ 7 → NoPendingAt old at)
+    × (result ≡ 7 → NoPendingAt old at) × IsTableStatus result

@@ -8,6 +8,7 @@ use Rattle.cip_module.specs.State.{State}
 use Rattle.cip_module.specs.Steps.{IsStep}
 use Rattle.cip_module.specs.Table.{table_step}
 use Rattle.cip_device.specs.declared.held.Held.{Held}
+use Rattle.cip_device.specs.Statuses.{IsStepStatus}
 
 -- the module's config and state, and the outputs that wait to be read, the next first
 pub record Shown : Type 0 where
@@ -57,8 +58,9 @@ IsWhy result old event =
     × (result ≡ 6 → IsFull old event)
 
 -- what a call answers that gives a device one event: 0 exactly this step was done, and else nothing
--- has changed; 4 exactly where an argument is bad, of a device that could take an event
+-- has changed; 4 exactly where an argument is bad, of a device that could take an event; 5 in place
+-- of 0, and nothing else
 abbrev pub IsStepAnswer : ℕ → Option Shown → Type 0 → Event → Option Shown → Type 0
 IsStepAnswer result old bad event new =
     (result ≡ 0 → IsDeviceStep old event new) × (result ≢ 0 → new ≡ old)
-    × IsWhy result old event × ((result ≡ 4) ↔ (IsReady old × bad))
+    × IsWhy result old event × ((result ≡ 4) ↔ (IsReady old × bad)) × IsStepStatus result

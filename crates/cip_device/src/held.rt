@@ -1,14 +1,15 @@
 //! What lies on the heap behind a handle.
-ghost use Rattle.std.specs.Prelude.{◌≡◌, ◌≢◌, ◌↔◌, ◌<◌, [], true, length, find, option_map, Some, IfOk};
+ghost use Rattle.std.specs.Prelude.{◌≡◌, ◌≢◌, ◌↔◌, ◌<◌, ◌≤◌, [], true, length, find, option_map, Some, IfOk};
 ghost use Rattle.cip_indexed.specs.NewModules.{config_of_new, state_of_new};
 ghost use Rattle.cip_module.specs.State.{initial_state};
 ghost use Rattle.cip_module.specs.Steps.{IsStep, IsStepFault};
 ghost use Rattle.cip_module.specs.Views.{ShowsState};
 ghost use Rattle.cip_device.specs.Shown.{shown_of, IsDeviceStep, IsFull, IsReady, IsWhy};
-ghost use Rattle.cip_device.specs.Outputs.{IsNext};
-ghost use Rattle.cip_device.specs.Reads.{is_row_of, IsRead, HasNone};
+ghost use Rattle.cip_device.specs.Outputs.{IsNext, IsNextOutline, next_length};
+ghost use Rattle.cip_device.specs.Reads.{is_row_of, IsRead, IsCounted, HasNone};
 ghost use Rattle.cip_device.specs.Rows.{IsConnectionAt, IsPendingAt, NoConnectionAt, NoPendingAt};
 ghost use Rattle.cip_device.specs.Deadlines.{IsSoonest, IsAtRest};
+ghost use Rattle.cip_device.specs.Statuses.{IsNextStatus, IsReadStatus, IsStepStatus, IsTableStatus};
 
 use crate::deadlines::{first_due, milliseconds_until};
 use crate::numbers::{CLOCK_FULL, DONE, NO_MEMORY, NOTHING, SHORT, UNREAD};
@@ -86,6 +87,7 @@ impl Held {
         ensures kept { result ≢ 0 → shown_of self.new ≡ shown_of self.old }
         ensures why { IsWhy result (Some (shown_of self.old)) event }
         ensures known { result ≢ 4 }
+        ensures among { IsStepStatus result }
         ensures full { IsReady (Some (shown_of self.old)) → IsFull (Some (shown_of self.old)) event
             → result ≡ 6 }
     {
@@ -111,6 +113,10 @@ impl Held {
         ensures known { result ≢ 1 }
         ensures nothing { (result ≡ 7) ↔ ((shown_of self.old).outputs ≡ []) }
         ensures short { result ≡ 8 → length buffer.old < output.new.length }
+        ensures longer { (result ≡ 8)
+            ↔ (length buffer.old < next_length (shown_of self.old).outputs) }
+        ensures outline { result ≡ 8 → IsNextOutline (shown_of self.old).outputs output.new }
+        ensures among { IsNextStatus result }
     {
         let Some(next) = self.outputs.front() else {
             return NOTHING;
@@ -132,6 +138,9 @@ impl Held {
         ensures known { result ≢ 1 }
         ensures nothing { result ≡ 7 → HasNone (shown_of self.now) instance }
         ensures short { result ≡ 8 → length buffer.old < count.new }
+        ensures fits { result ≡ 0 → count.new ≤ length buffer.old }
+        ensures counted { result ≡ 8 → IsCounted (shown_of self.now) instance count.new }
+        ensures among { IsReadStatus result }
     {
         let Ok(tables) = module_tables(&self.module_) else {
             return NO_MEMORY;
@@ -153,6 +162,7 @@ impl Held {
         ensures done { result ≡ 0 → IsConnectionAt (shown_of self.now) at out.new }
         ensures known { result ≢ 1 }
         ensures nothing { result ≡ 7 → NoConnectionAt (Some (shown_of self.now)) at }
+        ensures among { IsTableStatus result }
     {
         let Ok(tables) = module_tables(&self.module_) else {
             return NO_MEMORY;
@@ -169,6 +179,7 @@ impl Held {
         ensures done { result ≡ 0 → IsPendingAt (shown_of self.now) at out.new }
         ensures known { result ≢ 1 }
         ensures nothing { result ≡ 7 → NoPendingAt (Some (shown_of self.now)) at }
+        ensures among { IsTableStatus result }
     {
         let Ok(tables) = module_tables(&self.module_) else {
             return NO_MEMORY;
@@ -185,6 +196,7 @@ impl Held {
         ensures done { result ≡ 0 → IsSoonest (shown_of self.now) milliseconds.new }
         ensures known { result ≢ 1 }
         ensures nothing { result ≡ 7 → IsAtRest (Some (shown_of self.now)) }
+        ensures among { IsTableStatus result }
     {
         let Ok(tables) = module_tables(&self.module_) else {
             return NO_MEMORY;

@@ -1,9 +1,10 @@
 //! Devices are made, told of and freed.
-ghost use Rattle.std.specs.Prelude.{◌≡◌, ◌≢◌, ◌↔◌, ◌<◌, length, None};
+ghost use Rattle.std.specs.Prelude.{◌≡◌, ◌≢◌, ◌↔◌, length, None};
 ghost use Rattle.cip_device.specs.Outputs.{IsNextAnswer};
 ghost use Rattle.cip_device.specs.Reads.{IsReadAnswer};
 ghost use Rattle.cip_device.specs.Settings.{AreLegal, IsNew};
 ghost use Rattle.cip_device.specs.Shown.{shown};
+ghost use Rattle.cip_device.specs.Statuses.{IsNewStatus};
 
 use crate::handle::CipDevice;
 use crate::held::Held;
@@ -32,7 +33,7 @@ pub extern "C" fn cip_new(
         assemblies.now }
     ensures bad { result ≡ 4 → AreLegal config.now name.now product_name.now ports.now
         assemblies.now → ⊥ }
-    ensures known { result < 6 }
+    ensures known { IsNewStatus result }
 {
     if let Some(held) = replace(device, CipDevice::empty(alloc)).into_box() {
         *device = CipDevice::of(held);

@@ -1,6 +1,7 @@
 //! One call at the device of a handle.
 ghost use Rattle.std.specs.Prelude.{◌≡◌, ◌≢◌, ◌↔◌, Some, None};
 ghost use Rattle.cip_device.specs.Shown.{shown, IsDeviceStep, IsFull, IsReady, HasUnread, IsWhy};
+ghost use Rattle.cip_device.specs.Statuses.{IsStepStatus};
 
 use crate::handle::CipDevice;
 use crate::numbers::{DONE, NO_DEVICE, UNREAD};
@@ -15,6 +16,7 @@ pub(crate) fn ready(alloc: Global, device: &mut CipDevice) -> u32
     ensures no_device { (result ≡ 1) ↔ (shown device.old.held ≡ None) }
     ensures unread { (result ≡ 3) ↔ HasUnread (shown device.old.held) }
     ensures known { (result ≢ 4) × (result ≢ 6) }
+    ensures among { IsStepStatus result }
 {
     let Some(held) = replace(device, CipDevice::empty(alloc)).into_box() else {
         return NO_DEVICE;
@@ -30,6 +32,7 @@ pub(crate) fn step(alloc: Global, device: &mut CipDevice, event: Event) -> u32
     ensures kept { result ≢ 0 → shown device.new.held ≡ shown device.old.held }
     ensures why { IsWhy result (shown device.old.held) event }
     ensures known { result ≢ 4 }
+    ensures among { IsStepStatus result }
     ensures full { IsReady (shown device.old.held) → IsFull (shown device.old.held) event
         → result ≡ 6 }
 {
