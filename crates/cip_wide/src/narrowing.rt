@@ -1,5 +1,8 @@
 //! A wide script, played, and the script that it is.
 
+ghost use Rattle.std.specs.Prelude.{◌≤◌, IfOk, string_len};
+ghost use Rattle.std.specs.Str.{IsAscii};
+
 use crate::blocks::{Turn, after_end, check_blocks, count_of, is_end};
 use crate::expecting::expect;
 use crate::fault::{LineError, LineFault, WideFault, unknown_word, wrong_count};
@@ -76,7 +79,9 @@ fn step_of(
 }
 
 // One more line of the script.
-fn put_line(narrow: &mut Kept, line: &str) -> Result<(), LineError> {
+fn put_line(narrow: &mut Kept, line: &str) -> Result<(), LineError>
+    ensures { IfOk result (λ _. string_len narrow.new.script ≤ 1_048_576) }
+{
     narrow.script.push_str(line)?;
     narrow.script.push('\n')?;
     if narrow.script.len() > MOST_BYTES {
@@ -106,6 +111,8 @@ fn play_plain(
 ) -> Result<(), LineError>
     requires stand { ⟦<World as Shown>⟧.stands world.old }
     ensures stand { ⟦<World as Shown>⟧.stands world.new }
+    ensures short { string_len narrow.old.script ≤ 1_048_576
+        → IfOk result (λ _. string_len narrow.new.script ≤ 1_048_576) }
 {
     let Plain { line, new } = plain;
     let step = step_of(alloc, world, narrow.names.as_slice(), line.as_str())?;
@@ -131,6 +138,8 @@ fn play_lines(
 ) -> Result<(), LineError>
     requires stand { ⟦<World as Shown>⟧.stands world.old }
     ensures stand { ⟦<World as Shown>⟧.stands world.new }
+    ensures short { string_len narrow.old.script ≤ 1_048_576
+        → IfOk result (λ _. string_len narrow.new.script ≤ 1_048_576) }
 {
     let mut lines = lines;
     lines.reverse();
@@ -164,7 +173,9 @@ fn tick_lines(alloc: Global, topology: &Topology, ms: &str) -> Result<Vec<String
 }
 
 // The line itself, as a comment of the script.
-fn put_comment(alloc: Global, narrow: &mut Kept, words: &[&str]) -> Result<(), LineError> {
+fn put_comment(alloc: Global, narrow: &mut Kept, words: &[&str]) -> Result<(), LineError>
+    ensures { IfOk result (λ _. string_len narrow.new.script ≤ 1_048_576) }
+{
     let mut line = String::from_str(alloc, "#")?;
     for word in words {
         line.push(' ')?;
@@ -183,6 +194,8 @@ fn play_own(
 ) -> Result<(), LineError>
     requires stand { ⟦<World as Shown>⟧.stands world.old }
     ensures stand { ⟦<World as Shown>⟧.stands world.new }
+    ensures short { string_len narrow.old.script ≤ 1_048_576
+        → IfOk result (λ _. string_len narrow.new.script ≤ 1_048_576) }
 {
     match usage_of(word) {
         Some(usage) => {
@@ -219,6 +232,8 @@ fn play_words(
 ) -> Result<(), LineError>
     requires stand { ⟦<World as Shown>⟧.stands world.old }
     ensures stand { ⟦<World as Shown>⟧.stands world.new }
+    ensures short { string_len narrow.old.script ≤ 1_048_576
+        → IfOk result (λ _. string_len narrow.new.script ≤ 1_048_576) }
 {
     match words {
         ["cut" | "pass" | "tickall", ..] => {
@@ -246,6 +261,8 @@ fn play_line(
 ) -> Result<usize, WideFault>
     requires stand { ⟦<World as Shown>⟧.stands world.old }
     ensures stand { ⟦<World as Shown>⟧.stands world.new }
+    ensures short { string_len narrow.old.script ≤ 1_048_576
+        → IfOk result (λ _. string_len narrow.new.script ≤ 1_048_576) }
 {
     let next = at.saturating_add(1);
     if let Some(left) = count_of(line)? {
@@ -269,6 +286,8 @@ fn play_all(
 ) -> Result<(), WideFault>
     requires stand { ⟦<World as Shown>⟧.stands world.old }
     ensures stand { ⟦<World as Shown>⟧.stands world.new }
+    ensures short { string_len narrow.old.script ≤ 1_048_576
+        → IfOk result (λ _. string_len narrow.new.script ≤ 1_048_576) }
 {
     let mut turns = Vec::new(alloc);
     let mut at = 0;
@@ -290,13 +309,12 @@ fn not_text(alloc: Global, wide: &[u8], line: usize) -> WideFault {
     }
 }
 
-fn ascii_of(alloc: Global, wide: &[u8]) -> Result<&str, WideFault> {
-    if let Some(line) = first_not_ascii(wide) {
-        return Err(not_text(alloc, wide, line));
-    }
+fn ascii_of(alloc: Global, wide: &[u8]) -> Result<&str, WideFault>
+    ensures { IfOk result (λ text. IsAscii wide.now) }
+{
     match std::str::from_utf8(wide) {
-        Ok(text) => Ok(text),
-        Err(_) => Err(not_text(alloc, wide, 1)),
+        Ok(text) if text.is_ascii() => Ok(text),
+        _ => Err(not_text(alloc, wide, first_not_ascii(wide).unwrap_or(1))),
     }
 }
 
@@ -309,7 +327,11 @@ pub fn narrow(
     topology: Topology,
     modules: Vec<Box<dyn Module + Send>>,
     wide: &[u8],
-) -> Result<String, WideFault> {
+) -> Result<String, WideFault>
+    // Only a text of ASCII is one, and what comes out is no longer than a script may be.
+    ensures ascii { IfOk result (λ _. IsAscii wide.now) }
+    ensures short { IfOk result (λ script. string_len script ≤ 1_048_576) }
+{
     let text = ascii_of(alloc, wide)?;
     let lines = lines_of(alloc, text)?;
     check_blocks(alloc, lines.as_slice())?;

@@ -1,4 +1,5 @@
-use Rattle.std.proofs.Common.{length, map}
+use Rattle.std.proofs.Common.{◌≤◌, length, map}
+use Rattle.std.specs.Prelude.{string_len}
 use Rattle.cip_world.specs.Worlds.{Stand}
 use Rattle.cip_wide.proofs.narrowing.play_lines.Given as goal
 
@@ -6,6 +7,7 @@ abbrev pub invariant-lines : goal.invariant-lines
 invariant-lines g l =
     Stand l.world.ledger (map (λ b. (goal.Module-dyn g (b.vtable, b.value)).config_of b.value) l.world.modules.items)
     (map (λ b. (goal.Module-dyn g (b.vtable, b.value)).state_of b.value) l.world.modules.items)
+    × (string_len l.initial.narrow.script ≤ 1048576 → string_len l.narrow.script ≤ 1048576)
 
 abbrev pub decreases-lines : goal.decreases-lines
 decreases-lines g l = length l.lines.items
