@@ -17,12 +17,12 @@ use Rattle.cip_hops.specs.declared.hop.Held.{Held}
 use Rattle.cip_hops.specs.declared.hop.Held.TheVariants.{Opening as IsOpening, Open}
 use Rattle.cip_hops.specs.declared.table.HopTable.TheInside.{Inside}
 use Rattle.cip_hops.specs.Sides.{up_is_link, down_is_link}
-use Rattle.cip_hops.specs.Changes.{Suits, change_of}
-use Rattle.cip_hops.specs.Hops.{Hops, as_opening, as_hop, opened, open_in, finished, with_held, with_hop, ends_here, change_in, is_link, touched, counted, IsHop, IsHeld}
+use Rattle.cip_hops.specs.Changes.{Suits, IsMeant, change_of}
+use Rattle.cip_hops.specs.Hops.{Hops, opening_of, as_opening, as_hop, opened, open_in, finished, with_held, with_hop, ends_here, change_in, is_link, touched, counted, IsHop, IsHeld}
 use Rattle.cip_hops.specs.Kept.{hops, IsKept}
 use Rattle.cip_base.proofs.Lengths.{one_if}
 use Rattle.cip_hops.proofs.Ids.{is_some-if}
-use Rattle.cip_hops.proofs.Steps.{SameNames, held_at, kept_changed, view_changed}
+use Rattle.cip_hops.proofs.Steps.{SameNames, held_at, held_is, kept_changed, view_changed}
 
 -- ---- an opening becomes a hop
 
@@ -173,6 +173,67 @@ module _ (t : Inside) (h : IsKept t) (triad : Triad) (key : ℕ) (x : Held) (cha
 
   pub view_in_place : hops (written t key (change_of change x)) ≡ with_held (hops t) triad (change_of change x)
   view_in_place = view_changed t h triad key x y (with_value t.records key y) at found updates.changed updates.others (alike change x)
+
+-- the table with other records
+abbrev pub with_records : Inside → Slab Held → Inside
+with_records t s = record {
+  room = t.room;
+  next = t.next;
+  triads = t.triads;
+  ups = t.ups;
+  downs = t.downs;
+  ops = t.ops;
+  records = s;
+}
+
+-- the records in which what stands under a key was changed
+abbrev pub HasChanged : Slab Held → ℕ → Change → Slab Held → Type 0
+HasChanged records key change s = IsSomeAnd (get records key) (λ x. s ≡ with_value records key (change_of change x))
+
+pub changed_one : (records : Slab Held) (key : ℕ) (change : Change) (s : Slab Held) (x : Held) → get records key ≡ Some x
+    → HasChanged records key change s → s ≡ with_value records key (change_of change x)
+changed_one records key change s x found is =
+    subst (λ (o : Option Held). IsSomeAnd o (λ x. s ≡ with_value records key (change_of change x))) found is
+
+pub meant_one : (records : Slab Held) (key : ℕ) (change : Change) (x : Held) → get records key ≡ Some x → IsMeant change x
+    → IsSomeAnd (get records key) (IsMeant change)
+meant_one records key change x found is = subst (λ (o : Option Held). IsSomeAnd o (IsMeant change)) (sym found) is
+
+module _ (t : Inside) (h : IsKept t) (p : Hops) (is : hops t ≡ p) (triad : Triad) (key : ℕ) (at : map.get t.triads.keys triad ≡ Some key) where
+  -- what stands under the triad stands under the key
+  pub held_here : map.get p.held triad ≡ get t.records key
+  held_here = ap (λ (q : Hops). map.get q.held triad) (sym is) ∙ held_is t h triad ∙ ap (option_and_then (get t.records)) at
+
+  module _ (change : Change) (suits : IsSomeAnd (map.get p.held triad) (Suits change)) where
+    suits_here : IsSomeAnd (get t.records key) (Suits change)
+    suits_here = subst (λ (o : Option Held). IsSomeAnd o (Suits change)) held_here suits
+
+    pub meant : IsSomeAnd (get t.records key) (IsMeant change)
+    meant = each (get t.records key) (λ x found. (h.each key x found).multiplier) suits_here
+      where
+        each : (o : Option Held) → ((x : Held) → o ≡ Some x → (opening_of x).multiplier < 8) → IsSomeAnd o (Suits change) → IsSomeAnd o (IsMeant change)
+        each None multiplier suits = suits
+        each (Some x) multiplier suits = (suits, multiplier x refl)
+
+    module _ (s : Slab Held) (changed : HasChanged t.records key change s) where
+      pub kept_after : IsKept (with_records t s)
+      kept_after = each (get t.records key) refl suits_here changed
+        where
+          each : (o : Option Held) → get t.records key ≡ o → IsSomeAnd o (Suits change)
+              → IsSomeAnd o (λ x. s ≡ with_value t.records key (change_of change x)) → IsKept (with_records t s)
+          each None found suits is = absurd suits
+          each (Some x) found suits is = subst (λ r. IsKept (with_records t r)) (sym is) (kept_in_place t h triad key x change at found suits)
+
+      pub view_after : IsSomeAnd (map.get p.held triad) (λ x. hops (with_records t s) ≡ with_held p triad (change_of change x))
+      view_after =
+          subst (λ (o : Option Held). IsSomeAnd o (λ x. hops (with_records t s) ≡ with_held p triad (change_of change x))) (sym held_here)
+          (each (get t.records key) refl changed)
+        where
+          each : (o : Option Held) → get t.records key ≡ o → IsSomeAnd o (λ x. s ≡ with_value t.records key (change_of change x))
+              → IsSomeAnd o (λ x. hops (with_records t s) ≡ with_held p triad (change_of change x))
+          each None found e = e
+          each (Some x) found e = ap (λ r. hops (with_records t r)) e ∙ view_in_place t h triad key x change at found
+              ∙ ap (λ q. with_held q triad (change_of change x)) is
 
 -- ---- each call by the change that it makes
 

@@ -9,3 +9,4 @@ pub mod Changes
 pub mod Touching
 pub mod Ticks
 pub mod Callers
+pub mod Quiet

@@ -1,5 +1,5 @@
 -- A datum on its way: the hop that has this own id on this side, through the index of that side.
-use Rattle.std.proofs.Common.{◌≡◌, ℕ, ◌<◌, ◌^◌, Bool, true, false, List, sym, ap, ◌∙◌, Option, Some, None, if◌then◌else◌, is_some}
+use Rattle.std.proofs.Common.{◌≡◌, ℕ, ◌<◌, ◌^◌, Bool, true, false, List, sym, ap, subst, ◌∙◌, Option, Some, None, if◌then◌else◌, is_some}
 use Rattle.std.specs.Option.{option_and_then}
 use Rattle.std.specs.FinMap as map
 use Rattle.std.specs.FinMap.{FinMap}
@@ -13,7 +13,7 @@ use Rattle.cip_hops.specs.declared.hop.Held.{Held}
 use Rattle.cip_hops.specs.declared.hop.Held.TheVariants.{Open}
 use Rattle.cip_hops.specs.declared.onward.Onward.{Onward}
 use Rattle.cip_hops.specs.declared.table.HopTable.TheInside.{Inside}
-use Rattle.cip_hops.specs.Changes.{change_of}
+use Rattle.cip_hops.specs.Changes.{IsMeant, change_of}
 use Rattle.cip_hops.specs.Hops.{Hops, as_hop, up_id_of, down_id_of, HasId, hop_at, is_link}
 use Rattle.cip_hops.specs.Onwards.{on_side, side_is, hop_by, after_onward}
 use Rattle.cip_hops.specs.Kept.{hops, IsKept, Indexes}
@@ -96,6 +96,10 @@ module _ (t : Inside) (h : IsKept t) (p : Hops) (is : hops t ≡ p) where
             }
 
             module _ (now : ℕ) where
+              pub meant_on : now < 2 ^ 63 → IsMeant (Touch side now) x
+              meant_on time = subst (IsMeant (Touch side now)) (sym held)
+                  ((link_by side key id hop in_place named, time), (h.each key (Open hop) in_place).multiplier)
+
               pub kept_on : now < 2 ^ 63 → IsKept (written t key (change_of (Touch side now) x))
               kept_on time = kept_touched t h p is (id_by side) (keys_by side t) (index_by side) id hop.opening.triad stands key (sym at) x found side now
                   (link_by side key id hop in_place named) time

@@ -6,7 +6,7 @@ use Rattle.cip_hops.specs.declared.hop.Change.{Change}
 use Rattle.cip_hops.specs.declared.hop.Change.TheVariants.{Finish, Touch, Count}
 use Rattle.cip_hops.specs.declared.hop.Held.{Held}
 use Rattle.cip_hops.specs.declared.hop.Held.TheVariants.{Opening as IsOpening, Open}
-use Rattle.cip_hops.specs.Hops.{Hops, as_opening, as_hop, opened, with_held, is_link, ends_here, touched, counted}
+use Rattle.cip_hops.specs.Hops.{Hops, as_opening, as_hop, opening_of, opened, with_held, is_link, ends_here, touched, counted}
 
 -- what the change makes of it
 abbrev pub change_of : Change → Held → Held
@@ -23,6 +23,10 @@ Suits (Finish their_id now) x = IsSome (as_opening x) × (now < 2 ^ 63)
 Suits (Touch side now) x =
     IsSomeAnd (as_hop x) (λ hop. IsTrue (is_link side hop)) × (now < 2 ^ 63)
 Suits (Count side count) x = IsSomeAnd (as_hop x) (λ hop. IsTrue (ends_here hop))
+
+-- the change is meant for it, and its time-out multiplier is one
+abbrev pub IsMeant : Change → Held → Type 0
+IsMeant change x = Suits change x × ((opening_of x).multiplier < 8)
 
 -- the table after the change of what stands under a triad
 abbrev pub IsChanged : Change → Hops → Triad → Hops → Type 0

@@ -4,3 +4,4 @@ pub mod Kept
 pub mod Onwards
 pub mod Sides
 pub mod TriadPairs
+pub mod Quiet

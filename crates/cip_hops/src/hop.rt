@@ -1,6 +1,7 @@
 //! A connection that is open.
 ghost use Rattle.std.specs.Prelude.{◌≡◌, ◌<◌, ◌^◌};
 ghost use Rattle.cip_hops.specs.Hops.{is_past, watched as watched_until};
+ghost use Rattle.cip_hops.specs.Quiet.{or_never, first_deadline};
 
 use crate::opening::{Opening, OwnIds};
 use cip_clock::Clock;
@@ -94,6 +95,18 @@ impl Held {
         }
     }
 
+    // The first time at which either side has been silent for too long; the last time where that
+    // never is.
+    #[inline(always)]
+    pub(crate) fn first_deadline(&self) -> u64
+        ensures { result ≡ first_deadline self.now }
+    {
+        match self {
+            Held::Opening(_, _) => u64::MAX,
+            Held::Open(hop) => or_never(hop.up_deadline).min(or_never(hop.down_deadline)),
+        }
+    }
+
     // An opening as a hop with the other side's id, watched from now on, for `replace_with`.
     fn finished(self, found: (u32, u64)) -> (Held, ())
         requires suits { Suits (Change.Finish found.0 found.1) self }
@@ -129,6 +142,12 @@ impl Held {
             },
         }
     }
+}
+
+fn or_never(deadline: Option<u64>) -> u64
+    ensures { result ≡ or_never deadline }
+{
+    deadline.unwrap_or(u64::MAX)
 }
 
 fn is_past(deadline: Option<u64>, now: u64) -> bool

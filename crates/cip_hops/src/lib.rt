@@ -4,6 +4,7 @@
 mod hop;
 mod onward;
 mod opening;
+mod records;
 mod table;
 mod triads;
 

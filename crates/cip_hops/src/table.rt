@@ -1,7 +1,7 @@
 //! The table: records in a slab, and indexes of their keys by triad, by own ids and by op. All room
 //! is reserved.
-ghost use Rattle.std.specs.Prelude.{◌≡◌, ◌+◌, ◌++◌, ◌<◌, ◌^◌, false, IfOk, IsSome, IsSomeAnd, IsTrue, is_ok, is_some, if◌then◌else◌};
-ghost use Rattle.std.specs.List.{position};
+ghost use Rattle.std.specs.Prelude.{◌≡◌, ℕ, ◌+◌, ◌++◌, ◌<◌, ◌^◌, ◌||◌, [], false, IfOk, IsSome, IsSomeAnd, IsTrue, is_ok, is_some, if◌then◌else◌};
+ghost use Rattle.std.specs.List.{position, list_any};
 ghost use Rattle.std.specs.Option.{option_copied, option_to_list, option_map_or};
 ghost use Rattle.std.specs.FinMap as map;
 ghost use Rattle.slab.specs.Slab.{get as get_record};
@@ -11,18 +11,18 @@ ghost use Rattle.cip_base.specs.declared.triad.Triad.{Triad as Triads};
 ghost use Rattle.cip_hops.specs.declared.hop.Side.TheVariants.{Up, Down};
 ghost use Rattle.cip_hops.specs.Sides.{op_of};
 ghost use Rattle.cip_hops.specs.Changes.{Suits, IsChanged};
-ghost use Rattle.cip_hops.specs.Hops.{has_next_incarnation, reset, refusal, begin_gives, begun, IsOpFree, opening_at, hop_at, without, without_if, IsWithout, finished, changed, is_link, ends_here, touched, counted, hop_by_up, hop_by_down, hop_by_op, HasId, up_id_of, down_id_of, first_due, due, rest, first_after, as_hop, is_hop_due, is_entry_due, is_entry_open, IsWithin};
+ghost use Rattle.cip_hops.specs.Hops.{has_next_incarnation, reset, refusal, begin_gives, begun, IsOpFree, opening_at, hop_at, without, without_if, IsWithout, finished, changed, is_link, ends_here, touched, counted, hop_by_up, hop_by_down, hop_by_op, HasId, up_id_of, down_id_of, first_due, due, rest, first_after, as_hop, is_hop_due, is_entry_due, is_entry_open, is_past, IsWithin};
 ghost use Rattle.cip_hops.specs.Onwards.{on_side, hop_by, onward_of, after_onward};
 
 use crate::hop::{Change, Held, Hop, Side};
 use crate::onward::Onward;
 use crate::opening::{BeginFault, BeginReason, Opening, OwnIds};
+use crate::records::Records;
 use crate::triads::{TriadIndex, place_after};
 use cip_base::{
     Address, LAST_COUNT, LAST_INCARNATION, NoMemory, NumberIndex, PortNumber, Triad, counts_given,
     incarnation, reborn,
 };
-use slab::Slab;
 use std::alloc::Global;
 use std::marker::Model;
 
@@ -38,7 +38,7 @@ pub struct HopTable {
     ups: NumberIndex,
     downs: NumberIndex,
     ops: NumberIndex,
-    records: Slab<Held>,
+    records: Records,
 }
 
 impl Model for HopTable {
@@ -70,7 +70,7 @@ impl HopTable {
         let ups = NumberIndex::with_room(alloc, room)?;
         let downs = NumberIndex::with_room(alloc, room)?;
         let ops = NumberIndex::with_room(alloc, room)?;
-        let records = Slab::with_capacity(alloc, room)?;
+        let records = Records::with_capacity(alloc, room)?;
         Ok(HopTable {
             room,
             next: u64::from(first),
@@ -234,10 +234,7 @@ impl HopTable {
             return None;
         }
         let onward = hop.onward(side, size)?;
-        let Some(held) = self.records.get_mut(key) else {
-            unreachable!()
-        };
-        held.change(Change::Touch { side, now });
+        self.records.change(key, Change::Touch { side, now });
         Some(onward)
     }
 
@@ -261,13 +258,13 @@ impl HopTable {
         let Some(key) = self.ups.find(id) else {
             unreachable!()
         };
-        let Some(held) = self.records.get_mut(key) else {
-            unreachable!()
-        };
-        held.change(Change::Touch {
-            side: Side::Up,
-            now,
-        });
+        self.records.change(
+            key,
+            Change::Touch {
+                side: Side::Up,
+                now,
+            },
+        );
     }
 
     /// Watches the down side of the hop with this own id towards the target anew from `now` on, in
@@ -281,13 +278,13 @@ impl HopTable {
         let Some(key) = self.downs.find(id) else {
             unreachable!()
         };
-        let Some(held) = self.records.get_mut(key) else {
-            unreachable!()
-        };
-        held.change(Change::Touch {
-            side: Side::Down,
-            now,
-        });
+        self.records.change(
+            key,
+            Change::Touch {
+                side: Side::Down,
+                now,
+            },
+        );
     }
 
     /// Keeps the sequence count of the last datum of a hop that ends here: up that of the last that
@@ -325,6 +322,34 @@ impl HopTable {
         let from = place_after(pairs, after);
         let at = hop_place(&pairs[from..], &self.records)?;
         self.records.get(pairs[from + at].1)?.hop()
+    }
+
+    /// The first time, in microseconds, at which either side of a connection has been silent for
+    /// too long; None where there is no connection. It looks at each connection once.
+    pub fn first_deadline(&self) -> Option<u64>
+        ensures { (time : ℕ) → is_past time result
+            ≡ list_any (is_entry_due time) (map.entries self.now.held) }
+    {
+        first_among(self.triads.pairs(), &self.records)
+    }
+
+    /// Whether it is known, without a look at the connections, that no side of one has been silent
+    /// for too long at `now`, in microseconds. It is known until the first deadline that there was
+    /// at the last `look_ahead`, where those that were set since are later.
+    #[inline(always)]
+    pub fn is_quiet(&self, now: u64) -> bool
+        ensures { IsTrue result → due now self.now ≡ [] }
+    {
+        self.records.is_quiet(now)
+    }
+
+    /// Looks at each connection for the first deadline, for `is_quiet`. Nothing changes that a
+    /// caller sees otherwise.
+    pub fn look_ahead(&mut self)
+        ensures { self.new ≡ self.old }
+    {
+        let first = self.first_deadline();
+        self.records.look_ahead(first);
     }
 
     /// Whether a reset can follow: an incarnation is left after this one.
@@ -382,10 +407,7 @@ impl HopTable {
         let Some(key) = self.triads.find(triad) else {
             unreachable!()
         };
-        let Some(held) = self.records.get_mut(key) else {
-            unreachable!()
-        };
-        held.change(change);
+        self.records.change(key, change);
     }
 
     // Takes out what stands under a triad, and forgets its names.
@@ -420,13 +442,13 @@ fn key_of(ups: &NumberIndex, downs: &NumberIndex, side: Side, id: u32) -> Option
 }
 
 // Where the first triad stands whose hop is due.
-fn due_place(pairs: &[(Triad, usize)], records: &Slab<Held>, now: u64) -> Option<usize>
+fn due_place(pairs: &[(Triad, usize)], records: &Records, now: u64) -> Option<usize>
     ensures { result ≡ position (passes (is_entry_due now) (get_record records.now)) pairs.now }
 {
     pairs.iter().position(|p| is_due_at(records, p.1, now))
 }
 
-fn is_due_at(records: &Slab<Held>, key: usize, now: u64) -> bool
+fn is_due_at(records: &Records, key: usize, now: u64) -> bool
     ensures { result ≡ option_map_or (is_hop_due now) (get_record records.now key) false }
 {
     match records.get(key) {
@@ -436,17 +458,51 @@ fn is_due_at(records: &Slab<Held>, key: usize, now: u64) -> bool
 }
 
 // Where the first triad stands that has a hop.
-fn hop_place(pairs: &[(Triad, usize)], records: &Slab<Held>) -> Option<usize>
+fn hop_place(pairs: &[(Triad, usize)], records: &Records) -> Option<usize>
     ensures { result ≡ position (passes is_entry_open (get_record records.now)) pairs.now }
 {
     pairs.iter().position(|p| is_hop_at(records, p.1))
 }
 
-fn is_hop_at(records: &Slab<Held>, key: usize) -> bool
+fn is_hop_at(records: &Records, key: usize) -> bool
     ensures { result ≡ option_map_or (λ x. is_some (as_hop x)) (get_record records.now key) false }
 {
     match records.get(key) {
         Some(held) => held.hop().is_some(),
         None => false,
     }
+}
+
+// The earlier of two, where None is never.
+fn earlier(first: Option<u64>, second: Option<u64>) -> Option<u64>
+    ensures { (time : ℕ) → is_past time result ≡ (is_past time first || is_past time second) }
+{
+    match (first, second) {
+        (Some(one), Some(other)) => Some(one.min(other)),
+        (Some(one), None) => Some(one),
+        (None, other) => other,
+    }
+}
+
+fn deadline_at(records: &Records, key: usize) -> Option<u64>
+    ensures { (time : ℕ) → is_past time result
+        ≡ option_map_or (is_hop_due time) (get_record records.now key) false }
+{
+    match records.get(key) {
+        Some(Held::Open(hop)) => earlier(hop.up_deadline, hop.down_deadline),
+        Some(Held::Opening(_, _)) => None,
+        None => None,
+    }
+}
+
+// The first time at which a hop of these triads is due.
+fn first_among(pairs: &[(Triad, usize)], records: &Records) -> Option<u64>
+    ensures { (time : ℕ) → is_past time result
+        ≡ list_any (passes (is_entry_due time) (get_record records.now)) pairs.now }
+{
+    let mut first = None;
+    for pair in pairs {
+        first = earlier(first, deadline_at(records, pair.1));
+    }
+    first
 }

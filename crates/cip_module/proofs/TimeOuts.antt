@@ -1,5 +1,5 @@
 -- What a tick does to the pendings and to the connections, one that is due after another.
-use Rattle.std.proofs.Common.{◌≡◌, ℕ, zero, suc, ◌+◌, ◌<◌, Bool, true, false, cond, List, [], ◌∷◌, ◌++◌, length, get_or, refl, sym, ap, ◌∙◌, arith, append_assoc, Option, Some, None, is_some}
+use Rattle.std.proofs.Common.{◌≡◌, ℕ, zero, suc, ◌+◌, ◌<◌, Bool, true, false, cond, List, [], ◌∷◌, ◌++◌, length, get_or, refl, sym, ap, subst, ◌∙◌, arith, append_assoc, Result, Option, Some, None, is_some}
 use Rattle.std.specs.Prelude.{map}
 use Rattle.std.specs.Option.{option_to_list, option_and_then}
 use Rattle.std.specs.List.{find, filter, filter_map, remove}
@@ -29,7 +29,8 @@ use Rattle.cip_event.specs.declared.event.Output.{Output}
 use Rattle.cip_module.specs.Effects.{Effect, PendingTimesOut, HopTimesOut, apply, applied, output_of, outputs_of, timed_out_reply, abandoned_if, given_up, given_up_of}
 use Rattle.cip_module.specs.Code.Does.{Does}
 use Rattle.cip_module.specs.Table.{pending_times_out, pending_time_outs, hop_times_out, hop_time_outs, tick_effects}
-use Rattle.cip_module.specs.Code.Ticks.{shown, pendings_timed_out, hop_timed_out, hops_timed_out, pending_time_out, hop_time_out}
+use Rattle.cip_module.specs.Code.Ticks.{TickGives, shown, pendings_timed_out, hop_timed_out, hops_timed_out, pending_time_out, hop_time_out}
+use Rattle.cip_module.specs.declared.tick.steps.TickFault.{TickFault}
 use Rattle.cip_module.specs.State.{State}
 use Rattle.cip_module.proofs.Found.{found_held}
 use Rattle.cip_module.proofs.Walks.{none_left, opens, due_open, first_open}
@@ -211,3 +212,18 @@ ticked config s new us t outs e after out = record {
       (all_hops_timed_out config (applied config at (pending_time_outs (s.now + us) s.pendings)) (hops.due (s.now + us) s.hops))
       ∙ ap (λ k. pendings_timed_out k s.pendings ++ hops_timed_out k s.hops) (sym e) ∙ sym out;
 }
+
+-- where nothing is due, time goes by and nothing else
+pub quiet_tick : (config : ModuleSettings) (s : State) (us t : ℕ) → t ≡ s.now + us → due t s.pendings ≡ [] → hops.due t s.hops ≡ []
+    → Does config s (tick_effects s us) (record s { now = t }) []
+quiet_tick config s us t e waiting open_ =
+    ticked config s (record s { now = t }) us t [] e
+    (sym (ap (λ (ds : List (ℕ × Entry)). applied config (record s { now = t }) (map pending_times_out ds ++ hop_time_outs t s.hops)) waiting
+    ∙ ap (λ (ds : List Hop). applied config (record s { now = t }) (map hop_times_out ds)) open_))
+    (sym (ap (λ (ds : List (ℕ × Entry)). map shown ds ++ hops_timed_out t s.hops) waiting ∙ ap (λ (ds : List Hop). map hop_timed_out ds) open_))
+
+-- what a tick answers from a state that looks the same
+pub gives_from : {V : Type 0} (view : V → List Output) (config config' : ModuleSettings) (s s' new : State) (ms : ℕ) (result : Result V TickFault)
+    → config' ≡ config → s' ≡ s → TickGives view config' s' new ms result → TickGives view config s new ms result
+gives_from view config config' s s' new ms result same is gives =
+    subst (λ (z : ModuleSettings). TickGives view z s new ms result) same (subst (λ (z : State). TickGives view config' z new ms result) is gives)

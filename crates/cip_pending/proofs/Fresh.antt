@@ -1,5 +1,5 @@
 -- What a fresh table keeps.
-use Rattle.std.proofs.Common.{◌≡◌, ℕ, ◌<◌, ◌≤◌, ◌^◌, [], refl, sym, ap, ◌∙◌, arith, Some, None, is_some}
+use Rattle.std.proofs.Common.{◌≡◌, ℕ, ◌<◌, ◌≤◌, ◌^◌, List, [], slice_index_or, refl, sym, ap, ◌∙◌, arith, Option, Some, None, is_some}
 use Rattle.std.specs.List.{count_by}
 use Rattle.std.specs.Ordering.{nat_cmp}
 use Rattle.std.specs.Cmp.{nat_cmp_total}
@@ -41,5 +41,6 @@ module _ (room next : ℕ) (s : Slab Entry) (empty : s.slots ≡ []) where
     spent = omega (arith, small);
     below = λ number key at. absurd (no_number number key at);
     present = finds_none;
+    numbered = λ key x e. let none : None ≡ Some x = ap (λ (o : List (Option Entry)). slice_index_or o key None) (sym empty) ∙ e in absurd (cc);
     distinct = λ m n key a b. absurd (no_number m key a);
   }

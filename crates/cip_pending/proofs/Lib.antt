@@ -3,3 +3,4 @@ pub mod Ticks
 pub mod Steps
 pub mod Fresh
 pub mod Asked
+pub mod Quiet

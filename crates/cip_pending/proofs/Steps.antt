@@ -1,5 +1,5 @@
 -- What each change of the table is in the finite map.
-use Rattle.std.proofs.Common.{◌≡◌, ◌≢◌, ℕ, ◌+◌, ◌-◌, ◌%◌, ◌<◌, ◌≤◌, Bool, true, false, cond, List, length, get_or, refl, sym, ap, subst, ◌∙◌, arith, Option, Some, None, IsSome, nat_le, nat_lt, if◌then◌else◌, find}
+use Rattle.std.proofs.Common.{◌≡◌, ◌≢◌, ◌⊎◌, inl, inr, ℕ, zero, suc, ◌+◌, ◌-◌, ◌%◌, ◌<◌, ◌≤◌, Bool, true, false, cond, List, length, get_or, refl, sym, ap, subst, ◌∙◌, arith, Option, Some, None, IsSome, nat_le, nat_lt, if◌then◌else◌, find}
 use Rattle.std.specs.Option.{option_and_then, option_map_or}
 use Rattle.std.specs.List.{position}
 use Rattle.std.specs.List.Sorted.{IsPartitionPoint}
@@ -21,6 +21,12 @@ use Rattle.cip_pending.specs.declared.entry.Entry.{Entry}
 use Rattle.cip_pending.specs.declared.entry.AddReason.TheVariants.{Full, NumbersSpent}
 use Rattle.cip_pending.specs.Pendings.{Pendings, refusal, added, without, waiting_at, is_due, first_due, first_after, is_asked, is_after, IsWithin}
 use Rattle.cip_pending.specs.Kept.{IsKept, pendings}
+
+same_or_not : (a b : ℕ) → (a ≡ b) ⊎ (a ≢ b)
+same_or_not zero zero = inl refl
+same_or_not zero (suc b) = inr (λ e. cc)
+same_or_not (suc a) zero = inr (λ e. cc)
+same_or_not (suc a) (suc b) = elim (same_or_not a b) [ inl e ↦ inl (ap (λ n. suc n) e) | inr ne ↦ inr (λ e. ne (omega arith)) ]
 
 refusal_by : (p : Pendings) (n : ℕ) → map.len p.entries ≡ n
     → refusal p ≡ (if nat_le p.room n then Some Full else (if nat_lt 65535 ((p.next - 1) % 65536 + 1) then Some NumbersSpent else None))
@@ -96,6 +102,24 @@ module _ (t : Inside) (h : IsKept t) (s : Slab Entry) (key : ℕ) (e : Entry) (v
       (λ number same. subst (λ j. IsSome (get s j)) same (subst (λ (o : Option Entry). IsSome o) (sym updates.changed) refl))
       (λ old. subst (λ (o : Option Entry). IsSome o) (sym (updates.others k (other q k old))) (h.present q k old))
 
+  added_numbered : (k : ℕ) (x : Entry) → get s k ≡ Some x → (number : ℕ) × (map.get (map.insert t.order.keys t.next key) number ≡ Some k)
+  added_numbered k x at = elim (same_or_not k key) [
+    | inl same ↦ (
+      t.next,
+      map.get-insert nat_cmp_total t.order.keys t.next key t.next
+          ∙ ap (λ r. cond (is_eq r) (Some key) (map.get t.order.keys t.next)) (tied_itself nat_cmp_total t.next) ∙ ap (λ (j : ℕ). Some j) (sym same),
+    )
+    | inr ne ↦ let old = h.numbered k x (sym (updates.others k ne) ∙ at) in (
+      old.0,
+      map.get-insert nat_cmp_total t.order.keys t.next key old.0
+          ∙ elim (eq_by_cmp nat_cmp old.0 t.next) as (λ b. eq_by_cmp nat_cmp old.0 t.next ≡ b → cond b (Some key) (map.get t.order.keys old.0) ≡ Some k) [
+            | true ↦ λ tied. let none : None ≡ Some k = sym (next_free t h)
+                ∙ ap (map.get t.order.keys) (sym (tied_name nat_cmp-IsAntisymmetric old.0 t.next tied)) ∙ old.1 in absurd (cc)
+            | false ↦ λ tied. old.1
+          ] refl,
+    )
+  ]
+
   pub view_add : pendings after_add ≡ added (pendings t) e
   view_add =
       let is = view-insert nat_cmp nat_cmp_total nat_cmp-IsAntisymmetric t.order.keys (get t.records) (get s) t.next key e h.present added_present
@@ -117,6 +141,7 @@ module _ (t : Inside) (h : IsKept t) (s : Slab Entry) (key : ℕ) (e : Entry) (v
         spent = omega arith;
         below = λ q k at. by_number (q < t.next + 1) q k at (λ number same. omega arith) (λ old. let below = h.below q k old in omega arith);
         present = added_present;
+        numbered = added_numbered;
         distinct = λ m n k a b. by_number (m ≡ n) m k a
             (λ first same. by_number (m ≡ n) n k b (λ second again. first ∙ sym second) (λ old. absurd (other n k old (sym same))))
             (λ first. by_number (m ≡ n) n k b (λ second same. absurd (other m k first (sym same))) (λ second. h.distinct m n k first second));
@@ -143,6 +168,19 @@ module _ (t : Inside) (h : IsKept t) (s : Slab Entry) (number key : ℕ) (e : En
   dropped_present q k is =
       still (IsSome (get s k)) q k is (λ stood ne. subst (λ (o : Option Entry). IsSome o) (sym (updates.others k ne)) (h.present q k stood))
 
+  dropped_numbered : (k : ℕ) (x : Entry) → get s k ≡ Some x → (q : ℕ) × (map.get (map.remove t.order.keys number) q ≡ Some k)
+  dropped_numbered k x is =
+      let ne : k ≢ key = λ same. let none : None ≡ Some x = sym updates.changed ∙ ap (get s) (sym same) ∙ is in cc in
+      let old = h.numbered k x (sym (updates.others k ne) ∙ is) in (
+        old.0,
+        map.get-remove nat_cmp_total t.order.keys number old.0
+            ∙ elim (eq_by_cmp nat_cmp old.0 number) as (λ b. eq_by_cmp nat_cmp old.0 number ≡ b → cond b None (map.get t.order.keys old.0) ≡ Some k) [
+              | true ↦ λ tied. let both : Some k ≡ Some key = sym old.1
+                  ∙ ap (map.get t.order.keys) (tied_name nat_cmp-IsAntisymmetric old.0 number tied) ∙ at in absurd (ne (let one : k ≡ key = cc in one))
+              | false ↦ λ tied. old.1
+            ] refl,
+      )
+
   not_key : (q k : ℕ) → map.get t.order.keys q ≡ Some k → eq_by_cmp nat_cmp q number ≡ false → k ≢ key
   not_key q k stood tied same =
       let one : q ≡ number = h.distinct q number key (stood ∙ ap (λ (j : ℕ). Some j) same) at in
@@ -167,6 +205,7 @@ module _ (t : Inside) (h : IsKept t) (s : Slab Entry) (number key : ℕ) (e : En
         spent = h.spent;
         below = λ q k is. still (q < t.next) q k is (λ stood ne. h.below q k stood);
         present = dropped_present;
+        numbered = dropped_numbered;
         distinct = λ m n k a b. still (m ≡ n) m k a (λ first ne. still (m ≡ n) n k b (λ second ne. h.distinct m n k first second));
       }
 

@@ -4,6 +4,7 @@ use Rattle.std.specs.FinMap as map
 use Rattle.slab.specs.Slab.{get, slab_len}
 use Rattle.cip_base.specs.Joined.{Finds, joined_map}
 use Rattle.cip_base.specs.Words.{RequestNumber}
+use Rattle.cip_pending.specs.declared.entry.Entry.{Entry}
 use Rattle.cip_pending.specs.declared.table.PendingTable.TheInside.{Inside}
 use Rattle.cip_pending.specs.Pendings.{Pendings}
 
@@ -18,6 +19,9 @@ pub record IsKept (t : Inside) : Type 0 where
   pub below : (number : RequestNumber) (key : ℕ)
       → map.get t.order.keys number ≡ Some key → number < t.next
   pub present : Finds t.order.keys (get t.records)
+  -- each record has a number
+  pub numbered : (key : ℕ) (x : Entry) → get t.records key ≡ Some x
+      → (number : RequestNumber) × (map.get t.order.keys number ≡ Some key)
   -- no two numbers have one key
   pub distinct : (m n : RequestNumber) (key : ℕ)
       → map.get t.order.keys m ≡ Some key → map.get t.order.keys n ≡ Some key → m ≡ n

@@ -1,21 +1,22 @@
 //! The table: records in a slab, and an index of their keys by number. All room is reserved.
-ghost use Rattle.std.specs.Prelude.{◌≡◌, ◌+◌, ◌++◌, ◌<◌, ◌≤◌, false, length, IfOk, ◌==◌, is_ok, is_some, IsTrue, if◌then◌else◌, option_map};
-ghost use Rattle.std.specs.List.{position};
+ghost use Rattle.std.specs.Prelude.{◌≡◌, ℕ, ◌+◌, ◌++◌, ◌<◌, ◌≤◌, ◌||◌, [], false, length, IfOk, ◌==◌, is_ok, is_some, IsTrue, if◌then◌else◌, option_map};
+ghost use Rattle.std.specs.List.{position, list_any};
 ghost use Rattle.std.specs.Ordering.{nat_cmp};
 ghost use Rattle.std.specs.Option.{option_copied, option_to_list};
 ghost use Rattle.std.specs.FinMap as map;
 ghost use Rattle.slab.specs.Slab.{get as get_record};
 ghost use Rattle.cip_base.specs.Counts.{count_of};
 ghost use Rattle.cip_pending.specs.Pendings.{has_next_incarnation, reset, refusal, add_gives, added, waiting_at, without_if, IsWithout, is_due, first_due, due, rest, first_after, is_after, IsWithin};
+ghost use Rattle.cip_pending.specs.Quiet.{is_reached};
 ghost use Rattle.cip_base.specs.Joined.{passes};
 ghost use Rattle.cip_base.specs.Rising.{IsRising, Divides};
 
 use crate::entry::{AddFault, AddReason, Entry};
+use crate::records::Records;
 use cip_base::{
     Address, LAST_COUNT, LAST_INCARNATION, NoMemory, NumberIndex, PortNumber, counts_given,
     incarnation, reborn,
 };
-use slab::Slab;
 use std::alloc::Global;
 use std::marker::Model;
 
@@ -28,7 +29,7 @@ pub struct PendingTable {
     // One past the last that was given: up to 2^32.
     next: u64,
     order: NumberIndex,
-    records: Slab<Entry>,
+    records: Records,
 }
 
 impl Model for PendingTable {
@@ -57,7 +58,7 @@ impl PendingTable {
         ensures { IfOk result (λ t. t ≡ record { room = room; next = first; entries = map.empty }) }
     {
         let order = NumberIndex::with_room(alloc, room)?;
-        let records = Slab::with_capacity(alloc, room)?;
+        let records = Records::with_capacity(alloc, room)?;
         Ok(PendingTable {
             room,
             next: u64::from(first),
@@ -154,6 +155,33 @@ impl PendingTable {
         Some((number, self.records.get(key)?))
     }
 
+    /// The first deadline, in microseconds; None where nothing waits. It looks at each request once.
+    pub fn first_deadline(&self) -> Option<u64>
+        ensures { (time : ℕ) → is_reached time result
+            ≡ list_any (is_due time) (map.entries self.now.entries) }
+    {
+        first_among(self.order.pairs(), &self.records)
+    }
+
+    /// Whether it is known, without a look at the requests, that none is due at `now`, in
+    /// microseconds. It is known until the first deadline that there was at the last `look_ahead`,
+    /// where those that were added since are later.
+    #[inline(always)]
+    pub fn is_quiet(&self, now: u64) -> bool
+        ensures { IsTrue result → due now self.now ≡ [] }
+    {
+        self.records.is_quiet(now)
+    }
+
+    /// Looks at each request for the first deadline, for `is_quiet`. Nothing changes that a caller
+    /// sees otherwise.
+    pub fn look_ahead(&mut self)
+        ensures { self.new ≡ self.old }
+    {
+        let first = self.first_deadline();
+        self.records.look_ahead(first);
+    }
+
     /// Whether a reset can follow: an incarnation is left after this one.
     pub fn can_reset(&self) -> bool
         ensures { result ≡ has_next_incarnation self.now }
@@ -189,13 +217,13 @@ impl PendingTable {
 }
 
 // Where the first number stands whose record is due.
-fn first_due_place(pairs: &[(u32, usize)], records: &Slab<Entry>, now: u64) -> Option<usize>
+fn first_due_place(pairs: &[(u32, usize)], records: &Records, now: u64) -> Option<usize>
     ensures { result ≡ position (passes (is_due now) (get_record records.now)) pairs.now }
 {
     pairs.iter().position(|p| is_due_at(records, p.1, now))
 }
 
-fn is_due_at(records: &Slab<Entry>, key: usize, now: u64) -> bool
+fn is_due_at(records: &Records, key: usize, now: u64) -> bool
     ensures { result ≡ passes (is_due now) (get_record records.now) (0, key) }
 {
     match records.get(key) {
@@ -214,4 +242,38 @@ fn place_after(pairs: &[(u32, usize)], after: Option<u32>) -> usize
         None => 0,
         Some(last) => pairs.partition_point(|&(number, _)| number <= last),
     }
+}
+
+// The earlier of two, where None is never.
+fn earlier(first: Option<u64>, second: Option<u64>) -> Option<u64>
+    ensures { (time : ℕ) → is_reached time result
+        ≡ (is_reached time first || is_reached time second) }
+{
+    match (first, second) {
+        (Some(one), Some(other)) => Some(one.min(other)),
+        (Some(one), None) => Some(one),
+        (None, other) => other,
+    }
+}
+
+fn deadline_at(records: &Records, number: u32, key: usize) -> Option<u64>
+    ensures { (time : ℕ) → is_reached time result
+        ≡ passes (is_due time) (get_record records.now) (number, key) }
+{
+    match records.get(key) {
+        Some(entry) => Some(entry.deadline),
+        None => None,
+    }
+}
+
+// The first deadline of these numbers.
+fn first_among(pairs: &[(u32, usize)], records: &Records) -> Option<u64>
+    ensures { (time : ℕ) → is_reached time result
+        ≡ list_any (passes (is_due time) (get_record records.now)) pairs.now }
+{
+    let mut first = None;
+    for pair in pairs {
+        first = earlier(first, deadline_at(records, pair.0, pair.1));
+    }
+    first
 }

@@ -1,5 +1,6 @@
 //! The tick group: time that goes by.
-ghost use Rattle.std.specs.Prelude.{◌≡◌, ◌++◌};
+ghost use Rattle.std.specs.Prelude.{◌≡◌, ◌++◌, [], IsTrue};
+ghost use Rattle.cip_pending.specs.Pendings as pendings;
 ghost use Rattle.cip_hops.specs.Hops.{due};
 ghost use Rattle.cip_module.specs.Effects.{applied};
 ghost use Rattle.cip_module.specs.Table.{pending_time_outs, hop_time_outs};
@@ -19,6 +20,22 @@ pub(crate) enum TickFault {
 }
 
 impl Device {
+    // Whether nothing is due at this time. The tables are looked at where it is not known.
+    fn is_quiet(&mut self, now: u64) -> bool
+        ensures pendings { IsTrue result → pendings.due now self.old.pendings ≡ [] }
+        ensures hops { IsTrue result → due now self.old.hops ≡ [] }
+        ensures after { state_of_device self.new ≡ state_of_device self.old }
+        ensures config { self.new.config ≡ self.old.config }
+    {
+        if !self.pendings.is_quiet(now) {
+            self.pendings.look_ahead();
+        }
+        if !self.hops.is_quiet(now) {
+            self.hops.look_ahead();
+        }
+        self.pendings.is_quiet(now) && self.hops.is_quiet(now)
+    }
+
     // So many milliseconds go by: what is due goes up, in rising number, then what was silent is
     // gone, in rising triad.
     pub(crate) fn tick(&mut self, by: Ms) -> Result<Vec<Output>, TickFault>
@@ -31,6 +48,10 @@ impl Device {
             return Err(TickFault::Full);
         };
         let now = clock.now();
+        if self.is_quiet(now) {
+            self.clock = clock;
+            return Ok(Vec::new(self.alloc));
+        }
         let Ok(outputs) = timed_out_all(self.alloc, &self.pendings, &self.hops, now) else {
             return Err(TickFault::OutOfMemory);
         };

@@ -1,11 +1,11 @@
-use Rattle.std.proofs.Common.{◌≡◌, Some, sym, ap, subst, ◌∙◌}
+use Rattle.std.proofs.Common.{sym, ap, subst, ◌∙◌}
+use Rattle.slab.specs.Slab.{Slab}
 use Rattle.cip_hops.specs.declared.hop.Held.{Held}
 use Rattle.cip_hops.specs.declared.hop.Change.TheVariants.{Touch}
-use Rattle.cip_hops.specs.Changes.{change_of}
 use Rattle.cip_hops.specs.Onwards.{onward_of}
 use Rattle.cip_hops.specs.Kept.{IsKept, hops}
-use Rattle.cip_hops.proofs.Changes.{written}
-use Rattle.cip_hops.proofs.Onwards.{no_hop, no_record, no_open, elsewhere, one_hop, kept_on, gone_on}
+use Rattle.cip_hops.proofs.Changes.{with_records, changed_one, meant_one}
+use Rattle.cip_hops.proofs.Onwards.{no_hop, no_record, no_open, elsewhere, one_hop, meant_on, kept_on, gone_on}
 use Rattle.cip_hops.proofs.table.HopTable.pass_on.Goals as goal
 
 pub returns-in_err-key-clause-value : goal.returns-in_err-key-clause-value
@@ -45,11 +45,18 @@ returns-in_err-onward-clause-value c =
     c.in_ok-key.key (sym c.in_ok-key.ensures)
     c.in_ok-get.field-0.now (sym c.in_ok-get.ensures) c.in_ok-hop.hop.now (sym c.in_ok-hop.ensures) (sym c.if-not-is_at.ensures)))
 
+pub change-requires : goal.change-requires
+change-requires c =
+    meant_one c.self.inside.records c.in_ok-key.key (Touch c.args.side c.args.now) c.in_ok-get.field-0.now (sym c.in_ok-get.ensures)
+    (meant_on c.self.inside c.self.invariant c.args.self.now c.self.view_is c.args.id c.args.port c.args.address.now c.args.side
+    c.in_ok-key.key (sym c.in_ok-key.ensures)
+    c.in_ok-get.field-0.now (sym c.in_ok-get.ensures) c.in_ok-hop.hop.now (sym c.in_ok-hop.ensures) c.args.now c.requires)
+
 pub invariant_of-self : goal.invariant_of-self
 invariant_of-self c =
-    let both : Some c.in-Some.held.now ≡ Some c.in_ok-get.field-0.now = c.in-Some.ensures.value ∙ sym c.in_ok-get.ensures in
-    let one : c.in-Some.held.now ≡ c.in_ok-get.field-0.now = cc in
-    subst (λ (y : Held). IsKept (written c.self.inside c.in_ok-key.key y)) (sym (c.change.ensures ∙ ap (change_of (Touch c.args.side c.args.now)) one))
+    let is = changed_one c.self.inside.records c.in_ok-key.key (Touch c.args.side c.args.now) c.change.new.self c.in_ok-get.field-0.now
+    (sym c.in_ok-get.ensures) c.change.ensures in
+    subst (λ (r : Slab Held). IsKept (with_records c.self.inside r)) (sym is)
     (kept_on c.self.inside c.self.invariant c.args.self.now c.self.view_is c.args.id c.args.port c.args.address.now c.args.side
     c.in_ok-key.key (sym c.in_ok-key.ensures)
     c.in_ok-get.field-0.now (sym c.in_ok-get.ensures) c.in_ok-hop.hop.now (sym c.in_ok-hop.ensures) c.args.now c.requires)
@@ -63,9 +70,9 @@ returns-clause-value c = c.in_ok-onward.ensures
 
 pub returns-clause-after : goal.returns-clause-after
 returns-clause-after c =
-    let both : Some c.in-Some.held.now ≡ Some c.in_ok-get.field-0.now = c.in-Some.ensures.value ∙ sym c.in_ok-get.ensures in
-    let one : c.in-Some.held.now ≡ c.in_ok-get.field-0.now = cc in
-    ap (λ (y : Held). hops (written c.self.inside c.in_ok-key.key y)) (c.change.ensures ∙ ap (change_of (Touch c.args.side c.args.now)) one)
+    let is = changed_one c.self.inside.records c.in_ok-key.key (Touch c.args.side c.args.now) c.change.new.self c.in_ok-get.field-0.now
+    (sym c.in_ok-get.ensures) c.change.ensures in
+    ap (λ (r : Slab Held). hops (with_records c.self.inside r)) is
     ∙ gone_on c.self.inside c.self.invariant c.args.self.now c.self.view_is c.args.id c.args.port c.args.address.now c.args.side
     c.in_ok-key.key (sym c.in_ok-key.ensures)
     c.in_ok-get.field-0.now (sym c.in_ok-get.ensures) c.in_ok-hop.hop.now (sym c.in_ok-hop.ensures) c.args.now
