@@ -1,19 +1,24 @@
 -- What a tick does before the first deadline, and what at it.
 use Rattle.std.proofs.Common.{◌≡◌, ◌≢◌, ℕ, ◌+◌, ◌*◌, ◌^◌, ◌<◌, ◌≤◌, Bool, true, false, ◌||◌, List, [], ◌∷◌, ◌++◌, map, nat_lt, if◌then◌else◌, refl, sym, ap, ◌∙◌, IfSome, Option, Some, None}
-use Rattle.std.specs.List.{filter, list_any}
+use Rattle.std.specs.List.{filter, filter_map, cons_option, list_any}
+use Rattle.std.specs.Option.{option_map_or}
 use Rattle.std.specs.FinMap as finite
 use Rattle.std.proofs.lemmas.Bool.{le-leb, lt-leb}
 use Rattle.cip_pending.specs.Pendings.{is_due, due}
-use Rattle.cip_hops.specs.Hops.{is_past, is_timed_out}
+use Rattle.cip_base.specs.declared.triad.Triad.{Triad}
+use Rattle.cip_hops.specs.declared.hop.Hop.{Hop}
+use Rattle.cip_hops.specs.declared.hop.Held.{Held}
+use Rattle.cip_hops.specs.declared.hop.Held.TheVariants.{Opening as IsOpening, Open}
+use Rattle.cip_hops.specs.Hops.{is_past, is_timed_out, is_entry_due, as_hop}
 use Rattle.cip_hops.specs.Hops as hops
 use Rattle.cip_config.specs.declared.config.ModuleSettings.{ModuleSettings}
 use Rattle.cip_event.specs.declared.event.Event.TheVariants as events
-use Rattle.cip_module.specs.declared.tables.Tables.{Tables}
+use Rattle.cip_module.specs.Deadlines.{is_any_due as is_due_at}
 use Rattle.cip_module.specs.Code.Ticks.{shown, hop_timed_out}
 use Rattle.cip_module.specs.Effects.{Effect, Advances, applied, outputs_of}
 use Rattle.cip_module.specs.State.{State}
 use Rattle.cip_module.specs.Table.{Stepped, table_step, after_effects, tick_effects, pending_times_out, hop_times_out, hop_time_outs}
-use Rattle.cip_module.specs.Views.{row_of, hop_row_of, ShowsState}
+use Rattle.cip_module.specs.Views.{row_of, hop_row_of}
 use Rattle.cip_module.proofs.TimeOuts.{ticked}
 use Rattle.cip_module.proofs.Walks.{due_open, opens}
 use Rattle.cip_device.specs.Deadlines.{is_given_up, is_silent, is_any_due, IsStill, IsSoonest}
@@ -54,6 +59,15 @@ neither false b e = (refl, e)
 both_false : (a b : Bool) → a ≡ false → b ≡ false → (a || b) ≡ false
 both_false a b first second = ap (λ c. c || b) first ∙ second
 
+either_head : (p : Hop → Bool) (x : Held) (xs : List Hop) → (option_map_or p (as_hop x) false || list_any p xs) ≡ list_any p (cons_option (as_hop x) xs)
+either_head p (IsOpening o ids) xs = refl
+either_head p (Open hop) xs = refl
+
+-- what is due of all that is held, and of what is open
+open_due : (time : ℕ) (es : List (Triad × Held)) → list_any (is_entry_due time) es ≡ list_any (is_timed_out time) (filter_map (λ e. as_hop e.1) es)
+open_due time [] = refl
+open_due time (e ∷ es) = ap (λ b. is_entry_due time e || b) (open_due time es) ∙ either_head (is_timed_out time) e.1 (filter_map (λ f. as_hop f.1) es)
+
 -- ---- a tick
 
 -- where nothing is due at a time, nothing is found due
@@ -66,6 +80,12 @@ module _ (s : State) (time : ℕ) where
 
   connections_due : list_any (is_silent time) (connections_of s) ≡ list_any (is_timed_out time) (opens s.hops)
   connections_due = any_mapped (is_silent time) hop_row_of (opens s.hops)
+
+  -- the same by the tables as they stand
+  pub rows_due : is_due_at time s ≡ any_due
+  rows_due =
+      ap (λ b. b || list_any (is_entry_due time) (finite.entries s.hops.held)) (sym pendings_due)
+      ∙ ap (λ b. list_any (is_given_up time) (pendings_of s) || b) (open_due time (finite.entries s.hops.held) ∙ sym connections_due)
 
   none_due : any_due ≡ false → (due time s.pendings ≡ []) × (hops.due time s.hops ≡ [])
   none_due e =
@@ -118,27 +138,26 @@ module _ (config : ModuleSettings) (s : State) (ms : ℕ) where
 
 -- ---- the first deadline
 
--- the first time at which something is due, of the tables as they are shown
-pub record IsFirst (s : Shown) (tables : Tables) (first : Option ℕ) : Type 0 where
-  pub shows : ShowsState s.state tables
-  pub due : (time : ℕ) → is_past time first ≡ is_any_due time tables.pendings tables.hops
+-- the first time at which something is due, and the time that it is
+pub record IsFirst (s : Shown) (now : ℕ) (first : Option ℕ) : Type 0 where
+  pub time_is : now ≡ s.state.now
+  pub due : (time : ℕ) → is_past time first ≡ is_due_at time s.state
 
-module _ (s : Shown) (tables : Tables) (first : Option ℕ) (h : IsFirst s tables first) where
+module _ (s : Shown) (now : ℕ) (first : Option ℕ) (h : IsFirst s now first) where
   due_at : (time : ℕ) → is_past time first ≡ any_due s.state time
-  due_at time = h.due time ∙ ap (λ rows. is_any_due time rows tables.hops) h.shows.pendings
-      ∙ ap (λ rows. is_any_due time (pendings_of s.state) rows) h.shows.hops
+  due_at time = h.due time ∙ rows_due s.state time
 
   pub at_rest : first ≡ None → (ms : ℕ) → IsStill s ms
   at_rest none ms = still s.config s.state ms (sym (due_at (s.state.now + 1000 * ms)) ∙ ap (is_past (s.state.now + 1000 * ms)) none)
 
-  pub soonest : (deadline ms : ℕ) → first ≡ Some deadline → 0 < ms → deadline ≤ tables.now + 1000 * ms
-      → ((shorter : ℕ) → 0 < shorter → shorter < ms → tables.now + 1000 * shorter < deadline) → IsSoonest s ms
+  pub soonest : (deadline ms : ℕ) → first ≡ Some deadline → 0 < ms → deadline ≤ now + 1000 * ms
+      → ((shorter : ℕ) → 0 < shorter → shorter < ms → now + 1000 * shorter < deadline) → IsSoonest s ms
   soonest deadline ms is some past least =
-      let at : (k : ℕ) → is_past (s.state.now + 1000 * k) first ≡ is_past (tables.now + 1000 * k) (Some deadline) = λ k.
-      ap (λ now. is_past (now + 1000 * k) first) (sym h.shows.now) ∙ ap (is_past (tables.now + 1000 * k)) is in
+      let at : (k : ℕ) → is_past (s.state.now + 1000 * k) first ≡ is_past (now + 1000 * k) (Some deadline) = λ k.
+      ap (λ t. is_past (t + 1000 * k) first) (sym h.time_is) ∙ ap (is_past (now + 1000 * k)) is in
       record {
         some = some;
         before = λ k positive below. still s.config s.state k
-            (sym (due_at (s.state.now + 1000 * k)) ∙ at k ∙ lt-leb deadline (tables.now + 1000 * k) (least k positive below));
-        then_ = happens s.config s.state ms (sym (due_at (s.state.now + 1000 * ms)) ∙ at ms ∙ le-leb deadline (tables.now + 1000 * ms) past);
+            (sym (due_at (s.state.now + 1000 * k)) ∙ at k ∙ lt-leb deadline (now + 1000 * k) (least k positive below));
+        then_ = happens s.config s.state ms (sym (due_at (s.state.now + 1000 * ms)) ∙ at ms ∙ le-leb deadline (now + 1000 * ms) past);
       }

@@ -1,6 +1,8 @@
 //! What lies on the heap behind a handle.
-ghost use Rattle.std.specs.Prelude.{◌≡◌, ◌≢◌, ◌↔◌, ◌<◌, ◌≤◌, [], true, length, find, option_map, Some, IfOk};
+ghost use Rattle.std.specs.Prelude.{◌≡◌, ◌≢◌, ◌↔◌, ℕ, ◌<◌, ◌≤◌, [], true, length, find, option_map, Some, IfOk};
 ghost use Rattle.cip_indexed.specs.NewModules.{config_of_new, state_of_new};
+ghost use Rattle.cip_hops.specs.Hops.{is_past};
+ghost use Rattle.cip_module.specs.Deadlines.{is_any_due};
 ghost use Rattle.cip_module.specs.State.{initial_state};
 ghost use Rattle.cip_module.specs.Steps.{IsStep, IsStepFault};
 ghost use Rattle.cip_module.specs.Views.{ShowsState};
@@ -11,7 +13,7 @@ ghost use Rattle.cip_device.specs.Rows.{IsConnectionAt, IsPendingAt, NoConnectio
 ghost use Rattle.cip_device.specs.Deadlines.{IsSoonest, IsAtRest};
 ghost use Rattle.cip_device.specs.Statuses.{IsNextStatus, IsReadStatus, IsStepStatus, IsTableStatus};
 
-use crate::deadlines::{first_due, milliseconds_until};
+use crate::deadlines::milliseconds_until;
 use crate::numbers::{CLOCK_FULL, DONE, NO_MEMORY, NOTHING, SHORT, UNREAD};
 use crate::output::{CipOutput, outline, payload};
 use crate::rows::{CipConnectionRow, CipPendingRow, connection_of, pending_of};
@@ -44,6 +46,28 @@ fn module_tables(module_: &NewModule) -> Result<Tables, NoMemory>
         NewModule::Plain(inner) => inner.as_ref().tables(),
         NewModule::Adapter(inner) => inner.as_ref().tables(),
         NewModule::Indexed(inner) => inner.as_ref().tables(),
+    }
+}
+
+// The time of a module of any kind, in microseconds.
+fn module_now(module_: &NewModule) -> u64
+    ensures { result ≡ (state_of_new module_.now).now }
+{
+    match module_ {
+        NewModule::Plain(inner) => inner.as_ref().now(),
+        NewModule::Adapter(inner) => inner.as_ref().now(),
+        NewModule::Indexed(inner) => inner.as_ref().now(),
+    }
+}
+
+// The first time at which something is due at a module of any kind; None where nothing ever is.
+fn module_deadline(module_: &NewModule) -> Option<u64>
+    ensures { (time : ℕ) → is_past time result ≡ is_any_due time (state_of_new module_.now) }
+{
+    match module_ {
+        NewModule::Plain(inner) => inner.as_ref().first_deadline(),
+        NewModule::Adapter(inner) => inner.as_ref().first_deadline(),
+        NewModule::Indexed(inner) => inner.as_ref().first_deadline(),
     }
 }
 
@@ -191,21 +215,18 @@ impl Held {
         DONE
     }
 
-    /// The shortest tick at which something happens: NOTHING where none does anything, NO_MEMORY.
+    /// The shortest tick at which something happens: NOTHING where none does anything. It looks at
+    /// each request and each connection once, and takes no memory.
     pub(crate) fn next_deadline(&self, milliseconds: &mut u64) -> u32
         ensures done { result ≡ 0 → IsSoonest (shown_of self.now) milliseconds.new }
         ensures known { result ≢ 1 }
         ensures nothing { result ≡ 7 → IsAtRest (Some (shown_of self.now)) }
         ensures among { IsTableStatus result }
     {
-        let Ok(tables) = module_tables(&self.module_) else {
-            return NO_MEMORY;
-        };
-        let due = first_due(tables.pendings.as_slice(), tables.hops.as_slice());
-        let Some(deadline) = due else {
+        let Some(deadline) = module_deadline(&self.module_) else {
             return NOTHING;
         };
-        *milliseconds = milliseconds_until(tables.now, deadline);
+        *milliseconds = milliseconds_until(module_now(&self.module_), deadline);
         DONE
     }
 }

@@ -1,6 +1,8 @@
 //! A module that originates, routes and answers. What goes on of a message, and what goes up, is
 //! the buffer in which it came.
-ghost use Rattle.std.specs.Prelude.{◌≡◌, ◌<◌, [], IfOk};
+ghost use Rattle.std.specs.Prelude.{◌≡◌, ℕ, ◌<◌, [], IfOk};
+ghost use Rattle.cip_hops.specs.Hops.{is_past};
+ghost use Rattle.cip_module.specs.Deadlines.{is_any_due};
 ghost use Rattle.std.specs.Vec.{vec_capacity};
 ghost use Rattle.cip_config.specs.declared.config.ModuleKind.{ModuleKind as Kind};
 ghost use Rattle.cip_event.specs.declared.event.Body.TheVariants as bodies;
@@ -36,6 +38,21 @@ impl IndexedModule {
     {
         let device = Device::new(alloc, config)?;
         Ok(IndexedModule { device, alloc })
+    }
+
+    /// Its time, in microseconds.
+    pub fn now(&self) -> u64
+        ensures { result ≡ (state_of_indexed self.now).now }
+    {
+        self.device.now()
+    }
+
+    /// The first time, in microseconds, at which a request is given up or a side of a connection has
+    /// been silent for too long; None where nothing waits. It takes no memory.
+    pub fn first_deadline(&self) -> Option<u64>
+        ensures { (time : ℕ) → is_past time result ≡ is_any_due time (state_of_indexed self.now) }
+    {
+        self.device.first_deadline()
     }
 
     // A request: its bytes go on, edited, or it comes back whole.

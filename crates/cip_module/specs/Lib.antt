@@ -22,3 +22,4 @@ pub mod Rising
 pub mod Views
 pub mod Reactions
 pub mod Code
+pub mod Deadlines

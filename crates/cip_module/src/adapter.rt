@@ -1,5 +1,7 @@
 //! A module with one port that answers, and sends no request on.
-ghost use Rattle.std.specs.Prelude.{◌≡◌, IfOk};
+ghost use Rattle.std.specs.Prelude.{◌≡◌, ℕ, IfOk};
+ghost use Rattle.cip_hops.specs.Hops.{is_past};
+ghost use Rattle.cip_module.specs.Deadlines.{is_any_due};
 ghost use Rattle.cip_config.specs.declared.config.ModuleKind.{ModuleKind as Kind};
 ghost use Rattle.cip_module.specs.State.{initial_state};
 ghost use Rattle.cip_module.specs.Code.Device.{config_of_adapter, state_of_adapter};
@@ -27,6 +29,21 @@ impl AdapterModule {
     {
         let device = Device::new(alloc, config)?;
         Ok(AdapterModule { device })
+    }
+
+    /// Its time, in microseconds.
+    pub fn now(&self) -> u64
+        ensures { result ≡ (state_of_adapter self.now).now }
+    {
+        self.device.now()
+    }
+
+    /// The first time, in microseconds, at which a request is given up or a side of a connection has
+    /// been silent for too long; None where nothing waits. It takes no memory.
+    pub fn first_deadline(&self) -> Option<u64>
+        ensures { (time : ℕ) → is_past time result ≡ is_any_due time (state_of_adapter self.now) }
+    {
+        self.device.first_deadline()
     }
 }
 

@@ -1,7 +1,8 @@
 //! What the modules of each kind share: their tables, which fit one another.
-ghost use Rattle.std.specs.Prelude.{◌≡◌, IfOk};
+ghost use Rattle.std.specs.Prelude.{◌≡◌, ℕ, IfOk};
 ghost use Rattle.std.specs.Option.{option_map};
-ghost use Rattle.cip_hops.specs.Hops.{hop_by_op, hop_by_up};
+ghost use Rattle.cip_hops.specs.Hops.{hop_by_op, hop_by_up, is_past};
+ghost use Rattle.cip_module.specs.Deadlines.{is_any_due};
 ghost use Rattle.cip_target.specs.Ends.{fresh};
 ghost use Rattle.cip_config.specs.declared.config.ModuleSettings.{ModuleSettings as Settings};
 ghost use Rattle.cip_module.specs.Views.{hop_row_of};
@@ -71,6 +72,26 @@ impl Device {
         ensures { result.now ≡ self.now.config }
     {
         &self.config
+    }
+
+    /// Its time, in microseconds.
+    pub fn now(&self) -> u64
+        ensures { result ≡ (state_of_device self.now).now }
+    {
+        self.clock.now()
+    }
+
+    /// The first time, in microseconds, at which a request is given up or a side of a connection has
+    /// been silent for too long; None where nothing waits. It looks at each once, and takes no
+    /// memory.
+    pub fn first_deadline(&self) -> Option<u64>
+        ensures { (time : ℕ) → is_past time result ≡ is_any_due time (state_of_device self.now) }
+    {
+        match (self.pendings.first_deadline(), self.hops.first_deadline()) {
+            (Some(one), Some(other)) => Some(one.min(other)),
+            (Some(one), None) => Some(one),
+            (None, other) => other,
+        }
     }
 
     /// The row of the connection that a command of this op opened; NoMemory where an allocation is
