@@ -1,4 +1,5 @@
 pub mod Walked
+pub mod Indexes
 pub mod Opened
 pub mod Nexts
 pub mod Followed

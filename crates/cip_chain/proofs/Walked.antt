@@ -1,9 +1,10 @@
 -- The entries of a journal that is kept oldest first, one more at a time.
 use Rattle.std.proofs.Common.{◌≡◌, ℕ, zero, suc, ◌+◌, ◌≤◌, ◌<◌, Bool, true, false, cond, List, [], ◌∷◌, ◌++◌, length}
-use Rattle.std.proofs.Common.{reverse, take, Option, Some, None, refl, sym, ap, ◌∙◌, eqb, get_or, append-nil, arith}
+use Rattle.std.proofs.Common.{◌-◌, subst, reverse, take, Option, Some, None, refl, sym, ap, ◌∙◌, eqb, get_or, append-nil, arith}
 use Rattle.std.specs.Prelude.{slice_get, option_and_then}
 use Rattle.std.proofs.lemmas.Bool.{eq-eqb, ne_eqb, eqb-true, eqb-false}
 use Rattle.std.proofs.lemmas.List.{length-reverse, length-take, reverse-append}
+use Rattle.std.proofs.Math.Seq.{take-length}
 use Rattle.cip_world.specs.declared.journal.Entry.{Entry}
 use Rattle.cip_world.specs.Journals.{Journal}
 use Rattle.cip_world.specs.Journals.{entry_at}
@@ -12,7 +13,9 @@ use Rattle.cip_world.proofs.StepAt.{at_place}
 use Rattle.cip_world.specs.Trails.{request_by, request_of, trail_of}
 use Rattle.cip_world.specs.declared.journal.FrameName.{FrameName}
 use Rattle.cip_world.proofs.TrailGrows.{tip, arrived, goes_on, if_so, grows, no_trail, request_older}
-use Rattle.cip_chain.specs.Seeking.{is_next, seeks, sought_behind}
+use Rattle.cip_chain.specs.declared.trails.Sought.{Sought}
+use Rattle.cip_chain.specs.declared.trails.Sought.TheVariants.{Command, Arrival, Nothing}
+use Rattle.cip_chain.specs.Seeking.{is_next, is_nothing, seeks, sought_behind}
 
 pub taken_more : {A : Type 0} (xs : List A) (n : ℕ) (x : A) → slice_get xs n ≡ Some x → take (suc n) xs ≡ take n xs ++ x ∷ []
 taken_more [] n x e = absurd (cc)
@@ -162,3 +165,40 @@ module _ (es : List Entry) (k : ℕ) (e : Entry) (m op : ℕ) (at : slice_get es
         ap (λ (j : Journal). trail_of j m op) one ∙ both.0,
         ap (λ (j : Journal). sought_behind j (tip (trail_of j m op))) one ∙ both.1,
       )
+
+-- ---- the end of a trail
+
+pub is_at_end : (x : Sought) → is_nothing x ≡ true → x ≡ Nothing
+is_at_end Command h = absurd (cc)
+is_at_end (Arrival f) h = absurd (cc)
+is_at_end Nothing h = refl
+
+module _ (es : List Entry) (m op : ℕ) where
+  abbrev first_of : ℕ → Journal
+  first_of n = reverse (take n es)
+
+  abbrev ends_at : ℕ → Type 0
+  ends_at n = sought_behind (first_of n) (tip (trail_of (first_of n) m op)) ≡ Nothing
+
+  one_past : (n : ℕ) (o : Option Entry) → slice_get es n ≡ o → n < length es → ends_at n
+      → (trail_of (first_of (n + 1)) m op ≡ trail_of (first_of n) m op) × ends_at (n + 1)
+  one_past n None at l end = absurd (got es n l at)
+  one_past n (Some e) at l end =
+      let so = walks_past es n e m op at (ap (λ (x : Sought). is_next m op x e) end) in (so.0, so.1 ∙ end)
+
+  all_past : (d n i : ℕ) → i ≡ n + d → i ≤ length es → ends_at n → (trail_of (first_of i) m op ≡ trail_of (first_of n) m op) × ends_at i
+  all_past zero n i is most end =
+      let same : n ≡ i = omega (arith, is) in (ap (λ (k : ℕ). trail_of (first_of k) m op) (sym same), subst (λ (k : ℕ). ends_at k) same end)
+  all_past (suc d) n i is most end =
+      let before = all_past d n (n + d) refl (omega (arith, is, most)) end in
+      let after = one_past (n + d) (slice_get es (n + d)) refl (omega (arith, is, most)) before.1 in
+      let same : (n + d) + 1 ≡ i = omega (arith, is) in (
+        ap (λ (k : ℕ). trail_of (first_of k) m op) (sym same) ∙ after.0 ∙ before.0,
+        subst (λ (k : ℕ). ends_at k) same after.1,
+      )
+
+  -- what stands behind its end is no part of it
+  pub walk_ends : (k : ℕ) → k < length es → ends_at (k + 1) → trail_of (reverse es) m op ≡ trail_of (first_of (k + 1)) m op
+  walk_ends k l end =
+      let past = all_past (length es - (k + 1)) (k + 1) (length es) (omega (arith, l)) (omega arith) end in
+      ap (λ (xs : List Entry). trail_of (reverse xs) m op) (sym (take-length es)) ∙ past.0

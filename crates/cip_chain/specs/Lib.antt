@@ -1,3 +1,4 @@
 pub mod Seeking
 pub mod Found
 pub mod Answers
+pub mod Index

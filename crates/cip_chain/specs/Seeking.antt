@@ -1,5 +1,5 @@
 -- What a trail goes on by, as the code keeps it.
-use Rattle.std.specs.Prelude.{ℕ, Bool, false, Option, Some, None}
+use Rattle.std.specs.Prelude.{ℕ, Bool, true, false, Option, Some, None}
 use Rattle.cip_world.specs.declared.journal.Entry.{Entry}
 use Rattle.cip_world.specs.declared.journal.FrameName.{FrameName}
 use Rattle.cip_world.specs.Journals.{Journal}
@@ -12,6 +12,11 @@ abbrev pub is_next : ℕ → ℕ → Sought → Entry → Bool
 is_next m op Command e = is_command m op e
 is_next m op (Arrival f) e = arrived_in f e
 is_next m op Nothing e = false
+
+abbrev pub is_nothing : Sought → Bool
+is_nothing Command = false
+is_nothing (Arrival f) = false
+is_nothing Nothing = true
 
 -- behind an entry that sent this request
 abbrev pub seeks : Option FrameName → Sought

@@ -3,12 +3,14 @@
 #![tactic(auto)]
 
 mod chains;
+mod index;
 mod laws;
 mod roots;
 mod seeking;
 mod trails;
 
 pub use chains::{ChainEnd, ChainFault, ChainView, Modules, chain};
+pub use index::TrailIndex;
 pub use laws::answers_exclude_one_another;
 pub use roots::root;
 pub use trails::trail;

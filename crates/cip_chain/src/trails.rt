@@ -6,7 +6,7 @@ ghost use Rattle.cip_world.specs.RepliesTell.{RepliesTell};
 ghost use Rattle.cip_world.specs.Runs.{IsRun};
 ghost use Rattle.cip_world.specs.TrailTells.{TrailTells};
 ghost use Rattle.cip_world.specs.Trails.{is_refusal, opens_or_sends, asks_for, is_command, is_request_sent, request_from, request_by, arrived_in, trail_of};
-ghost use Rattle.cip_chain.specs.Seeking.{is_next, seeks};
+ghost use Rattle.cip_chain.specs.Seeking.{is_next, is_nothing, seeks};
 
 use cip_base::{ModuleId, NoMemory};
 use cip_module::{Body, Command, Output};
@@ -33,7 +33,7 @@ fn is_refusal(output: &Output) -> bool
     }
 }
 
-fn is_refused(outputs: &[Output]) -> bool
+pub(crate) fn is_refused(outputs: &[Output]) -> bool
     ensures { result ≡ list_any is_refusal outputs.now }
 {
     outputs.iter().any(|output| is_refusal(output))
@@ -86,7 +86,7 @@ fn is_request(output: &Output) -> bool
 }
 
 // The place of the first request among outputs.
-fn first_request(outputs: &[Output]) -> Option<usize>
+pub(crate) fn first_request(outputs: &[Output]) -> Option<usize>
     ensures { result ≡ request_from 0 outputs.now }
 {
     for i in 0..outputs.len() {
@@ -133,6 +133,16 @@ fn is_next(entry: &Entry, at: ModuleId, op: u32, sought: Sought) -> bool
     }
 }
 
+// Whether a trail is at its end.
+fn is_nothing(sought: Sought) -> bool
+    ensures { result ≡ is_nothing sought }
+{
+    match sought {
+        Sought::Nothing => true,
+        _ => false,
+    }
+}
+
 // What stands behind entry k.
 fn behind(entry: &Entry, k: usize) -> Sought
     ensures { result ≡ seeks (request_by k entry.now) }
@@ -141,6 +151,30 @@ fn behind(entry: &Entry, k: usize) -> Sought
         Some(name) => Sought::Arrival(name),
         None => Sought::Nothing,
     }
+}
+
+// Entry by entry, up to where nothing more can come.
+pub(crate) fn walk(
+    alloc: Global,
+    journal: &[Entry],
+    at: ModuleId,
+    op: u32,
+) -> Result<Vec<usize>, NoMemory>
+    ensures { IfOk result (λ ks. ks.items ≡ trail_of (reverse journal.now) at.0 op) }
+{
+    let mut trail = Vec::new(alloc);
+    let mut sought = Sought::Command;
+    for k in 0..journal.len() {
+        let entry = &journal[k];
+        if is_next(entry, at, op, sought) {
+            trail.push(k)?;
+            sought = behind(entry, k);
+            if is_nothing(sought) {
+                return Ok(trail);
+            }
+        }
+    }
+    Ok(trail)
 }
 
 /// The numbers of the entries to which the request of a command went, in a journal that stands
@@ -165,14 +199,5 @@ pub fn trail(
     ensures replies { (t : Plan) → IsTopology t → IsRun t (reverse journal.now)
         → RepliesTell t (reverse journal.now) }
 {
-    let mut trail = Vec::new(alloc);
-    let mut sought = Sought::Command;
-    for k in 0..journal.len() {
-        let entry = &journal[k];
-        if is_next(entry, at, op, sought) {
-            trail.push(k)?;
-            sought = behind(entry, k);
-        }
-    }
-    Ok(trail)
+    walk(alloc, journal, at, op)
 }

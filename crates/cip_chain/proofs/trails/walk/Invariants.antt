@@ -2,7 +2,7 @@ use Rattle.std.proofs.Common.{◌≡◌, reverse, take}
 use Rattle.cip_world.specs.Trails.{trail_of}
 use Rattle.cip_world.proofs.TrailGrows.{tip}
 use Rattle.cip_chain.specs.Seeking.{sought_behind}
-use Rattle.cip_chain.proofs.trails.trail.Given as goal
+use Rattle.cip_chain.proofs.trails.walk.Given as goal
 
 -- the trail in the entries so far, and what it goes on by
 abbrev pub invariant-loop-k : goal.invariant-loop-k
