@@ -1,5 +1,6 @@
 -- An index of a journal, one entry more at a time.
-use Rattle.std.proofs.Common.{◌≡◌, ℕ, zero, suc, ◌+◌, ◌≤◌, ◌<◌, Bool, true, false, cond, ◌&&◌, ◌==◌, not, List, [], ◌∷◌, ◌++◌, length, Option, Some, None, refl, sym, ap, ◌∙◌, leb, eqb, arith}
+use Rattle.std.proofs.Common.{◌≡◌, ℕ, zero, suc, ◌+◌, ◌≤◌, ◌<◌, Bool, true, false, cond, ◌&&◌, ◌==◌, not, List, [], ◌∷◌, ◌++◌, length}
+use Rattle.std.proofs.Common.{Option, Some, None, refl, sym, ap, ◌∙◌, leb, eqb, arith}
 use Rattle.std.proofs.Common.{◌-◌, reverse, take, drop, subst, inl, inr, append_assoc, append-nil}
 use Rattle.std.specs.Prelude.{nat_le, option_and_then, option_map, slice_get, is_some}
 use Rattle.std.specs.List.{list_any}
@@ -24,13 +25,15 @@ use Rattle.cip_world.specs.declared.journal.Input.{Input}
 use Rattle.cip_world.specs.declared.journal.Input.TheVariants as inputs
 use Rattle.cip_world.specs.Journals.{Journal, entry_at}
 use Rattle.cip_world.specs.Mirrors.{IsOlder}
-use Rattle.cip_world.specs.Trails.{is_refusal, is_command, request_from, request_by, request_of, named, arrived_in, first_from, next_of, and_so_on, trail_of}
+use Rattle.cip_world.specs.Trails.{is_refusal, is_command, request_from, request_by, request_of, named, arrived_in}
+use Rattle.cip_world.specs.Trails.{first_from, next_of, and_so_on, trail_of}
 use Rattle.cip_world.proofs.Moments.{itself, older_trans}
 use Rattle.cip_world.proofs.TrailGrows.{first_within, first_past, request_older}
 use Rattle.cip_chain.specs.declared.index.Onward.{Onward}
 use Rattle.cip_chain.specs.declared.index.Onward.TheVariants.{Nowhere, Sent, Arrived}
 use Rattle.cip_chain.specs.declared.index.TrailIndex.{TrailIndex}
-use Rattle.cip_chain.specs.Index.{Firsts, first_in, unless_refused, command_of, AddsCommand, sent, sent_at, after, AddsArrival, goes_to, along, arrived_as, came_of, onward_of}
+use Rattle.cip_chain.specs.Index.{Firsts, first_in, unless_refused, command_of, AddsCommand, sent, sent_at, after, AddsArrival}
+use Rattle.cip_chain.specs.Index.{goes_to, along, arrived_as, came_of, onward_of}
 use Rattle.cip_chain.specs.Index.{IsIndexed, IsIndexSoFar, IsIndexOf}
 
 -- ---- the commands

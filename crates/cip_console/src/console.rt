@@ -10,6 +10,7 @@ ghost use Rattle.cip_console.specs.declared.console.ConsoleFault.TheVariants.{No
 use crate::playing::{PlayFault, flush, play, tell_waiting};
 use crate::source::{ReadFault, SCRIPT_LIMIT, Sink, Source, WriteFault, read_script};
 use cip_base::{Bytes, NoMemory};
+use cip_chain::TrailIndex;
 use cip_module::Module;
 use cip_script::{Mode, Numbered, ScriptFault, StepsFault, read_steps};
 use cip_threads::RunFault;
@@ -83,9 +84,18 @@ fn run_steps<W: Sink>(
 {
     let mut left = VecDeque::from(steps);
     let mut text = Vec::new(alloc);
+    let mut index = TrailIndex::new(alloc);
     while let Some(numbered) = left.pop_front() {
         let line = numbered.line;
-        match play(alloc, world, names, numbered.step, writer, &mut text) {
+        match play(
+            alloc,
+            &mut index,
+            world,
+            names,
+            numbered.step,
+            writer,
+            &mut text,
+        ) {
             Ok(()) => {}
             Err(PlayFault::Stopped(fault)) => match flush(writer, &mut text, 0) {
                 Ok(()) => {

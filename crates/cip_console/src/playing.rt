@@ -3,6 +3,7 @@ ghost use Rattle.std.specs.Prelude.{◌≡◌, ◌≢◌, ◌++◌, [], reverse,
 ghost use Rattle.cip_world.specs.declared.journal.Input.TheVariants as inputs;
 ghost use Rattle.cip_world.specs.Runs.{IsRun};
 ghost use Rattle.cip_world.specs.Waiting.{waiting};
+ghost use Rattle.cip_chain.specs.Index.{IsIndexOf};
 ghost use Rattle.cip_console.specs.Known.{AppendsFront};
 ghost use Rattle.cip_console.specs.Playing.{Prints, Plays};
 ghost use Rattle.cip_transcript.specs.Show.{names_of};
@@ -11,7 +12,7 @@ ghost use Rattle.cip_console.specs.Transcript.{ran, played, tabled, trailed, cha
 
 use crate::source::{Sink, WriteFault, write_text};
 use cip_base::{Bytes, ModuleId, Ms, NoMemory};
-use cip_chain::trail;
+use cip_chain::TrailIndex;
 use cip_module::Command;
 use cip_script::{ScriptFault, Step};
 use cip_transcript::{name_in, put, put_chain_of, put_entry, put_tables, put_trail};
@@ -377,13 +378,15 @@ fn show_tables<W: Sink>(
 
 // `trail M OP`
 fn show_trail<W: Sink>(
-    alloc: Global,
+    index: &mut TrailIndex,
     world: &World,
     at: ModuleId,
     op: u32,
     writer: &mut W,
     text: &mut Vec<u8>,
 ) -> Result<(), PlayFault>
+    requires index { IsIndexOf index.old world.now.ledger.journal }
+    ensures index { IsIndexOf index.new world.now.ledger.journal }
     ensures plays { Plays (trailed world.now.ledger.journal at op)
         (W.contents writer.old) (W.contents writer.new) text.old.items text.new.items
         world.now.ledger.journal result }
@@ -391,7 +394,7 @@ fn show_trail<W: Sink>(
         → W.has_refused writer.old }
     ensures refused { result ≡ Err PlayFault.Write → W.has_refused writer.new }
 {
-    match trail(alloc, world.journal(), at, op) {
+    match index.trail(world.journal(), at, op) {
         Ok(entries) => match put_trail(text, entries.as_slice()) {
             Ok(()) => match flush(writer, text, FULL) {
                 Ok(()) => Ok(()),
@@ -434,6 +437,7 @@ fn show_chain<W: Sink>(
 /// One step of a script: its text is gathered, and written once there is enough of it.
 pub(crate) fn play<W: Sink>(
     alloc: Global,
+    index: &mut TrailIndex,
     world: &mut World,
     names: &[Bytes],
     step: Step,
@@ -442,6 +446,8 @@ pub(crate) fn play<W: Sink>(
 ) -> Result<(), PlayFault>
     requires stand { ⟦<World as Shown>⟧.stands world.old }
     requires names { names.now ≡ names_of world.old.ledger.plan }
+    requires index { IsIndexOf index.old world.old.ledger.journal }
+    ensures index { IsIndexOf index.new world.old.ledger.journal }
     ensures stand { ⟦<World as Shown>⟧.stands world.new }
     ensures plan { world.new.ledger.plan ≡ world.old.ledger.plan }
     ensures plays { Plays (played world.old.ledger.plan world.old.ledger.journal step)
@@ -458,7 +464,7 @@ pub(crate) fn play<W: Sink>(
         Step::Lose { frame } => lose(world, names, frame, writer, text),
         Step::Run { limit } => run_line(world, names, limit, writer, text),
         Step::Tables { module_ } => show_tables(world, names, module_, writer, text),
-        Step::Trail { module_, op } => show_trail(alloc, world, module_, op, writer, text),
+        Step::Trail { module_, op } => show_trail(index, world, module_, op, writer, text),
         Step::Chain { module_, op } => show_chain(alloc, world, names, module_, op, writer, text),
     }
 }

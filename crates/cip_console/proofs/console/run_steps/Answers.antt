@@ -4,6 +4,8 @@ use Rattle.cip_console.specs.declared.playing.PlayFault.{PlayFault}
 use Rattle.cip_console.specs.declared.playing.PlayFault.TheVariants.{Stopped, Write, NoMemory}
 use Rattle.cip_console.specs.Playing.{Prints, Plays}
 use Rattle.cip_console.specs.Transcript.{played}
+use Rattle.cip_chain.proofs.Indexes.{index_later}
+use Rattle.cip_console.proofs.Grows.{played_grows}
 use Rattle.cip_console.proofs.Running.{running_on, running_step, running_ends, running_stops, running_front, running_unwritten, stop_unwritten, none_popped}
 use Rattle.cip_console.proofs.console.run_steps.Goals as goal
 
@@ -11,15 +13,17 @@ pub loop-numbered-preserved : goal.loop-numbered-preserved
 loop-numbered-preserved g c =
     let t = c.args.world.now.ledger.plan in
     let j = c.loop-numbered.world.ledger.journal in
+    let k = c.play.new.world.ledger.journal in
     let running = running_on t c.args.steps.items _ _ _ j _ _ c.loop-numbered.invariant.running c.in-Some.ensures.items in
+    let ended = subst (λ (p : Plan). Plays (played p j c.in-Some.numbered.step) (g.W.Sink.contents c.loop-numbered.writer) (g.W.Sink.contents c.play.new.writer)
+    c.loop-numbered.text.items
+    c.play.new.text.items k (Ok tt)) c.loop-numbered.invariant.plan c.in-Ok.ensures.plays in
     record {
       stand = c.play.ensures.stand;
+      index = index_later c.play.new.index j k c.play.ensures.index (played_grows t j k c.in-Some.numbered.step ended.ends);
       plan = c.play.ensures.plan ∙ c.loop-numbered.invariant.plan;
       taken = λ h. c.loop-numbered.invariant.taken (c.in-Ok.ensures.taken (λ e. absurd (cc)) h);
-      running = running_step t c.args.steps.items _ _ _ _ _ j c.play.new.world.ledger.journal c.in-Some.numbered c.pop_front.new.self.items running
-          (subst (λ (p : Plan). Plays (played p j c.in-Some.numbered.step) (g.W.Sink.contents c.loop-numbered.writer) (g.W.Sink.contents c.play.new.writer)
-          c.loop-numbered.text.items
-          c.play.new.text.items c.play.new.world.ledger.journal (Ok tt)) c.loop-numbered.invariant.plan c.in-Ok.ensures.plays);
+      running = running_step t c.args.steps.items _ _ _ _ _ j k c.in-Some.numbered c.pop_front.new.self.items running ended;
     }
 
 pub returns-in-Ok-flush-clause-wrote : goal.returns-in-Ok-flush-clause-wrote

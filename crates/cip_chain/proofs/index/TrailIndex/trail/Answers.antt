@@ -13,7 +13,8 @@ returns-in-Ok-clause-trail c =
     let first = c.copied-first.ensures ∙ c.get.ensures.value in
     subst (λ (ks : List ℕ). IfOk c.follow.result (λ v. v.items ≡ ks))
     ((λ i. along (length (onwards i)) (onwards i) (first i))
-    ∙ trail_along c.add_entries.new.onwards.items c.add_entries.new.firsts (reverse c.args.journal.now) c.args.at.0 c.args.op c.in-Ok.ensures.ok) c.follow.ensures
+    ∙ trail_along c.add_entries.new.onwards.items c.add_entries.new.firsts (reverse c.args.journal.now) c.args.at.0 c.args.op c.in-Ok.ensures.ok)
+    c.follow.ensures
 
 pub returns-in-Ok-clause-part : goal.returns-in-Ok-clause-part
 returns-in-Ok-clause-part c = all_read _ c.args.journal.now c.in-Ok.ensures.ok
