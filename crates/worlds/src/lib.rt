@@ -14,4 +14,6 @@ mod journals;
 #[cfg(test)]
 mod runs;
 #[cfg(test)]
+mod trails;
+#[cfg(test)]
 mod ways;
