@@ -6,6 +6,8 @@
 mod bytes;
 mod fields;
 mod json;
+mod pieces;
+mod put_json;
 mod reply;
 mod reply_text;
 mod request;
@@ -14,6 +16,8 @@ mod segments;
 
 pub use bytes::Pairs;
 pub use json::{path_json, reply_json, request_json, triad_json};
+pub use pieces::{put, put_number, put_pairs, put_quoted};
+pub use put_json::{put_path_json, put_reply_json, put_request_json, put_triad_json};
 pub use reply::{Answer, Reply, decode_reply};
 pub use reply_text::StatusText;
 pub use request::{Asked, Meaning, Request, decode_request};

@@ -5,8 +5,8 @@ ghost use Rattle.cip_message.specs.ReplyAt.{reply_at};
 ghost use Rattle.cip_view.specs.Labels.{label_of, request_label, reply_label};
 ghost use Rattle.cip_view.specs.Labels.{is_failure, is_unreadable};
 
-use cip_base::Status;
-use cip_decode::{decode_reply, decode_request};
+use cip_base::{NoMemory, Status};
+use cip_decode::{decode_reply, decode_request, put, put_number, put_pairs};
 use cip_event::Body;
 use cip_names::service_name;
 use std::fmt;
@@ -135,6 +135,46 @@ impl fmt::Display for Label {
             (Kind::Reply, Some(status)) => write!(f, "{service} {}", ShortStatus(status)),
             (Kind::Reply, None) => write!(f, "{service} reply"),
         }
+    }
+}
+
+// What `ServiceText` shows.
+fn put_service(text: &mut Vec<u8>, service: Option<u8>) -> Result<(), NoMemory> {
+    let Some(service) = service else {
+        return put(text, b"unreadable");
+    };
+    match service_name(service) {
+        Some(name) => put(text, name.as_bytes()),
+        None => {
+            put(text, b"service ")?;
+            put_pairs(text, &[service % 128])
+        }
+    }
+}
+
+// What `ShortStatus` shows.
+fn put_status(text: &mut Vec<u8>, status: Status) -> Result<(), NoMemory> {
+    match status.extra {
+        Some(word) if status.general == 1 => put_pairs(text, &word.to_be_bytes()),
+        _ if status.general == 0 => put(text, b"ok"),
+        _ => put_pairs(text, &[status.general]),
+    }
+}
+
+/// Puts a frame in short behind a text, as it is shown. NoMemory where an allocation is refused.
+pub(crate) fn put_label(text: &mut Vec<u8>, label: Label) -> Result<(), NoMemory> {
+    if label.kind == Kind::Data {
+        put(text, b"data ")?;
+        return put_number(text, u64::from(label.number));
+    }
+    put_service(text, label.service)?;
+    match (label.kind, label.status) {
+        (Kind::Reply, Some(status)) => {
+            put(text, b" ")?;
+            put_status(text, status)
+        }
+        (Kind::Reply, None) => put(text, b" reply"),
+        _ => Ok(()),
     }
 }
 

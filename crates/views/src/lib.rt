@@ -1,0 +1,13 @@
+//! Tests of views: what they show of made transcripts, beside what their forms from before show.
+#![tactic(auto)]
+
+#[cfg(test)]
+mod dice;
+#[cfg(test)]
+mod made;
+#[cfg(test)]
+mod messages;
+#[cfg(test)]
+mod shown;
+#[cfg(test)]
+mod tree_view;

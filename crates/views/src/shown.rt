@@ -1,0 +1,131 @@
+//! What a view shows, piece by piece, beside what its form from before shows.
+use crate::dice::Dice;
+use crate::made::transcript;
+use crate::tree_view::TreeView;
+use cip_read::{Line, Note, Reader};
+use cip_topology::{CHASSIS, Topology, load};
+use cip_view::{JsonView, Pieces, View, feed, finish};
+use std::alloc::{AllocError, Global};
+use std::process::Abort;
+use std::test::Fail;
+
+/// A transcript that goes through a view.
+#[derive(Drop)]
+struct Shown<'a> {
+    reader: Reader<'a>,
+    pieces: Pieces,
+    // what was said of a faulty line
+    fault: String,
+}
+
+fn shown_over(alloc: Global, topology: &Topology) -> Shown<'_> {
+    Shown {
+        reader: Reader::new(topology),
+        pieces: Pieces::new(alloc),
+        fault: String::new(alloc),
+    }
+}
+
+// A piece goes through, unless a line before it was faulty.
+fn show<V: View>(
+    alloc: Global,
+    shown: &mut Shown<'_>,
+    view: &mut V,
+    piece: &[u8],
+) -> Result<(), AllocError> {
+    if !shown.fault.as_str().is_empty() {
+        return Ok(());
+    }
+    match feed(alloc, &mut shown.reader, &mut shown.pieces, view, piece) {
+        Ok(()) => Ok(()),
+        Err(fault) => write!(shown.fault, "{fault}"),
+    }
+}
+
+fn end<V: View>(alloc: Global, shown: &Shown<'_>, view: &mut V) -> Result<(), AllocError> {
+    if shown.fault.as_str().is_empty()
+        && finish(alloc, &shown.reader, &shown.pieces, view).is_err()
+    {
+        return Err(AllocError);
+    }
+    Ok(())
+}
+
+// Both views show the same of a transcript, and say the same of its fault.
+fn compare<V: View, W: View>(
+    rt: &impl Abort,
+    alloc: Global,
+    dice: &mut Dice,
+    topology: &Topology,
+    view: &mut V,
+    other: &mut W,
+) -> Result<(), AllocError> {
+    let entries = 1 + dice.below(24);
+    let text = transcript(alloc, dice, entries)?;
+    let bytes = text.as_str().as_bytes();
+    let mut first = shown_over(alloc, topology);
+    let mut second = shown_over(alloc, topology);
+    let size = 1 + dice.below(1 + bytes.len());
+    for piece in bytes.chunks(size) {
+        show(alloc, &mut first, view, piece)?;
+        show(alloc, &mut second, other, piece)?;
+        assert!(rt; view.written() == other.written(), "a piece of:\n{text}");
+        if dice.is_rare(2) {
+            view.clear();
+            other.clear();
+        }
+    }
+    end(alloc, &first, view)?;
+    end(alloc, &second, other)?;
+    assert!(rt; view.written() == other.written(), "the end of:\n{text}");
+    assert!(rt;
+        first.fault.as_str() == second.fault.as_str(),
+        "the fault of:\n{text}"
+    );
+    Ok(())
+}
+
+#[test]
+fn json_is_that_of_the_tree_of_values(rt: HostRuntime) -> Result<(), Fail> {
+    let alloc = rt.alloc();
+    let topology = load(alloc, CHASSIS).ok().ok_or("no chassis")?;
+    let mut dice = Dice(1);
+    for _ in 0..300 {
+        let mut view = JsonView::new(alloc, &topology);
+        let mut tree = TreeView::new(alloc, &topology);
+        compare(&rt, alloc, &mut dice, &topology, &mut view, &mut tree)?;
+    }
+    Ok(())
+}
+
+// Lines of other bytes than a reader lets through.
+const LINES: &[&[u8]] = &[
+    b"quiet",
+    b"",
+    b"\"",
+    b"\\",
+    b"a \"b\" c\\d",
+    b"\x00\x01\x02\x03\x04\x05\x06\x07\x08\x09\x0A\x0B\x0C\x0D\x0E\x0F",
+    b"\x10\x11\x12\x13\x14\x15\x16\x17\x18\x19\x1A\x1B\x1C\x1D\x1E\x1F",
+    b"\x20\x7E\x7F",
+    b"\xC3\xA9\xE2\x82\xAC",
+    b"\xC3",
+    b"\x80",
+    b"a line that is longer than thirty-two bytes, and plain",
+    b"a line that is longer than thirty-two bytes, with \t in it",
+];
+
+#[test]
+fn lines_of_any_bytes_are_strings(rt: HostRuntime) -> Result<(), Fail> {
+    let alloc = rt.alloc();
+    let topology = load(alloc, CHASSIS).ok().ok_or("no chassis")?;
+    let mut view = JsonView::new(alloc, &topology);
+    let mut tree = TreeView::new(alloc, &topology);
+    for line in LINES {
+        let shown = view.line(alloc, line, Line::Note(Note::Quiet));
+        let other = tree.line(alloc, line, Line::Note(Note::Quiet));
+        assert!(&rt; shown.is_ok() && other.is_ok(), "{line:?}");
+        assert!(&rt; view.written() == tree.written(), "{line:?}");
+    }
+    Ok(())
+}
