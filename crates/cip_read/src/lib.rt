@@ -7,6 +7,7 @@ mod heads;
 mod line;
 mod notes;
 mod outputs;
+mod parts;
 mod reader;
 
 pub use fault::{Expected, LineFault, ReadFault};

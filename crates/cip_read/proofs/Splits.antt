@@ -1,0 +1,47 @@
+-- A line is parted at each of its spaces.
+use Rattle.std.proofs.Common.{◌≡◌, ℕ, ◌+◌, ◌-◌, ◌≤◌, ◌<◌, List, [], ◌∷◌, ◌++◌, length, take, drop, get_or, true, false, sym, ◌∙◌, ap, arith}
+use Rattle.std.proofs.lemmas.List.{take-append-drop, drop-drop, drop_more, get_or-drop, get_or-take, length-take, length-drop}
+use Rattle.std.proofs.lemmas.List.Elements.{All-from_get_or}
+use Rattle.std.proofs.lemmas.List.Splits.{slice_split_at, slice_split_none}
+use Rattle.std.specs.List.{slice_split, All}
+use Rattle.cip_words.specs.Shown.{is_space}
+
+-- no space from one place up to another
+abbrev pub NoSpace : List ℕ → ℕ → ℕ → Type 0
+NoSpace line start end = (k : ℕ) → start ≤ k → k < end → is_space (get_or line k 0) ≡ false
+
+are_plain : (line : List ℕ) (start n : ℕ) → NoSpace line start (start + n)
+    → All (λ x. is_space x ≡ false) (take n (drop start line))
+are_plain line start n none =
+    All-from_get_or (λ x. is_space x ≡ false) (take n (drop start line)) 0
+    (λ j h.
+    let lt : j < n = omega (arith, length-take n (drop start line)) in
+    let a = get_or-take n (drop start line) j 0 lt in
+    let b = get_or-drop start line j 0 in
+    let plain = none (start + j) (omega arith) (omega arith) in
+    rw (a, b) plain)
+
+-- the word before a space, and the words behind it
+pub split_step : (line : List ℕ) (start i : ℕ) → start ≤ i → i < length line → NoSpace line start i → is_space (get_or line i 0) ≡ true
+    → slice_split is_space (drop start line) ≡ take (i - start) (drop start line) ∷ slice_split is_space (drop (i + 1) line)
+split_step line start i le h none is =
+    let n : ℕ = i - start in
+    let e : start + (i - start) ≡ i = omega arith in
+    let plain = are_plain line start (i - start) (λ k a b. none k a (omega arith)) in
+    let back : drop (i - start) (drop start line) ≡ drop i line = rw e at (drop-drop (i - start) start line) in
+    let more = drop_more line i 0 h in
+    let whole = take-append-drop (i - start) (drop start line) in
+    let parted = slice_split_at is_space (take (i - start) (drop start line)) (get_or line i 0) (drop (i + 1) line) plain is in
+    let same : take (i - start) (drop start line) ++ get_or line i 0 ∷ drop (i + 1) line ≡ drop start line =
+    rw (back, more) at whole in
+    ap (slice_split is_space) (sym same) ∙ parted
+
+-- the last word
+pub split_last : (line : List ℕ) (start : ℕ) → start ≤ length line → NoSpace line start (length line)
+    → slice_split is_space (drop start line) ≡ drop start line ∷ []
+split_last line start le none =
+    slice_split_none is_space (drop start line)
+    (All-from_get_or (λ x. is_space x ≡ false) (drop start line) 0
+    (λ j h.
+    let lt : start + j < length line = omega (arith, length-drop start line) in
+    rw (get_or-drop start line j 0) (none (start + j) (omega arith) lt)))
