@@ -1,8 +1,15 @@
 -- The table of pairs of digits, and bytes that are written by it.
 use Rattle.std.proofs.Common.{◌≡◌, ℕ, zero, suc, ◌+◌, ◌-◌, ◌*◌, ◌/◌, ◌%◌, ◌<◌, ◌≤◌, Bool, true, ◌&&◌, T, eqb, List, [], ◌∷◌, ◌++◌, length, take, drop}
-use Rattle.std.proofs.Common.{get_or, slice_index, slice_set, refl, inl, inr, arith, eq-zero-or-pos, eqb→eq, append_assoc}
-use Rattle.std.proofs.lemmas.List.{append-nil, drop_all, drop_more, take_all, take_more_set, length-set}
-use Rattle.hex.specs.Hex.{encode_with, upper_digits}
+use Rattle.std.proofs.Common.{get_or, slice_index, slice_set, refl, ap, inl, inr, arith, eq-zero-or-pos, eqb→eq, append_assoc}
+use Rattle.std.proofs.lemmas.List.{append-nil, drop_all, drop_more, take_all, take_more_set, length-set, take-append-drop}
+use Rattle.std.proofs.lemmas.Str.{IsUtf8-from_ascii}
+use Rattle.std.proofs.lemmas.Str.Ascii.{IsAscii-from_all}
+use Rattle.std.proofs.lemmas.List.Elements.{All-nil, All-cons}
+use Rattle.std.proofs.Math.Dec.{ltb, lit<}
+use Rattle.std.specs.List.{All}
+use Rattle.std.specs.Str.{IsUtf8}
+use Rattle.hex.proofs.HexLemmas.{IsAscii-encode_with}
+use Rattle.hex.specs.Hex.{encode_upper, encode_with, upper_digits}
 use lib.Ieee.Fits.{and_l, and_r}
 use Rattle.cip_decode.specs.declared.pieces.TheConstants.{PAIRS}
 
@@ -60,3 +67,24 @@ encode_done t input output i h len inv =
     let d = drop_all i input h in
     let a = take_all (2 * i) output (omega arith) in
     rw (d, a, append-nil) at inv
+
+encode_append : (t xs ys : List ℕ) → encode_with t (xs ++ ys) ≡ encode_with t xs ++ encode_with t ys
+unfolding encode_with
+encode_append t [] ys = refl
+encode_append t (b ∷ xs) ys = ap (λ l. slice_index t (b / 16) ∷ slice_index t (b % 16) ∷ l) (encode_append t xs ys)
+
+-- so many bytes first, and then the others
+pub encode_split : (t : List ℕ) (n : ℕ) (xs : List ℕ) → encode_with t (take n xs) ++ encode_with t (drop n xs) ≡ encode_with t xs
+encode_split t n xs = rw (← encode_append t (take n xs) (drop n xs), take-append-drop n xs) refl
+
+abbrev all_low : List ℕ → Bool
+all_low [] = true
+all_low (b ∷ bs) = ltb b 128 && all_low bs
+
+low_bytes : (xs : List ℕ) → T (all_low xs) → All (λ b. b < 128) xs
+low_bytes [] t = All-nil (λ b. b < 128)
+low_bytes (b ∷ bs) t = All-cons (λ x. x < 128) b bs (lit< (and_l _ (all_low bs) t)) (low_bytes bs (and_r _ (all_low bs) t))
+
+-- digits are a text
+pub pairs_are_text : (xs : List ℕ) → IsUtf8 (encode_upper xs)
+pairs_are_text xs = IsUtf8-from_ascii (encode_upper xs) (IsAscii-encode_with upper_digits xs (IsAscii-from_all upper_digits (low_bytes upper_digits tt)))

@@ -1,5 +1,16 @@
 //! Bytes as pairs of digits.
+ghost use Rattle.std.specs.Prelude.{◌≤◌, length};
+
+use crate::pieces::{PART, pairs_in};
 use std::fmt;
+
+// At most so many bytes as pairs.
+fn write_part<W: fmt::Write>(bytes: &[u8], f: &mut fmt::Formatter<W>) -> fmt::Result
+    requires { length bytes.now ≤ PART }
+{
+    let mut room = [0u8; 64];
+    f.write_str(pairs_in(bytes, &mut room[..2 * bytes.len()]))
+}
 
 /// Bytes as upper-case pairs, a dash for none.
 #[derive(Clone, Copy)]
@@ -10,10 +21,13 @@ impl fmt::Display for Pairs<'_> {
         if self.0.is_empty() {
             return f.write_str("-");
         }
-        for byte in self.0 {
-            write!(f, "{byte:02X}")?;
+        let mut rest = self.0;
+        'parts: while rest.len() > PART {
+            let (part, behind) = rest.split_at(PART);
+            write_part(part, f)?;
+            rest = behind;
         }
-        Ok(())
+        write_part(rest, f)
     }
 }
 

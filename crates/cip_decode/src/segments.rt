@@ -11,6 +11,17 @@ fn is_printable(bytes: &[u8]) -> bool {
         .all(|byte| 0x21 <= *byte && *byte <= 0x7E && *byte != 0x22)
 }
 
+// Visible characters, all at once.
+fn write_characters<W: fmt::Write>(bytes: &[u8], f: &mut fmt::Formatter<W>) -> fmt::Result {
+    if let Ok(text) = std::str::from_utf8(bytes) {
+        return f.write_str(text);
+    }
+    for byte in bytes {
+        write!(f, "{}", char::from(*byte))?;
+    }
+    Ok(())
+}
+
 /// A link address or a symbol: one byte as its digits, more of them as a text in quotation marks
 /// where each is a visible character.
 #[derive(Clone, Copy)]
@@ -22,9 +33,7 @@ impl fmt::Display for Characters<'_> {
             return write!(f, "{}", Pairs(self.0));
         }
         f.write_str("\"")?;
-        for byte in self.0 {
-            write!(f, "{}", char::from(*byte))?;
-        }
+        write_characters(self.0, f)?;
         f.write_str("\"")
     }
 }

@@ -139,43 +139,51 @@ impl fmt::Display for Label {
 }
 
 // What `ServiceText` shows.
-fn put_service(text: &mut Vec<u8>, service: Option<u8>) -> Result<(), NoMemory> {
+fn put_service(text: &mut String, service: Option<u8>) -> Result<(), NoMemory> {
     let Some(service) = service else {
-        return put(text, b"unreadable");
+        return put(text, "unreadable");
     };
     match service_name(service) {
-        Some(name) => put(text, name.as_bytes()),
+        Some(name) => put(text, name),
         None => {
-            put(text, b"service ")?;
+            put(text, "service ")?;
             put_pairs(text, &[service % 128])
         }
     }
 }
 
 // What `ShortStatus` shows.
-fn put_status(text: &mut Vec<u8>, status: Status) -> Result<(), NoMemory> {
+fn put_status(text: &mut String, status: Status) -> Result<(), NoMemory> {
     match status.extra {
         Some(word) if status.general == 1 => put_pairs(text, &word.to_be_bytes()),
-        _ if status.general == 0 => put(text, b"ok"),
+        _ if status.general == 0 => put(text, "ok"),
         _ => put_pairs(text, &[status.general]),
     }
 }
 
 /// Puts a frame in short behind a text, as it is shown. NoMemory where an allocation is refused.
-pub(crate) fn put_label(text: &mut Vec<u8>, label: Label) -> Result<(), NoMemory> {
+pub(crate) fn put_label(text: &mut String, label: Label) -> Result<(), NoMemory> {
     if label.kind == Kind::Data {
-        put(text, b"data ")?;
+        put(text, "data ")?;
         return put_number(text, u64::from(label.number));
     }
     put_service(text, label.service)?;
     match (label.kind, label.status) {
         (Kind::Reply, Some(status)) => {
-            put(text, b" ")?;
+            put(text, " ")?;
             put_status(text, status)
         }
-        (Kind::Reply, None) => put(text, b" reply"),
+        (Kind::Reply, None) => put(text, " reply"),
         _ => Ok(()),
     }
+}
+
+// Each byte as a character.
+fn write_each<W: fmt::Write>(bytes: &[u8], f: &mut fmt::Formatter<W>) -> fmt::Result {
+    for byte in bytes {
+        write!(f, "{}", char::from(*byte))?;
+    }
+    Ok(())
 }
 
 /// The name of a module, of ASCII characters.
@@ -184,9 +192,9 @@ pub struct NameText<'a>(pub &'a [u8]);
 
 impl fmt::Display for NameText<'_> {
     fn fmt<W: fmt::Write>(&self, f: &mut fmt::Formatter<W>) -> fmt::Result {
-        for byte in self.0 {
-            write!(f, "{}", char::from(*byte))?;
+        match std::str::from_utf8(self.0) {
+            Ok(text) if text.is_ascii() => f.write_str(text),
+            _ => write_each(self.0, f),
         }
-        Ok(())
     }
 }

@@ -4,6 +4,7 @@ ghost use Rattle.std.specs.Prelude.{◌≡◌, ℕ, List, []};
 use crate::pieces::Pieces;
 use cip_base::NoMemory;
 use cip_read::{Line, ReadFault, Reader};
+use memchr::memchr;
 use std::alloc::Global;
 
 /// How a transcript ends.
@@ -56,12 +57,13 @@ pub fn feed<V: View>(
     view: &mut V,
     piece: &[u8],
 ) -> Result<(), ReadFault> {
-    for (i, part) in piece.split(|byte| *byte == b'\n').enumerate() {
-        if i > 0 {
-            take_line(alloc, reader, pieces, view)?;
-        }
-        pieces.put(part)?;
+    let mut rest = piece;
+    while let Some(end) = memchr(b'\n', rest) {
+        pieces.put(&rest[..end])?;
+        take_line(alloc, reader, pieces, view)?;
+        rest = &rest[end + 1..];
     }
+    pieces.put(rest)?;
     Ok(())
 }
 
