@@ -121,7 +121,8 @@ pub(crate) fn put_packet(
     packet: &[u8],
     comment: &[u8],
 ) -> Result<(), NoMemory> {
-    let mut body = Vec::new(alloc);
+    let count = packet.len().saturating_add(comment.len());
+    let mut body = Vec::with_capacity(alloc, count.saturating_add(40))?;
     put_double(&mut body, 0)?;
     put_double(
         &mut body,

@@ -103,7 +103,8 @@ impl<'a> CaptureView<'a> {
 
     // The packet of a frame, with the lines of its entry and its own as comment.
     fn put(&mut self, alloc: Global, packet: &[u8], text: &[u8]) -> Result<(), NoMemory> {
-        let mut comment = Vec::new(alloc);
+        let count = self.head.len().saturating_add(text.len());
+        let mut comment = Vec::with_capacity(alloc, count.saturating_add(1))?;
         comment.extend_from_slice(self.head.as_slice())?;
         comment.push(b'\n')?;
         comment.extend_from_slice(text)?;

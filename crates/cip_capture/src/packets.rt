@@ -107,7 +107,7 @@ pub(crate) fn message(
     number: u32,
     bytes: &[u8],
 ) -> Result<Vec<u8>, NoMemory> {
-    let mut out = Vec::new(alloc);
+    let mut out = Vec::with_capacity(alloc, bytes.len().saturating_add(40))?;
     let length = short(bytes.len());
     put_word(&mut out, 0x006F)?;
     put_word(&mut out, length.saturating_add(16))?;
@@ -133,7 +133,7 @@ pub(crate) fn datum(
     sequence: u32,
     bytes: &[u8],
 ) -> Result<Vec<u8>, NoMemory> {
-    let mut out = Vec::new(alloc);
+    let mut out = Vec::with_capacity(alloc, bytes.len().saturating_add(18))?;
     put_word(&mut out, 2)?;
     put_word(&mut out, 0x8002)?;
     put_word(&mut out, 8)?;
@@ -152,7 +152,7 @@ pub(crate) fn tcp_packet(
     segment: Segment,
     payload: &[u8],
 ) -> Result<Vec<u8>, NoMemory> {
-    let mut out = Vec::new(alloc);
+    let mut out = Vec::with_capacity(alloc, payload.len().saturating_add(54))?;
     let count = payload.len().saturating_add(20);
     let front = tcp_front(segment);
     let head = sum_of(&front, pseudo_sum(way, TCP, count));
@@ -166,7 +166,7 @@ pub(crate) fn tcp_packet(
 
 /// A packet of UDP, without a checksum.
 pub(crate) fn udp_packet(alloc: Global, way: Way, payload: &[u8]) -> Result<Vec<u8>, NoMemory> {
-    let mut out = Vec::new(alloc);
+    let mut out = Vec::with_capacity(alloc, payload.len().saturating_add(42))?;
     let count = payload.len().saturating_add(8);
     put_headers(&mut out, way, UDP, count)?;
     put_high_first(&mut out, DATA)?;
