@@ -4,6 +4,8 @@
 #[cfg(test)]
 mod dice;
 #[cfg(test)]
+mod leaves;
+#[cfg(test)]
 mod made;
 #[cfg(test)]
 mod messages;

@@ -75,10 +75,10 @@ fn put_message(
     words: &[&'static str],
 ) -> Result<(), AllocError> {
     let word = dice.one_of(words);
-    let place = 2 * dice.below(word.len() / 2 + 1);
+    let place = dice.below(word.len() / 2 + 1).saturating_mul(2);
     match dice.below(8) {
         0 => {
-            let (front, back) = (word.get(..place), word.get(place + 2..));
+            let (front, back) = (word.get(..place), word.get(place.saturating_add(2)..));
             if let (Some(front), Some(back)) = (front, back) {
                 let byte = dice.below(256);
                 text.push_str(front)?;
@@ -104,7 +104,7 @@ fn put_message(
 }
 
 fn put_frame(text: &mut String, dice: &mut Dice) -> Result<(), AllocError> {
-    let port = 1 + dice.below(3);
+    let port = dice.below(3).saturating_add(1);
     let address = dice.one_of(ADDRESSES);
     let number = dice.below(9);
     match dice.below(5) {
@@ -150,12 +150,16 @@ fn put_output(text: &mut String, dice: &mut Dice) -> Result<(), AllocError> {
 // The line of an entry, which may be given a frame of one of the entries before.
 fn put_entry(text: &mut String, dice: &mut Dice, number: usize) -> Result<(), AllocError> {
     let name = dice.one_of(NAMES);
-    let from = number.saturating_sub(1 + dice.below(3));
+    let from = number.saturating_sub(dice.below(3).saturating_add(1));
     let place = dice.below(3);
     let op = dice.below(6);
     match dice.below(12) {
         0 => writeln!(text, "{number} lost {from}.{place}"),
-        1 => writeln!(text, "{number} {name} tick {}", 1 + dice.below(65_535)),
+        1 => writeln!(
+            text,
+            "{number} {name} tick {}",
+            dice.below(65_535).saturating_add(1)
+        ),
         2 | 3 | 4 => writeln!(text, "{number} {name} {} {op}", dice.one_of(COMMANDS)),
         _ => writeln!(text, "{number} {name} frame {from}.{place}"),
     }
@@ -170,7 +174,7 @@ pub fn transcript(alloc: Global, dice: &mut Dice, entries: usize) -> Result<Stri
     } else {
         0
     };
-    let faulty = dice.below(4 * entries);
+    let faulty = dice.below(entries.saturating_mul(4));
     let begin = if dice.is_rare(4) { 0 } else { 1 };
     for i in 0..entries {
         if begin <= i {

@@ -60,12 +60,12 @@ fn compare<V: View, W: View>(
     view: &mut V,
     other: &mut W,
 ) -> Result<(), AllocError> {
-    let entries = 1 + dice.below(24);
+    let entries = dice.below(24).saturating_add(1);
     let text = transcript(alloc, dice, entries)?;
     let bytes = text.as_str().as_bytes();
     let mut first = shown_over(alloc, topology);
     let mut second = shown_over(alloc, topology);
-    let size = 1 + dice.below(1 + bytes.len());
+    let size = dice.below(bytes.len()).saturating_add(1);
     for piece in bytes.chunks(size) {
         show(alloc, &mut first, view, piece)?;
         show(alloc, &mut second, other, piece)?;
