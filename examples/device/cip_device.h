@@ -238,7 +238,8 @@ uint32_t cip_pending(cip_device *device, size_t at, cip_pending_row *pending);
 /* How long nothing happens of itself: any shorter tick changes the time alone, and at a tick of
  * *milliseconds, which is at least 1, a request is given up or a connection expires. It may be more
  * than one cip_tick can take; what comes in before may change it. NOTHING only where no tick does
- * anything. Nothing changes, and outputs may wait. A call reads all tables, as the two above. */
+ * anything. Nothing changes, and outputs may wait. A call looks at all that is open and all that
+ * waits once, and takes no memory. */
 uint32_t cip_next_deadline(cip_device *device, uint64_t *milliseconds);
 
 /* CIP_VERSION of the header that the library belongs to. */
