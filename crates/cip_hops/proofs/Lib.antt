@@ -10,3 +10,4 @@ pub mod Touching
 pub mod Ticks
 pub mod Callers
 pub mod Quiet
+pub mod Near

@@ -18,7 +18,7 @@ use crate::hop::{Change, Held, Hop, Side};
 use crate::onward::Onward;
 use crate::opening::{BeginFault, BeginReason, Opening, OwnIds};
 use crate::records::Records;
-use crate::triads::{TriadIndex, place_after};
+use crate::triads::{TriadIndex, place_after, place_near};
 use cip_base::{
     Address, LAST_COUNT, LAST_INCARNATION, NoMemory, NumberIndex, PortNumber, Triad, counts_given,
     incarnation, reborn,
@@ -321,6 +321,20 @@ impl HopTable {
         let pairs = self.triads.pairs();
         let from = place_after(pairs, after);
         let at = hop_place(&pairs[from..], &self.records)?;
+        self.records.get(pairs[from + at].1)?.hop()
+    }
+
+    /// The same for one who goes through all: `near` is 0 at first, and then what the last call
+    /// left there. The search begins at that place, and is over at once where nothing came in or
+    /// went out meanwhile.
+    #[inline(always)]
+    pub fn next_near(&self, after: Option<&Triad>, near: &mut usize) -> Option<&Hop>
+        ensures { option_copied result ≡ first_after (option_copied after.entry) self.now }
+    {
+        let pairs = self.triads.pairs();
+        let from = place_near(pairs, after, *near);
+        let at = hop_place(&pairs[from..], &self.records)?;
+        *near = from + at + 1;
         self.records.get(pairs[from + at].1)?.hop()
     }
 

@@ -127,3 +127,20 @@ pub(crate) fn place_after(pairs: &[(Triad, usize)], after: Option<&Triad>) -> us
         Some(last) => pairs.partition_point(|p| last.cmp(&p.0).is_ge()),
     }
 }
+
+/// The same, from a place near which they may begin: where the triad before it is the one that was
+/// asked for, no search is needed.
+pub(crate) fn place_near(pairs: &[(Triad, usize)], after: Option<&Triad>, near: usize) -> usize
+    requires { IsRising triad_cmp pairs.now }
+    ensures bound { result ≤ length pairs.now }
+    ensures parts { Divides (λ p. is_after (option_copied after.entry) p.0) pairs.now result }
+{
+    if let Some(last) = after {
+        if 0 < near && near <= pairs.len() {
+            if let Ordering::Equal = last.cmp(&pairs[near - 1].0) {
+                return near;
+            }
+        }
+    }
+    place_after(pairs, after)
+}

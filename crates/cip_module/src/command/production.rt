@@ -71,8 +71,9 @@ impl Device {
     {
         self.hops.is_within();
         let mut outputs = Vec::new(self.alloc);
+        let mut near = 0;
         let mut after = None;
-        while let Some(hop) = self.hops.next_after(after.as_ref()) {
+        while let Some(hop) = self.hops.next_near(after.as_ref(), &mut near) {
             if reads_from(hop, instance) {
                 let bytes = datum_of(self.alloc, hop, held)?;
                 outputs.push(datum_up(hop, bytes))?;
@@ -88,8 +89,9 @@ impl Device {
             { hops = counted_all instance (open_hops self.old.hops) self.old.hops } }
         ensures config { self.new.config ≡ self.old.config }
     {
+        let mut near = 0;
         let mut after = None;
-        while let Some(hop) = self.hops.next_after(after.as_ref()) {
+        while let Some(hop) = self.hops.next_near(after.as_ref(), &mut near) {
             self.hops.is_within();
             let triad = hop.opening.triad;
             if let Some(count) = count_for(hop, instance) {

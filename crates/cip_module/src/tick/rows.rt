@@ -43,8 +43,9 @@ fn hops_out(outputs: &mut Vec<Output>, hops: &HopTable, now: u64) -> Result<(), 
     ensures { OnOk result (outputs.new.items ≡ outputs.old.items ++ hops_timed_out now hops.now) }
 {
     hops.is_within();
+    let mut near = 0;
     let mut after = None;
-    while let Some(hop) = hops.next_after(after.as_ref()) {
+    while let Some(hop) = hops.next_near(after.as_ref(), &mut near) {
         let triad = hop.opening.triad;
         if hop.is_timed_out(now) {
             outputs.push(Output::Expired { triad })?;
