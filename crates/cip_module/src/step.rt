@@ -1,6 +1,6 @@
 //! The step of a module of any kind.
 ghost use Rattle.std.specs.Prelude.{◌≡◌, None, IfOk, IfSome, OnErr};
-ghost use Rattle.cip_module.specs.Code.Ticks.{IsNoTick, IsSingle};
+ghost use Rattle.cip_module.specs.Code.Ticks.{IsMessage, IsCommandOrMessage, IsSingle};
 ghost use Rattle.cip_module.specs.Steps.{IsStep, IsStepFault};
 ghost use Rattle.cip_module.specs.Table.{command_effects, frame_effects};
 ghost use Rattle.cip_module.specs.Code.Device.{state_of_device};
@@ -22,8 +22,9 @@ use cip_event::{Body, Command, Event, Output};
 use cip_unconnected::UnconnectedView;
 
 impl Device {
-    // A frame.
+    // A frame that holds a message.
     fn frame(&mut self, port: PortNumber, from: &Address, body: &Body) -> Result<Reaction, NoMemory>
+        requires { IsMessage body.now }
         ensures { ReactsWhole self.old self.new
             (frame_effects self.old.config (state_of_device self.old) port
             from.now body.now) result }
@@ -35,10 +36,7 @@ impl Device {
             Body::Reply { number, bytes } => {
                 self.reply(Making::Anew, port, from, *number, bytes.as_slice())
             }
-            Body::Data { id, bytes } => {
-                let copied = Bytes::of(Vec::from_slice(self.alloc, bytes.as_slice())?);
-                Ok(Reaction::Whole(self.take_datum(port, from, *id, copied)))
-            }
+            Body::Data { .. } => unreachable!(),
         }
     }
 
@@ -87,9 +85,32 @@ impl Device {
         }
     }
 
-    // A command or a frame.
+    // A frame that holds a datum, whose bytes go on or up as they are.
+    fn datum(
+        &mut self,
+        port: PortNumber,
+        from: Address,
+        id: u32,
+        bytes: Bytes,
+    ) -> Result<Vec<Output>, StepFault>
+        ensures ok { IfOk result (λ outputs. IsStep self.old.config (state_of_device self.old)
+            (events.Frame port from (bodies.Data id bytes)) (state_of_device self.new)
+            outputs.items) }
+        ensures fault { IsStepFault self.old.config (state_of_device self.old)
+            (events.Frame port from (bodies.Data id bytes)) (state_of_device self.new) result }
+        ensures config { self.new.config ≡ self.old.config }
+    {
+        let Ok(mut outputs) = Vec::with_capacity(self.alloc, 1) else {
+            let body = Body::Data { id, bytes };
+            return Err(StepFault::NoMemory(Event::Frame { port, from, body }));
+        };
+        outputs.push_reserved(self.take_datum(port, &from, id, bytes));
+        Ok(outputs)
+    }
+
+    // A command or a message.
     fn occur(&mut self, event: &Event) -> Result<Vec<Output>, NoMemory>
-        requires { IsNoTick event.now }
+        requires { IsCommandOrMessage event.now }
         ensures done { IfOk result (λ o. IsStep self.old.config (state_of_device self.old) event.now
             (state_of_device self.new) o.items) }
         ensures same { OnErr result (state_of_device self.new ≡ state_of_device self.old) }
@@ -111,6 +132,22 @@ impl Device {
             }
             Reaction::Several(all) => Ok(all),
             Reaction::Edited { .. } => unreachable!(),
+        }
+    }
+
+    // The same, with the event back where memory is refused.
+    #[inline(always)]
+    fn occurred(&mut self, event: Event) -> Result<Vec<Output>, StepFault>
+        requires { IsCommandOrMessage event }
+        ensures ok { IfOk result (λ outputs. IsStep self.old.config (state_of_device self.old) event
+            (state_of_device self.new) outputs.items) }
+        ensures fault { IsStepFault self.old.config (state_of_device self.old) event
+            (state_of_device self.new) result }
+        ensures config { self.new.config ≡ self.old.config }
+    {
+        match self.occur(&event) {
+            Ok(outputs) => Ok(outputs),
+            Err(_) => Err(StepFault::NoMemory(event)),
         }
     }
 
@@ -181,16 +218,24 @@ impl Device {
             result }
         ensures config { self.new.config ≡ self.old.config }
     {
-        if let Event::Tick(by) = event {
-            return match self.tick(by) {
+        match event {
+            Event::Tick(by) => match self.tick(by) {
                 Ok(outputs) => Ok(outputs),
                 Err(TickFault::OutOfMemory) => Err(StepFault::NoMemory(Event::Tick(by))),
                 Err(TickFault::Full) => Err(StepFault::ClockFull(Event::Tick(by))),
-            };
-        }
-        match self.occur(&event) {
-            Ok(outputs) => Ok(outputs),
-            Err(_) => Err(StepFault::NoMemory(event)),
+            },
+            Event::Command(command) => self.occurred(Event::Command(command)),
+            Event::Frame { port, from, body } => match body {
+                Body::Data { id, bytes } => self.datum(port, from, id, bytes),
+                Body::Request { number, bytes } => {
+                    let body = Body::Request { number, bytes };
+                    self.occurred(Event::Frame { port, from, body })
+                }
+                Body::Reply { number, bytes } => {
+                    let body = Body::Reply { number, bytes };
+                    self.occurred(Event::Frame { port, from, body })
+                }
+            },
         }
     }
 }

@@ -7,6 +7,8 @@ use Rattle.cip_pending.specs.Pendings.{due, Pendings}
 use Rattle.cip_hops.specs.declared.hop.Hop.{Hop}
 use Rattle.cip_hops.specs.Hops.{Hops}
 use Rattle.cip_hops.specs.Hops as hops
+use Rattle.cip_event.specs.declared.event.Body.{Body}
+use Rattle.cip_event.specs.declared.event.Body.TheVariants as bodies
 use Rattle.cip_event.specs.declared.event.Event.{Event}
 use Rattle.cip_event.specs.declared.event.Event.TheVariants as events
 use Rattle.cip_event.specs.declared.event.Command.{Command}
@@ -56,11 +58,17 @@ TickGives view config old new ms (Ok outputs) =
 TickGives view config old new ms (Err OutOfMemory) = (old.now + 1000 * ms < 2 ^ 63) × (new ≡ old)
 TickGives view config old new ms (Err Full) = (2 ^ 63 ≤ old.now + 1000 * ms) × (new ≡ old)
 
--- a command or a frame
-abbrev pub IsNoTick : Event → Type 0
-IsNoTick (events.Command command) = Unit {0}
-IsNoTick (events.Frame port from body) = Unit {0}
-IsNoTick (events.Tick by) = ⊥
+-- a request or a reply
+abbrev pub IsMessage : Body → Type 0
+IsMessage (bodies.Request number bytes) = Unit {0}
+IsMessage (bodies.Reply number bytes) = Unit {0}
+IsMessage (bodies.Data id bytes) = ⊥
+
+-- a command, or a frame that holds a message
+abbrev pub IsCommandOrMessage : Event → Type 0
+IsCommandOrMessage (events.Command command) = Unit {0}
+IsCommandOrMessage (events.Frame port from body) = IsMessage body
+IsCommandOrMessage (events.Tick by) = ⊥
 
 -- a command that has one output at most
 abbrev pub IsSingle : Command → Type 0
