@@ -81,8 +81,8 @@ impl Device {
         self.clock.now()
     }
 
-    /// The first time, in microseconds, at which a request is given up or a side of a connection has
-    /// been silent for too long; None where nothing waits. It looks at each once, and takes no
+    /// The first time, in microseconds, at which a request is given up or a side of a connection
+    /// has been silent for too long; None where nothing waits. It looks at each once, and takes no
     /// memory.
     pub fn first_deadline(&self) -> Option<u64>
         ensures { (time : ℕ) → is_past time result ≡ is_any_due time (state_of_device self.now) }

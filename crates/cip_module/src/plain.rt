@@ -40,8 +40,8 @@ impl PlainModule {
         self.device.now()
     }
 
-    /// The first time, in microseconds, at which a request is given up or a side of a connection has
-    /// been silent for too long; None where nothing waits. It takes no memory.
+    /// The first time, in microseconds, at which a request is given up or a side of a connection
+    /// has been silent for too long; None where nothing waits. It takes no memory.
     pub fn first_deadline(&self) -> Option<u64>
         ensures { (time : ℕ) → is_past time result ≡ is_any_due time (state_of_plain self.now) }
     {

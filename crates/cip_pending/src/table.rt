@@ -155,7 +155,8 @@ impl PendingTable {
         Some((number, self.records.get(key)?))
     }
 
-    /// The first deadline, in microseconds; None where nothing waits. It looks at each request once.
+    /// The first deadline, in microseconds; None where nothing waits. It looks at each request
+    /// once.
     pub fn first_deadline(&self) -> Option<u64>
         ensures { (time : ℕ) → is_reached time result
             ≡ list_any (is_due time) (map.entries self.now.entries) }
