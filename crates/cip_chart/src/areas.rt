@@ -29,6 +29,11 @@ pub(crate) struct Spot {
     pub anchor: Anchor,
 }
 
+// How far a text stands above and below its base line.
+const ABOVE: u64 = 9;
+
+const BELOW: u64 = 3;
+
 /// About how wide so many characters are.
 pub(crate) fn width_of(characters: usize) -> u64 {
     (characters as u64).saturating_mul(13) / 2
@@ -44,9 +49,9 @@ impl Spot {
         };
         Area {
             left,
-            top: self.y.saturating_sub(9),
+            top: self.y.saturating_sub(ABOVE),
             right: left.saturating_add(width),
-            bottom: self.y.saturating_add(3),
+            bottom: self.y.saturating_add(BELOW),
         }
     }
 }
@@ -69,29 +74,49 @@ impl Area {
     }
 }
 
-/// What takes a part of a chart.
-#[derive(Clone, Copy, Debug)]
-enum Thing {
-    Text(Area),
-    Line(Line),
-}
+// How bad it is that a text stands on another, and on a line.
+const ON_TEXT: u64 = 20;
 
-// How bad it is that a text stands on a thing.
-fn cost_of(thing: Thing, area: Area) -> u64 {
-    match thing {
-        Thing::Text(other) if area.meets(other) => 20,
-        Thing::Line(line) if area.is_crossed(line) => 3,
-        _ => 0,
-    }
-}
+const ON_LINE: u64 = 3;
 
 /// The most bands of a line that are taken.
 const LONGEST: u64 = 40;
 
-/// The things of a chart, in bands of the height of a row.
+/// A line in a band.
+#[derive(Clone, Copy, Debug)]
+struct Passing {
+    /// How far the line goes to the left and to the right at most, where a text stands that begins
+    /// or ends in the band.
+    left: u64,
+    right: u64,
+    /// Its place among the lines.
+    line: usize,
+}
+
+impl Passing {
+    // Whether the line stands beside a text that begins or ends in the band.
+    fn is_beside(self, area: Area) -> bool {
+        self.right < area.left || area.right < self.left
+    }
+
+    // Whether it goes no further to either side than such a text.
+    fn is_between(self, area: Area) -> bool {
+        area.left <= self.left && self.right <= area.right
+    }
+}
+
+/// A band of the height of a row, with what takes a part of it.
+#[derive(Drop)]
+struct Band {
+    texts: Vec<Area>,
+    lines: Vec<Passing>,
+}
+
+/// The things of a chart, in bands.
 #[derive(Drop)]
 pub(crate) struct Areas {
-    bands: Vec<Vec<Thing>>,
+    lines: Vec<Line>,
+    bands: Vec<Band>,
     /// The greatest end of a text to the right.
     pub right: u64,
 }
@@ -101,15 +126,22 @@ impl Areas {
     pub(crate) fn new(alloc: Global, height: u64) -> Result<Areas, NoMemory> {
         let mut bands = Vec::new(alloc);
         for _ in 0..(height / ROW).saturating_add(2) {
-            bands.push(Vec::new(alloc))?;
+            bands.push(Band {
+                texts: Vec::new(alloc),
+                lines: Vec::new(alloc),
+            })?;
         }
-        Ok(Areas { bands, right: 0 })
+        Ok(Areas {
+            lines: Vec::new(alloc),
+            bands,
+            right: 0,
+        })
     }
 
-    // A thing takes the band at this height.
-    fn put(&mut self, thing: Thing, band: u64) -> Result<(), NoMemory> {
+    // A text takes the band at this height.
+    fn put(&mut self, area: Area, band: u64) -> Result<(), NoMemory> {
         if let Some(things) = self.bands.get_mut(band as usize) {
-            things.push(thing)?;
+            things.texts.push(area)?;
         }
         Ok(())
     }
@@ -118,9 +150,26 @@ impl Areas {
     pub(crate) fn put_text(&mut self, area: Area) -> Result<(), NoMemory> {
         self.right = self.right.max(area.right);
         let (first, last) = (area.top / ROW, area.bottom / ROW);
-        self.put(Thing::Text(area), first)?;
+        self.put(area, first)?;
         if first != last {
-            self.put(Thing::Text(area), last)?;
+            self.put(area, last)?;
+        }
+        Ok(())
+    }
+
+    // A line takes the band at this height.
+    fn put_passing(&mut self, line: Line, place: usize, band: u64) -> Result<(), NoMemory> {
+        let begin = band.saturating_mul(ROW);
+        let top = begin.saturating_sub(ABOVE + BELOW);
+        let bottom = begin.saturating_add(ROW + ABOVE + BELOW);
+        if let Some((left, right)) = line.within(top, bottom) {
+            if let Some(things) = self.bands.get_mut(band as usize) {
+                things.lines.push(Passing {
+                    left,
+                    right,
+                    line: place,
+                })?;
+            }
         }
         Ok(())
     }
@@ -129,30 +178,57 @@ impl Areas {
     pub(crate) fn put_line(&mut self, line: Line) -> Result<(), NoMemory> {
         let first = line.y1.min(line.y2) / ROW;
         let last = (line.y1.max(line.y2) / ROW).min(first.saturating_add(LONGEST));
+        let place = self.lines.len();
+        self.lines.push(line)?;
         for band in first..last.saturating_add(1) {
-            self.put(Thing::Line(line), band)?;
+            self.put_passing(line, place, band)?;
         }
         Ok(())
     }
 
-    // How bad it is that a text stands here, by the things of one band.
-    fn cost_in(&self, area: Area, band: u64) -> u64 {
-        let mut cost: u64 = 0;
-        if let Some(things) = self.bands.get(band as usize) {
-            for thing in things {
-                cost = cost.saturating_add(cost_of(*thing, area));
+    // Whether a line goes through a text that begins or ends in the band.
+    fn is_crossed(&self, area: Area, passing: Passing) -> bool {
+        if passing.is_beside(area) {
+            return false;
+        }
+        match self.lines.get(passing.line) {
+            Some(line) if passing.is_between(area) => line.is_at(area.top, area.bottom),
+            Some(line) => area.is_crossed(*line),
+            None => false,
+        }
+    }
+
+    // How bad it is that a text stands here, by the things of one band and what was found before,
+    // as far as it is below a limit.
+    fn cost_in(&self, area: Area, band: u64, before: u64, limit: u64) -> u64 {
+        let mut cost = before;
+        let Some(things) = self.bands.get(band as usize) else {
+            return cost;
+        };
+        for other in &things.texts {
+            if area.meets(*other) {
+                cost = cost.saturating_add(ON_TEXT);
+            }
+        }
+        for passing in &things.lines {
+            if limit <= cost {
+                return cost;
+            }
+            if self.is_crossed(area, *passing) {
+                cost = cost.saturating_add(ON_LINE);
             }
         }
         cost
     }
 
-    /// How bad it is that a text stands here: 0 where nothing is.
-    pub(crate) fn cost(&self, area: Area) -> u64 {
+    /// How bad it is that a text stands here, with what was found before: that alone where nothing
+    /// is. Where it is not below the limit it may be told as less, but not as below the limit.
+    pub(crate) fn cost(&self, area: Area, before: u64, limit: u64) -> u64 {
         let (first, last) = (area.top / ROW, area.bottom / ROW);
-        let cost = self.cost_in(area, first);
+        let cost = self.cost_in(area, first, before, limit);
         if first == last {
             return cost;
         }
-        cost.saturating_add(self.cost_in(area, last))
+        self.cost_in(area, last, cost, limit)
     }
 }

@@ -109,7 +109,7 @@ impl Best {
         }
         let area = spot.area(width);
         let edge = if area.left < 46 { 20 } else { 0 };
-        let cost = areas.cost(area).saturating_add(edge);
+        let cost = areas.cost(area, edge, self.cost);
         if cost < self.cost {
             Best { spot, cost }
         } else {
@@ -129,11 +129,17 @@ pub(crate) fn spot_of(areas: &Areas, line: Line, is_whole: bool, characters: usi
         best = best.or(areas, behind(line), width);
     }
     for part in PARTS {
+        if best.cost == 0 {
+            return best.spot;
+        }
         if let Some(spot) = over(line, *part, width) {
             best = best.or(areas, spot, width);
         }
     }
     for part in PARTS {
+        if best.cost == 0 {
+            return best.spot;
+        }
         best = best.or(areas, above(line, *part), width);
         best = best.or(areas, below(line, *part), width);
     }

@@ -56,6 +56,12 @@ impl Line {
         between(self.x2, self.x1, thousandths(self.y2, self.y1, y))
     }
 
+    /// Whether the line is anywhere between two heights.
+    pub(crate) fn is_at(self, top: u64, bottom: u64) -> bool {
+        let high = self.y1.min(self.y2).max(top);
+        high <= self.y1.max(self.y2).min(bottom)
+    }
+
     /// How far the line goes to the left and to the right between two heights; None where it is not
     /// there.
     pub(crate) fn within(self, top: u64, bottom: u64) -> Option<(u64, u64)> {
