@@ -1,17 +1,54 @@
 //! Text that stands in XML.
-use cip_base::NoMemory;
+ghost use Rattle.std.specs.Prelude.{◌≡◌, ◌++◌, IsTrue, OnOk, MatchOption, string_bytes};
+ghost use Rattle.cip_chart.specs.Escapes.{is_marked, escape, escaped, IsFirstMarked};
 
-/// Appends a text, with the characters that mean something in XML written by their names.
-pub(crate) fn put_escaped(out: &mut String, text: &str) -> Result<(), NoMemory> {
-    for character in text.chars() {
-        match character {
-            '&' => out.push_str("&amp;")?,
-            '<' => out.push_str("&lt;")?,
-            '>' => out.push_str("&gt;")?,
-            '"' => out.push_str("&quot;")?,
-            '\'' => out.push_str("&#39;")?,
-            other => out.push(other)?,
+use cip_base::NoMemory;
+use cip_decode::put;
+
+// Whether a character means something in XML.
+fn is_marked(byte: u8) -> bool
+    ensures { result ≡ is_marked byte }
+{
+    byte == b'&' || byte == b'<' || byte == b'>' || byte == b'"' || byte == b'\''
+}
+
+// What stands for a character that means something in XML.
+fn escape(byte: u8) -> &'static str
+    requires { IsTrue (is_marked byte) }
+    ensures { result.now ≡ escape byte }
+{
+    match byte {
+        b'&' => "&amp;",
+        b'<' => "&lt;",
+        b'>' => "&gt;",
+        b'"' => "&quot;",
+        _ => "&#39;",
+    }
+}
+
+// The place of the first character that means something in XML.
+fn first_marked(bytes: &[u8]) -> Option<usize>
+    ensures { MatchOption result (escaped bytes.now ≡ bytes.now) (IsFirstMarked bytes.now) }
+{
+    'bytes: for at in 0..bytes.len() {
+        if is_marked(bytes[at]) {
+            return Some(at);
         }
     }
-    Ok(())
+    None
+}
+
+/// Appends a text, with the characters that mean something in XML written by their names. What
+/// stands between two of them goes at once.
+pub(crate) fn put_escaped(out: &mut String, text: &str) -> Result<(), NoMemory>
+    ensures { OnOk result (string_bytes out.new ≡ string_bytes out.old ++ escaped text.now) }
+{
+    let mut rest = text;
+    'parts: while let Some(at) = first_marked(rest.as_bytes()) {
+        let marked = escape(rest.as_bytes()[at]);
+        put(out, &rest[..at])?;
+        put(out, marked)?;
+        rest = &rest[at + 1..];
+    }
+    put(out, rest)
 }
