@@ -8,6 +8,7 @@ use crate::line::{Line, line_of};
 use crate::model::{Arrow, Fate};
 use crate::style;
 use cip_base::NoMemory;
+use cip_decode::{put, put_count, put_number};
 use cip_view::{Kind, Label};
 use std::alloc::Global;
 
@@ -32,9 +33,9 @@ fn fate_word(fate: Fate) -> &'static str {
     }
 }
 
-// The arrow at a place, if it is shown.
+// The arrow at a place, if it is shown. Its label is written into a room, and then copied.
 fn shown_of(
-    alloc: Global,
+    room: &mut String,
     chart: &ChartView<'_>,
     heights: &Heights,
     place: usize,
@@ -43,8 +44,10 @@ fn shown_of(
     let Some((line, is_whole)) = line_of(chart, heights, arrow) else {
         return Ok(None);
     };
-    let word = fate_word(arrow.fate);
-    let label = format!(in alloc; "{}{word}", arrow.label)?;
+    room.clear();
+    write!(room, "{}", arrow.label)?;
+    put(room, fate_word(arrow.fate))?;
+    let label = room.clone()?;
     let spot = Spot {
         x: line.x2,
         y: line.y2,
@@ -68,8 +71,9 @@ pub(crate) fn take_arrows(
     areas: &mut Areas,
 ) -> Result<Vec<Shown>, NoMemory> {
     let mut arrows = Vec::new(alloc);
+    let mut room = String::new(alloc);
     for (place, arrow) in chart.arrows.iter().enumerate() {
-        if let Some(arrow) = shown_of(alloc, chart, heights, place, arrow)? {
+        if let Some(arrow) = shown_of(&mut room, chart, heights, place, arrow)? {
             areas.put_line(arrow.line)?;
             arrows.push(arrow)?;
         }
@@ -82,32 +86,45 @@ pub(crate) fn take_arrows(
     Ok(arrows)
 }
 
-// The path of a line: straight, or a loop where a module sends to itself.
-fn put_path(line: Line, words: &str, out: &mut String) -> Result<(), NoMemory> {
+// A point, behind what stands before it.
+fn put_point(before: &str, x: u64, y: u64, out: &mut String) -> Result<(), NoMemory> {
+    put_count(out, before, x)?;
+    put_count(out, " ", y)
+}
+
+// The way of a line: straight, or a loop where a module sends to itself.
+fn put_way(line: Line, way: &mut String) -> Result<(), NoMemory> {
     let Line { x1, y1, x2, y2 } = line;
+    put_point(" d=\"M", x1, y1, way)?;
     if line.is_loop() {
         let far = x1.saturating_add(70);
-        write!(
-            out,
-            "<path {words} d=\"M{x1} {y1}C{far} {y1} {far} {y2} {x2} {y2}\"/>"
-        )?;
+        put_point("C", far, y1, way)?;
+        put_point(" ", far, y2, way)?;
+        put_point(" ", x2, y2, way)?;
     } else {
-        write!(out, "<path {words} d=\"M{x1} {y1}L{x2} {y2}\"/>")?;
+        put_point("L", x2, y2, way)?;
     }
-    Ok(())
+    put(way, "\"/>")
+}
+
+// The path of a line with these attributes.
+fn put_path(words: &str, way: &str, out: &mut String) -> Result<(), NoMemory> {
+    put(out, "<path ")?;
+    put(out, words)?;
+    put(out, way)
 }
 
 // A cross where a frame was lost.
 fn put_cross(x: u64, y: u64, out: &mut String) -> Result<(), NoMemory> {
     let (left, right) = (x.saturating_sub(5), x.saturating_add(5));
     let (top, bottom) = (y.saturating_sub(5), y.saturating_add(5));
-    let cross = style::CROSS;
-    write!(
-        out,
-        "<path {cross} d=\"M{left} {top}L{right} {bottom}M{left} {bottom}"
-    )?;
-    write!(out, "L{right} {top}\"/>")?;
-    Ok(())
+    put(out, "<path ")?;
+    put(out, style::CROSS)?;
+    put_point(" d=\"M", left, top, out)?;
+    put_point("L", right, bottom, out)?;
+    put_point("M", left, bottom, out)?;
+    put_point("L", right, top, out)?;
+    put(out, "\"/>")
 }
 
 // How a frame's line looks, and its head.
@@ -132,56 +149,68 @@ fn style_of(label: &Label) -> (&'static str, &'static str) {
 const HIT: &str = "class=\"hit\" stroke=\"none\" stroke-width=\"9\" pointer-events=\"stroke\"";
 
 // The line of a frame with its head, or with a cross.
-fn put_line(arrow: &Arrow, line: Line, out: &mut String) -> Result<(), NoMemory> {
+fn put_line(arrow: &Arrow, line: Line, way: &str, out: &mut String) -> Result<(), NoMemory> {
     let (words, head) = style_of(&arrow.label);
-    write!(out, "<g {words}>")?;
-    put_path(line, HIT, out)?;
+    put(out, "<g ")?;
+    put(out, words)?;
+    put(out, ">")?;
+    put_path(HIT, way, out)?;
     match arrow.fate {
         Fate::Lost(_) | Fate::Nobody => {
-            put_path(line, "class=\"line\"", out)?;
+            put_path("class=\"line\"", way, out)?;
             put_cross(line.x2, line.y2, out)?;
         }
-        _ => put_path(line, head, out)?,
+        _ => put_path(head, way, out)?,
     }
-    out.push_str("</g>")?;
-    Ok(())
+    put(out, "</g>")
 }
 
 // A label at its place.
 fn put_label(arrow: &Shown, out: &mut String) -> Result<(), NoMemory> {
     let Spot { x, y, anchor } = arrow.spot;
     let anchor = match anchor {
-        Anchor::Start => "",
-        Anchor::Middle => " text-anchor=\"middle\"",
-        Anchor::End => " text-anchor=\"end\"",
+        Anchor::Start => "\">",
+        Anchor::Middle => "\" text-anchor=\"middle\">",
+        Anchor::End => "\" text-anchor=\"end\">",
     };
-    write!(out, "<text class=\"halo\" x=\"{x}\" y=\"{y}\"{anchor}>")?;
+    put_count(out, "<text class=\"halo\" x=\"", x)?;
+    put_count(out, "\" y=\"", y)?;
+    put(out, anchor)?;
     put_escaped(out, arrow.label.as_str())?;
-    out.push_str("</text>")?;
-    Ok(())
+    put(out, "</text>")
 }
 
-// An arrow with its label and what its message says.
+// Where an arrow begins, up to what its message says.
+fn put_title(arrow: &Arrow, is_link: bool, out: &mut String) -> Result<(), NoMemory> {
+    let (entry, output) = (arrow.name.entry as u64, arrow.name.output as u64);
+    if is_link {
+        put_count(out, "<a href=\"#f", entry)?;
+        put_count(out, "-", output)?;
+        put(out, "\"><title>")?;
+    } else {
+        put(out, "<g><title>")?;
+    }
+    put_number(out, entry)?;
+    put_count(out, ".", output)?;
+    put(out, " ")
+}
+
+// An arrow with its label and what its message says, in a text for the way of its line.
 fn put_arrow(
     arrow: &Arrow,
     shown: &Shown,
     is_link: bool,
+    way: &mut String,
     out: &mut String,
 ) -> Result<(), NoMemory> {
-    let name = arrow.name;
-    let (entry, output) = (name.entry, name.output);
-    if is_link {
-        write!(out, "<a href=\"#f{entry}-{output}\">")?;
-    } else {
-        out.push_str("<g>")?;
-    }
-    write!(out, "<title>{entry}.{output} ")?;
+    put_title(arrow, is_link, out)?;
     put_escaped(out, arrow.says.as_str())?;
-    out.push_str("</title>")?;
-    put_line(arrow, shown.line, out)?;
+    put(out, "</title>")?;
+    way.clear();
+    put_way(shown.line, way)?;
+    put_line(arrow, shown.line, way.as_str(), out)?;
     put_label(shown, out)?;
-    out.push_str(if is_link { "</a>\n" } else { "</g>\n" })?;
-    Ok(())
+    put(out, if is_link { "</a>\n" } else { "</g>\n" })
 }
 
 /// The arrows, as links to what their messages say where that stands on a page.
@@ -191,9 +220,10 @@ pub(crate) fn put_arrows(
     is_link: bool,
     out: &mut String,
 ) -> Result<(), NoMemory> {
+    let mut way = String::new(*out.allocator());
     for shown in arrows {
         if let Some(arrow) = chart.arrows.get(shown.place) {
-            put_arrow(arrow, shown, is_link, out)?;
+            put_arrow(arrow, shown, is_link, &mut way, out)?;
         }
     }
     Ok(())

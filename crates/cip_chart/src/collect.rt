@@ -34,6 +34,8 @@ pub struct ChartView<'a> {
     // the entry under way, and its row where it is shown
     entry: usize,
     row: Option<usize>,
+    // what a message says, before it is copied
+    room: String,
     out: String,
 }
 
@@ -62,6 +64,7 @@ impl<'a> ChartView<'a> {
             times: BTreeMap::new(alloc),
             entry: 0,
             row: None,
+            room: String::new(alloc),
             out: String::new(alloc),
         })
     }
@@ -232,7 +235,7 @@ impl<'a> ChartView<'a> {
         }
     }
 
-    fn take_send(&mut self, alloc: Global, index: usize, output: &Output) -> Result<(), NoMemory> {
+    fn take_send(&mut self, index: usize, output: &Output) -> Result<(), NoMemory> {
         let Output::Send { port, to, body } = output else {
             return Ok(());
         };
@@ -244,7 +247,9 @@ impl<'a> ChartView<'a> {
             return Ok(());
         }
         let known = self.book.of_body(sent.to, body);
-        let says = format!(in alloc; "{}", BodyText { body, known })?;
+        self.room.clear();
+        write!(self.room, "{}", BodyText { body, known })?;
+        let says = self.room.clone()?;
         let name = FrameName {
             entry: self.entry,
             output: index,
@@ -291,7 +296,7 @@ impl<'a> ChartView<'a> {
         output: &Output,
     ) -> Result<(), NoMemory> {
         match output {
-            Output::Send { .. } => return self.take_send(alloc, index, output),
+            Output::Send { .. } => return self.take_send(index, output),
             Output::Done { op, .. } => self.book.done(*op),
             Output::Refused(_) => self.book.refused(),
             _ => {}

@@ -5,6 +5,7 @@ use crate::escape::put_escaped;
 use crate::layout::{BOX, Heights, PORT, x_of};
 use crate::style;
 use cip_base::{Address, ModuleId, NoMemory};
+use cip_decode::{put, put_count};
 use cip_topology::Topology;
 use cip_view::NameText;
 
@@ -49,13 +50,26 @@ fn put_boxes(chart: &ChartView<'_>, out: &mut String) -> Result<(), NoMemory> {
     Ok(())
 }
 
+// A name as it is shown, of ASCII characters at once.
+fn put_name(name: &[u8], out: &mut String) -> Result<(), NoMemory> {
+    match std::str::from_utf8(name) {
+        Ok(text) if text.is_ascii() => put(out, text),
+        _ => {
+            write!(out, "{}", NameText(name))?;
+            Ok(())
+        }
+    }
+}
+
 // The names of the modules, all at one height.
 fn put_names(chart: &ChartView<'_>, y: u64, out: &mut String) -> Result<(), NoMemory> {
     for (place, column) in chart.columns.iter().enumerate() {
         if let Some(column) = column {
-            let x = x_of(*column);
-            let name = NameText(name_of(chart.topology, ModuleId(place)));
-            write!(out, "<text x=\"{x}\" y=\"{y}\">{name}</text>\n")?;
+            put_count(out, "<text x=\"", x_of(*column))?;
+            put_count(out, "\" y=\"", y)?;
+            put(out, "\">")?;
+            put_name(name_of(chart.topology, ModuleId(place)), out)?;
+            put(out, "</text>\n")?;
         }
     }
     Ok(())

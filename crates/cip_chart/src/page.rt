@@ -5,20 +5,20 @@ use crate::escape::put_escaped;
 use crate::model::Arrow;
 use crate::style::{PAGE_STYLE, SCRIPT};
 use cip_base::NoMemory;
+use cip_decode::{put, put_count, put_number};
 use std::alloc::Global;
 
 // What the message of an arrow says.
 fn put_message(arrow: &Arrow, out: &mut String) -> Result<(), NoMemory> {
-    let name = arrow.name;
-    let (entry, output) = (name.entry, name.output);
-    let label = arrow.label;
-    write!(
-        out,
-        "<section id=\"f{entry}-{output}\"><h2>{entry}.{output} {label}</h2><p>"
-    )?;
+    let (entry, output) = (arrow.name.entry as u64, arrow.name.output as u64);
+    put_count(out, "<section id=\"f", entry)?;
+    put_count(out, "-", output)?;
+    put(out, "\"><h2>")?;
+    put_number(out, entry)?;
+    put_count(out, ".", output)?;
+    write!(out, " {}</h2><p>", arrow.label)?;
     put_escaped(out, arrow.says.as_str())?;
-    out.push_str("</p></section>\n")?;
-    Ok(())
+    put(out, "</p></section>\n")
 }
 
 /// One page without anything from outside: the chart, and beside it what the message says of the

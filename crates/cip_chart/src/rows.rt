@@ -7,19 +7,23 @@ use crate::line::y_of;
 use crate::model::{Mark, Row};
 use crate::style;
 use cip_base::NoMemory;
+use cip_decode::{put, put_count};
 use cip_read::Given;
 use cip_view::command_word;
 use std::alloc::Global;
 
-// What a module was given, beside its lifeline; None for a frame, which has its arrow.
-fn given_text(alloc: Global, given: Given) -> Result<Option<String>, NoMemory> {
+// What a module was given, beside its lifeline; nothing for a frame, which has its arrow.
+fn put_words(text: &mut String, given: Given) -> Result<(), NoMemory> {
     match given {
         Given::Command(word, number) => {
-            let word = command_word(word);
-            Ok(Some(format!(in alloc; "{word} {number}")?))
+            put(text, command_word(word))?;
+            put_count(text, " ", u64::from(number))
         }
-        Given::Tick(ms) => Ok(Some(format!(in alloc; "tick {ms} ms")?)),
-        Given::Frame(_) => Ok(None),
+        Given::Tick(ms) => {
+            put_count(text, "tick ", u64::from(ms))?;
+            put(text, " ms")
+        }
+        Given::Frame(_) => Ok(()),
     }
 }
 
@@ -32,25 +36,17 @@ fn beside(column: usize, y: u64) -> Spot {
     }
 }
 
-/// The text of what a row's module was given, and its place.
-#[derive(Drop)]
-struct GivenText {
-    spot: Spot,
-    text: String,
-}
-
-// What the module of a row was given.
-fn given_of(alloc: Global, row: &Row, y: u64) -> Result<Option<GivenText>, NoMemory> {
+// What the module of a row was given, as this text, and its place; None where there is nothing.
+fn given_of(row: &Row, y: u64, text: &mut String) -> Result<Option<Spot>, NoMemory> {
     let (Some(column), Some(given)) = (row.column, row.given) else {
         return Ok(None);
     };
-    match given_text(alloc, given)? {
-        Some(text) => {
-            let spot = beside(column, y.saturating_sub(6));
-            Ok(Some(GivenText { spot, text }))
-        }
-        None => Ok(None),
+    text.clear();
+    put_words(text, given)?;
+    if text.as_str().is_empty() {
+        return Ok(None);
     }
+    Ok(Some(beside(column, y.saturating_sub(6))))
 }
 
 // Where a mark stands, so much below the first of its row; None where its row is not shown.
@@ -77,13 +73,14 @@ pub(crate) fn take_rows(
     heights: &Heights,
     areas: &mut Areas,
 ) -> Result<(), NoMemory> {
+    let mut text = String::new(alloc);
     for (row, y) in chart.rows.iter().zip(heights.rows.iter()) {
         if row.is_folded {
             continue;
         }
-        if let Some(given) = given_of(alloc, row, *y)? {
-            let width = width_of(given.text.len().saturating_add(1));
-            areas.put_text(given.spot.area(width))?;
+        if let Some(spot) = given_of(row, *y, &mut text)? {
+            let width = width_of(text.len().saturating_add(1));
+            areas.put_text(spot.area(width))?;
         }
     }
     let mut last = usize::MAX;
@@ -103,28 +100,27 @@ fn put_fold(row: &Row, y: u64, width: u64, out: &mut String) -> Result<(), NoMem
     let top = y.saturating_add(below_dot(row)).saturating_add(8);
     let text = top.saturating_add(13);
     let across = width.saturating_sub(40);
-    let repeats = row.repeats;
-    let fold = style::FOLD;
-    write!(
-        out,
-        "<rect {fold} x=\"20\" y=\"{top}\" width=\"{across}\" height=\"18\" rx=\"4\"/>"
-    )?;
-    write!(
-        out,
-        "<text {} font-style=\"italic\" x=\"60\" y=\"{text}\">",
-        style::PALE
-    )?;
-    write!(out, "the data above moves {repeats} times more</text>\n")?;
-    Ok(())
+    put(out, "<rect ")?;
+    put(out, style::FOLD)?;
+    put_count(out, " x=\"20\" y=\"", top)?;
+    put_count(out, "\" width=\"", across)?;
+    put(out, "\" height=\"18\" rx=\"4\"/><text ")?;
+    put(out, style::PALE)?;
+    put_count(out, " font-style=\"italic\" x=\"60\" y=\"", text)?;
+    put_count(out, "\">the data above moves ", row.repeats as u64)?;
+    put(out, " times more</text>\n")
 }
 
 // The number of a row, and its time.
 fn put_number(row: &Row, y: u64, out: &mut String) -> Result<(), NoMemory> {
-    let entry = row.entry;
     let base = y.saturating_add(4);
-    write!(out, "<text x=\"40\" y=\"{base}\">{entry}</text>\n")?;
+    put_count(out, "<text x=\"40\" y=\"", base)?;
+    put_count(out, "\">", row.entry as u64)?;
+    put(out, "</text>\n")?;
     if let Some(time) = row.time {
-        write!(out, "<text x=\"100\" y=\"{base}\">{time} ms</text>\n")?;
+        put_count(out, "<text x=\"100\" y=\"", base)?;
+        put_count(out, "\">", time)?;
+        put(out, " ms</text>\n")?;
     }
     Ok(())
 }
@@ -151,8 +147,9 @@ pub(crate) fn put_rows(
     for (row, y) in chart.rows.iter().zip(heights.rows.iter()) {
         if let Some(column) = row.column {
             if !row.is_folded {
-                let x = x_of(column);
-                write!(out, "<circle cx=\"{x}\" cy=\"{y}\" r=\"2.5\"/>\n")?;
+                put_count(out, "<circle cx=\"", x_of(column))?;
+                put_count(out, "\" cy=\"", *y)?;
+                put(out, "\" r=\"2.5\"/>\n")?;
             }
         }
     }
@@ -161,11 +158,13 @@ pub(crate) fn put_rows(
 
 // A text at its place, with these attributes.
 fn put_text(spot: Spot, words: &str, text: &str, out: &mut String) -> Result<(), NoMemory> {
-    let Spot { x, y, .. } = spot;
-    write!(out, "<text{words} x=\"{x}\" y=\"{y}\">")?;
+    put(out, "<text")?;
+    put(out, words)?;
+    put_count(out, " x=\"", spot.x)?;
+    put_count(out, "\" y=\"", spot.y)?;
+    put(out, "\">")?;
     put_escaped(out, text)?;
-    out.push_str("</text>\n")?;
-    Ok(())
+    put(out, "</text>\n")
 }
 
 // What the modules were given.
@@ -175,16 +174,17 @@ fn put_given(
     heights: &Heights,
     out: &mut String,
 ) -> Result<(), NoMemory> {
+    let mut text = String::new(alloc);
     for (row, y) in chart.rows.iter().zip(heights.rows.iter()) {
         if row.is_folded {
             continue;
         }
-        if let Some(given) = given_of(alloc, row, *y)? {
+        if let Some(spot) = given_of(row, *y, &mut text)? {
             let words = match row.given {
                 Some(Given::Command(..)) => " font-weight=\"700\"",
                 _ => "",
             };
-            put_text(given.spot, words, given.text.as_str(), out)?;
+            put_text(spot, words, text.as_str(), out)?;
         }
     }
     Ok(())
