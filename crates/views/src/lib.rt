@@ -2,6 +2,8 @@
 #![tactic(auto)]
 
 #[cfg(test)]
+mod charts;
+#[cfg(test)]
 mod dice;
 #[cfg(test)]
 mod leaves;
@@ -9,6 +11,10 @@ mod leaves;
 mod made;
 #[cfg(test)]
 mod messages;
+#[cfg(test)]
+mod old_chart;
+#[cfg(test)]
+mod plants;
 #[cfg(test)]
 mod shown;
 #[cfg(test)]

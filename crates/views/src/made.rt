@@ -68,8 +68,8 @@ const FAULTS: &[&str] = &[
     "é",
 ];
 
-// A message, as often as not another one: a byte changed, cut, or too long.
-fn put_message(
+/// A message, as often as not another one: a byte changed, cut, or too long.
+pub fn put_message(
     text: &mut String,
     dice: &mut Dice,
     words: &[&'static str],
@@ -124,7 +124,8 @@ fn put_frame(text: &mut String, dice: &mut Dice) -> Result<(), AllocError> {
     }
 }
 
-fn put_output(text: &mut String, dice: &mut Dice) -> Result<(), AllocError> {
+/// An output: in half of the cases a frame that goes out.
+pub fn put_output(text: &mut String, dice: &mut Dice) -> Result<(), AllocError> {
     let op = dice.below(6);
     match dice.below(14) {
         0 | 1 => {

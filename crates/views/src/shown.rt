@@ -51,18 +51,17 @@ fn end<V: View>(alloc: Global, shown: &Shown<'_>, view: &mut V) -> Result<(), Al
     Ok(())
 }
 
-// Both views show the same of a transcript, and say the same of its fault.
-fn compare<V: View, W: View>(
+/// Both views show the same of a transcript, and say the same of its fault.
+pub fn compare<V: View, W: View>(
     rt: &impl Abort,
     alloc: Global,
     dice: &mut Dice,
     topology: &Topology,
+    text: &str,
     view: &mut V,
     other: &mut W,
 ) -> Result<(), AllocError> {
-    let entries = dice.below(24).saturating_add(1);
-    let text = transcript(alloc, dice, entries)?;
-    let bytes = text.as_str().as_bytes();
+    let bytes = text.as_bytes();
     let mut first = shown_over(alloc, topology);
     let mut second = shown_over(alloc, topology);
     let size = dice.below(bytes.len()).saturating_add(1);
@@ -93,7 +92,10 @@ fn json_is_that_of_the_tree_of_values(rt: HostRuntime) -> Result<(), Fail> {
     for _ in 0..300 {
         let mut view = JsonView::new(alloc, &topology);
         let mut tree = TreeView::new(alloc, &topology);
-        compare(&rt, alloc, &mut dice, &topology, &mut view, &mut tree)?;
+        let entries = dice.below(24).saturating_add(1);
+        let text = transcript(alloc, &mut dice, entries)?;
+        let text = text.as_str();
+        compare(&rt, alloc, &mut dice, &topology, text, &mut view, &mut tree)?;
     }
     Ok(())
 }
