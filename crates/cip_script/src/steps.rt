@@ -1,5 +1,6 @@
 //! The steps of a script, or its first faulty line.
 ghost use Rattle.std.specs.Prelude.{◌≡◌, ◌++◌, ◌∷◌, [], length, OnOk};
+ghost use Rattle.std.specs.Str.{IsAscii};
 ghost use Rattle.cip_script.specs.Steps.{Gives, Fails, Reads, of_words, send_words, params_of};
 ghost use Rattle.cip_script.specs.Steps.{open_words, large_words, large_params_of};
 ghost use Rattle.cip_script.specs.Steps.{close_words, enter_words, set_words};
@@ -445,6 +446,28 @@ fn step_of(
     }
 }
 
+// The step of a line that is ASCII, if it is no comment and not blank.
+#[tactic(auto, using(crate::proofs::StepsLaws::step_laws))]
+fn text_step<'a>(
+    alloc: Global,
+    mode: Mode,
+    names: &[Bytes],
+    line: &'a str,
+    words: &mut Vec<&'a str>,
+) -> Result<Option<Step>, StepFault>
+    requires { IsAscii line.now }
+    ensures { Gives result (line_step mode names.now line.now) }
+{
+    if text::is_comment(line) {
+        return Ok(None);
+    }
+    text::words(line, words)?;
+    match words.split_first() {
+        None => Ok(None),
+        Some((word, args)) => Ok(Some(step_of(alloc, mode, names, word, args)?)),
+    }
+}
+
 // The step of a line, if it is no comment and not blank.
 #[tactic(auto, using(crate::proofs::StepsLaws::step_laws))]
 fn line_step<'a>(
@@ -456,21 +479,14 @@ fn line_step<'a>(
 ) -> Result<Option<Step>, StepFault>
     ensures { Gives result (line_step mode names.now line.now) }
 {
-    let line = match text::ascii(line) {
-        Some(line) => line,
-        None => return Err(StepFault::Fault(ScriptFault::NotText)),
-    };
-    if text::is_comment(line) {
-        return Ok(None);
-    }
-    text::words(line, words)?;
-    match words.split_first() {
-        None => Ok(None),
-        Some((word, args)) => Ok(Some(step_of(alloc, mode, names, word, args)?)),
+    match text::ascii(line) {
+        Some(line) => text_step(alloc, mode, names, line, words),
+        None => Err(StepFault::Fault(ScriptFault::NotText)),
     }
 }
 
 // One more at the end.
+#[inline(always)]
 fn push(found: &mut Vec<Numbered>, step: Numbered) -> Result<(), AllocError>
     ensures { OnOk result (found.new.items ≡ found.old.items ++ step ∷ []) }
 {
@@ -478,9 +494,36 @@ fn push(found: &mut Vec<Numbered>, step: Numbered) -> Result<(), AllocError>
     Ok(())
 }
 
-/// Reads all steps of a script, for modules of these names. Script is its first faulty line, from
-/// 1, and the fault; NoMemory where an allocation is refused.
-pub fn read_steps(
+// The steps of a script that is ASCII, whose lines are taken one after the other.
+fn read_text(
+    alloc: Global,
+    mode: Mode,
+    names: &[Bytes],
+    script: &str,
+) -> Result<Vec<Numbered>, StepsFault>
+    requires { IsAscii script.now }
+    ensures { Reads (λ v. v.items) result (steps mode names.now script.now) }
+{
+    let mut found = Vec::new(alloc);
+    let mut words = Vec::new(alloc);
+    let mut rest = script;
+    let mut line = 0;
+    'lines: while !rest.is_empty() {
+        let (first, more) = text::first_line(rest);
+        rest = more;
+        line += 1;
+        match text_step(alloc, mode, names, first, &mut words) {
+            Ok(None) => {}
+            Ok(Some(step)) => push(&mut found, Numbered { line, step })?,
+            Err(StepFault::Fault(fault)) => return Err(StepsFault::Script(line, fault)),
+            Err(StepFault::NoMemory) => return Err(StepsFault::NoMemory),
+        }
+    }
+    Ok(found)
+}
+
+// The same of any script.
+fn read_lines(
     alloc: Global,
     mode: Mode,
     names: &[Bytes],
@@ -500,4 +543,20 @@ pub fn read_steps(
         }
     }
     Ok(found)
+}
+
+/// Reads all steps of a script, for modules of these names. Script is its first faulty line, from
+/// 1, and the fault; NoMemory where an allocation is refused.
+pub fn read_steps(
+    alloc: Global,
+    mode: Mode,
+    names: &[Bytes],
+    script: &[u8],
+) -> Result<Vec<Numbered>, StepsFault>
+    ensures { Reads (λ v. v.items) result (steps mode names.now script.now) }
+{
+    match text::ascii(script) {
+        Some(script) => read_text(alloc, mode, names, script),
+        None => read_lines(alloc, mode, names, script),
+    }
 }

@@ -1,6 +1,6 @@
 //! Lines, words, numbers and bytes as they stand in a script.
 
-ghost use Rattle.std.specs.Prelude.{◌≡◌, ◌==◌, ◌↔◌, ◌≤◌, ◌*◌, ◌++◌, ◌∷◌, [], length, take};
+ghost use Rattle.std.specs.Prelude.{◌≡◌, ◌==◌, ◌↔◌, ◌≤◌, ◌<◌, ◌*◌, ◌++◌, ◌∷◌, [], length, take};
 ghost use Rattle.std.specs.Prelude.{map, IfOk, OnOk, IfSome, slice_index, IsSome, option_map};
 ghost use Rattle.std.specs.Prelude.{if◌then◌else◌};
 ghost use Rattle.std.specs.Str.{IsAscii};
@@ -9,6 +9,7 @@ ghost use Rattle.hex.specs.Hex.{decode_of};
 ghost use Rattle.cip_script.specs.Text.{words_of, kept_words, bytes_of, ok_bytes, is_newline};
 
 use cip_tool::digit;
+use memchr::memchr;
 use std::alloc::{AllocError, Global};
 
 /// The line as a text, if it is ASCII.
@@ -46,6 +47,33 @@ pub(crate) fn lines_of(alloc: Global, script: &[u8]) -> Result<Vec<&[u8]>, Alloc
         }
     }
     Ok(found)
+}
+
+// The line that ends at this newline, without the one carriage return at its end.
+fn line_before(text: &str, newline: usize) -> &str
+    requires text { IsAscii text.now }
+    requires within { newline ≤ length text.now }
+    ensures { result.now ≡ strip_carriage_return (take newline text.now) }
+{
+    if newline != 0 && text.as_bytes()[newline - 1] == b'\r' {
+        &text[..newline - 1]
+    } else {
+        &text[..newline]
+    }
+}
+
+/// The first line of what is left of a script that is ASCII, and what is left behind it.
+pub(crate) fn first_line(text: &str) -> (&str, &str)
+    requires text { IsAscii text.now }
+    requires some { 0 < length text.now }
+    ensures text { IsAscii result.0.now × IsAscii result.1.now }
+    ensures less { length result.1.now < length text.now }
+    ensures lines { lines text.now ≡ result.0.now ∷ lines result.1.now }
+{
+    match memchr(b'\n', text.as_bytes()) {
+        Some(newline) => (line_before(text, newline), &text[newline + 1..]),
+        None => (text, ""),
+    }
 }
 
 ghost use Rattle.std.specs.List.{slice_split};
