@@ -13,8 +13,8 @@ ghost use Rattle.cip_script.specs.declared.steps.StepsFault.TheVariants.{NoMemor
 
 use crate::text;
 use crate::words::{
-    bytes_at, frame_of, module_of, ms_of, nth, number_u8, number_u16, number_u32, number_usize,
-    path_of, timing_of,
+    bytes_at, frame_of, is_word, module_of, ms_of, nth, number_u8, number_u16, number_u32,
+    number_usize, path_of, timing_of,
 };
 use cip_base::{Bytes, ModuleId, Ms};
 use cip_module::{Command, LargeParams, OpenParams};
@@ -373,17 +373,17 @@ fn chain_step(names: &[Bytes], args: &[&str]) -> Result<Step, StepFault>
 fn world_step(alloc: Global, names: &[Bytes], word: &str, args: &[&str]) -> Result<Step, StepFault>
     ensures { Gives result (world_step names.now word.now (texts args.now)) }
 {
-    if word == "deliver" {
+    if is_word(word, "deliver") {
         deliver_step(alloc, args)
-    } else if word == "lose" {
+    } else if is_word(word, "lose") {
         lose_step(alloc, args)
-    } else if word == "run" {
+    } else if is_word(word, "run") {
         run_step(args)
-    } else if word == "tables" {
+    } else if is_word(word, "tables") {
         tables_step(names, args)
-    } else if word == "trail" {
+    } else if is_word(word, "trail") {
         trail_step(names, args)
-    } else if word == "chain" {
+    } else if is_word(word, "chain") {
         chain_step(names, args)
     } else {
         Err(StepFault::Fault(ScriptFault::UnknownWord))
@@ -394,12 +394,12 @@ fn world_step(alloc: Global, names: &[Bytes], word: &str, args: &[&str]) -> Resu
 fn is_world_word(word: &str) -> bool
     ensures { result ≡ is_world_word word.now }
 {
-    word == "deliver"
-        || word == "lose"
-        || word == "run"
-        || word == "tables"
-        || word == "trail"
-        || word == "chain"
+    is_word(word, "deliver")
+        || is_word(word, "lose")
+        || is_word(word, "run")
+        || is_word(word, "tables")
+        || is_word(word, "trail")
+        || is_word(word, "chain")
 }
 
 // Where modules run on threads of their own, no other words are taken.
@@ -422,21 +422,21 @@ fn step_of(
 ) -> Result<Step, StepFault>
     ensures { Gives result (step_by mode names.now word.now (texts args.now)) }
 {
-    if word == "send" {
+    if is_word(word, "send") {
         send_step(alloc, names, args)
-    } else if word == "open" {
+    } else if is_word(word, "open") {
         open_step(alloc, names, args)
-    } else if word == "large" {
+    } else if is_word(word, "large") {
         large_step(alloc, names, args)
-    } else if word == "close" {
+    } else if is_word(word, "close") {
         close_step(names, args)
-    } else if word == "enter" {
+    } else if is_word(word, "enter") {
         enter_step(alloc, names, args)
-    } else if word == "set" {
+    } else if is_word(word, "set") {
         set_step(alloc, names, args)
-    } else if word == "produce" {
+    } else if is_word(word, "produce") {
         produce_step(names, args)
-    } else if word == "tick" {
+    } else if is_word(word, "tick") {
         tick_step(names, args)
     } else {
         match mode {

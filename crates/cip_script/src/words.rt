@@ -15,12 +15,44 @@ use cip_tool::number;
 use cip_world::FrameName;
 use std::alloc::{AllocError, Global};
 
+/// Whether the words are the same. Most that are not have other lengths or begin otherwise.
+#[inline(always)]
+pub(crate) fn is_word(word: &str, other: &str) -> bool
+    ensures { result ≡ bytes_eq word.now other.now }
+{
+    let bytes = word.as_bytes();
+    let others = other.as_bytes();
+    if bytes.len() != others.len() {
+        return false;
+    }
+    'bytes: for i in 0..others.len() {
+        if bytes[i] != others[i] {
+            return false;
+        }
+    }
+    true
+}
+
+// The same of names, most of which end otherwise.
+#[inline(always)]
+fn is_name(name: &[u8], word: &[u8]) -> bool
+    ensures { result ≡ bytes_eq name.now word.now }
+{
+    let count = name.len();
+    if count != word.len() {
+        return false;
+    }
+    if count != 0 && name[count - 1] != word[count - 1] {
+        return false;
+    }
+    name == word
+}
+
 fn place_of(names: &[Bytes], word: &str) -> Option<usize>
     ensures { result ≡ position (λ name. bytes_eq name word.now) names.now }
 {
-    names
-        .iter()
-        .position(|name| name.as_slice() == word.as_bytes())
+    let word = word.as_bytes();
+    names.iter().position(|name| is_name(name.as_slice(), word))
 }
 
 /// The module of a name.
