@@ -1,13 +1,14 @@
 -- The texts of numbers, some digits at a time, and the tables that hold them.
 use Rattle.std.proofs.Common.{◌≡◌, ℕ, zero, suc, ◌+◌, ◌-◌, ◌*◌, ◌/◌, ◌%◌, ◌^◌, ◌<◌, ◌≤◌, Bool, true, ◌&&◌, T, eqb, List, [], ◌∷◌, ◌++◌, length, take, drop}
-use Rattle.std.proofs.Common.{get_or, slice_index, slice_set, refl, ap, inl, inr, arith, eq-zero-or-pos, eqb→eq, append_assoc}
+use Rattle.std.proofs.Common.{get_or, slice_index, slice_set, refl, ap, ◌∙◌, inl, inr, arith, eq-zero-or-pos, eqb→eq, append_assoc}
 use Rattle.std.proofs.lemmas.Fmt.{decimal_digit, decimal_step}
 use Rattle.std.proofs.lemmas.List.{append-nil, drop_all, drop_more, take_all, take_more_set, length-set}
 use Rattle.std.specs.Fmt.{decimal}
-use Rattle.hex.specs.Hex.{encode_upper, encode_with, upper_digits}
+use Rattle.hex.specs.Hex.{encode_with, upper_digits}
 use lib.Ieee.Fits.{and_l, and_r}
 use Rattle.cip_transcript.specs.Show.{four_digits}
-use Rattle.cip_transcript.specs.declared.pieces.TheConstants.{TENS, PAIRS}
+use Rattle.cip_transcript.specs.declared.line.TheConstants.{TENS}
+use Rattle.cip_transcript.specs.declared.pieces.TheConstants.{PAIRS}
 
 abbrev are_tens : ℕ → Bool
 are_tens zero = true
@@ -42,33 +43,26 @@ pub PAIRS_at : (p : ℕ) → p < 256
     → (get_or PAIRS (2 * p) 0 ≡ slice_index upper_digits (p / 16)) × (get_or PAIRS (2 * p + 1) 0 ≡ slice_index upper_digits (p % 16))
 PAIRS_at p h = pairs_below 256 p tt h
 
-pub pair_at : (b : ℕ) → b < 256 → get_or PAIRS (2 * b) 0 ∷ get_or PAIRS (2 * b + 1) 0 ∷ [] ≡ encode_upper (b ∷ [])
-unfolding encode_with
-pair_at b h = let p = PAIRS_at b h in rw (p.0, p.1) refl
-
 abbrev pair : ℕ → List ℕ
 pair p = (48 + p / 10) ∷ (48 + p % 10) ∷ []
 
 pub decimal_two : (n : ℕ) → 10 ≤ n → n < 100 → decimal n ≡ (48 + n / 10) ∷ (48 + n % 10) ∷ []
 decimal_two n lo hi = rw (decimal_step n lo (omega arith), decimal_digit (n / 10) (omega arith))
 
-decimal_pair : (n : ℕ) → 100 ≤ n → n < 2 ^ 64 → decimal n ≡ decimal (n / 100) ++ pair (n % 100)
+pub decimal_pair : (n : ℕ) → 100 ≤ n → n < 2 ^ 64 → decimal n ≡ decimal (n / 100) ++ pair (n % 100)
 decimal_pair n lo hi =
     let a : n / 10 / 10 ≡ n / 100 = omega arith in
     let b : n / 10 % 10 ≡ n % 100 / 10 = omega arith in
     let c : n % 10 ≡ n % 100 % 10 = omega arith in
     rw (decimal_step n (omega arith) hi, decimal_step (n / 10) (omega arith) (omega arith), append_assoc, a, b, ← c)
 
-pub decimal_three : (n : ℕ) → 100 ≤ n → n < 1000 → decimal n ≡ (48 + n / 100) ∷ (48 + n % 100 / 10) ∷ (48 + n % 100 % 10) ∷ []
-decimal_three n lo hi = rw (decimal_pair n lo (omega arith), decimal_digit (n / 100) (omega arith))
-
--- a number of four digits
-pub decimal_four : (n : ℕ) → 1000 ≤ n → n < 10000 → decimal n ≡ four_digits n
-decimal_four n lo hi =
+-- a number below 10,000 as two pairs
+pub four_pairs : (n : ℕ) → n < 10000 → pair (n / 100) ++ pair (n % 100) ≡ four_digits n
+four_pairs n h =
     let a : n / 100 / 10 ≡ n / 1000 = omega arith in
     let b : n % 100 / 10 ≡ n / 10 % 10 = omega arith in
     let c : n % 100 % 10 ≡ n % 10 = omega arith in
-    rw (decimal_pair n (omega arith) (omega arith), decimal_two (n / 100) (omega arith) (omega arith), a, b, c)
+    rw (a, b, c) refl
 
 -- four digits behind those of a longer number
 pub decimal_long : (n : ℕ) → 10000 ≤ n → n < 2 ^ 64 → decimal n ≡ decimal (n / 10000) ++ four_digits (n % 10000)
@@ -80,33 +74,19 @@ decimal_long n lo hi =
     let e : n % 100 % 10 ≡ n % 10000 % 10 = omega arith in
     rw (decimal_pair n (omega arith) hi, decimal_pair (n / 100) (omega arith) (omega arith), append_assoc, a, b, c, d, e)
 
-pub two_at : (n t : ℕ) → 10 ≤ n → n < 100 → get_or TENS (2 * n) 0 ∷ get_or TENS (2 * n + 1) 0 ∷ t ∷ [] ≡ decimal n ++ t ∷ []
-two_at n t lo hi = let p = TENS_at n hi in rw (p.0, p.1, decimal_two n lo hi) refl
-
-pub three_at : (n t : ℕ) → 100 ≤ n → n < 1000
-    → (48 + n / 100) ∷ get_or TENS (2 * (n % 100)) 0 ∷ get_or TENS (2 * (n % 100) + 1) 0 ∷ t ∷ [] ≡ decimal n ++ t ∷ []
-three_at n t lo hi = let p = TENS_at (n % 100) (omega arith) in rw (p.0, p.1, decimal_three n lo hi) refl
-
-pub four_at : (n t : ℕ) → n < 10000
-    → get_or TENS (2 * (n / 100)) 0 ∷ get_or TENS (2 * (n / 100) + 1) 0 ∷ get_or TENS (2 * (n % 100)) 0 ∷ get_or TENS (2 * (n % 100) + 1) 0 ∷ t ∷ []
-    ≡ four_digits n ++ t ∷ []
-four_at n t h =
-    let p = TENS_at (n / 100) (omega arith) in
-    let q = TENS_at (n % 100) (omega arith) in
-    let a : n / 100 / 10 ≡ n / 1000 = omega arith in
-    let b : n % 100 / 10 ≡ n / 10 % 10 = omega arith in
-    let c : n % 100 % 10 ≡ n % 10 = omega arith in
-    rw (p.0, p.1, q.0, q.1, a, b, c) refl
-
-pub five_at : (n t : ℕ) → 10000 ≤ n → n < 100000
-    → (48 + n / 10000) ∷ get_or TENS (2 * (n % 10000 / 100)) 0 ∷ get_or TENS (2 * (n % 10000 / 100) + 1) 0 ∷ get_or TENS (2 * (n % 10000 % 100)) 0
-    ∷ get_or TENS (2 * (n % 10000 % 100) + 1) 0 ∷ t ∷ []
-    ≡ decimal n ++ t ∷ []
-five_at n t lo hi =
-    rw (decimal_long n lo (omega arith), decimal_digit (n / 10000) (omega arith)) (ap (λ l. (48 + n / 10000) ∷ l) (four_at (n % 10000) t (omega arith)))
+-- eight digits behind those of a longer number
+pub decimal_wide : (n : ℕ) → 100000000 ≤ n → n < 2 ^ 64
+    → decimal n ≡ decimal (n / 100000000) ++ four_digits (n % 100000000 / 10000) ++ four_digits (n % 100000000 % 10000)
+decimal_wide n lo hi =
+    let a : n / 10000 / 10000 ≡ n / 100000000 = omega arith in
+    let b : n / 10000 % 10000 ≡ n % 100000000 / 10000 = omega arith in
+    let c : n % 10000 ≡ n % 100000000 % 10000 = omega arith in
+    decimal_long n (omega arith) hi
+    ∙ ap (λ (x : List ℕ). x ++ four_digits (n % 10000)) (decimal_long (n / 10000) (omega arith) (omega arith))
+    ∙ rw (a, b, ← c) refl
 
 -- two writes in a row, seen from the front
-take_two_writes : (xs : List ℕ) (o x y : ℕ) → o + 1 < length xs
+pub take_two_writes : (xs : List ℕ) (o x y : ℕ) → o + 1 < length xs
     → take (o + 2) (slice_set (slice_set xs o x) (o + 1) y) ≡ take o xs ++ (x ∷ y ∷ [])
 take_two_writes xs o x y fits =
     let len : length (slice_set xs o x) ≡ length xs = length-set xs o x in

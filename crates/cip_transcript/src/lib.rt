@@ -2,6 +2,7 @@
 #![tactic(auto)]
 
 mod chains;
+mod line;
 mod names;
 mod pieces;
 mod show;

@@ -1,18 +1,10 @@
 //! Text behind text: bytes, numbers and hexadecimal pairs, each written once into its place.
-ghost use Rattle.std.specs.Prelude.{◌≡◌, ◌≤◌, ◌<◌, ◌*◌, ◌++◌, ◌∷◌, [], length, OnOk, decimal};
+ghost use Rattle.std.specs.Prelude.{◌≡◌, ◌*◌, ◌++◌, length, OnOk, decimal};
 ghost use Rattle.hex.specs.Hex.{encode_upper};
-ghost use Rattle.cip_transcript.specs.Show.{bytes_text, four_digits, optional_text};
+ghost use Rattle.cip_transcript.specs.Show.{bytes_text, optional_text};
 
 use cip_base::NoMemory;
 use itoa::Buffer;
-
-// The two digits of every number below 100.
-static TENS: [u8; 200] = *b"\
-    0001020304050607080910111213141516171819\
-    2021222324252627282930313233343536373839\
-    4041424344454647484950515253545556575859\
-    6061626364656667686970717273747576777879\
-    8081828384858687888990919293949596979899";
 
 // The digits of every byte, high ones first.
 static PAIRS: [u8; 512] = *b"\
@@ -45,94 +37,9 @@ pub(crate) fn put_number(text: &mut Vec<u8>, number: u64) -> Result<(), NoMemory
     put(text, buffer.format(number).as_bytes())
 }
 
-// The four digits of a number below 10,000, with zeros before it, and a byte after them.
+/// Each byte as a pair of digits, in upper case.
 #[inline(always)]
-fn put_four(text: &mut Vec<u8>, number: u64, then: u8) -> Result<(), NoMemory>
-    requires { number < 10000 }
-    ensures { OnOk result (text.new.items ≡ text.old.items ++ four_digits number ++ then ∷ []) }
-{
-    let high = 2 * (number / 100) as usize;
-    let low = 2 * (number % 100) as usize;
-    put(
-        text,
-        &[TENS[high], TENS[high + 1], TENS[low], TENS[low + 1], then],
-    )
-}
-
-// A number of two digits or three, and a byte after it.
-fn put_short(text: &mut Vec<u8>, number: u64, then: u8) -> Result<(), NoMemory>
-    requires { (10 ≤ number) × (number < 1000) }
-    ensures { OnOk result (text.new.items ≡ text.old.items ++ decimal number ++ then ∷ []) }
-{
-    if number < 100 {
-        let low = 2 * number as usize;
-        return put(text, &[TENS[low], TENS[low + 1], then]);
-    }
-    let low = 2 * (number % 100) as usize;
-    let first = b'0' + (number / 100) as u8;
-    put(text, &[first, TENS[low], TENS[low + 1], then])
-}
-
-// A number of five digits, and a byte after it.
-fn put_five(text: &mut Vec<u8>, number: u64, then: u8) -> Result<(), NoMemory>
-    requires { (10000 ≤ number) × (number < 100000) }
-    ensures { OnOk result (text.new.items ≡ text.old.items ++ decimal number ++ then ∷ []) }
-{
-    let first = b'0' + (number / 10_000) as u8;
-    let high = 2 * (number % 10_000 / 100) as usize;
-    let low = 2 * (number % 10_000 % 100) as usize;
-    put(
-        text,
-        &[
-            first,
-            TENS[high],
-            TENS[high + 1],
-            TENS[low],
-            TENS[low + 1],
-            then,
-        ],
-    )
-}
-
-// A number of two digits or more, and a byte after it.
-fn put_long(text: &mut Vec<u8>, number: u64, then: u8) -> Result<(), NoMemory>
-    requires { 10 ≤ number }
-    ensures { OnOk result (text.new.items ≡ text.old.items ++ decimal number ++ then ∷ []) }
-{
-    if number < 1000 {
-        return put_short(text, number, then);
-    }
-    if number < 10_000 {
-        return put_four(text, number, then);
-    }
-    if number < 100_000 {
-        return put_five(text, number, then);
-    }
-    put_number(text, number / 10_000)?;
-    put_four(text, number % 10_000, then)
-}
-
-/// A number, and a byte after it.
-#[inline(always)]
-pub(crate) fn put_number_then(text: &mut Vec<u8>, number: u64, then: u8) -> Result<(), NoMemory>
-    ensures { OnOk result (text.new.items ≡ text.old.items ++ decimal number ++ then ∷ []) }
-{
-    if number < 10 {
-        return put(text, &[b'0' + number as u8, then]);
-    }
-    put_long(text, number, then)
-}
-
-// A byte as a pair of digits.
-fn put_pair(text: &mut Vec<u8>, byte: u8) -> Result<(), NoMemory>
-    ensures { OnOk result (text.new.items ≡ text.old.items ++ encode_upper (byte ∷ [])) }
-{
-    let pair = 2 * byte as usize;
-    put(text, &[PAIRS[pair], PAIRS[pair + 1]])
-}
-
-// Each byte as a pair of digits, in upper case.
-fn fill_pairs(bytes: &[u8], output: &mut [u8])
+pub(crate) fn fill_pairs(bytes: &[u8], output: &mut [u8])
     requires { length output.old ≡ 2 * length bytes.now }
     ensures { output.new ≡ encode_upper bytes.now }
 {
@@ -163,7 +70,6 @@ pub(crate) fn put_bytes(text: &mut Vec<u8>, bytes: &[u8]) -> Result<(), NoMemory
 {
     match bytes {
         [] => put(text, b"-"),
-        [byte] => put_pair(text, *byte),
         _ => put_pairs(text, bytes),
     }
 }
