@@ -1,5 +1,5 @@
 //! Where the ports stand: an index by link and address.
-ghost use Rattle.std.specs.Prelude.{◌≡◌, [], None, IfOk, MatchResult, OnOk};
+ghost use Rattle.std.specs.Prelude.{◌≡◌, ◌<◌, [], None, IfOk, MatchResult, OnOk};
 ghost use Rattle.std.specs.Ordering.{nat_cmp};
 ghost use Rattle.std.specs.Cmp.Lexicographic.{slice_cmp};
 ghost use Rattle.cip_topology.specs.Seats.{spot_cmp, spot, AreRising, StandsAt, FitsAt, seat_at, seated};
@@ -23,11 +23,17 @@ pub(crate) struct Seat {
     pub(crate) port: PortNumber,
 }
 
+// How many notes there are.
+const NOTES: usize = 256;
+
 /// Which port stands at which spot.
 #[derive(Drop)]
 pub(crate) struct Seats {
     // In rising spot.
     seats: Vec<(Spot, Seat)>,
+    // For each note the place of the last spot that has it, or 0. It only says where to look first:
+    // what stands there is compared, and where it is another the search finds the spot.
+    noted: [u16; NOTES],
 }
 
 impl Model for Seats {
@@ -63,6 +69,28 @@ fn copy_seats(alloc: Global, seats: &[(Spot, Seat)]) -> Result<Vec<(Spot, Seat)>
     Ok(copies)
 }
 
+// The note of a spot. Spots of one link whose addresses are alike but for the last byte, or but
+// for two decimal digits at the end, have different ones.
+#[inline(always)]
+fn note_of(link: usize, address: &[u8]) -> usize
+    ensures { result < 256 }
+{
+    let last = match address {
+        [.., tens, ones] => 10 * usize::from(*tens) + usize::from(*ones),
+        [only] => usize::from(*only),
+        [] => 0,
+    };
+    link.wrapping_mul(64).wrapping_add(last) % NOTES
+}
+
+fn places_noted(seats: &[(Spot, Seat)]) -> [u16; NOTES] {
+    let mut noted = [0; NOTES];
+    for (place, (spot, _)) in seats.iter().enumerate() {
+        noted[note_of(spot.link, spot.address.as_slice())] = (place % 65536) as u16;
+    }
+    noted
+}
+
 impl Seats {
     /// No seat.
     pub(crate) fn new(alloc: Global) -> Seats
@@ -70,6 +98,18 @@ impl Seats {
     {
         Seats {
             seats: Vec::new(alloc),
+            noted: [0; NOTES],
+        }
+    }
+
+    /// The same, with the places of its spots noted: of those with one note, that of the last.
+    pub(crate) fn with_notes(self) -> Seats
+        ensures { result ≡ self }
+    {
+        let noted = places_noted(&self.seats);
+        Seats {
+            seats: self.seats,
+            noted,
         }
     }
 
@@ -79,6 +119,7 @@ impl Seats {
     {
         Ok(Seats {
             seats: copy_seats(alloc, self.seats.as_slice())?,
+            noted: self.noted,
         })
     }
 
@@ -86,7 +127,8 @@ impl Seats {
     pub(crate) fn find(&self, link: usize, address: &Address) -> Option<Seat>
         ensures { result ≡ seat_at self.now link address.now }
     {
-        match place_of(&self.seats, link, address) {
+        let noted = usize::from(self.noted[note_of(link, address.as_slice())]);
+        match place_near(&self.seats, noted, link, address) {
             Ok(at) => Some(self.seats[at].1),
             Err(_) => None,
         }
@@ -133,6 +175,26 @@ fn compare(found: &Spot, link: usize, address: &[u8]) -> Ordering
         Ordering::Equal => compare_addresses(found.address.as_slice(), address),
         unequal => unequal,
     }
+}
+
+// Where the spot stands, or where it would: one place is looked at, then it is searched for.
+fn place_near(
+    seats: &[(Spot, Seat)],
+    near: usize,
+    link: usize,
+    address: &Address,
+) -> Result<usize, usize>
+    requires { AreRising seats.now }
+    ensures { MatchResult result (StandsAt seats.now (spot link address.now))
+        (FitsAt seats.now (spot link address.now)) }
+{
+    if near < seats.len() {
+        match compare(&seats[near].0, link, address.as_slice()) {
+            Ordering::Equal => return Ok(near),
+            _ => {}
+        }
+    }
+    place_of(seats, link, address)
 }
 
 // Where the spot stands, or where it would, by binary search.

@@ -129,7 +129,7 @@ impl Topology {
         Topology {
             links,
             modules,
-            seats,
+            seats: seats.with_notes(),
         }
     }
 
