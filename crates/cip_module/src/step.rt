@@ -1,6 +1,6 @@
 //! The step of a module of any kind.
-ghost use Rattle.std.specs.Prelude.{◌≡◌, None, IfOk, IfSome, OnErr};
-ghost use Rattle.cip_module.specs.Code.Ticks.{IsMessage, IsCommandOrMessage, IsSingle};
+ghost use Rattle.std.specs.Prelude.{◌≡◌, ◌↔◌, None, IfOk, IfSome, IsTrue, OnErr};
+ghost use Rattle.cip_module.specs.Code.Ticks.{IsMessage, IsLeftWhole, IsSingle};
 ghost use Rattle.cip_module.specs.Steps.{IsStep, IsStepFault};
 ghost use Rattle.cip_module.specs.Table.{command_effects, frame_effects};
 ghost use Rattle.cip_module.specs.Code.Device.{state_of_device};
@@ -21,6 +21,18 @@ use cip_base::{Address, Bytes, NoMemory, PortNumber};
 use cip_event::{Body, Command, Event, Output};
 use cip_unconnected::UnconnectedView;
 
+// Whether an event is a message, or a command but an Enter.
+#[inline(always)]
+fn is_left_whole(event: &Event) -> bool
+    ensures { IsTrue result ↔ IsLeftWhole event.now }
+{
+    match event {
+        Event::Tick(_) => false,
+        Event::Command(command) => !matches!(command, Command::Enter { .. }),
+        Event::Frame { body, .. } => !matches!(body, Body::Data { .. }),
+    }
+}
+
 impl Device {
     // A frame that holds a message.
     fn frame(&mut self, port: PortNumber, from: &Address, body: &Body) -> Result<Reaction, NoMemory>
@@ -40,7 +52,8 @@ impl Device {
         }
     }
 
-    // A command, but for those that put out a datum for each of many connections.
+    // A command, but for one whose bytes go on, and for one that puts out a datum for each of many
+    // connections.
     fn command(&mut self, command: &Command) -> Result<Reaction, NoMemory>
         requires { IsSingle command.now }
         ensures { ReactsWhole self.old self.new
@@ -76,12 +89,11 @@ impl Device {
                 };
                 self.send(*op, view)
             }
-            Command::Enter { of, bytes } => Ok(Reaction::Whole(self.enter(*of, bytes)?)),
             Command::Set { instance, bytes } => Ok(match self.set(*instance, bytes) {
                 Some(refused) => Reaction::Whole(refused),
                 None => Reaction::Several(Vec::new(self.alloc)),
             }),
-            Command::Produce { .. } => unreachable!(),
+            Command::Enter { .. } | Command::Produce { .. } => unreachable!(),
         }
     }
 
@@ -108,9 +120,24 @@ impl Device {
         Ok(outputs)
     }
 
-    // A command or a message.
+    // An Enter.
+    fn enter_step(&mut self, of: u32, bytes: Bytes) -> Result<Vec<Output>, StepFault>
+        ensures ok { IfOk result (λ outputs. IsStep self.old.config (state_of_device self.old)
+            (events.Command (Enter of bytes)) (state_of_device self.new) outputs.items) }
+        ensures fault { IsStepFault self.old.config (state_of_device self.old)
+            (events.Command (Enter of bytes)) (state_of_device self.new) result }
+        ensures config { self.new.config ≡ self.old.config }
+    {
+        let Ok(mut outputs) = Vec::with_capacity(self.alloc, 1) else {
+            return Err(StepFault::NoMemory(Event::Command(Command::Enter { of, bytes })));
+        };
+        outputs.push_reserved(self.enter(of, bytes));
+        Ok(outputs)
+    }
+
+    // A message, or a command but for an Enter.
     fn occur(&mut self, event: &Event) -> Result<Vec<Output>, NoMemory>
-        requires { IsCommandOrMessage event.now }
+        requires { IsLeftWhole event.now }
         ensures done { IfOk result (λ o. IsStep self.old.config (state_of_device self.old) event.now
             (state_of_device self.new) o.items) }
         ensures same { OnErr result (state_of_device self.new ≡ state_of_device self.old) }
@@ -138,7 +165,7 @@ impl Device {
     // The same, with the event back where memory is refused.
     #[inline(always)]
     fn occurred(&mut self, event: Event) -> Result<Vec<Output>, StepFault>
-        requires { IsCommandOrMessage event }
+        requires { IsLeftWhole event }
         ensures ok { IfOk result (λ outputs. IsStep self.old.config (state_of_device self.old) event
             (state_of_device self.new) outputs.items) }
         ensures fault { IsStepFault self.old.config (state_of_device self.old) event
@@ -218,23 +245,22 @@ impl Device {
             result }
         ensures config { self.new.config ≡ self.old.config }
     {
+        if is_left_whole(&event) {
+            return self.occurred(event);
+        }
         match event {
             Event::Tick(by) => match self.tick(by) {
                 Ok(outputs) => Ok(outputs),
                 Err(TickFault::OutOfMemory) => Err(StepFault::NoMemory(Event::Tick(by))),
                 Err(TickFault::Full) => Err(StepFault::ClockFull(Event::Tick(by))),
             },
-            Event::Command(command) => self.occurred(Event::Command(command)),
+            Event::Command(command) => match command {
+                Command::Enter { of, bytes } => self.enter_step(of, bytes),
+                _ => unreachable!(),
+            },
             Event::Frame { port, from, body } => match body {
                 Body::Data { id, bytes } => self.datum(port, from, id, bytes),
-                Body::Request { number, bytes } => {
-                    let body = Body::Request { number, bytes };
-                    self.occurred(Event::Frame { port, from, body })
-                }
-                Body::Reply { number, bytes } => {
-                    let body = Body::Reply { number, bytes };
-                    self.occurred(Event::Frame { port, from, body })
-                }
+                _ => unreachable!(),
             },
         }
     }

@@ -1,6 +1,6 @@
 //! What an end sends of an assembly: a datum by each connection that takes its data from it, in
 //! rising triad.
-ghost use Rattle.std.specs.Prelude.{◌≡◌, ◌≤◌, length, IfOk, OnErr};
+ghost use Rattle.std.specs.Prelude.{◌≡◌, ◌≤◌, ◌++◌, ◌∷◌, [], length, IfOk, OnErr, OnOk};
 ghost use Rattle.std.specs.FinMap as map;
 ghost use Rattle.cip_module.specs.Code.Does.{HandlesAs};
 ghost use Rattle.cip_module.specs.Code.Device.{state_of_device};
@@ -62,6 +62,17 @@ fn count_for(hop: &Hop, instance: u32) -> Option<u16>
     }
 }
 
+// One more output. Room is asked for one at first, which is mostly the only one.
+fn put(outputs: &mut Vec<Output>, output: Output) -> Result<(), NoMemory>
+    ensures { OnOk result (outputs.new.items ≡ outputs.old.items ++ output ∷ []) }
+{
+    if outputs.is_empty() {
+        outputs.reserve_exact(1)?;
+    }
+    outputs.push(output)?;
+    Ok(())
+}
+
 impl Device {
     // The data that go up, in rising triad.
     fn data_of(&self, instance: u32, held: &[u8]) -> Result<Vec<Output>, NoMemory>
@@ -76,7 +87,7 @@ impl Device {
         while let Some(hop) = self.hops.next_near(after.as_ref(), &mut near) {
             if reads_from(hop, instance) {
                 let bytes = datum_of(self.alloc, hop, held)?;
-                outputs.push(datum_up(hop, bytes))?;
+                put(&mut outputs, datum_up(hop, bytes))?;
             }
             after = Some(hop.opening.triad);
         }

@@ -172,17 +172,14 @@ impl Device {
         Ok(datum_down(hop, no_bytes(self.alloc)))
     }
 
-    /// An Enter.
-    pub(crate) fn enter(&self, of: u32, bytes: &Bytes) -> Result<Output, NoMemory>
-        ensures { Handles self.now self.now (enter_effects bytes.now (hop_by_op self.now.hops of))
-            result }
+    /// An Enter, whose bytes go on as they are. It takes no memory.
+    pub(crate) fn enter(&self, of: u32, bytes: Bytes) -> Output
+        ensures { Handled self.now self.now (enter_effects bytes (hop_by_op self.now.hops of))
+            (result ∷ []) }
     {
         match self.entered(of, bytes.as_slice()) {
-            Ok(output) => {
-                let copied = Bytes::of(Vec::from_slice(self.alloc, bytes.as_slice())?);
-                Ok(output.filled(copied))
-            }
-            Err(fault) => Ok(Output::Refused(fault)),
+            Ok(output) => output.filled(bytes),
+            Err(fault) => Output::Refused(fault),
         }
     }
 

@@ -6,7 +6,7 @@ use Rattle.cip_module.specs.Effects.{datum_up}
 use Rattle.cip_module.specs.Code.Made.{made_all}
 use Rattle.cip_module.proofs.Walks.{opens_above, hop_walks, hop_walked, hop_fewer, opens_all}
 use Rattle.cip_module.proofs.Made.{made_more, made_less, made_done}
-use Rattle.cip_module.proofs.device.Device.data_of.Goals.{then-reads_from+in_ok-bytes+in_ok-push, else-reads_from}
+use Rattle.cip_module.proofs.device.Device.data_of.Goals.{then-reads_from+in_ok-bytes+in_ok-put, else-reads_from}
 use Rattle.cip_module.proofs.device.Device.data_of.Goals as goal
 
 pub loop-hop-init : goal.loop-hop-init
@@ -25,9 +25,9 @@ loop-hop-preserved c =
     let walk : left ≡ c.in-Some.hop.now ∷ rest = hop_walks c.args.self.now.hops c.is_within.ensures c.loop-hop.after c.in-Some.hop.now
     (c.in-Some.ensures ∙ ap (λ a. first_after a c.args.self.now.hops) c.as_ref.ensures.value) in
     elim c.if-reads_from.branch [
-      | then-reads_from+in_ok-bytes+in_ok-push w ↦ (
+      | then-reads_from+in_ok-bytes+in_ok-put w ↦ (
           ap (λ (v : Vec Output Global). v.items ++ made_all c.args.instance c.args.held.now rest) w.outputs-is
-          ∙ ap (λ (z : List Output). z ++ made_all c.args.instance c.args.held.now rest) w.in_ok-push.ensures.items
+          ∙ ap (λ (z : List Output). z ++ made_all c.args.instance c.args.held.now rest) w.in_ok-put.ensures
           ∙ ap (λ (z : Output). (c.loop-hop.outputs.items ++ z ∷ []) ++ made_all c.args.instance c.args.held.now rest)
           (w.datum_up.ensures ∙ ap (datum_up c.in-Some.hop.now.opening.up) w.in_ok-bytes.ensures)
           ∙ made_more c.args.instance c.args.held.now c.in-Some.hop.now rest left walk c.loop-hop.outputs.items (sym w.if-reads_from.ensures)
