@@ -11,6 +11,8 @@ mod narrowing;
 mod ops;
 mod outcomes;
 mod plain;
+#[cfg(test)]
+mod tests;
 mod unmet;
 
 pub use fault::{LineFault, WideFault, WordFault};

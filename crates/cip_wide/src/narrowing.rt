@@ -34,6 +34,8 @@ struct Kept {
     ops: Ops,
     // the script so far
     script: String,
+    // the entry of the last end that was expected
+    near: usize,
 }
 
 // What is wrong with a line that stands in no script, or stops there.
@@ -242,7 +244,7 @@ fn play_words(
             play_lines(alloc, world, narrow, lines)
         }
         ["expect", args @ ..] => {
-            expect(alloc, world, &narrow.ops, args)?;
+            expect(alloc, world, &narrow.ops, &mut narrow.near, args)?;
             put_comment(alloc, narrow, words)
         }
         [word, args @ ..] => play_own(alloc, world, narrow, word, args),
@@ -345,6 +347,7 @@ pub fn narrow(
         names,
         ops,
         script: String::new(alloc),
+        near: 0,
     };
     play_all(alloc, &mut world, &mut narrow, lines.as_slice())?;
     Ok(narrow.script)
