@@ -13,7 +13,8 @@ use Rattle.cip_world.specs.declared.journal.Input.{Input}
 use Rattle.cip_world.specs.declared.journal.Input.TheVariants as inputs
 use Rattle.cip_world.specs.Journals.{Journal, brought_by}
 use Rattle.cip_world.specs.Mirrors.{IsOlder}
-use Rattle.cip_world.specs.Trails.{is_refusal, is_command, request_from, request_of, named, arrived_in, first_from}
+use Rattle.cip_world.specs.Trails.{is_refusal, is_command, request_from, request_of, named}
+use Rattle.cip_world.specs.Trails.{arrived_in, first_from}
 use Rattle.cip_chain.specs.declared.index.Onward.{Onward}
 use Rattle.cip_chain.specs.declared.index.Onward.TheVariants.{Nowhere, Sent, Arrived}
 use Rattle.cip_chain.specs.declared.index.TrailIndex.{TrailIndex}

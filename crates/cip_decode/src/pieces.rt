@@ -68,7 +68,8 @@ pub(crate) fn pairs_in<'a>(bytes: &[u8], room: &'a mut [u8]) -> &'a str
 // At most so many bytes as pairs of digits.
 fn put_part(text: &mut String, bytes: &[u8]) -> Result<(), NoMemory>
     requires { length bytes.now ≤ PART }
-    ensures { OnOk result (string_bytes text.new ≡ string_bytes text.old ++ encode_upper bytes.now) }
+    ensures { OnOk result (string_bytes text.new
+        ≡ string_bytes text.old ++ encode_upper bytes.now) }
 {
     let mut room = [0u8; 64];
     put(text, pairs_in(bytes, &mut room[..2 * bytes.len()]))

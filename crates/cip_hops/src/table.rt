@@ -325,8 +325,8 @@ impl HopTable {
     }
 
     /// The same for one who goes through all: `near` is 0 at first, and then what the last call
-    /// left there. The search begins at that place, and is over at once where nothing came in or
-    /// went out meanwhile.
+    /// left there. That place is looked at first, and where nothing came in or went out meanwhile
+    /// there is no search.
     #[inline(always)]
     pub fn next_near(&self, after: Option<&Triad>, near: &mut usize) -> Option<&Hop>
         ensures { option_copied result ≡ first_after (option_copied after.entry) self.now }
