@@ -6,3 +6,4 @@ pub mod Holding
 pub mod Sending
 pub mod Keeping
 pub mod Reporting
+pub mod Meeting

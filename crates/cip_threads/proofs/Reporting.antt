@@ -1,63 +1,19 @@
--- A history against a journal, step by step; and the report.
-use Rattle.std.proofs.Common.{◌≡◌, ◌≢◌, ℕ, zero, suc, List, [], ◌∷◌, ◌++◌, Some, Bool, true, false, ◌⊎◌, inl, inr, refl}
-use Rattle.std.proofs.Common.{sym, subst, cond, length, arith, ◌<◌, ◌+◌, ◌∙◌, ap, get_or, take, reverse, eqb}
+-- The tables of all modules, one by one, and the report.
+use Rattle.std.proofs.Common.{◌≡◌, ℕ, zero, suc, List, [], ◌∷◌, ◌++◌, Some, ◌⊎◌, inl, inr, refl}
+use Rattle.std.proofs.Common.{sym, subst, length, arith, ◌<◌, ◌+◌, ◌∙◌, ap, get_or}
 use Rattle.std.specs.Prelude.{slice_get}
-use Rattle.std.proofs.lemmas.Bool.{eq-eqb, ne_eqb}
-use Rattle.std.proofs.lemmas.List.{take_more, reverse-append}
 use Rattle.cip_base.specs.declared.numbers.ModuleId.{ModuleId}
 use Rattle.cip_config.specs.declared.config.ModuleSettings.{ModuleSettings}
-use Rattle.cip_event.specs.declared.event.Output.{Output}
 use Rattle.cip_module.specs.declared.tables.Tables.{Tables}
-use Rattle.cip_laws.specs.Histories.{Turn, IsHistory, state_after}
-use Rattle.cip_module.specs.Views.{ShowsState}
 use Rattle.cip_topology.specs.Plan.{Plan}
-use Rattle.cip_world.specs.declared.journal.Entry.{Entry}
-use Rattle.cip_world.specs.declared.journal.Entry.TheVariants.{Step}
 use Rattle.cip_world.specs.declared.journal.FrameName.{FrameName}
-use Rattle.cip_world.specs.declared.journal.Input.{Input}
 use Rattle.cip_world.specs.declared.world.End.{End}
-use Rattle.cip_world.specs.Journals.{Journal, event_of, with_turn, part}
+use Rattle.cip_world.specs.Journals.{Journal}
 use Rattle.cip_world.specs.Runs.{IsModule}
 use Rattle.cip_threads.specs.declared.feed.Feed.{Feed}
-use Rattle.cip_threads.specs.declared.views.TakenTurn.{TakenTurn}
 use Rattle.cip_threads.specs.Ends.{IsFinished}
-use Rattle.cip_threads.specs.Messages.{turn_of, turns_of}
 use Rattle.cip_threads.specs.Reports.{Agrees, AgreeTo, IsReport}
 use Rattle.cip_threads.proofs.Flowing.{flow_is_run, flow_lossless}
-
-reverse_more : {X : Type 0} (xs : List X) (i : ℕ) (x : X) → i < length xs → x ≡ get_or xs i x → reverse (take (i + 1) xs) ≡ x ∷ reverse (take i xs)
-reverse_more xs i x lt at =
-    ap reverse (take_more xs i x lt ∙ ap (λ y. take i xs ++ y ∷ []) (sym at)) ∙ reverse-append (take i xs) (x ∷ [])
-
-cond_yes : {X : Type 0} (b : Bool) → b ≡ true → (x y : X) → cond b x y ≡ x
-cond_yes true e x y = refl
-cond_yes false e x y = cc
-
-cond_no : {X : Type 0} (b : Bool) → b ≡ false → (x y : X) → cond b x y ≡ y
-cond_no true e x y = cc
-cond_no false e x y = refl
-
--- an entry of the module, and the next step
-pub part_more : (j : List Entry) (h : List TakenTurn) (i at m : ℕ) (n : ModuleId) (input : Input) (outs : List Output) (done : TakenTurn)
-    → i < length j → Step n input outs ≡ get_or j i (Step n input outs) → n.0 ≡ m → at < length h → done ≡ get_or h at done
-    → event_of (reverse (take i j)) input ≡ Some done.event → outs ≡ done.outputs
-    → part m (reverse (take i j)) ≡ turns_of (reverse (take at h)) → part m (reverse (take (i + 1) j)) ≡ turns_of (reverse (take (at + 1) h))
-part_more j h i at m n input outs done lt is mine lt' is' event same old =
-    let J = reverse (take i j) in
-    ap (part m) (reverse_more j i (Step n input outs) lt is)
-    ∙ cond_yes (eqb n.0 m) (eq-eqb n.0 m mine) (with_turn (event_of J input) outs (part m J)) (part m J)
-    ∙ ap (λ o. with_turn o outs (part m J)) event
-    ∙ ap (λ (os : List Output). record { event = done.event; outputs = os } ∷ part m J) same
-    ∙ ap (λ (l : List Turn). turn_of done ∷ l) old
-    ∙ ap turns_of (sym (reverse_more h at done lt' is'))
-
--- an entry of another module
-pub part_past : (j : List Entry) (rest : List Turn) (i m : ℕ) (n : ModuleId) (input : Input) (outs : List Output) → i < length j
-    → Step n input outs ≡ get_or j i (Step n input outs) → n.0 ≢ m → part m (reverse (take i j)) ≡ rest → part m (reverse (take (i + 1) j)) ≡ rest
-part_past j rest i m n input outs lt is other old =
-    let J = reverse (take i j) in
-    ap (part m) (reverse_more j i (Step n input outs) lt is)
-    ∙ cond_no (eqb n.0 m) (ne_eqb n.0 m other) (with_turn (event_of J input) outs (part m J)) (part m J) ∙ old
 
 get_left : {X : Type 0} (xs ys : List X) (i : ℕ) (x : X) → slice_get xs i ≡ Some x → slice_get (xs ++ ys) i ≡ Some x
 get_left [] ys i x e = cc
@@ -126,14 +82,3 @@ report_is t given turns j tables feeds frames end f a =
       fed_all = f.fed_all;
       ends = f.ends;
     }
-
--- a history that is what the journal has of the module agrees with it
-pub agrees_is : (config other : ModuleSettings) (h : List TakenTurn) (j : Journal) (m : ℕ) (tables : Tables) → IsHistory config (turns_of h)
-    → ShowsState (state_after config (turns_of h)) tables
-    → config ≡ other → part m j ≡ turns_of h → Agrees other j m tables
-agrees_is config other h j m tables history shows same is =
-    subst (λ (c : ModuleSettings). Agrees c j m tables) same
-    (record {
-      history = subst (IsHistory config) (sym is) history;
-      shows = subst (λ (l : List Turn). ShowsState (state_after config l) tables) (sym is) shows;
-    })

@@ -7,3 +7,4 @@ pub mod Hands
 pub mod Ends
 pub mod Messages
 pub mod Reports
+pub mod Meetings

@@ -1,16 +1,16 @@
 //! What a worker sends at its end.
-ghost use Rattle.std.specs.Prelude.{◌≡◌, IfSome, IsTrue, reverse, map};
+ghost use Rattle.std.specs.Prelude.{◌≡◌, ◌<◌, ◌+◌, ◌∷◌, IfSome, IsTrue, Some, length, reverse, take, vec_len};
 ghost use Rattle.cip_laws.specs.Histories.{IsHistory, state_after};
 ghost use Rattle.cip_module.specs.Views.{ShowsState};
-ghost use Rattle.cip_world.specs.Journals.{part};
+ghost use Rattle.cip_world.specs.declared.journal.Entry.TheVariants.{Step};
 ghost use Rattle.cip_threads.specs.Messages.{turns_of};
-ghost use Rattle.cip_threads.specs.Reports.{Agrees};
+ghost use Rattle.cip_threads.specs.Meetings.{AreMet, IsEnded, IsMet};
 
 use crate::same::is_step_of;
 use crate::views::{MessageView, TakenTurn};
 use cip_base::ModuleId;
 use cip_module::{ModuleConfig, Tables};
-use cip_world::Entry;
+use cip_world::{Entry, Input, Outputs};
 use std::marker::Model;
 
 /// A module, its config, what it did, and its tables at the end: what it did leads from the first
@@ -45,33 +45,6 @@ impl Model for Message {
     }) };
 }
 
-// Whether a history is what a journal has of a module.
-fn is_part(journal: &[Entry], history: &[TakenTurn], m: usize) -> bool
-    ensures { IsTrue result → part m (reverse journal.now) ≡ turns_of (reverse history.now) }
-{
-    let mut at = 0;
-    for i in 0..journal.len() {
-        let Entry::Step {
-            at: module,
-            input,
-            outputs,
-        } = &journal[i]
-        else {
-            return false;
-        };
-        if module.0 == m {
-            if at >= history.len() {
-                return false;
-            }
-            if !is_step_of(&journal[..i], input, outputs, &history[at]) {
-                return false;
-            }
-            at += 1;
-        }
-    }
-    at == history.len()
-}
-
 impl Message {
     /// The message of a module that did this.
     pub(crate) fn new(
@@ -99,17 +72,81 @@ impl Message {
     {
         self.m
     }
+}
 
-    /// The tables, where config and history are the topology's and the journal's.
-    pub(crate) fn agrees(self, config: &ModuleConfig, journal: &[Entry], m: usize) -> Option<Tables>
-        ensures { IfSome result (Agrees config.now (reverse journal.now) m) }
+/// A message, and how many of its turns a journal had so far.
+#[derive(Drop)]
+pub(crate) struct Followed {
+    message: Message,
+    met: usize,
+}
+
+impl Followed {
+    /// The message before any entry.
+    pub(crate) fn new(message: Message) -> Followed
+        ensures { result.met ≡ 0 }
     {
-        if !self.config.is(config) {
+        Followed { message, met: 0 }
+    }
+
+    // Whether the module's next step, after these entries, is the next turn: then it is met.
+    fn meets(&mut self, before: &[Entry], at: ModuleId, input: &Input, outputs: &Outputs) -> bool
+        requires { IsMet (reverse before.now) at.0 (Some self.old) }
+        ensures { IsTrue result → IsMet (Step at input.now outputs.now ∷ reverse before.now) at.0
+            (Some self.new) }
+    {
+        let history = self.message.history.as_slice();
+        if self.met < history.len() && is_step_of(before, input, outputs, &history[self.met]) {
+            self.met += 1;
+            return true;
+        }
+        false
+    }
+
+    /// The tables, where the config is this one and every turn was met.
+    pub(crate) fn tables(self, config: &ModuleConfig) -> Option<Tables>
+        ensures { IfSome result (IsEnded config.now self) }
+    {
+        if !self.message.config.is(config) {
             return None;
         }
-        if !is_part(journal, self.history.as_slice(), m) {
+        if self.met != self.message.history.len() {
             return None;
         }
-        Some(self.tables)
+        Some(self.message.tables)
+    }
+}
+
+// The next step of a module: its message has it next, or is dropped.
+fn meet_step(
+    slot: &mut Option<Followed>,
+    before: &[Entry],
+    at: ModuleId,
+    input: &Input,
+    outputs: &Outputs,
+)
+    requires { IsMet (reverse before.now) at.0 slot.old }
+    ensures { IsMet (Step at input.now outputs.now ∷ reverse before.now) at.0 slot.new }
+{
+    if let Some(followed) = slot
+        && followed.meets(before, at, input, outputs)
+    {
+        return;
+    }
+    *slot = None;
+}
+
+/// The next entry of a journal: the message of its module has it next, or is dropped.
+pub(crate) fn meet(slots: &mut Vec<Option<Followed>>, journal: &[Entry], i: usize)
+    requires within { i < length journal.now }
+    requires met { AreMet (reverse (take i journal.now)) slots.old.items }
+    ensures count { vec_len slots.new ≡ vec_len slots.old }
+    ensures met { AreMet (reverse (take (i + 1) journal.now)) slots.new.items }
+{
+    let Entry::Step { at, input, outputs } = &journal[i] else {
+        return;
+    };
+    if at.0 < slots.len() {
+        meet_step(&mut slots[at.0], &journal[..i], *at, input, outputs);
     }
 }

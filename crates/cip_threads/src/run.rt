@@ -1,14 +1,16 @@
 //! Modules on threads.
-ghost use Rattle.std.specs.Prelude.{◌≡◌, ◌≤◌, ◌<◌, ◌+◌, ◌^◌, ◌∷◌, [], All, IfErr, IfOk, IfNone, IfSome, IsTrue, OnOk, length, map, reverse, vec_len};
+ghost use Rattle.std.specs.Prelude.{◌≡◌, ◌≤◌, ◌<◌, ◌+◌, ◌^◌, ◌∷◌, [], All, IfErr, IfOk, IfNone, IfSome, IsTrue, None, OnOk, get_or, length, map, reverse, set, vec_len};
 ghost use Rattle.cip_world.specs.Fresh.{AreFresh};
+ghost use Rattle.cip_world.specs.Journals.{Journal};
 ghost use Rattle.cip_threads.specs.Feeds.{feeds_of, ticks_of};
+ghost use Rattle.cip_threads.specs.Meetings.{AreMet};
 ghost use Rattle.cip_threads.specs.Reports.{Agrees, AgreeTo, IsReport, IsRunFault, IsWorkerFault, Passes};
 
 use crate::book::Book;
 use crate::feed::Feed;
 use crate::gate::Gate;
 use crate::lists::Items;
-use crate::message::Message;
+use crate::message::{Followed, Message, meet};
 use crate::report::{CompareFault, Report, RunFault, Waiting};
 use crate::state::{BookState, Finished, copy_feeds};
 use crate::worker::{Ended, Post, Shared};
@@ -58,12 +60,14 @@ fn run_workers<R: Threads + Wait + Sync, P: Post + Sync>(
     })
 }
 
-fn place(slots: &mut Vec<Option<Message>>, message: Message)
-    ensures { vec_len slots.new ≡ vec_len slots.old }
+fn place(slots: &mut Vec<Option<Followed>>, message: Message)
+    requires { AreMet [] slots.old.items }
+    ensures count { vec_len slots.new ≡ vec_len slots.old }
+    ensures met { AreMet [] slots.new.items }
 {
     let m = message.m();
     if m.0 < slots.len() {
-        slots[m.0] = Some(message);
+        slots[m.0] = Some(Followed::new(message));
     }
 }
 
@@ -73,8 +77,9 @@ fn gather<R: Wait>(
     alloc: Global,
     from: &Receiver<Message>,
     count: usize,
-) -> Result<Vec<Option<Message>>, NoMemory>
-    ensures { IfOk result (λ v. vec_len v ≡ count) }
+) -> Result<Vec<Option<Followed>>, NoMemory>
+    ensures count { IfOk result (λ v. vec_len v ≡ count) }
+    ensures met { IfOk result (λ v. AreMet [] v.items) }
 {
     let mut slots = Vec::new(alloc);
     for _i in 0..count {
@@ -88,26 +93,35 @@ fn gather<R: Wait>(
     Ok(slots)
 }
 
-fn take_message(messages: &mut Vec<Option<Message>>, m: usize) -> Option<Message>
-    requires { m < vec_len messages.old }
-    ensures { vec_len messages.new ≡ vec_len messages.old }
+// Each message beside the journal: what differs from it is dropped.
+fn follow(slots: &mut Vec<Option<Followed>>, journal: &[Entry])
+    requires { AreMet [] slots.old.items }
+    ensures count { vec_len slots.new ≡ vec_len slots.old }
+    ensures met { AreMet (reverse journal.now) slots.new.items }
 {
-    messages[m].take()
+    for i in 0..journal.len() {
+        meet(slots, journal, i);
+    }
 }
 
-// The tables of a module, where its message came and agrees with the journal.
-fn agreed(
-    messages: &mut Vec<Option<Message>>,
-    config: &ModuleConfig,
-    journal: &[Entry],
-    m: usize,
-) -> Option<Tables>
-    requires { m < vec_len messages.old }
-    ensures count { vec_len messages.new ≡ vec_len messages.old }
-    ensures agrees { IfSome result (Agrees config.now (reverse journal.now) m) }
+fn take_message(slots: &mut Vec<Option<Followed>>, m: usize) -> Option<Followed>
+    requires { m < vec_len slots.old }
+    ensures value { result ≡ get_or slots.old.items m None }
+    ensures after { slots.new.items ≡ set slots.old.items m None }
 {
-    match take_message(messages, m) {
-        Some(message) => message.agrees(config, journal, m),
+    slots[m].take()
+}
+
+// The tables of a module, where its message came and goes with a journal to its end.
+fn agreed(slots: &mut Vec<Option<Followed>>, config: &ModuleConfig, m: usize) -> Option<Tables>
+    requires { m < vec_len slots.old }
+    ensures count { vec_len slots.new ≡ vec_len slots.old }
+    ensures met { (j : Journal) → AreMet j slots.old.items → AreMet j slots.new.items }
+    ensures agrees { (j : Journal) → AreMet j slots.old.items
+        → IfSome result (Agrees config.now j m) }
+{
+    match take_message(slots, m) {
+        Some(followed) => followed.tables(config),
         None => None,
     }
 }
@@ -115,19 +129,21 @@ fn agreed(
 // The tables of all modules, where each message agrees with the journal.
 fn compare(
     alloc: Global,
-    messages: Vec<Option<Message>>,
+    messages: Vec<Option<Followed>>,
     topology: &Topology,
     journal: &[Entry],
 ) -> Result<Vec<Tables>, CompareFault>
-    requires { vec_len messages ≡ length topology.now.modules }
+    requires count { vec_len messages ≡ length topology.now.modules }
+    requires met { AreMet [] messages.items }
     ensures { IfOk result (λ v. AgreeTo topology.now (reverse journal.now) v.items
         (length topology.now.modules)) }
 {
     let mut messages = messages;
+    follow(&mut messages, journal);
     let mut tables = Vec::new(alloc);
     let configs = topology.configs();
     for m in 0..configs.len() {
-        let Some(one) = agreed(&mut messages, &configs[m], journal, m) else {
+        let Some(one) = agreed(&mut messages, &configs[m], m) else {
             return Err(CompareFault::Differs(ModuleId(m)));
         };
         let Ok(()) = tables.push(one) else {
@@ -222,12 +238,13 @@ fn fault_of(ended: Ended, topology: &Topology, feeds: &[(ModuleId, Feed)]) -> Op
 fn report(
     alloc: Global,
     state: BookState,
-    messages: Vec<Option<Message>>,
+    messages: Vec<Option<Followed>>,
     topology: &Topology,
     feeds: &[(ModuleId, Feed)],
     turns: usize,
 ) -> Result<Report, RunFault>
-    requires { vec_len messages ≡ length topology.now.modules }
+    requires count { vec_len messages ≡ length topology.now.modules }
+    requires met { AreMet [] messages.items }
     ensures ok { IfOk result (λ r. IsReport topology.now feeds.now turns
         (reverse r.journal) r.tables r.waiting.feeds r.waiting.frames r.end) }
     ensures fault { IfErr result (IsWorkerFault topology.now feeds.now) }
