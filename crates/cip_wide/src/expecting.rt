@@ -1,9 +1,10 @@
 //! What a line expects of the run so far.
 
+use crate::ends::Ends;
 use crate::fault::{LineError, LineFault, WordFault, wrong_count, wrong_word};
 use crate::links::module_at;
 use crate::ops::{Ops, name_of};
-use crate::outcomes::{Code, Sought, done_near, newest, newest_refused};
+use crate::outcomes::{Code, Sought, newest, newest_refused};
 use crate::unmet::Unmet;
 use cip_base::{Bytes, ModuleId};
 use cip_tool::{HexFault, hex_fault, number_u32};
@@ -91,16 +92,11 @@ fn code_of(word: &str) -> Option<Code> {
     })
 }
 
-fn expect_done(
-    world: &World,
-    near: &mut usize,
-    op: Named<'_>,
-    word: &str,
-) -> Result<(), LineError> {
+fn expect_done(world: &World, ends: &mut Ends, op: Named<'_>, word: &str) -> Result<(), LineError> {
     let Some(wanted) = code_of(word) else {
         return Err(wrong_word("expect", "STATUS", word, WordFault::NoStatus));
     };
-    let Some(reply) = done_near(world.journal(), near, op.at, op.number) else {
+    let Some(reply) = ends.done(world.journal(), op.at, op.number) else {
         return Err(unmet(Unmet::NotDone(excerpt(op.word))));
     };
     match Code::of(reply) {
@@ -260,20 +256,19 @@ fn wrong_words(args: &[&str]) -> LineError {
     }
 }
 
-/// Whether the run so far is as a line expects: `expect WHAT ..`. `near` is 0 at the first line,
-/// and then what the last one left there.
+/// Whether the run so far is as a line expects: `expect WHAT ..`.
 pub(crate) fn expect(
     alloc: Global,
     world: &World,
     ops: &Ops,
-    near: &mut usize,
+    ends: &mut Ends,
     args: &[&str],
 ) -> Result<(), LineError>
     requires stand { ⟦<World as Shown>⟧.stands world.now }
 {
     let topology = world.topology();
     match args {
-        ["done", op, status] => expect_done(world, near, op_of(topology, ops, op)?, status),
+        ["done", op, status] => expect_done(world, ends, op_of(topology, ops, op)?, status),
         ["refused", reason] => expect_refused(alloc, world, reason),
         ["arrived", op, bytes] => {
             let op = op_of(topology, ops, op)?;

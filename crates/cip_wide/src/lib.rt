@@ -3,16 +3,16 @@
 #![tactic(auto)]
 
 mod blocks;
+mod ends;
 mod expecting;
 mod fault;
 mod lines;
 mod links;
+mod names;
 mod narrowing;
 mod ops;
 mod outcomes;
 mod plain;
-#[cfg(test)]
-mod tests;
 mod unmet;
 
 pub use fault::{LineFault, WideFault, WordFault};

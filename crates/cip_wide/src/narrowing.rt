@@ -4,6 +4,7 @@ ghost use Rattle.std.specs.Prelude.{◌≤◌, IfOk, string_len};
 ghost use Rattle.std.specs.Str.{IsAscii};
 
 use crate::blocks::{Turn, after_end, check_blocks, count_of, is_end};
+use crate::ends::Ends;
 use crate::expecting::expect;
 use crate::fault::{LineError, LineFault, WideFault, unknown_word, wrong_count};
 use crate::lines::{Line, first_not_ascii, lines_of};
@@ -34,8 +35,8 @@ struct Kept {
     ops: Ops,
     // the script so far
     script: String,
-    // the entry of the last end that was expected
-    near: usize,
+    // where the ops ended, as far as that was read
+    ends: Ends,
 }
 
 // What is wrong with a line that stands in no script, or stops there.
@@ -93,7 +94,7 @@ fn put_line(narrow: &mut Kept, line: &str) -> Result<(), LineError>
 }
 
 // An op was asked for.
-fn note(ops: &mut Ops, new: NewOp) -> Result<(), AllocError> {
+fn note(ops: &mut Ops, new: NewOp) -> Result<(), NoMemory> {
     let NewOp { at, number, name } = new;
     match name {
         Some(name) => ops.name(name, at, number),
@@ -244,7 +245,7 @@ fn play_words(
             play_lines(alloc, world, narrow, lines)
         }
         ["expect", args @ ..] => {
-            expect(alloc, world, &narrow.ops, &mut narrow.near, args)?;
+            expect(alloc, world, &narrow.ops, &mut narrow.ends, args)?;
             put_comment(alloc, narrow, words)
         }
         [word, args @ ..] => play_own(alloc, world, narrow, word, args),
@@ -347,7 +348,7 @@ pub fn narrow(
         names,
         ops,
         script: String::new(alloc),
-        near: 0,
+        ends: Ends::new(alloc),
     };
     play_all(alloc, &mut world, &mut narrow, lines.as_slice())?;
     Ok(narrow.script)

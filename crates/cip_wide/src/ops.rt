@@ -1,20 +1,14 @@
-//! The ops that have names.
+//! The ops of a script.
 
-use cip_base::ModuleId;
+use crate::names::{Names, Op};
+use cip_base::{ModuleId, NoMemory};
 use cip_topology::Name;
 use std::alloc::{AllocError, Global};
-
-#[derive(Drop)]
-struct Op {
-    name: Name,
-    at: ModuleId,
-    number: u32,
-}
 
 /// The ops that were named, and the greatest number of an op that each module was given.
 #[derive(Drop)]
 pub(crate) struct Ops {
-    named: Vec<Op>,
+    named: Names,
     greatest: Vec<u32>,
 }
 
@@ -30,7 +24,7 @@ impl Ops {
     /// None, for so many modules.
     pub(crate) fn new(alloc: Global, modules: usize) -> Result<Ops, AllocError> {
         Ok(Ops {
-            named: Vec::new(alloc),
+            named: Names::new(alloc),
             greatest: Vec::from_elem(alloc, 0u32, modules)?,
         })
     }
@@ -53,29 +47,24 @@ impl Ops {
     }
 
     /// The op of this number of the module has this name from now on.
-    pub(crate) fn name(&mut self, name: Name, at: ModuleId, number: u32) -> Result<(), AllocError> {
+    pub(crate) fn name(&mut self, name: Name, at: ModuleId, number: u32) -> Result<(), NoMemory> {
         self.note(at, number);
-        self.named.push(Op { name, at, number })?;
-        Ok(())
+        self.named.push(Op { name, at, number })
     }
 
     /// The number of the module's op that got the name last.
     pub(crate) fn number(&self, name: &Name, at: ModuleId) -> Option<u32> {
-        for op in self.named.iter().rev() {
-            if op.at == at && op.name == *name {
-                return Some(op.number);
-            }
+        match self.named.newest(name, Some(at)) {
+            Some(op) => Some(op.number),
+            None => None,
         }
-        None
     }
 
     /// The module and the number of the op that got the name last.
     pub(crate) fn find(&self, name: &Name) -> Option<(ModuleId, u32)> {
-        for op in self.named.iter().rev() {
-            if op.name == *name {
-                return Some((op.at, op.number));
-            }
+        match self.named.newest(name, None) {
+            Some(op) => Some((op.at, op.number)),
+            None => None,
         }
-        None
     }
 }

@@ -1,7 +1,4 @@
 //! What came out of a run so far.
-ghost use Rattle.std.specs.Prelude.{◌≡◌, ◌<◌, length, position, IfSome};
-ghost use Rattle.std.specs.List.{list_any};
-ghost use Rattle.cip_wide.specs.Ends.{is_done, is_end_of};
 
 use cip_base::{Bytes, ModuleId, Status};
 use cip_message::read_reply;
@@ -65,8 +62,6 @@ impl fmt::Display for Pairs<'_> {
 /// What is sought among the outputs of a module.
 #[derive(Clone, Copy)]
 pub(crate) enum Sought {
-    /// The end of this op.
-    Done(u32),
     /// A datum that came back to this op.
     Arrived(u32),
     /// A datum that was consumed to this assembly.
@@ -76,7 +71,6 @@ pub(crate) enum Sought {
 impl Sought {
     fn is(self, output: &Output) -> bool {
         match (self, output) {
-            (Sought::Done(number), Output::Done { op, .. }) => *op == number,
             (Sought::Arrived(number), Output::Arrived { op, .. }) => *op == number,
             (Sought::Consumed(number), Output::Consumed { instance, .. }) => *instance == number,
             _ => false,
@@ -87,7 +81,6 @@ impl Sought {
 // The bytes that an output has.
 fn bytes_of(output: &Output) -> Option<&Bytes> {
     match output {
-        Output::Done { reply, .. } => Some(reply),
         Output::Arrived { bytes, .. } => Some(bytes),
         Output::Consumed { bytes, .. } => Some(bytes),
         _ => None,
@@ -116,66 +109,6 @@ pub(crate) fn newest(journal: &[Entry], module_: ModuleId, sought: Sought) -> Op
         }
     }
     None
-}
-
-fn is_done(output: &Output, number: u32) -> bool
-    ensures { result ≡ is_done number output.now }
-{
-    match output {
-        Output::Done { op, .. } => *op == number,
-        _ => false,
-    }
-}
-
-fn has_done(outputs: &[Output], number: u32) -> bool
-    ensures { result ≡ list_any (is_done number) outputs.now }
-{
-    outputs.iter().any(|output| is_done(output, number))
-}
-
-// Whether an op of a module is done in an entry.
-fn is_end_of(entry: &Entry, module_: ModuleId, number: u32) -> bool
-    ensures { result ≡ is_end_of module_.0 number entry.now }
-{
-    match entry {
-        Entry::Step { at, outputs, .. } => {
-            at.0 == module_.0 && has_done(outputs.as_slice(), number)
-        }
-        Entry::Lost { .. } => false,
-    }
-}
-
-// The place of the first of these entries in which an op of a module is done.
-fn first_end(journal: &[Entry], module_: ModuleId, number: u32) -> Option<usize>
-    ensures value { result ≡ position (is_end_of module_.0 number) journal.now }
-    ensures within { IfSome result (λ place. place < length journal.now) }
-{
-    journal
-        .iter()
-        .position(|entry| is_end_of(entry, module_, number))
-}
-
-/// The reply with which an op is done. A module gives an op one Done at most (`ops_are_done_once`),
-/// so the one that is found is the newest too. `near` is 0 at first, and then what the last call
-/// left: the entries from there on are looked at first, then those before it, the newest first.
-pub(crate) fn done_near<'a>(
-    journal: &'a [Entry],
-    near: &mut usize,
-    module_: ModuleId,
-    number: u32,
-) -> Option<&'a Bytes> {
-    let sought = Sought::Done(number);
-    if *near > journal.len() {
-        *near = 0;
-    }
-    let from = *near;
-    match first_end(&journal[from..], module_, number) {
-        Some(place) => {
-            *near = from + place;
-            newest(&journal[*near..=*near], module_, sought)
-        }
-        None => newest(&journal[..from], module_, sought),
-    }
 }
 
 // Why a command was refused, where it was.
