@@ -52,6 +52,7 @@ impl Part for Values {
         let alloc = self.alloc;
         match name {
             "address" => address(alloc, words.bytes()?.as_slice()),
+            "shown" => format!(in alloc; "{:?}", words.address()?).ok(),
             "same" => truth(alloc, words.address()? == words.address()?),
             "ms" => number(alloc, Ms::new(words.u16()?).map(Ms::get)),
             "port" => number(alloc, PortNumber::new(words.u16()?).map(PortNumber::get)),
@@ -77,6 +78,8 @@ fn addresses_of_one_to_sixteen_bytes(rt: HostRuntime) -> Result<(), Fail> {
         address 07*16 = 07070707070707070707070707070707 07070707070707070707070707070707
         same 07*16 07*16 = true
         same 07*15 07*16 = false
+        shown 05FF00 = Address { bytes: [5, 255, 0] }
+        shown 07*16 = Address { bytes: [7, 7, 7, 7, 7, 7, 7, 7, 7, 7, 7, 7, 7, 7, 7, 7] }
         ",
     )
 }
