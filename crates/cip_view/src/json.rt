@@ -313,6 +313,13 @@ fn put_end(text: &mut String, book: &Book<'_>, ending: Ending) -> Result<(), NoM
     put(text, "}}\n")
 }
 
+// An entry, with its end.
+fn put_whole(out: &mut String, entry: &str) -> Result<(), NoMemory> {
+    out.reserve(entry.len().saturating_add(3))?;
+    put(out, entry)?;
+    put(out, "]}\n")
+}
+
 /// The entries as JSON.
 #[derive(Drop)]
 pub struct JsonView<'a> {
@@ -340,17 +347,16 @@ impl<'a> JsonView<'a> {
         }
     }
 
-    // The entry under way is whole.
+    // The entry under way is whole. Where memory is refused it is lost, and no other takes its
+    // place.
     fn put_entry(&mut self) -> Result<(), NoMemory> {
         if self.entry.is_empty() {
             return Ok(());
         }
-        self.out.reserve(self.entry.len().saturating_add(3))?;
-        put(&mut self.out, self.entry.as_str())?;
-        put(&mut self.out, "]}\n")?;
+        let result = put_whole(&mut self.out, self.entry.as_str());
         self.entry.clear();
         self.has_output = false;
-        Ok(())
+        result
     }
 
     fn take_step(&mut self, entry: usize, at: ModuleId, given: Given) -> Result<(), NoMemory> {
@@ -469,7 +475,9 @@ impl<'a> JsonView<'a> {
 impl View for JsonView<'_> {
     ghost gathered = { λ s. string_bytes s.out };
 
-    fn line(&mut self, _alloc: Global, text: &[u8], line: Line) -> Result<(), NoMemory> {
+    fn line(&mut self, alloc: Global, text: &[u8], line: Line) -> Result<(), NoMemory> {
+        // its texts have an allocator of their own
+        let _ = alloc;
         match line {
             Line::Step { entry, at, given } => self.take_step(entry, at, given),
             Line::Lost { entry, frame } => self.take_lost(entry, frame),
@@ -478,7 +486,8 @@ impl View for JsonView<'_> {
         }
     }
 
-    fn end(&mut self, _alloc: Global, _rest: &[u8], ending: Ending) -> Result<(), NoMemory> {
+    fn end(&mut self, alloc: Global, _rest: &[u8], ending: Ending) -> Result<(), NoMemory> {
+        let _ = alloc;
         self.take_end(ending)
     }
 
