@@ -1,7 +1,9 @@
 //! Statuses, services, bytes and names, each beside its form from before.
 use cip_decode::{
-    Pairs, decode_reply, decode_request, put_reply_json, put_request_json, reply_json, request_json,
+    Pairs, PathText, decode_reply, decode_request, put_reply_json, put_request_json, reply_json,
+    request_json,
 };
+use cip_segment::view_path;
 use cip_view::NameText;
 use std::alloc::{AllocError, Global};
 use std::fmt;
@@ -91,6 +93,53 @@ fn pairs_and_names_as_one_by_one(rt: HostRuntime) -> Result<(), Fail> {
         let characters = format!(in alloc; "{}", EachCharacter(slice))?;
         assert!(&rt; name.as_str() == characters.as_str(), "{i} bytes");
         bytes.push((i % 256) as u8)?;
+    }
+    Ok(())
+}
+
+/// A symbol, as its characters were written one by one.
+#[derive(Clone, Copy)]
+struct EachOfSymbol<'a>(&'a [u8]);
+
+impl fmt::Display for EachOfSymbol<'_> {
+    fn fmt<W: fmt::Write>(&self, f: &mut fmt::Formatter<W>) -> fmt::Result {
+        let is_printable = self
+            .0
+            .iter()
+            .all(|byte| 0x21 <= *byte && *byte <= 0x7E && *byte != 0x22);
+        if self.0.len() < 2 || !is_printable {
+            return write!(f, "symbol {}", EachPair(self.0));
+        }
+        write!(f, "symbol \"{}\"", EachCharacter(self.0))
+    }
+}
+
+// A path of one symbol, whose characters go up from the first.
+fn symbol_of(alloc: Global, first: u8, count: u8) -> Result<Vec<u8>, AllocError> {
+    let mut bytes = Vec::new(alloc);
+    bytes.extend_from_slice(&[0x91, count])?;
+    for i in 0..count {
+        bytes.extend_from_slice(&[first.wrapping_add(i)])?;
+    }
+    if count % 2 == 1 {
+        bytes.extend_from_slice(&[0])?;
+    }
+    Ok(bytes)
+}
+
+#[test]
+fn symbols_as_one_by_one(rt: HostRuntime) -> Result<(), Fail> {
+    let alloc = rt.alloc();
+    for first in 0..=255u8 {
+        for count in 1..40u8 {
+            let bytes = symbol_of(alloc, first, count)?;
+            let path = view_path(bytes.as_slice()).ok().ok_or("no path")?;
+            let text = format!(in alloc; "{}", PathText(path))?;
+            let end = 2 + usize::from(count);
+            let name = bytes.as_slice().get(2..end).ok_or("no name")?;
+            let each = format!(in alloc; "{}", EachOfSymbol(name))?;
+            assert!(&rt; text.as_str() == each.as_str(), "{count} from {first}");
+        }
     }
     Ok(())
 }

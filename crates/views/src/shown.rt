@@ -2,7 +2,7 @@
 use crate::dice::Dice;
 use crate::made::transcript;
 use crate::tree_view::TreeView;
-use cip_read::{Line, Note, Reader};
+use cip_read::{Line, Note, ReadFault, Reader};
 use cip_topology::{CHASSIS, Topology, load};
 use cip_view::{JsonView, Pieces, View, feed, finish};
 use std::alloc::{AllocError, Global};
@@ -26,17 +26,54 @@ fn shown_over(alloc: Global, topology: &Topology) -> Shown<'_> {
     }
 }
 
-// A piece goes through, unless a line before it was faulty.
+// The line is whole, as it was taken before.
+fn take_line<V: View>(
+    alloc: Global,
+    reader: &mut Reader,
+    pieces: &mut Pieces,
+    view: &mut V,
+) -> Result<(), ReadFault> {
+    let line = reader.read(alloc, pieces.held())?;
+    view.line(alloc, pieces.held(), line)?;
+    pieces.clear();
+    Ok(())
+}
+
+// `feed` as it was before.
+fn feed_parted<V: View>(
+    alloc: Global,
+    reader: &mut Reader,
+    pieces: &mut Pieces,
+    view: &mut V,
+    piece: &[u8],
+) -> Result<(), ReadFault> {
+    for (i, part) in piece.split(|byte| *byte == b'\n').enumerate() {
+        if i > 0 {
+            take_line(alloc, reader, pieces, view)?;
+        }
+        pieces.put(part)?;
+    }
+    Ok(())
+}
+
+// A piece goes through, as it did before or as it does now, unless a line before it was faulty.
 fn show<V: View>(
     alloc: Global,
     shown: &mut Shown<'_>,
+    is_now: bool,
     view: &mut V,
     piece: &[u8],
 ) -> Result<(), AllocError> {
     if !shown.fault.as_str().is_empty() {
         return Ok(());
     }
-    match feed(alloc, &mut shown.reader, &mut shown.pieces, view, piece) {
+    let (reader, pieces) = (&mut shown.reader, &mut shown.pieces);
+    let result = if is_now {
+        feed(alloc, reader, pieces, view, piece)
+    } else {
+        feed_parted(alloc, reader, pieces, view, piece)
+    };
+    match result {
         Ok(()) => Ok(()),
         Err(fault) => write!(shown.fault, "{fault}"),
     }
@@ -66,9 +103,13 @@ pub fn compare<V: View, W: View>(
     let mut second = shown_over(alloc, topology);
     let size = dice.below(bytes.len()).saturating_add(1);
     for piece in bytes.chunks(size) {
-        show(alloc, &mut first, view, piece)?;
-        show(alloc, &mut second, other, piece)?;
+        show(alloc, &mut first, true, view, piece)?;
+        show(alloc, &mut second, false, other, piece)?;
         assert!(rt; view.written() == other.written(), "a piece of:\n{text}");
+        assert!(rt;
+            first.pieces.held() == second.pieces.held(),
+            "a piece of:\n{text}"
+        );
         if dice.is_rare(2) {
             view.clear();
             other.clear();
