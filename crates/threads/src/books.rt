@@ -2,9 +2,10 @@
 use crate::boxes::{boxed, chassis};
 use crate::given::{A, B, S, sends};
 use cip_base::ModuleId;
-use cip_module::Module;
+use cip_module::{Event, Module, Output};
 use cip_threads::{BookState, CommitFault, Handed, feeds_fit};
 use std::alloc::Global;
+use std::process::Abort;
 use std::test::Fail;
 
 #[derive(Clone, Copy, Debug, PartialEq, Eq)]
@@ -35,27 +36,42 @@ fn book(alloc: Global, turns: usize) -> Result<BookState, Fail> {
     Ok(BookState::new(alloc, topology, feeds, turns)?)
 }
 
+// What the scanner of the chassis puts out for its first event.
+fn outputs_of(alloc: Global, event: Event) -> Result<Vec<Output>, Fail> {
+    let topology = chassis(alloc)?;
+    let config = topology.configs().first().ok_or("no scanner")?;
+    let mut scanner = boxed(alloc, config).ok_or("no memory")?;
+    Ok(scanner.step(event)?)
+}
+
+// The scanner has its work in hand, and no other module has any.
+fn see_held(rt: &impl Abort, alloc: Global, state: &mut BookState) {
+    assert_eq!(rt; answer(state, S), Some(Given::Held));
+    assert_eq!(rt; answer(state, A), Some(Given::NotYet));
+    assert_eq!(rt;
+        state.enter(A, Vec::new(alloc)),
+        Err(CommitFault::NothingInHand)
+    );
+}
+
+// What the scanner put out is handed on, until the book is stopped.
+fn see_handed_on(rt: &impl Abort, state: &mut BookState, outputs: Vec<Output>) {
+    assert_eq!(rt; state.enter(S, outputs), Ok(()));
+    assert_eq!(rt; answer(state, A), Some(Given::Work));
+    state.stop();
+    assert_eq!(rt; answer(state, B), Some(Given::Stop));
+}
+
 #[test]
 fn a_request_is_handed_on(rt: HostRuntime) -> Result<(), Fail> {
     let alloc = rt.alloc();
     let mut state = book(alloc, 100)?;
-    let topology = chassis(alloc)?;
-    let config = topology.configs().first().ok_or("no scanner")?;
-    let mut scanner = boxed(alloc, config).ok_or("no memory")?;
     let Handed::Work(event) = state.hand(S)? else {
         return Err("no work".into());
     };
-    assert_eq!(&rt; answer(&mut state, S), Some(Given::Held));
-    assert_eq!(&rt; answer(&mut state, A), Some(Given::NotYet));
-    assert_eq!(&rt;
-        state.enter(A, Vec::new(alloc)),
-        Err(CommitFault::NothingInHand)
-    );
-    let outputs = scanner.step(event)?;
-    assert_eq!(&rt; state.enter(S, outputs), Ok(()));
-    assert_eq!(&rt; answer(&mut state, A), Some(Given::Work));
-    state.stop();
-    assert_eq!(&rt; answer(&mut state, B), Some(Given::Stop));
+    see_held(&rt, alloc, &mut state);
+    let outputs = outputs_of(alloc, event)?;
+    see_handed_on(&rt, &mut state, outputs);
     Ok(())
 }
 

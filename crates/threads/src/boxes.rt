@@ -7,10 +7,7 @@ use std::test::Fail;
 
 /// The topology of a text.
 pub fn topology(alloc: Global, text: &str) -> Result<Topology, Fail> {
-    match load(alloc, text) {
-        Ok(topology) => Ok(topology),
-        Err(fault) => Err(Fail::new(format_args!("{fault}"))),
-    }
+    Ok(load(alloc, text).ok().ok_or("a faulty topology")?)
 }
 
 /// The scanner S, the bridges A and B, and the adapter E.
