@@ -196,14 +196,24 @@ fn bytes_at(rt: &HostRuntime, alloc: Global, path: &str) -> Result<Vec<u8>, Faul
     bytes_of(alloc, path, &mut file)
 }
 
+// What is told of a text of this name that is no topology.
+fn refused(alloc: Global, name: &str, text: &str, fault: &LoadFault) -> Result<Topology, Fault> {
+    if let LoadFault::NoMemory = fault {
+        return Err(Fault::NoMemory);
+    }
+    let told = explain_load(alloc, text, fault)?;
+    Err(Fault::Topology(named(alloc, name)?, told))
+}
+
 // The topology of a text of this name.
 fn loaded(alloc: Global, name: &str, text: &str) -> Result<Topology, Fault> {
     match load(alloc, text) {
         Ok(topology) => Ok(topology),
-        Err(LoadFault::NoMemory) => Err(Fault::NoMemory),
         Err(fault) => {
-            let told = explain_load(alloc, text, &fault)?;
-            Err(Fault::Topology(named(alloc, name)?, told))
+            let result = refused(alloc, name, text, &fault);
+            // (one place to give it up is one to prove)
+            drop(fault);
+            result
         }
     }
 }

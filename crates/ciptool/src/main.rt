@@ -12,7 +12,10 @@ fn main(rt: HostRuntime) -> ExitCode {
         Ok(()) => ExitCode::SUCCESS,
         Err(fault) => {
             let _ = eprintln!(rt; "ciptool: {fault}");
-            ExitCode::from(fault.status())
+            let status = fault.status();
+            // (one place to give it up is one to prove)
+            drop(fault);
+            ExitCode::from(status)
         }
     }
 }

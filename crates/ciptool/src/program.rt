@@ -145,7 +145,7 @@ macro_rules! boxes {
 }
 
 fn rooms_of(alloc: Global, text: &str, script: &[u8]) -> Result<Report, RoomsFault> {
-    let Ok(topology) = load(alloc, text) else {
+    let Some(topology) = load(alloc, text).ok() else {
         return Err(RoomsFault::NoMemory);
     };
     let made = new_modules(alloc, topology.configs())?;
@@ -231,14 +231,24 @@ fn check_file(
     }
 }
 
+// What is told of a text of this name that is no topology.
+fn refused(alloc: Global, name: &str, text: &str, fault: &LoadFault) -> Result<Topology, Fault> {
+    if let LoadFault::NoMemory = fault {
+        return Err(Fault::NoMemory);
+    }
+    let told = explain_load(alloc, text, fault)?;
+    Err(Fault::Topology(String::from_str(alloc, name)?, told))
+}
+
 // The topology of a text of this name.
 fn loaded(alloc: Global, name: &str, text: &str) -> Result<Topology, Fault> {
     match load(alloc, text) {
         Ok(topology) => Ok(topology),
-        Err(LoadFault::NoMemory) => Err(Fault::NoMemory),
         Err(fault) => {
-            let told = explain_load(alloc, text, &fault)?;
-            Err(Fault::Topology(String::from_str(alloc, name)?, told))
+            let result = refused(alloc, name, text, &fault);
+            // (one place to give it up is one to prove)
+            drop(fault);
+            result
         }
     }
 }

@@ -48,7 +48,8 @@ impl From<NoMemory> for Fault {
 }
 
 impl From<LoadFault> for Fault {
-    fn from(_fault: LoadFault) -> Fault {
+    fn from(fault: LoadFault) -> Fault {
+        drop(fault);
         Fault::Chassis
     }
 }

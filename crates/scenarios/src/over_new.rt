@@ -48,9 +48,9 @@ pub fn run_chassis<R: Source, W: Sink>(
     reader: &mut R,
     writer: &mut W,
 ) -> Result<(), ConsoleFault> {
-    match load(alloc, CHASSIS) {
-        Ok(topology) => run_new(alloc, reader, writer, topology),
-        Err(_) => Err(ConsoleFault::NoMemory),
+    match load(alloc, CHASSIS).ok() {
+        Some(topology) => run_new(alloc, reader, writer, topology),
+        None => Err(ConsoleFault::NoMemory),
     }
 }
 
@@ -62,7 +62,7 @@ pub fn run_chassis_live<T: Threads + Wait + Sync>(
     writer: &mut Out<Vec<u8>>,
     turns: usize,
 ) -> Result<(), ConsoleFault> {
-    let Ok(topology) = load(alloc, CHASSIS) else {
+    let Some(topology) = load(alloc, CHASSIS).ok() else {
         return Err(ConsoleFault::NoMemory);
     };
     let modules = boxes!(alloc, topology);
@@ -107,10 +107,7 @@ const ROWS: [Row; 3] = [
 
 #[cfg(test)]
 fn chassis(alloc: Global) -> Result<Topology, Fail> {
-    match load(alloc, CHASSIS) {
-        Ok(topology) => Ok(topology),
-        Err(fault) => Err(Fail::new(format_args!("{fault}"))),
-    }
+    Ok(load(alloc, CHASSIS).ok().ok_or("no chassis")?)
 }
 
 #[cfg(test)]

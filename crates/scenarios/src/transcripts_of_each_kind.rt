@@ -404,10 +404,7 @@ fn file_for(alloc: Global, row: &Row, kinds: Kinds) -> Result<String, AllocError
 // What the console writes of a row.
 fn written(alloc: Global, row: &Row, kinds: Kinds) -> Result<Vec<u8>, Fail> {
     let file = file_for(alloc, row, kinds)?;
-    let topology = match load(alloc, file.as_str()) {
-        Ok(topology) => topology,
-        Err(fault) => return Err(Fail::new(format_args!("{}: {fault}", row.name))),
-    };
+    let topology = load(alloc, file.as_str()).ok().ok_or(row.name)?;
     let mut reader = Script {
         rest: row.script.as_bytes(),
     };
