@@ -48,8 +48,7 @@ impl From<NoMemory> for Fault {
 }
 
 impl From<LoadFault> for Fault {
-    fn from(fault: LoadFault) -> Fault {
-        drop(fault);
+    fn from(_fault: LoadFault) -> Fault {
         Fault::Chassis
     }
 }
