@@ -1,14 +1,13 @@
 //! The arrows of a chart, with their labels.
 use crate::areas::{Anchor, Areas, Spot, width_of};
 use crate::collect::ChartView;
-use crate::escape::put_escaped;
 use crate::labels::spot_of;
 use crate::layout::Heights;
 use crate::line::{Line, line_of};
 use crate::model::{Arrow, Fate};
 use crate::style;
 use cip_base::NoMemory;
-use cip_decode::{put, put_count, put_number};
+use cip_text::Draft;
 use cip_view::{Kind, Label};
 use std::alloc::Global;
 
@@ -35,7 +34,7 @@ fn fate_word(fate: Fate) -> &'static str {
 
 // The arrow at a place, if it is shown. Its label is written into a room, and then copied.
 fn shown_of(
-    room: &mut String,
+    room: &mut Draft,
     chart: &ChartView<'_>,
     heights: &Heights,
     place: usize,
@@ -46,8 +45,8 @@ fn shown_of(
     };
     room.clear();
     write!(room, "{}", arrow.label)?;
-    put(room, fate_word(arrow.fate))?;
-    let label = room.clone()?;
+    room.put(fate_word(arrow.fate))?;
+    let label = room.copied()?;
     let spot = Spot {
         x: line.x2,
         y: line.y2,
@@ -71,7 +70,7 @@ pub(crate) fn take_arrows(
     areas: &mut Areas,
 ) -> Result<Vec<Shown>, NoMemory> {
     let mut arrows = Vec::new(alloc);
-    let mut room = String::new(alloc);
+    let mut room = Draft::new(alloc);
     for (place, arrow) in chart.arrows.iter().enumerate() {
         if let Some(arrow) = shown_of(&mut room, chart, heights, place, arrow)? {
             areas.put_line(arrow.line)?;
@@ -87,13 +86,13 @@ pub(crate) fn take_arrows(
 }
 
 // A point, behind what stands before it.
-fn put_point(before: &str, x: u64, y: u64, out: &mut String) -> Result<(), NoMemory> {
-    put_count(out, before, x)?;
-    put_count(out, " ", y)
+fn put_point(before: &str, x: u64, y: u64, out: &mut Draft) -> Result<(), NoMemory> {
+    out.put_count(before, x)?;
+    out.put_count(" ", y)
 }
 
 // The way of a line: straight, or a loop where a module sends to itself.
-fn put_way(line: Line, way: &mut String) -> Result<(), NoMemory> {
+fn put_way(line: Line, way: &mut Draft) -> Result<(), NoMemory> {
     let Line { x1, y1, x2, y2 } = line;
     put_point(" d=\"M", x1, y1, way)?;
     if line.is_loop() {
@@ -104,27 +103,27 @@ fn put_way(line: Line, way: &mut String) -> Result<(), NoMemory> {
     } else {
         put_point("L", x2, y2, way)?;
     }
-    put(way, "\"/>")
+    way.put("\"/>")
 }
 
 // The path of a line with these attributes.
-fn put_path(words: &str, way: &str, out: &mut String) -> Result<(), NoMemory> {
-    put(out, "<path ")?;
-    put(out, words)?;
-    put(out, way)
+fn put_path(words: &str, way: &str, out: &mut Draft) -> Result<(), NoMemory> {
+    out.put("<path ")?;
+    out.put(words)?;
+    out.put(way)
 }
 
 // A cross where a frame was lost.
-fn put_cross(x: u64, y: u64, out: &mut String) -> Result<(), NoMemory> {
+fn put_cross(x: u64, y: u64, out: &mut Draft) -> Result<(), NoMemory> {
     let (left, right) = (x.saturating_sub(5), x.saturating_add(5));
     let (top, bottom) = (y.saturating_sub(5), y.saturating_add(5));
-    put(out, "<path ")?;
-    put(out, style::CROSS)?;
+    out.put("<path ")?;
+    out.put(style::CROSS)?;
     put_point(" d=\"M", left, top, out)?;
     put_point("L", right, bottom, out)?;
     put_point("M", left, bottom, out)?;
     put_point("L", right, top, out)?;
-    put(out, "\"/>")
+    out.put("\"/>")
 }
 
 // How a frame's line looks, and its head.
@@ -149,11 +148,11 @@ fn style_of(label: &Label) -> (&'static str, &'static str) {
 const HIT: &str = "class=\"hit\" stroke=\"none\" stroke-width=\"9\" pointer-events=\"stroke\"";
 
 // The line of a frame with its head, or with a cross.
-fn put_line(arrow: &Arrow, line: Line, way: &str, out: &mut String) -> Result<(), NoMemory> {
+fn put_line(arrow: &Arrow, line: Line, way: &str, out: &mut Draft) -> Result<(), NoMemory> {
     let (words, head) = style_of(&arrow.label);
-    put(out, "<g ")?;
-    put(out, words)?;
-    put(out, ">")?;
+    out.put("<g ")?;
+    out.put(words)?;
+    out.put(">")?;
     put_path(HIT, way, out)?;
     match arrow.fate {
         Fate::Lost(_) | Fate::Nobody => {
@@ -162,37 +161,37 @@ fn put_line(arrow: &Arrow, line: Line, way: &str, out: &mut String) -> Result<()
         }
         _ => put_path(head, way, out)?,
     }
-    put(out, "</g>")
+    out.put("</g>")
 }
 
 // A label at its place.
-fn put_label(arrow: &Shown, out: &mut String) -> Result<(), NoMemory> {
+fn put_label(arrow: &Shown, out: &mut Draft) -> Result<(), NoMemory> {
     let Spot { x, y, anchor } = arrow.spot;
     let anchor = match anchor {
         Anchor::Start => "\">",
         Anchor::Middle => "\" text-anchor=\"middle\">",
         Anchor::End => "\" text-anchor=\"end\">",
     };
-    put_count(out, "<text class=\"halo\" x=\"", x)?;
-    put_count(out, "\" y=\"", y)?;
-    put(out, anchor)?;
-    put_escaped(out, arrow.label.as_str())?;
-    put(out, "</text>")
+    out.put_count("<text class=\"halo\" x=\"", x)?;
+    out.put_count("\" y=\"", y)?;
+    out.put(anchor)?;
+    out.put_escaped(arrow.label.as_str())?;
+    out.put("</text>")
 }
 
 // Where an arrow begins, up to what its message says.
-fn put_title(arrow: &Arrow, is_link: bool, out: &mut String) -> Result<(), NoMemory> {
+fn put_title(arrow: &Arrow, is_link: bool, out: &mut Draft) -> Result<(), NoMemory> {
     let (entry, output) = (arrow.name.entry as u64, arrow.name.output as u64);
     if is_link {
-        put_count(out, "<a href=\"#f", entry)?;
-        put_count(out, "-", output)?;
-        put(out, "\"><title>")?;
+        out.put_count("<a href=\"#f", entry)?;
+        out.put_count("-", output)?;
+        out.put("\"><title>")?;
     } else {
-        put(out, "<g><title>")?;
+        out.put("<g><title>")?;
     }
-    put_number(out, entry)?;
-    put_count(out, ".", output)?;
-    put(out, " ")
+    out.put_number(entry)?;
+    out.put_count(".", output)?;
+    out.put(" ")
 }
 
 // An arrow with its label and what its message says, in a text for the way of its line.
@@ -200,17 +199,17 @@ fn put_arrow(
     arrow: &Arrow,
     shown: &Shown,
     is_link: bool,
-    way: &mut String,
-    out: &mut String,
+    way: &mut Draft,
+    out: &mut Draft,
 ) -> Result<(), NoMemory> {
     put_title(arrow, is_link, out)?;
-    put_escaped(out, arrow.says.as_str())?;
-    put(out, "</title>")?;
+    out.put_escaped(arrow.says.as_str())?;
+    out.put("</title>")?;
     way.clear();
     put_way(shown.line, way)?;
     put_line(arrow, shown.line, way.as_str(), out)?;
     put_label(shown, out)?;
-    put(out, if is_link { "</a>\n" } else { "</g>\n" })
+    out.put(if is_link { "</a>\n" } else { "</g>\n" })
 }
 
 /// The arrows, as links to what their messages say where that stands on a page.
@@ -218,9 +217,9 @@ pub(crate) fn put_arrows(
     chart: &ChartView<'_>,
     arrows: &[Shown],
     is_link: bool,
-    out: &mut String,
+    out: &mut Draft,
 ) -> Result<(), NoMemory> {
-    let mut way = String::new(*out.allocator());
+    let mut way = Draft::new(out.allocator());
     for shown in arrows {
         if let Some(arrow) = chart.arrows.get(shown.place) {
             put_arrow(arrow, shown, is_link, &mut way, out)?;

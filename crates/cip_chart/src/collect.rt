@@ -10,6 +10,7 @@ use crate::page::put_page;
 use cip_base::{ModuleId, NoMemory};
 use cip_event::{Body, Output};
 use cip_read::{CommandWord, FrameName, Given, Line};
+use cip_text::Draft;
 use cip_topology::Topology;
 use cip_view::{BodyText, Book, Ending, Kind, Sent, View};
 use std::alloc::Global;
@@ -35,7 +36,7 @@ pub struct ChartView<'a> {
     entry: usize,
     row: Option<usize>,
     // what a message says, before it is copied
-    room: String,
+    room: Draft,
     out: String,
 }
 
@@ -64,7 +65,7 @@ impl<'a> ChartView<'a> {
             times: BTreeMap::new(alloc),
             entry: 0,
             row: None,
-            room: String::new(alloc),
+            room: Draft::new(alloc),
             out: String::new(alloc),
         })
     }
@@ -249,7 +250,7 @@ impl<'a> ChartView<'a> {
         let known = self.book.of_body(sent.to, body);
         self.room.clear();
         write!(self.room, "{}", BodyText { body, known })?;
-        let says = self.room.clone()?;
+        let says = self.room.copied()?;
         let name = FrameName {
             entry: self.entry,
             output: index,
@@ -349,13 +350,13 @@ impl View for ChartView<'_> {
     fn end(&mut self, alloc: Global, _rest: &[u8], ending: Ending) -> Result<(), NoMemory> {
         self.put_notes(alloc, ending)?;
         fold(&mut self.rows);
-        let mut out = String::new(alloc);
+        let mut out = Draft::new(alloc);
         if self.is_page {
             put_page(alloc, self, &mut out)?;
         } else {
             put_svg(alloc, self, false, &mut out)?;
         }
-        self.out = out;
+        self.out = out.into_string();
         Ok(())
     }
 

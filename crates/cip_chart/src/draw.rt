@@ -2,12 +2,12 @@
 use crate::areas::{Areas, width_of};
 use crate::arrows::{put_arrows, take_arrows};
 use crate::collect::ChartView;
-use crate::escape::put_escaped;
 use crate::layout::{Heights, LEFT, MARK, SPACING};
 use crate::lives::{body_of, put_lives, take_names};
 use crate::rows::{put_marks, put_rows, take_rows};
 use crate::style::{self, HEADS, STYLE};
 use cip_base::NoMemory;
+use cip_text::Draft;
 use std::alloc::Global;
 
 // How wide a chart is with so many lifelines and texts that end here.
@@ -22,19 +22,19 @@ fn width_with(chart: &ChartView<'_>, right: u64) -> u64 {
 }
 
 // What is said below the chart.
-fn put_notes(notes: &[String], end: u64, out: &mut String) -> Result<(), NoMemory> {
+fn put_notes(notes: &[String], end: u64, out: &mut Draft) -> Result<(), NoMemory> {
     let mut y = end.saturating_add(6);
     for note in notes {
         y = y.saturating_add(MARK);
         write!(out, "<text {} x=\"20\" y=\"{y}\">", style::PALE)?;
-        put_escaped(out, note.as_str())?;
-        out.push_str("</text>\n")?;
+        out.put_escaped(note.as_str())?;
+        out.put("</text>\n")?;
     }
     Ok(())
 }
 
 // What stands before the chart.
-fn put_head(width: u64, height: u64, out: &mut String) -> Result<(), NoMemory> {
+fn put_head(width: u64, height: u64, out: &mut Draft) -> Result<(), NoMemory> {
     write!(
         out,
         "<svg xmlns=\"http://www.w3.org/2000/svg\" viewBox=\"0 0 {width} {height}\" "
@@ -48,7 +48,7 @@ fn put_head(width: u64, height: u64, out: &mut String) -> Result<(), NoMemory> {
         out,
         "<title>A sequence chart of a run of cipbridge</title><style>{STYLE}</style>\n"
     )?;
-    out.push_str(HEADS)?;
+    out.put(HEADS)?;
     write!(
         out,
         "<rect class=\"paper\" fill=\"#fff\" width=\"{width}\" height=\"{height}\"/>\n"
@@ -61,7 +61,7 @@ pub(crate) fn put_svg(
     alloc: Global,
     chart: &ChartView<'_>,
     is_link: bool,
-    out: &mut String,
+    out: &mut Draft,
 ) -> Result<(), NoMemory> {
     let body = body_of(chart.topology);
     let heights = Heights::of(alloc, chart.rows.as_slice(), body)?;
@@ -79,6 +79,5 @@ pub(crate) fn put_svg(
     put_arrows(chart, arrows.as_slice(), is_link, out)?;
     put_marks(alloc, chart, &heights, out)?;
     put_notes(chart.notes.as_slice(), end, out)?;
-    out.push_str("</svg>\n")?;
-    Ok(())
+    out.put("</svg>\n")
 }

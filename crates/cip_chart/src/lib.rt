@@ -6,7 +6,6 @@ mod arrows;
 mod collect;
 mod cut;
 mod draw;
-mod escape;
 mod fold;
 mod labels;
 mod layout;

@@ -1,11 +1,10 @@
 //! The modules of a chart: their boxes, their ports and their lifelines.
 use crate::areas::{Anchor, Areas, Spot, width_of};
 use crate::collect::ChartView;
-use crate::escape::put_escaped;
 use crate::layout::{BOX, Heights, PORT, x_of};
 use crate::style;
 use cip_base::{Address, ModuleId, NoMemory};
-use cip_decode::{put, put_count};
+use cip_text::Draft;
 use cip_topology::Topology;
 use cip_view::NameText;
 
@@ -37,7 +36,7 @@ fn name_of(topology: &Topology, id: ModuleId) -> &[u8] {
 }
 
 // The boxes.
-fn put_boxes(chart: &ChartView<'_>, out: &mut String) -> Result<(), NoMemory> {
+fn put_boxes(chart: &ChartView<'_>, out: &mut Draft) -> Result<(), NoMemory> {
     write!(out, "<g {}>\n", style::BOX)?;
     for column in chart.columns.iter().flatten() {
         let left = x_of(*column).saturating_sub(60);
@@ -46,30 +45,26 @@ fn put_boxes(chart: &ChartView<'_>, out: &mut String) -> Result<(), NoMemory> {
             "<rect x=\"{left}\" y=\"{TOP}\" width=\"120\" height=\"{BOX}\" rx=\"4\"/>\n"
         )?;
     }
-    out.push_str("</g>\n")?;
-    Ok(())
+    out.put("</g>\n")
 }
 
 // A name as it is shown, of ASCII characters at once.
-fn put_name(name: &[u8], out: &mut String) -> Result<(), NoMemory> {
+fn put_name(name: &[u8], out: &mut Draft) -> Result<(), NoMemory> {
     match std::str::from_utf8(name) {
-        Ok(text) if text.is_ascii() => put(out, text),
-        _ => {
-            write!(out, "{}", NameText(name))?;
-            Ok(())
-        }
+        Ok(text) if text.is_ascii() => out.put(text),
+        _ => { write!(out, "{}", NameText(name)) }
     }
 }
 
 // The names of the modules, all at one height.
-fn put_names(chart: &ChartView<'_>, y: u64, out: &mut String) -> Result<(), NoMemory> {
+fn put_names(chart: &ChartView<'_>, y: u64, out: &mut Draft) -> Result<(), NoMemory> {
     for (place, column) in chart.columns.iter().enumerate() {
         if let Some(column) = column {
-            put_count(out, "<text x=\"", x_of(*column))?;
-            put_count(out, "\" y=\"", y)?;
-            put(out, "\">")?;
+            out.put_count("<text x=\"", x_of(*column))?;
+            out.put_count("\" y=\"", y)?;
+            out.put("\">")?;
             put_name(name_of(chart.topology, ModuleId(place)), out)?;
-            put(out, "</text>\n")?;
+            out.put("</text>\n")?;
         }
     }
     Ok(())
@@ -81,22 +76,22 @@ fn is_text(address: &[u8]) -> bool {
 }
 
 // An address, as a text where it is one.
-fn put_address(address: &Address, out: &mut String) -> Result<(), NoMemory> {
+fn put_address(address: &Address, out: &mut Draft) -> Result<(), NoMemory> {
     let bytes = address.as_slice();
     if !is_text(bytes) {
         write!(out, "{}", cip_decode::Pairs(bytes))?;
         return Ok(());
     }
-    out.push_str("&quot;")?;
+    out.put("&quot;")?;
     if let Ok(text) = std::str::from_utf8(bytes) {
-        put_escaped(out, text)?;
+        out.put_escaped(text)?;
     }
-    out.push_str("&quot;")?;
+    out.put("&quot;")?;
     Ok(())
 }
 
 // The ports of a module, with their links and addresses.
-fn put_ports(topology: &Topology, id: ModuleId, x: u64, out: &mut String) -> Result<(), NoMemory> {
+fn put_ports(topology: &Topology, id: ModuleId, x: u64, out: &mut Draft) -> Result<(), NoMemory> {
     let Some(config) = topology.configs().get(id.0) else {
         return Ok(());
     };
@@ -109,21 +104,20 @@ fn put_ports(topology: &Topology, id: ModuleId, x: u64, out: &mut String) -> Res
             write!(out, "{} ", link.name)?;
         }
         put_address(&port.address, out)?;
-        out.push_str("</text>\n")?;
+        out.put("</text>\n")?;
     }
     Ok(())
 }
 
 // The ports of all modules.
-fn put_all_ports(chart: &ChartView<'_>, out: &mut String) -> Result<(), NoMemory> {
+fn put_all_ports(chart: &ChartView<'_>, out: &mut Draft) -> Result<(), NoMemory> {
     write!(out, "<g {} text-anchor=\"middle\">\n", style::PALE)?;
     for (place, column) in chart.columns.iter().enumerate() {
         if let Some(column) = column {
             put_ports(chart.topology, ModuleId(place), x_of(*column), out)?;
         }
     }
-    out.push_str("</g>\n")?;
-    Ok(())
+    out.put("</g>\n")
 }
 
 /// The names of the modules in between take their places.
@@ -152,7 +146,7 @@ pub(crate) fn take_names(
 fn put_names_again(
     chart: &ChartView<'_>,
     heights: &Heights,
-    out: &mut String,
+    out: &mut Draft,
 ) -> Result<(), NoMemory> {
     if heights.names.is_empty() {
         return Ok(());
@@ -161,20 +155,18 @@ fn put_names_again(
     for y in &heights.names {
         put_names(chart, *y, out)?;
     }
-    out.push_str("</g>\n")?;
-    Ok(())
+    out.put("</g>\n")
 }
 
 // The lifelines.
-fn put_lines(chart: &ChartView<'_>, body: u64, end: u64, out: &mut String) -> Result<(), NoMemory> {
+fn put_lines(chart: &ChartView<'_>, body: u64, end: u64, out: &mut Draft) -> Result<(), NoMemory> {
     let begin = body.saturating_sub(12);
     write!(out, "<g {}>\n", style::LIFE)?;
     for column in chart.columns.iter().flatten() {
         let x = x_of(*column);
         write!(out, "<path d=\"M{x} {begin}V{end}\"/>\n")?;
     }
-    out.push_str("</g>\n")?;
-    Ok(())
+    out.put("</g>\n")
 }
 
 /// The modules, with their lifelines from the boxes to the end.
@@ -182,12 +174,12 @@ pub(crate) fn put_lives(
     chart: &ChartView<'_>,
     heights: &Heights,
     body: u64,
-    out: &mut String,
+    out: &mut Draft,
 ) -> Result<(), NoMemory> {
     put_boxes(chart, out)?;
     write!(out, "<g {}>\n", style::NAME)?;
     put_names(chart, TOP.saturating_add(16), out)?;
-    out.push_str("</g>\n")?;
+    out.put("</g>\n")?;
     put_all_ports(chart, out)?;
     put_lines(chart, body, heights.end(), out)?;
     put_names_again(chart, heights, out)

@@ -1,27 +1,26 @@
 //! The rows of a chart: an entry each, with what the module was given and what came of it.
 use crate::areas::{Anchor, Areas, Spot, width_of};
 use crate::collect::ChartView;
-use crate::escape::put_escaped;
 use crate::layout::{Heights, MARK, below_dot, x_of};
 use crate::line::y_of;
 use crate::model::{Mark, Row};
 use crate::style;
 use cip_base::NoMemory;
-use cip_decode::{put, put_count};
 use cip_read::Given;
+use cip_text::Draft;
 use cip_view::command_word;
 use std::alloc::Global;
 
 // What a module was given, beside its lifeline; nothing for a frame, which has its arrow.
-fn put_words(text: &mut String, given: Given) -> Result<(), NoMemory> {
+fn put_words(text: &mut Draft, given: Given) -> Result<(), NoMemory> {
     match given {
         Given::Command(word, number) => {
-            put(text, command_word(word))?;
-            put_count(text, " ", u64::from(number))
+            text.put(command_word(word))?;
+            text.put_count(" ", u64::from(number))
         }
         Given::Tick(ms) => {
-            put_count(text, "tick ", u64::from(ms))?;
-            put(text, " ms")
+            text.put_count("tick ", u64::from(ms))?;
+            text.put(" ms")
         }
         Given::Frame(_) => Ok(()),
     }
@@ -37,13 +36,13 @@ fn beside(column: usize, y: u64) -> Spot {
 }
 
 // What the module of a row was given, as this text, and its place; None where there is nothing.
-fn given_of(row: &Row, y: u64, text: &mut String) -> Result<Option<Spot>, NoMemory> {
+fn given_of(row: &Row, y: u64, text: &mut Draft) -> Result<Option<Spot>, NoMemory> {
     let (Some(column), Some(given)) = (row.column, row.given) else {
         return Ok(None);
     };
     text.clear();
     put_words(text, given)?;
-    if text.as_str().is_empty() {
+    if text.is_empty() {
         return Ok(None);
     }
     Ok(Some(beside(column, y.saturating_sub(6))))
@@ -73,7 +72,7 @@ pub(crate) fn take_rows(
     heights: &Heights,
     areas: &mut Areas,
 ) -> Result<(), NoMemory> {
-    let mut text = String::new(alloc);
+    let mut text = Draft::new(alloc);
     for (row, y) in chart.rows.iter().zip(heights.rows.iter()) {
         if row.is_folded {
             continue;
@@ -96,31 +95,31 @@ pub(crate) fn take_rows(
 }
 
 // That the rows above stand there so many times more.
-fn put_fold(row: &Row, y: u64, width: u64, out: &mut String) -> Result<(), NoMemory> {
+fn put_fold(row: &Row, y: u64, width: u64, out: &mut Draft) -> Result<(), NoMemory> {
     let top = y.saturating_add(below_dot(row)).saturating_add(8);
     let text = top.saturating_add(13);
     let across = width.saturating_sub(40);
-    put(out, "<rect ")?;
-    put(out, style::FOLD)?;
-    put_count(out, " x=\"20\" y=\"", top)?;
-    put_count(out, "\" width=\"", across)?;
-    put(out, "\" height=\"18\" rx=\"4\"/><text ")?;
-    put(out, style::PALE)?;
-    put_count(out, " font-style=\"italic\" x=\"60\" y=\"", text)?;
-    put_count(out, "\">the data above moves ", row.repeats as u64)?;
-    put(out, " times more</text>\n")
+    out.put("<rect ")?;
+    out.put(style::FOLD)?;
+    out.put_count(" x=\"20\" y=\"", top)?;
+    out.put_count("\" width=\"", across)?;
+    out.put("\" height=\"18\" rx=\"4\"/><text ")?;
+    out.put(style::PALE)?;
+    out.put_count(" font-style=\"italic\" x=\"60\" y=\"", text)?;
+    out.put_count("\">the data above moves ", row.repeats as u64)?;
+    out.put(" times more</text>\n")
 }
 
 // The number of a row, and its time.
-fn put_number(row: &Row, y: u64, out: &mut String) -> Result<(), NoMemory> {
+fn put_number(row: &Row, y: u64, out: &mut Draft) -> Result<(), NoMemory> {
     let base = y.saturating_add(4);
-    put_count(out, "<text x=\"40\" y=\"", base)?;
-    put_count(out, "\">", row.entry as u64)?;
-    put(out, "</text>\n")?;
+    out.put_count("<text x=\"40\" y=\"", base)?;
+    out.put_count("\">", row.entry as u64)?;
+    out.put("</text>\n")?;
     if let Some(time) = row.time {
-        put_count(out, "<text x=\"100\" y=\"", base)?;
-        put_count(out, "\">", time)?;
-        put(out, " ms</text>\n")?;
+        out.put_count("<text x=\"100\" y=\"", base)?;
+        out.put_count("\">", time)?;
+        out.put(" ms</text>\n")?;
     }
     Ok(())
 }
@@ -130,7 +129,7 @@ pub(crate) fn put_rows(
     chart: &ChartView<'_>,
     heights: &Heights,
     width: u64,
-    out: &mut String,
+    out: &mut Draft,
 ) -> Result<(), NoMemory> {
     write!(out, "<g {} text-anchor=\"end\">\n", style::PALE)?;
     for (row, y) in chart.rows.iter().zip(heights.rows.iter()) {
@@ -138,7 +137,7 @@ pub(crate) fn put_rows(
             put_number(row, *y, out)?;
         }
     }
-    out.push_str("</g>\n")?;
+    out.put("</g>\n")?;
     for (row, y) in chart.rows.iter().zip(heights.rows.iter()) {
         if !row.is_folded && row.repeats > 0 {
             put_fold(row, *y, width, out)?;
@@ -147,9 +146,9 @@ pub(crate) fn put_rows(
     for (row, y) in chart.rows.iter().zip(heights.rows.iter()) {
         if let Some(column) = row.column {
             if !row.is_folded {
-                put_count(out, "<circle cx=\"", x_of(column))?;
-                put_count(out, "\" cy=\"", *y)?;
-                put(out, "\" r=\"2.5\"/>\n")?;
+                out.put_count("<circle cx=\"", x_of(column))?;
+                out.put_count("\" cy=\"", *y)?;
+                out.put("\" r=\"2.5\"/>\n")?;
             }
         }
     }
@@ -157,14 +156,14 @@ pub(crate) fn put_rows(
 }
 
 // A text at its place, with these attributes.
-fn put_text(spot: Spot, words: &str, text: &str, out: &mut String) -> Result<(), NoMemory> {
-    put(out, "<text")?;
-    put(out, words)?;
-    put_count(out, " x=\"", spot.x)?;
-    put_count(out, "\" y=\"", spot.y)?;
-    put(out, "\">")?;
-    put_escaped(out, text)?;
-    put(out, "</text>\n")
+fn put_text(spot: Spot, words: &str, text: &str, out: &mut Draft) -> Result<(), NoMemory> {
+    out.put("<text")?;
+    out.put(words)?;
+    out.put_count(" x=\"", spot.x)?;
+    out.put_count("\" y=\"", spot.y)?;
+    out.put("\">")?;
+    out.put_escaped(text)?;
+    out.put("</text>\n")
 }
 
 // What the modules were given.
@@ -172,9 +171,9 @@ fn put_given(
     alloc: Global,
     chart: &ChartView<'_>,
     heights: &Heights,
-    out: &mut String,
+    out: &mut Draft,
 ) -> Result<(), NoMemory> {
-    let mut text = String::new(alloc);
+    let mut text = Draft::new(alloc);
     for (row, y) in chart.rows.iter().zip(heights.rows.iter()) {
         if row.is_folded {
             continue;
@@ -195,9 +194,9 @@ pub(crate) fn put_marks(
     alloc: Global,
     chart: &ChartView<'_>,
     heights: &Heights,
-    out: &mut String,
+    out: &mut Draft,
 ) -> Result<(), NoMemory> {
-    out.push_str("<g class=\"halo\">\n")?;
+    out.put("<g class=\"halo\">\n")?;
     put_given(alloc, chart, heights, out)?;
     let mut last = usize::MAX;
     let mut below: u64 = 0;
@@ -209,6 +208,5 @@ pub(crate) fn put_marks(
             put_text(spot, words, mark.text.as_str(), out)?;
         }
     }
-    out.push_str("</g>\n")?;
-    Ok(())
+    out.put("</g>\n")
 }

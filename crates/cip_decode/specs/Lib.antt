@@ -1,4 +1,3 @@
 pub mod Answers
 pub mod Asks
 pub mod Means
-pub mod Texts

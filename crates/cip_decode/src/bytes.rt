@@ -1,7 +1,7 @@
 //! Bytes as pairs of digits.
 ghost use Rattle.std.specs.Prelude.{◌≤◌, length};
 
-use crate::pieces::{PART, pairs_in};
+use cip_text::{PART, pairs_in};
 use std::fmt;
 
 // At most so many bytes as pairs.

@@ -6,7 +6,6 @@
 mod bytes;
 mod fields;
 mod json;
-mod pieces;
 mod put_json;
 mod reply;
 mod reply_text;
@@ -16,7 +15,6 @@ mod segments;
 
 pub use bytes::Pairs;
 pub use json::{path_json, reply_json, request_json, triad_json};
-pub use pieces::{put, put_count, put_number, put_pairs, put_quoted};
 pub use put_json::{put_path_json, put_reply_json, put_request_json, put_triad_json};
 pub use reply::{Answer, Reply, decode_reply};
 pub use reply_text::StatusText;

@@ -7,46 +7,44 @@ use crate::label::{NameText, put_label};
 use crate::reasons::{drop_word, refusal_word};
 use crate::view::{Ending, View};
 use cip_base::{Address, ModuleId, NoMemory, PortNumber, Triad};
-use cip_decode::{
-    decode_reply, decode_request, put, put_count, put_number, put_pairs, put_quoted,
-    put_reply_json, put_request_json, put_triad_json,
-};
+use cip_decode::{decode_reply, decode_request, put_reply_json, put_request_json, put_triad_json};
 use cip_event::{Body, Output};
 use cip_read::{CommandWord, FrameName, Given, Line};
+use cip_text::Draft;
 use cip_topology::Topology;
 use std::alloc::Global;
 use std::fmt;
 
 // Bytes as pairs between what stands before them and behind them, with the quotation marks.
-fn put_bytes(text: &mut String, before: &str, bytes: &[u8], behind: &str) -> Result<(), NoMemory> {
-    put(text, before)?;
-    put_pairs(text, bytes)?;
-    put(text, behind)
+fn put_bytes(text: &mut Draft, before: &str, bytes: &[u8], behind: &str) -> Result<(), NoMemory> {
+    text.put(before)?;
+    text.put_pairs(bytes)?;
+    text.put(behind)
 }
 
 // A word as a JSON string behind what stands before it.
-fn put_word(text: &mut String, before: &str, word: &str) -> Result<(), NoMemory> {
-    put(text, before)?;
-    put_quoted(text, word)
+fn put_word(text: &mut Draft, before: &str, word: &str) -> Result<(), NoMemory> {
+    text.put(before)?;
+    text.put_quoted(word)
 }
 
 // An object with the fault of what can't be read.
-fn put_fault<T: fmt::Display + Drop>(text: &mut String, fault: T) -> Result<(), NoMemory> {
-    let alloc = *text.allocator();
+fn put_fault<T: fmt::Display + Drop>(text: &mut Draft, fault: T) -> Result<(), NoMemory> {
+    let alloc = text.allocator();
     let told = format!(in alloc; "{fault}")?;
     put_word(text, "{\"unreadable\":", told.as_str())?;
-    put(text, "}")
+    text.put("}")
 }
 
-fn put_frame(text: &mut String, before: &str, frame: FrameName) -> Result<(), NoMemory> {
-    put(text, before)?;
-    put_count(text, "{\"entry\":", frame.entry as u64)?;
-    put_count(text, ",\"output\":", frame.output as u64)?;
-    put(text, "}")
+fn put_frame(text: &mut Draft, before: &str, frame: FrameName) -> Result<(), NoMemory> {
+    text.put(before)?;
+    text.put_count("{\"entry\":", frame.entry as u64)?;
+    text.put_count(",\"output\":", frame.output as u64)?;
+    text.put("}")
 }
 
 // A request decoded, or why it can't be.
-fn put_request(text: &mut String, bytes: &[u8]) -> Result<(), NoMemory> {
+fn put_request(text: &mut Draft, bytes: &[u8]) -> Result<(), NoMemory> {
     match decode_request(bytes) {
         Ok(request) => put_request_json(text, &request),
         Err(fault) => put_fault(text, fault),
@@ -54,7 +52,7 @@ fn put_request(text: &mut String, bytes: &[u8]) -> Result<(), NoMemory> {
 }
 
 // A reply decoded, or why it can't be.
-fn put_reply(text: &mut String, bytes: &[u8]) -> Result<(), NoMemory> {
+fn put_reply(text: &mut Draft, bytes: &[u8]) -> Result<(), NoMemory> {
     match decode_reply(bytes) {
         Ok(reply) => put_reply_json(text, &reply),
         Err(fault) => put_fault(text, fault),
@@ -62,15 +60,15 @@ fn put_reply(text: &mut String, bytes: &[u8]) -> Result<(), NoMemory> {
 }
 
 // A datum: its connection where it is known, its sequence count where it has one.
-fn put_datum(text: &mut String, known: Known, bytes: &[u8]) -> Result<(), NoMemory> {
+fn put_datum(text: &mut Draft, known: Known, bytes: &[u8]) -> Result<(), NoMemory> {
     let rest = match (known.class_, bytes) {
         (Some(1), [low, high, rest @ ..]) => {
             let count = u16::from_le_bytes([*low, *high]);
-            put_count(text, "{\"count\":", u64::from(count))?;
+            text.put_count("{\"count\":", u64::from(count))?;
             rest
         }
         _ => {
-            put(text, "{\"count\":null")?;
+            text.put("{\"count\":null")?;
             bytes
         }
     };
@@ -78,9 +76,9 @@ fn put_datum(text: &mut String, known: Known, bytes: &[u8]) -> Result<(), NoMemo
     match known.triad {
         Some(triad) => {
             put_triad_json(text, triad)?;
-            put(text, "}")
+            text.put("}")
         }
-        None => put(text, "null}"),
+        None => text.put("null}"),
     }
 }
 
@@ -97,45 +95,45 @@ fn command_front(word: CommandWord) -> &'static str {
     }
 }
 
-fn put_given(text: &mut String, given: Given) -> Result<(), NoMemory> {
+fn put_given(text: &mut Draft, given: Given) -> Result<(), NoMemory> {
     match given {
         Given::Command(word, number) => {
-            put_count(text, command_front(word), u64::from(number))?;
+            text.put_count(command_front(word), u64::from(number))?;
         }
-        Given::Tick(ms) => put_count(text, "{\"tick_ms\":", u64::from(ms))?,
+        Given::Tick(ms) => text.put_count("{\"tick_ms\":", u64::from(ms))?,
         Given::Frame(frame) => put_frame(text, "{\"frame\":", frame)?,
     }
-    put(text, "}")
+    text.put("}")
 }
 
 // A module's name, of ASCII characters.
-fn put_name(text: &mut String, name: &[u8]) -> Result<(), NoMemory> {
+fn put_name(text: &mut Draft, name: &[u8]) -> Result<(), NoMemory> {
     match std::str::from_utf8(name) {
-        Ok(name) if name.is_ascii() => put_quoted(text, name),
+        Ok(name) if name.is_ascii() => text.put_quoted(name),
         _ => {
-            let alloc = *text.allocator();
+            let alloc = text.allocator();
             let shown = format!(in alloc; "{}", NameText(name))?;
-            put_quoted(text, shown.as_str())
+            text.put_quoted(shown.as_str())
         }
     }
 }
 
 // A module by its name, or null.
 fn put_module(
-    text: &mut String,
+    text: &mut Draft,
     before: &str,
     book: &Book<'_>,
     id: Option<ModuleId>,
 ) -> Result<(), NoMemory> {
-    put(text, before)?;
+    text.put(before)?;
     match id {
         Some(id) => put_name(text, book.name(id)),
-        None => put(text, "null"),
+        None => text.put("null"),
     }
 }
 
 // The frame that a step was given, or that was lost.
-fn put_arrived(text: &mut String, book: &Book<'_>, sent: Option<Sent>) -> Result<(), NoMemory> {
+fn put_arrived(text: &mut Draft, book: &Book<'_>, sent: Option<Sent>) -> Result<(), NoMemory> {
     match sent {
         Some(sent) => {
             put_module(
@@ -144,30 +142,30 @@ fn put_arrived(text: &mut String, book: &Book<'_>, sent: Option<Sent>) -> Result
                 book,
                 Some(sent.from),
             )?;
-            put(text, ",\"label\":\"")?;
+            text.put(",\"label\":\"")?;
             put_label(text, sent.label)?;
-            put(text, "\"}")
+            text.put("\"}")
         }
-        None => put(text, "{\"entry\":{\"arrived\":null"),
+        None => text.put("{\"entry\":{\"arrived\":null"),
     }
 }
 
 // The number of an entry, and the outputs begin.
-fn put_entry_number(text: &mut String, entry: usize) -> Result<(), NoMemory> {
-    put_count(text, ",\"number\":", entry as u64)?;
-    put(text, "},\"outputs\":[")
+fn put_entry_number(text: &mut Draft, entry: usize) -> Result<(), NoMemory> {
+    text.put_count(",\"number\":", entry as u64)?;
+    text.put("},\"outputs\":[")
 }
 
 // The entry of a step, up to its outputs.
 fn put_step(
-    text: &mut String,
+    text: &mut Draft,
     book: &Book<'_>,
     entry: usize,
     at: ModuleId,
     given: Given,
 ) -> Result<(), NoMemory> {
     put_arrived(text, book, book.arrived())?;
-    put(text, ",\"given\":")?;
+    text.put(",\"given\":")?;
     put_given(text, given)?;
     put_module(text, ",\"module\":", book, Some(at))?;
     put_entry_number(text, entry)
@@ -175,7 +173,7 @@ fn put_step(
 
 // The entry of a loss, up to its outputs.
 fn put_lost(
-    text: &mut String,
+    text: &mut Draft,
     book: &Book<'_>,
     sent: Option<Sent>,
     entry: usize,
@@ -187,15 +185,15 @@ fn put_lost(
 }
 
 // The bytes of what a frame holds, and its number or id.
-fn put_held(text: &mut String, bytes: &[u8], behind: &str, number: u32) -> Result<(), NoMemory> {
+fn put_held(text: &mut Draft, bytes: &[u8], behind: &str, number: u32) -> Result<(), NoMemory> {
     put_bytes(text, ",\"holds\":{\"bytes\":\"", bytes, behind)?;
-    put_number(text, u64::from(number))?;
-    put(text, ",\"says\":")
+    text.put_number(u64::from(number))?;
+    text.put(",\"says\":")
 }
 
 // What a frame holds that goes to a module.
 fn put_body(
-    text: &mut String,
+    text: &mut Draft,
     book: &Book<'_>,
     to: Option<ModuleId>,
     body: &Body,
@@ -214,11 +212,11 @@ fn put_body(
             put_datum(text, book.of_id(to, *id), bytes.as_slice())?;
         }
     }
-    put(text, "}")
+    text.put("}")
 }
 
 fn put_consumed(
-    text: &mut String,
+    text: &mut Draft,
     book: &Book<'_>,
     triad: Triad,
     instance: u32,
@@ -230,94 +228,95 @@ fn put_consumed(
         bytes,
         "\",\"instance\":",
     )?;
-    put_number(text, u64::from(instance))?;
-    put(text, ",\"says\":")?;
+    text.put_number(u64::from(instance))?;
+    text.put(",\"says\":")?;
     put_datum(text, book.of_triad(triad), bytes)?;
-    put(text, "}}")
+    text.put("}}")
 }
 
 fn put_arrived_datum(
-    text: &mut String,
+    text: &mut Draft,
     book: &Book<'_>,
     op: u32,
     bytes: &[u8],
 ) -> Result<(), NoMemory> {
     put_bytes(text, "{\"arrived\":{\"bytes\":\"", bytes, "\",\"op\":")?;
-    put_number(text, u64::from(op))?;
-    put(text, ",\"says\":")?;
+    text.put_number(u64::from(op))?;
+    text.put(",\"says\":")?;
     put_datum(text, book.of_op(op), bytes)?;
-    put(text, "}}")
+    text.put("}}")
 }
 
 // The end of an op: with which reply, and who made the failure that it tells of.
-fn put_done(text: &mut String, book: &Book<'_>, op: u32, reply: &[u8]) -> Result<(), NoMemory> {
+fn put_done(text: &mut Draft, book: &Book<'_>, op: u32, reply: &[u8]) -> Result<(), NoMemory> {
     let made_at = match decode_reply(reply) {
         Ok(reply) if reply.view.general != 0 => book.made_at(),
         _ => None,
     };
     put_bytes(text, "{\"done\":{\"bytes\":\"", reply, "\",\"op\":")?;
-    put_number(text, u64::from(op))?;
+    text.put_number(u64::from(op))?;
     put_module(text, ",\"refused_at\":", book, made_at)?;
-    put(text, ",\"says\":")?;
+    text.put(",\"says\":")?;
     put_reply(text, reply)?;
-    put(text, "}}")
+    text.put("}}")
 }
 
 // An object with one word.
-fn put_named(text: &mut String, before: &str, word: &str) -> Result<(), NoMemory> {
+fn put_named(text: &mut Draft, before: &str, word: &str) -> Result<(), NoMemory> {
     put_word(text, before, word)?;
-    put(text, "}")
+    text.put("}")
 }
 
-fn put_expired(text: &mut String, triad: Triad) -> Result<(), NoMemory> {
-    put(text, "{\"expired\":")?;
+fn put_expired(text: &mut Draft, triad: Triad) -> Result<(), NoMemory> {
+    text.put("{\"expired\":")?;
     put_triad_json(text, triad)?;
-    put(text, "}")
+    text.put("}")
 }
 
 // A line that shows no part of an entry.
-fn put_note(text: &mut String, line: &[u8]) -> Result<(), NoMemory> {
+fn put_note(text: &mut Draft, line: &[u8]) -> Result<(), NoMemory> {
     match std::str::from_utf8(line) {
         Ok(line) => put_word(text, "{\"note\":", line)?,
-        Err(_) => put(text, "{\"note\":null")?,
+        Err(_) => text.put("{\"note\":null")?,
     }
-    put(text, "}\n")
+    text.put("}\n")
 }
 
 // The ops that have not ended.
-fn put_ops(text: &mut String, book: &Book<'_>) -> Result<(), NoMemory> {
+fn put_ops(text: &mut Draft, book: &Book<'_>) -> Result<(), NoMemory> {
     let mut is_first = true;
     for ((place, op), _) in book.ops() {
         if !is_first {
-            put(text, ",")?;
+            text.put(",")?;
         }
         is_first = false;
         put_module(text, "{\"module\":", book, Some(ModuleId(*place)))?;
-        put_count(text, ",\"op\":", u64::from(*op))?;
-        put(text, "}")?;
+        text.put_count(",\"op\":", u64::from(*op))?;
+        text.put("}")?;
     }
     Ok(())
 }
 
 // How the transcript ends.
-fn put_end(text: &mut String, book: &Book<'_>, ending: Ending) -> Result<(), NoMemory> {
+fn put_end(text: &mut Draft, book: &Book<'_>, ending: Ending) -> Result<(), NoMemory> {
     if ending.is_cut {
-        put(text, "{\"end\":{\"cut\":true")?;
+        text.put("{\"end\":{\"cut\":true")?;
     } else {
-        put(text, "{\"end\":{\"cut\":false")?;
+        text.put("{\"end\":{\"cut\":false")?;
     }
-    put_count(text, ",\"lines\":", ending.lines as u64)?;
-    put(text, ",\"open\":[")?;
+    text.put_count(",\"lines\":", ending.lines as u64)?;
+    text.put(",\"open\":[")?;
     put_ops(text, book)?;
-    put_count(text, "],\"waiting\":", book.waiting() as u64)?;
-    put(text, "}}\n")
+    text.put_count("],\"waiting\":", book.waiting() as u64)?;
+    text.put("}}\n")
 }
 
 // An entry, with its end.
-fn put_whole(out: &mut String, entry: &str) -> Result<(), NoMemory> {
+fn put_whole(out: &mut String, entry: &Draft) -> Result<(), NoMemory> {
     out.reserve(entry.len().saturating_add(3))?;
-    put(out, entry)?;
-    put(out, "]}\n")
+    out.push_str(entry.as_str())?;
+    out.push_str("]}\n")?;
+    Ok(())
 }
 
 /// The entries as JSON.
@@ -326,11 +325,11 @@ pub struct JsonView<'a> {
     book: Book<'a>,
     out: String,
     // the entry under way, without its end: nothing where none is
-    entry: String,
+    entry: Draft,
     // whether it has an output
     has_output: bool,
     // what is put next, and goes behind the others when it is whole
-    part: String,
+    part: Draft,
 }
 
 impl<'a> JsonView<'a> {
@@ -341,9 +340,9 @@ impl<'a> JsonView<'a> {
         JsonView {
             book: Book::new(alloc, topology),
             out: String::new(alloc),
-            entry: String::new(alloc),
+            entry: Draft::new(alloc),
             has_output: false,
-            part: String::new(alloc),
+            part: Draft::new(alloc),
         }
     }
 
@@ -353,7 +352,7 @@ impl<'a> JsonView<'a> {
         if self.entry.is_empty() {
             return Ok(());
         }
-        let result = put_whole(&mut self.out, self.entry.as_str());
+        let result = put_whole(&mut self.out, &self.entry);
         self.entry.clear();
         self.has_output = false;
         result
@@ -364,7 +363,7 @@ impl<'a> JsonView<'a> {
         self.book.begin(entry, at, given)?;
         self.part.clear();
         put_step(&mut self.part, &self.book, entry, at, given)?;
-        put(&mut self.entry, self.part.as_str())
+        self.entry.put(self.part.as_str())
     }
 
     fn take_lost(&mut self, entry: usize, frame: FrameName) -> Result<(), NoMemory> {
@@ -372,7 +371,7 @@ impl<'a> JsonView<'a> {
         let sent = self.book.lose(frame);
         self.part.clear();
         put_lost(&mut self.part, &self.book, sent, entry, frame)?;
-        put(&mut self.entry, self.part.as_str())
+        self.entry.put(self.part.as_str())
     }
 
     // A frame that goes out.
@@ -391,10 +390,10 @@ impl<'a> JsonView<'a> {
         let (text, book) = (&mut self.part, &self.book);
         put_bytes(text, "{\"send\":{\"address\":\"", to.as_slice(), "\"")?;
         put_body(text, book, node, body)?;
-        put_count(text, ",\"port\":", u64::from(port.get()))?;
+        text.put_count(",\"port\":", u64::from(port.get()))?;
         put_module(text, ",\"refused_at\":", book, made_at)?;
         put_module(text, ",\"to\":", book, node)?;
-        put(text, "}}")
+        text.put("}}")
     }
 
     // What an output says.
@@ -428,8 +427,8 @@ impl<'a> JsonView<'a> {
             Output::Expired { triad } => put_expired(&mut self.part, *triad),
             Output::Ended { op } => {
                 self.book.done(*op);
-                put_count(&mut self.part, "{\"ended\":{\"op\":", u64::from(*op))?;
-                put(&mut self.part, "}}")
+                self.part.put_count("{\"ended\":{\"op\":", u64::from(*op))?;
+                self.part.put("}}")
             }
             Output::Dropped(reason) => {
                 put_named(&mut self.part, "{\"dropped\":", drop_word(*reason))
@@ -447,12 +446,10 @@ impl<'a> JsonView<'a> {
 
     fn take_output(&mut self, index: usize, output: &Output) -> Result<(), NoMemory> {
         self.part.clear();
-        self.put_output(index, output)?;
         let front = self.front();
-        let count = self.part.len().saturating_add(front.len());
-        self.entry.reserve(count)?;
-        put(&mut self.entry, front)?;
-        put(&mut self.entry, self.part.as_str())?;
+        self.part.put(front)?;
+        self.put_output(index, output)?;
+        self.entry.put(self.part.as_str())?;
         self.has_output = true;
         Ok(())
     }
@@ -461,14 +458,16 @@ impl<'a> JsonView<'a> {
         self.put_entry()?;
         self.part.clear();
         put_note(&mut self.part, text)?;
-        put(&mut self.out, self.part.as_str())
+        self.out.push_str(self.part.as_str())?;
+        Ok(())
     }
 
     fn take_end(&mut self, ending: Ending) -> Result<(), NoMemory> {
         self.put_entry()?;
         self.part.clear();
         put_end(&mut self.part, &self.book, ending)?;
-        put(&mut self.out, self.part.as_str())
+        self.out.push_str(self.part.as_str())?;
+        Ok(())
     }
 }
 

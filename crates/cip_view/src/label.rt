@@ -6,9 +6,10 @@ ghost use Rattle.cip_view.specs.Labels.{label_of, request_label, reply_label};
 ghost use Rattle.cip_view.specs.Labels.{is_failure, is_unreadable};
 
 use cip_base::{NoMemory, Status};
-use cip_decode::{decode_reply, decode_request, put, put_number, put_pairs};
+use cip_decode::{decode_reply, decode_request};
 use cip_event::Body;
 use cip_names::service_name;
+use cip_text::Draft;
 use std::fmt;
 
 /// What kind of frame it is.
@@ -139,41 +140,41 @@ impl fmt::Display for Label {
 }
 
 // What `ServiceText` shows.
-fn put_service(text: &mut String, service: Option<u8>) -> Result<(), NoMemory> {
+fn put_service(text: &mut Draft, service: Option<u8>) -> Result<(), NoMemory> {
     let Some(service) = service else {
-        return put(text, "unreadable");
+        return text.put("unreadable");
     };
     match service_name(service) {
-        Some(name) => put(text, name),
+        Some(name) => text.put(name),
         None => {
-            put(text, "service ")?;
-            put_pairs(text, &[service % 128])
+            text.put("service ")?;
+            text.put_pairs(&[service % 128])
         }
     }
 }
 
 // What `ShortStatus` shows.
-fn put_status(text: &mut String, status: Status) -> Result<(), NoMemory> {
+fn put_status(text: &mut Draft, status: Status) -> Result<(), NoMemory> {
     match status.extra {
-        Some(word) if status.general == 1 => put_pairs(text, &word.to_be_bytes()),
-        _ if status.general == 0 => put(text, "ok"),
-        _ => put_pairs(text, &[status.general]),
+        Some(word) if status.general == 1 => text.put_pairs(&word.to_be_bytes()),
+        _ if status.general == 0 => text.put("ok"),
+        _ => text.put_pairs(&[status.general]),
     }
 }
 
 /// Puts a frame in short behind a text, as it is shown. NoMemory where an allocation is refused.
-pub(crate) fn put_label(text: &mut String, label: Label) -> Result<(), NoMemory> {
+pub(crate) fn put_label(text: &mut Draft, label: Label) -> Result<(), NoMemory> {
     if label.kind == Kind::Data {
-        put(text, "data ")?;
-        return put_number(text, u64::from(label.number));
+        text.put("data ")?;
+        return text.put_number(u64::from(label.number));
     }
     put_service(text, label.service)?;
     match (label.kind, label.status) {
         (Kind::Reply, Some(status)) => {
-            put(text, " ")?;
+            text.put(" ")?;
             put_status(text, status)
         }
-        (Kind::Reply, None) => put(text, " reply"),
+        (Kind::Reply, None) => text.put(" reply"),
         _ => Ok(()),
     }
 }

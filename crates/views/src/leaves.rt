@@ -4,6 +4,7 @@ use cip_decode::{
     request_json,
 };
 use cip_segment::view_path;
+use cip_text::Draft;
 use cip_view::NameText;
 use std::alloc::{AllocError, Global};
 use std::fmt;
@@ -42,7 +43,7 @@ impl fmt::Display for EachCharacter<'_> {
 // A request is the same in both forms; one that can't be read has none.
 fn compare_request(rt: &impl Abort, alloc: Global, bytes: &[u8]) -> Result<(), AllocError> {
     if let Ok(request) = decode_request(bytes) {
-        let mut text = String::new(alloc);
+        let mut text = Draft::new(alloc);
         if put_request_json(&mut text, &request).is_err() {
             return Err(AllocError);
         }
@@ -55,7 +56,7 @@ fn compare_request(rt: &impl Abort, alloc: Global, bytes: &[u8]) -> Result<(), A
 // A reply likewise.
 fn compare_reply(rt: &impl Abort, alloc: Global, bytes: &[u8]) -> Result<(), AllocError> {
     if let Ok(reply) = decode_reply(bytes) {
-        let mut text = String::new(alloc);
+        let mut text = Draft::new(alloc);
         if put_reply_json(&mut text, &reply).is_err() {
             return Err(AllocError);
         }

@@ -1,6 +1,0 @@
-use Rattle.std.proofs.Common.{◌≡◌, ◌++◌, take, drop}
-use Rattle.cip_chart.specs.Escapes.{escaped}
-use Rattle.cip_chart.proofs.escape.first_marked.Given as goal
-
-abbrev pub invariant-bytes : goal.invariant-bytes
-invariant-bytes l = escaped l.bytes ≡ take l.at l.bytes ++ escaped (drop l.at l.bytes)

@@ -1,5 +1,0 @@
-use Rattle.cip_decode.proofs.Digits.{pairs_are_text}
-use Rattle.cip_decode.proofs.pieces.pairs_in.Goals as goal
-
-pub unreachable-requires : goal.unreachable-requires
-unreachable-requires c = c.in-Err.ensures.cases.0 (rw c.fill_pairs.ensures (pairs_are_text c.args.bytes.now))

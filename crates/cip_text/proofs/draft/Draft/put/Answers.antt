@@ -1,0 +1,9 @@
+use Rattle.std.proofs.lemmas.Str.{IsUtf8-had, IsUtf8-append}
+use Rattle.cip_text.proofs.draft.Draft.put.Goals as goal
+
+pub invariant_of-self : goal.invariant_of-self
+invariant_of-self c = (c.in_err-self-inside.ensures.least, rw c.in_err-self-inside.ensures.left c.self.invariant.1)
+
+pub invariant_of-self-2 : goal.invariant_of-self-2
+invariant_of-self-2 c =
+    (c.in_ok-self-inside.ensures.fits, ∣ rw c.in_ok-self-inside.ensures.text (IsUtf8-append _ _ (IsUtf8-had _ c.self.invariant.1) c.as_bytes.ensures.utf8) ∣₁)
