@@ -1,10 +1,12 @@
 -- A line is parted at each of its spaces.
-use Rattle.std.proofs.Common.{◌≡◌, ℕ, ◌+◌, ◌-◌, ◌≤◌, ◌<◌, List, [], ◌∷◌, ◌++◌, length, take, drop, get_or, true, false, sym, ◌∙◌, ap, arith}
+use Rattle.std.proofs.Common.{◌≡◌, ℕ, Bool, ◌+◌, ◌-◌, ◌≤◌, ◌<◌, List, [], ◌∷◌, ◌++◌, length, take, drop, get_or, true, false, None, refl, sym, ◌∙◌, ap, arith}
 use Rattle.std.proofs.lemmas.List.{take-append-drop, drop-drop, drop_more, get_or-drop, get_or-take, length-take, length-drop}
 use Rattle.std.proofs.lemmas.List.Elements.{All-from_get_or}
-use Rattle.std.proofs.lemmas.List.Splits.{slice_split_at, slice_split_none}
-use Rattle.std.specs.List.{slice_split, All}
-use Rattle.cip_words.specs.Shown.{is_space}
+use Rattle.std.proofs.lemmas.List.Splits.{slice_split_at, slice_split_none, slice_split_first, length-slice_split}
+use Rattle.std.proofs.lemmas.List.Sums.{fails_before_first}
+use Rattle.std.specs.List.{slice_split, All, position_or_len, before_first, after_first}
+use Rattle.cip_words.specs.Shown.{is_space, is_dot}
+use Rattle.cip_read.specs.Fields.{name_by, frame_by, frame_of}
 
 -- no space from one place up to another
 abbrev pub NoSpace : List ℕ → ℕ → ℕ → Type 0
@@ -45,3 +47,31 @@ split_last line start le none =
     (λ j h.
     let lt : start + j < length line = omega (arith, length-drop start line) in
     rw (get_or-drop start line j 0) (none (start + j) (omega arith) lt)))
+
+none_passes : (p : ℕ → Bool) (xs : List ℕ) → position_or_len p xs ≡ length xs → slice_split p xs ≡ xs ∷ []
+none_passes p xs e =
+    slice_split_none p xs (All-from_get_or (λ x. p x ≡ false) xs 0 (λ j h. fails_before_first p xs j 0 (omega (arith, e))))
+
+more_parts : (a b : List ℕ) (cs : List (List ℕ)) → 0 < length cs → frame_by (a ∷ b ∷ cs) ≡ None
+more_parts a b [] h = absurd (omega arith)
+more_parts a b (c ∷ cs) h = refl
+
+-- a word without a dot
+pub frame_without : (w : List ℕ) → position_or_len is_dot w ≡ length w → frame_of w ≡ None
+frame_without w e = rw (none_passes is_dot w e) refl
+
+-- a word with two dots or more
+pub frame_with_more : (w : List ℕ) → position_or_len is_dot w < length w
+    → position_or_len is_dot (after_first is_dot w) < length (after_first is_dot w) → frame_of w ≡ None
+frame_with_more w one two =
+    let rest : List ℕ = after_first is_dot w in
+    let last : List ℕ = after_first is_dot rest in
+    rw (slice_split_first is_dot w 0 one, slice_split_first is_dot rest 0 two)
+    (more_parts (before_first is_dot w) (before_first is_dot rest) (slice_split is_dot last) (omega (arith, length-slice_split is_dot last)))
+
+-- a word with one dot
+pub frame_with_one : (w : List ℕ) → position_or_len is_dot w < length w
+    → position_or_len is_dot (after_first is_dot w) ≡ length (after_first is_dot w)
+    → frame_of w ≡ name_by (before_first is_dot w) (after_first is_dot w)
+frame_with_one w one none =
+    rw (slice_split_first is_dot w 0 one, none_passes is_dot (after_first is_dot w) none) refl

@@ -5,7 +5,7 @@ use Rattle.cip_topology.specs.Plan.{Plan}
 use Rattle.cip_words.specs.Shown.{words_of, below, number_of}
 use Rattle.cip_read.specs.declared.fault.LineFault.{LineFault}
 use Rattle.cip_read.specs.declared.line.Line.{Line}
-use Rattle.cip_read.specs.declared.line.Line.TheVariants.{Step, Lost, Output, Note}
+use Rattle.cip_read.specs.declared.line.Line.TheVariants.{Output, Note}
 use Rattle.cip_read.specs.Fields.{◌>>=◌, nth, Refuses}
 use Rattle.cip_read.specs.Heads.{head_of}
 use Rattle.cip_read.specs.Outputs.{output_of}

@@ -1,14 +1,14 @@
 //! The words of a line, one by one.
-ghost use Rattle.std.specs.Prelude.{◌≡◌, ◌<◌, ◌^◌, length, map, IfOk};
+ghost use Rattle.std.specs.Prelude.{◌≡◌, ◌<◌, ◌^◌, length, map, IfOk, None, MatchOption};
 ghost use Rattle.cip_words.specs.Shown.{below, number_of, bytes_of};
 ghost use Rattle.cip_read.specs.Fields.{Gives, nth, texts, port_of, ms_of, address_of, frame_of};
-ghost use Rattle.cip_read.specs.Fields.{module_of, frame_by, if_address};
+ghost use Rattle.cip_read.specs.Fields.{module_of, name_by, if_address};
 
 use crate::fault::{Expected, LineFault};
 use crate::line::FrameName;
 use cip_base::{Address, Bytes, ModuleId, Ms, PortNumber};
 use cip_topology::Topology;
-use cip_words::{bytes, dotted, number, number_u16, number_u32};
+use cip_words::{bytes, number, number_u16, number_u32};
 use std::alloc::Global;
 
 /// The word at this place.
@@ -117,29 +117,42 @@ pub(crate) fn address_at(alloc: Global, words: &[&str], k: usize) -> Result<Addr
     address_in(bytes.as_slice(), k)
 }
 
-// `E` and `K`.
-fn frame_in(parts: &[&str], k: usize) -> Result<FrameName, LineFault>
-    ensures { Gives result (frame_by (texts parts.now)) }
+// The two parts of a word around its only dot.
+fn halves(word: &str) -> Option<(&str, &str)>
+    ensures { MatchOption result (frame_of word.now ≡ None)
+        (λ parts. frame_of word.now ≡ name_by parts.0.now parts.1.now) }
 {
-    match parts {
-        [entry, output] => match (number(entry), number(output)) {
-            (Some(entry), Some(output)) => Ok(FrameName {
-                entry: entry as usize,
-                output: output as usize,
-            }),
-            _ => Err(LineFault::Word(k, Expected::Frame)),
-        },
+    let Some((first, rest)) = word.split_once('.') else {
+        return None;
+    };
+    match rest.split_once('.') {
+        Some(_) => None,
+        None => Some((first, rest)),
+    }
+}
+
+// `E` and `K`.
+fn frame_in(entry: &str, output: &str, k: usize) -> Result<FrameName, LineFault>
+    ensures { Gives result (name_by entry.now output.now) }
+{
+    match (number(entry), number(output)) {
+        (Some(entry), Some(output)) => Ok(FrameName {
+            entry: entry as usize,
+            output: output as usize,
+        }),
         _ => Err(LineFault::Word(k, Expected::Frame)),
     }
 }
 
 /// The name of a frame, `E.K`.
-pub(crate) fn frame_at(alloc: Global, words: &[&str], k: usize) -> Result<FrameName, LineFault>
+pub(crate) fn frame_at(words: &[&str], k: usize) -> Result<FrameName, LineFault>
     requires { k < length words.now }
     ensures { Gives result (frame_of (nth (texts words.now) k)) }
 {
-    let parts = dotted(alloc, nth(words, k))?;
-    frame_in(parts.as_slice(), k)
+    match halves(nth(words, k)) {
+        Some((entry, output)) => frame_in(entry, output, k),
+        None => Err(LineFault::Word(k, Expected::Frame)),
+    }
 }
 
 /// A module by its name.

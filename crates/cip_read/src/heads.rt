@@ -8,7 +8,6 @@ use crate::fault::{Expected, LineFault};
 use crate::fields::{frame_at, module_at, ms_at, nth, u32_at, usize_at};
 use crate::line::{CommandWord, Given, Line};
 use cip_topology::Topology;
-use std::alloc::Global;
 
 // The word of a command, at place 2.
 fn command_of(word: &str) -> Result<CommandWord, LineFault>
@@ -35,13 +34,13 @@ fn command_of(word: &str) -> Result<CommandWord, LineFault>
 }
 
 // What the module was given, by the words at places 2 and 3.
-fn given_at(alloc: Global, words: &[&str]) -> Result<Given, LineFault>
+fn given_at(words: &[&str]) -> Result<Given, LineFault>
     requires { 4 ≤ length words.now }
     ensures { Gives result (given_of (nth (texts words.now) 2) (nth (texts words.now) 3)) }
 {
     let word = nth(words, 2);
     if word == "frame" {
-        let frame = frame_at(alloc, words, 3)?;
+        let frame = frame_at(words, 3)?;
         return Ok(Given::Frame(frame));
     }
     if word == "tick" {
@@ -56,7 +55,7 @@ fn given_at(alloc: Global, words: &[&str]) -> Result<Given, LineFault>
 }
 
 // `ENTRY M WORD NUMBER`
-fn step_line(alloc: Global, topology: &Topology, words: &[&str]) -> Result<Line, LineFault>
+fn step_line(topology: &Topology, words: &[&str]) -> Result<Line, LineFault>
     ensures { Reads result (of_words 4 (texts words.now) (step_of topology.now (texts words.now))) }
 {
     if words.len() != 4 {
@@ -65,12 +64,12 @@ fn step_line(alloc: Global, topology: &Topology, words: &[&str]) -> Result<Line,
     }
     let entry = usize_at(words, 0)?;
     let at = module_at(topology, words, 1)?;
-    let given = given_at(alloc, words)?;
+    let given = given_at(words)?;
     Ok(Line::Step { entry, at, given })
 }
 
 // `ENTRY lost E.K`
-fn lost_line(alloc: Global, words: &[&str]) -> Result<Line, LineFault>
+fn lost_line(words: &[&str]) -> Result<Line, LineFault>
     requires { length words.now ≡ 3 }
     ensures { Reads result (lost_of (texts words.now)) }
 {
@@ -78,16 +77,16 @@ fn lost_line(alloc: Global, words: &[&str]) -> Result<Line, LineFault>
     if nth(words, 1) != "lost" {
         return Err(LineFault::Word(1, Expected::Words("lost, or a module and two words")));
     }
-    let frame = frame_at(alloc, words, 2)?;
+    let frame = frame_at(words, 2)?;
     Ok(Line::Lost { entry, frame })
 }
 
 /// The line of an entry.
-pub(crate) fn head_at(alloc: Global, topology: &Topology, words: &[&str]) -> Result<Line, LineFault>
+pub(crate) fn head_at(topology: &Topology, words: &[&str]) -> Result<Line, LineFault>
     ensures { Reads result (head_of topology.now (texts words.now)) }
 {
     if words.len() == 3 {
-        return lost_line(alloc, words);
+        return lost_line(words);
     }
-    step_line(alloc, topology, words)
+    step_line(topology, words)
 }

@@ -54,7 +54,7 @@ fn words_line(alloc: Global, topology: &Topology, words: &[&str]) -> Result<Line
         };
     }
     if is_head(words) {
-        return head_at(alloc, topology, words);
+        return head_at(topology, words);
     }
     match note_at(alloc, topology, words) {
         Ok(note) => Ok(Line::Note(note)),

@@ -14,10 +14,10 @@ pub fn ascii(line: &[u8]) -> Option<&str>
     ensures text { IfSome result (λ text. text.now ≡ line.now) }
     ensures exact { IsSome result ↔ IsAscii line.now }
 {
-    match std::str::from_utf8(line) {
-        Ok(text) if text.is_ascii() => Some(text),
-        _ => None,
+    if line.is_ascii() {
+        return Some(unsafe { std::str::from_utf8_unchecked(line) });
     }
+    None
 }
 
 /// The words of a line: what stands between its spaces, empty words too.
