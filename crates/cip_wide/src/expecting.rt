@@ -1,12 +1,12 @@
 //! What a line expects of the run so far.
 
-use crate::ends::Ends;
 use crate::fault::{LineError, LineFault, WordFault, wrong_count, wrong_word};
 use crate::links::module_at;
 use crate::ops::{Ops, name_of};
 use crate::outcomes::{Code, Sought, newest, newest_refused};
 use crate::unmet::Unmet;
 use cip_base::{Bytes, ModuleId};
+use cip_ends::Ends;
 use cip_tool::{HexFault, hex_fault, number_u32};
 use cip_topology::{Excerpt, Topology};
 use cip_world::{Shown, World, WorldFault};

@@ -3,12 +3,10 @@
 #![tactic(auto)]
 
 mod blocks;
-mod ends;
 mod expecting;
 mod fault;
 mod lines;
 mod links;
-mod names;
 mod narrowing;
 mod ops;
 mod outcomes;

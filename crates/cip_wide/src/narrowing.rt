@@ -4,7 +4,6 @@ ghost use Rattle.std.specs.Prelude.{◌≤◌, IfOk, string_len};
 ghost use Rattle.std.specs.Str.{IsAscii};
 
 use crate::blocks::{Turn, after_end, check_blocks, count_of, is_end};
-use crate::ends::Ends;
 use crate::expecting::expect;
 use crate::fault::{LineError, LineFault, WideFault, unknown_word, wrong_count};
 use crate::lines::{Line, first_not_ascii, lines_of};
@@ -12,6 +11,7 @@ use crate::links::{frames_at, module_names};
 use crate::ops::Ops;
 use crate::plain::{NewOp, Plain, plain_line};
 use cip_base::{Bytes, NoMemory};
+use cip_ends::Ends;
 use cip_module::Module;
 use cip_script::{
     Mode, PlayFault, ScriptFault, Step, StepsFault, explain, play_step, read_steps, usage_of,

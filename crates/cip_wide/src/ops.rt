@@ -1,7 +1,7 @@
 //! The ops of a script.
 
-use crate::names::{Names, Op};
 use cip_base::{ModuleId, NoMemory};
+use cip_ends::{Names, Op};
 use cip_topology::Name;
 use std::alloc::{AllocError, Global};
 

@@ -1,6 +1,6 @@
 use Rattle.std.proofs.Common.{◌≤◌, length}
-use Rattle.cip_wide.specs.Names.{HasNone}
-use Rattle.cip_wide.proofs.names.older.Given as goal
+use Rattle.cip_ends.specs.Names.{HasNone}
+use Rattle.cip_ends.proofs.names.older.Given as goal
 
 abbrev pub decreases-loop-left : goal.decreases-loop-left
 decreases-loop-left l = l.left

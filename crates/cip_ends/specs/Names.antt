@@ -4,7 +4,7 @@ use Rattle.std.specs.Prelude.{fold, length, slice_get}
 use Rattle.std.specs.BTreeMap.{BTreeMap, get}
 use Rattle.std.specs.Ordering.{nat_cmp}
 use Rattle.cip_base.specs.declared.numbers.ModuleId.{ModuleId}
-use Rattle.cip_wide.specs.declared.names.Op.{Op}
+use Rattle.cip_ends.specs.declared.names.Op.{Op}
 
 -- the op has this name, and is one of the module, where one is asked for
 abbrev pub IsOf : Option ModuleId → ModuleId → Type 0

@@ -1,6 +1,6 @@
 use Rattle.std.proofs.Common.{◌≤◌}
-use Rattle.cip_wide.specs.Ends.{HasNoEnd}
-use Rattle.cip_wide.proofs.ends.last_end.Given as goal
+use Rattle.cip_ends.specs.Ends.{HasNoEnd}
+use Rattle.cip_ends.proofs.ends.last_end.Given as goal
 
 abbrev pub decreases-loop-left : goal.decreases-loop-left
 decreases-loop-left l = l.left

@@ -3,7 +3,7 @@ use Rattle.std.proofs.Common.{◌≡◌, ℕ, zero, suc, List, [], ◌∷◌, So
 use Rattle.std.proofs.Common.{◌<◌, ◌+◌, ◌∙◌, get_or, length}
 use Rattle.std.specs.Prelude.{slice_get}
 use Rattle.cip_world.specs.declared.journal.Entry.{Entry}
-use Rattle.cip_wide.specs.Ends.{HasNoEnd, IsEndAt, reply_in}
+use Rattle.cip_ends.specs.Ends.{HasNoEnd, IsEndAt, reply_in}
 
 at_place : {X : Type 0} (xs : List X) (i : ℕ) (x : X) → i < length xs → x ≡ get_or xs i x → slice_get xs i ≡ Some x
 at_place [] i x lt is = absurd (omega arith)

@@ -1,6 +1,6 @@
 //! The ops that have names, and where the newest of each stands.
 ghost use Rattle.std.specs.Prelude.{◌≡◌, ◌≤◌, ◌++◌, ◌∷◌, [], length, IfNone, IfSome, IsFalse, IsTrue, OnErr, OnOk};
-ghost use Rattle.cip_wide.specs.Names.{HasNone, IsMeant, IsNewest, IsOf, key_of};
+ghost use Rattle.cip_ends.specs.Names.{HasNone, IsMeant, IsNewest, IsOf, key_of};
 
 use cip_base::{ModuleId, NoMemory};
 use cip_topology::Name;
@@ -10,15 +10,15 @@ use std::marker::Model;
 
 /// An op that has a name.
 #[derive(Drop)]
-pub(crate) struct Op {
-    pub(crate) name: Name,
-    pub(crate) at: ModuleId,
-    pub(crate) number: u32,
+pub struct Op {
+    pub name: Name,
+    pub at: ModuleId,
+    pub number: u32,
 }
 
 /// The ops that have names, the newest last. A name may come again.
 #[derive(Drop)]
-pub(crate) struct Names {
+pub struct Names {
     ops: Vec<Op>,
     // By a number of each name, the place of the newest op that has such a name.
     places: BTreeMap<u64, usize>,
@@ -26,8 +26,8 @@ pub(crate) struct Names {
 
 impl Model for Names {
     ghost use Rattle.std.specs.Prelude.{List};
-    ghost use Rattle.cip_wide.specs.declared.names.Op.{Op as Named};
-    ghost use Rattle.cip_wide.specs.Names.{IsIndex};
+    ghost use Rattle.cip_ends.specs.declared.names.Op.{Op as Named};
+    ghost use Rattle.cip_ends.specs.Names.{IsIndex};
 
     ghost Value = { List Named };
 
@@ -84,7 +84,7 @@ fn older<'a>(ops: &'a [Op], to: usize, name: &Name, at: Option<ModuleId>) -> Opt
 
 impl Names {
     /// No op at all.
-    pub(crate) fn new(alloc: Global) -> Names
+    pub fn new(alloc: Global) -> Names
         ensures { result ≡ [] }
     {
         Names {
@@ -94,7 +94,7 @@ impl Names {
     }
 
     /// One more op; NoMemory where an allocation is refused, and then nothing is changed.
-    pub(crate) fn push(&mut self, op: Op) -> Result<(), NoMemory>
+    pub fn push(&mut self, op: Op) -> Result<(), NoMemory>
         ensures ok { OnOk result (self.new ≡ self.old ++ op ∷ []) }
         ensures err { OnErr result (self.new ≡ self.old) }
     {
@@ -107,7 +107,7 @@ impl Names {
 
     /// The newest op of this name, of a module where one is given. It looks where the newest name
     /// of the same number stands, and at those before it where that is another name or module.
-    pub(crate) fn newest(&self, name: &Name, at: Option<ModuleId>) -> Option<&Op>
+    pub fn newest(&self, name: &Name, at: Option<ModuleId>) -> Option<&Op>
         ensures some { IfSome result (λ op. IsNewest self.now name.now at op.now) }
         ensures none { IfNone result (HasNone self.now name.now at 0 (length self.now)) }
     {

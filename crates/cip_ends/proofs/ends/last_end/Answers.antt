@@ -1,7 +1,7 @@
 use Rattle.std.proofs.Common.{rules, subst, sym, ◌≡◌, ◌-◌, ◌+◌}
-use Rattle.cip_wide.specs.Ends.{HasNoEnd}
-use Rattle.cip_wide.proofs.Ending.{end_here, none_before}
-use Rattle.cip_wide.proofs.ends.last_end.Goals as goal
+use Rattle.cip_ends.specs.Ends.{HasNoEnd}
+use Rattle.cip_ends.proofs.Ending.{end_here, none_before}
+use Rattle.cip_ends.proofs.ends.last_end.Goals as goal
 
 pub returns-in-Some-clause-some : goal.returns-in-Some-clause-some
 returns-in-Some-clause-some c = (

@@ -1,7 +1,7 @@
 //! Where ops ended.
 ghost use Rattle.std.specs.Prelude.{◌≡◌, ◌≤◌, ℕ, List, length, IfNone, IfSome, option_copied};
-ghost use Rattle.cip_wide.specs.Ends.{first_reply, reply_in, reply_of};
-ghost use Rattle.cip_wide.specs.Ends.{HasNoEnd, IsEndAt, IsReply};
+ghost use Rattle.cip_ends.specs.Ends.{first_reply, reply_in, reply_of};
+ghost use Rattle.cip_ends.specs.Ends.{HasNoEnd, IsEndAt, IsReply};
 
 use cip_base::{Bytes, ModuleId, NoMemory};
 use cip_module::Output;
@@ -88,7 +88,7 @@ fn add_ends(
 
 /// Where ops ended in a journal that grows: a place to look at first, which need not be right.
 #[derive(Drop)]
-pub(crate) struct Ends {
+pub struct Ends {
     places: BTreeMap<(usize, u32), usize>,
     // So many entries were read, and so many looked at since.
     read: usize,
@@ -97,7 +97,7 @@ pub(crate) struct Ends {
 
 impl Ends {
     /// Nothing was read. It takes no memory.
-    pub(crate) fn new(alloc: Global) -> Ends {
+    pub fn new(alloc: Global) -> Ends {
         Ends {
             places: BTreeMap::new(alloc),
             read: 0,
@@ -161,7 +161,7 @@ impl Ends {
     /// The reply with which an op is done, None where it is done nowhere. A module gives an op one
     /// Done at most (`ops_are_done_once`), so it is the only one. The entries that were not read
     /// are looked at from the newest on; of the others it is known where the op ended.
-    pub(crate) fn done<'a>(
+    pub fn done<'a>(
         &mut self,
         journal: &'a [Entry],
         module_: ModuleId,

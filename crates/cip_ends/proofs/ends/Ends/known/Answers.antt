@@ -1,6 +1,6 @@
 use Rattle.std.proofs.Common.{rules}
-use Rattle.cip_wide.proofs.Ending.{end_here}
-use Rattle.cip_wide.proofs.ends.Ends.known.Goals as goal
+use Rattle.cip_ends.proofs.Ending.{end_here}
+use Rattle.cip_ends.proofs.ends.Ends.known.Goals as goal
 
 pub returns-in-Some : goal.returns-in-Some
 returns-in-Some c = (
