@@ -1,31 +1,30 @@
 //! A link address.
-ghost use Rattle.std.specs.Prelude.{◌≡◌, ◌<◌, ◌≤◌, ◌↔◌, length, take, IfOk, IsErrOf};
+ghost use Rattle.std.specs.Prelude.{◌≡◌, ◌<◌, ◌≤◌, ◌↔◌, length, IfOk, IsErrOf};
 ghost use Rattle.std.specs.Str.{bytes_eq};
 ghost use Rattle.std.specs.Cmp.{partial_equiv_from_equiv};
 ghost use Rattle.std.specs.Cmp.Lexicographic.{nat_list_eq_equiv};
 
+use crate::NoHeap;
 use crate::limits::MAX_ADDRESS;
-use std::fmt::{self, Debug, Formatter, Write};
+use smallvec::SmallVec;
 use std::marker::Model;
 use thiserror::Error;
 
 /// The 1 to 16 bytes that name a node on a link (Volume 1, Appendix C, port segment, link address).
 /// They lie in the value itself: no call takes memory.
-#[derive(Drop)]
+#[derive(Debug, Drop)]
 pub struct Address {
-    // Side by side with their number, so that a copy is a move or two.
-    room: [u8; MAX_ADDRESS],
-    count: u8,
+    bytes: SmallVec<u8, 16, NoHeap>,
 }
 
 impl Model for Address {
-    ghost use Rattle.std.specs.Prelude.{List, ℕ, ◌≤◌, take};
+    ghost use Rattle.std.specs.Prelude.{List, ℕ, ◌≤◌, length};
 
     ghost Value = { List ℕ };
 
-    ghost view = { λ a. take a.count a.room };
+    ghost view = { λ a. a.bytes.items };
 
-    ghost invariant = { λ a. (1 ≤ a.count) × (a.count ≤ 16) };
+    ghost invariant = { λ a. (1 ≤ length a.bytes.items) × (length a.bytes.items ≤ 16) };
 }
 
 /// Why bytes are no link address.
@@ -50,10 +49,10 @@ impl Address {
         if bytes.len() > MAX_ADDRESS {
             return Err(AddressFault::TooLong);
         }
-        let mut room = [0; MAX_ADDRESS];
-        room[..bytes.len()].copy_from_slice(bytes);
-        let count = bytes.len() as u8;
-        Ok(Address { room, count })
+        match SmallVec::from_slice(NoHeap, bytes) {
+            Ok(bytes) => Ok(Address { bytes }),
+            Err(_) => unreachable!(),
+        }
     }
 
     /// The bytes, 1 to 16 of them.
@@ -62,25 +61,17 @@ impl Address {
         ensures least { 1 ≤ length result.now }
         ensures most { length result.now ≤ 16 }
     {
-        &self.room[..usize::from(self.count)]
+        self.bytes.as_slice()
     }
 
     /// A copy.
     pub fn copy(&self) -> Address
         ensures { result ≡ self.now }
     {
-        Address {
-            room: self.room,
-            count: self.count,
+        match SmallVec::from_slice(NoHeap, self.as_slice()) {
+            Ok(bytes) => Address { bytes },
+            Err(_) => unreachable!(),
         }
-    }
-}
-
-impl Debug for Address {
-    fn fmt<W: Write>(&self, f: &mut Formatter<W>) -> fmt::Result {
-        f.debug_struct("Address")
-            .field("bytes", &self.as_slice())
-            .finish()
     }
 }
 

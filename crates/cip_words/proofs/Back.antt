@@ -1,9 +1,9 @@
 -- What is shown is read back.
-use Rattle.std.proofs.Common.{◌≡◌, ℕ, ◌<◌, ◌≤◌, ◌*◌, ◌⊎◌, ◌^◌, ◌++◌, ◌∷◌, ◌==◌, ◌&&◌, List, [], length, get_or, true, false, Some, None, Result, Ok, Err, refl, sym, ap, ◌∙◌, arith, rules}
-use Rattle.std.proofs.Common.{if◌then◌else◌, inl, inr, zero, suc, lit<, eqb}
-use Rattle.std.specs.Prelude.{nat_lt, decimal, codes, All}
+use Rattle.std.proofs.Common.{◌≡◌, ℕ, ◌<◌, ◌≤◌, ◌*◌, ◌⊎◌, ◌^◌, ◌++◌, ◌∷◌, ◌==◌, List, [], length, true, false, Some, None, Result, Ok, Err, refl, sym, ap, ◌∙◌, arith, rules}
+use Rattle.std.proofs.Common.{inl, inr}
+use Rattle.std.specs.Prelude.{nat_lt, decimal, All}
 use Rattle.std.specs.Char.{is_ascii_digit}
-use Rattle.std.specs.List.{list_all, slice_split}
+use Rattle.std.specs.List.{list_all}
 use Rattle.std.specs.Str.{bytes_eq}
 use Rattle.std.specs.Str.Parse.{digits_value, ParsesUnsigned}
 use Rattle.std.proofs.lemmas.Bool.{cases_Bool, cases_lt}

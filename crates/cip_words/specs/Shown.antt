@@ -1,5 +1,6 @@
 -- Words, numbers and bytes as a transcript shows them.
 use Rattle.std.specs.Prelude.{ℕ, Bool, List, [], length, nat_lt, ◌==◌, ◌&&◌, if◌then◌else◌}
+use Rattle.std.specs.Prelude.{slice_index, ◌≡◌, ◌<◌, false}
 use Rattle.std.specs.Prelude.{Option, Some, None, option_and_then, codes, Result, Ok, Err}
 use Rattle.std.specs.Char.{is_ascii_digit}
 use Rattle.std.specs.List.{slice_split, list_all}
@@ -14,6 +15,14 @@ is_space b = b == 32
 -- the byte is a dot
 abbrev pub is_dot : ℕ → Bool
 is_dot b = b == 46
+
+-- the byte is a newline
+abbrev pub is_newline : ℕ → Bool
+is_newline b = b == 10
+
+-- none of the first bytes is a newline
+abbrev pub HasNoNewline : List ℕ → ℕ → Type 0
+HasNoNewline text count = (k : ℕ) → k < count → is_newline (slice_index text k) ≡ false
 
 -- the parts of a line between its spaces
 abbrev pub words_of : List ℕ → List (List ℕ)

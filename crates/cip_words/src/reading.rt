@@ -1,10 +1,11 @@
 //! Words, numbers and bytes as they stand in a line.
 ghost use Rattle.std.specs.Prelude.{◌≡◌, ◌^◌, ◌↔◌, map, IfOk, IfSome, IsSome, option_map};
-ghost use Rattle.std.specs.Prelude.{Some, None, true, false};
+ghost use Rattle.std.specs.Prelude.{Some, None, true, false, ◌<◌, length, slice_index, IfNone};
 ghost use Rattle.std.specs.Str.{IsAscii};
 ghost use Rattle.std.specs.List.{list_all, slice_split};
 ghost use Rattle.std.specs.Char.{is_ascii_digit};
-ghost use Rattle.cip_words.specs.Shown.{words_of, is_dot, number_of, below, bytes_of};
+ghost use Rattle.cip_words.specs.Shown.{words_of, is_dot, is_newline, HasNoNewline};
+ghost use Rattle.cip_words.specs.Shown.{number_of, below, bytes_of};
 
 use hex::FromHexError;
 use std::alloc::{AllocError, Global};
@@ -16,6 +17,21 @@ pub fn ascii(line: &[u8]) -> Option<&str>
 {
     if line.is_ascii() {
         return Some(unsafe { std::str::from_utf8_unchecked(line) });
+    }
+    None
+}
+
+/// Where the first line of a text ends: the place of its first newline.
+pub fn line_end(text: &[u8]) -> Option<usize>
+    ensures within { IfSome result (λ end. end < length text.now) }
+    ensures newline { IfSome result (λ end. is_newline (slice_index text.now end) ≡ true) }
+    ensures first { IfSome result (λ end. HasNoNewline text.now end) }
+    ensures none { IfNone result (HasNoNewline text.now (length text.now)) }
+{
+    for (i, byte) in text.iter().enumerate() {
+        if *byte == b'\n' {
+            return Some(i);
+        }
     }
     None
 }

@@ -19,8 +19,8 @@ open_at_end-requires-clause-multiplier c =
     multiplier_below m.config (state_of_device m) c.up_side_of-asker.result (open_of c.args.view.now) (Accepted c.in-Accepted.link)
     c.in-Accepted.ensures.row (λ refusal e. cc)
 
-pub returns-in_ok-output-in-Forwarded : goal.returns-in_ok-output-in-Forwarded
-returns-in_ok-output-in-Forwarded c =
+pub returns-in-Forwarded : goal.returns-in-Forwarded
+returns-in-Forwarded c =
     let m = c.args.self.now in
     let asked = open_of c.args.view.now in
     opened m c.begin_below.new.self c.args.making c.in_ok-output-in-Forwarded.output c.args.up asked c.in-Forwarded.port (c.last-down_id.result + 1)
