@@ -1,13 +1,14 @@
 /* An EtherNet/IP adapter: encapsulation over TCP and UDP port 44818, class 1 data over UDP port
  * 2222. All of CIP is the library's; here are sockets and the encapsulation alone.
  *
- * adapter [-p DATA_PORT] [ADDRESS [MILLISECONDS [LOG]]]: on 127.0.0.1 for 5,000 ms, if not said;
- * then it ends. It has the assemblies 100 (configuration), 101 and 103 (it consumes 4 bytes of
+ * adapter [-k FILE] [-p DATA_PORT] [ADDRESS [MILLISECONDS [LOG]]]: on 127.0.0.1 for 5,000 ms, if not
+ * said; then it ends. It keeps its incarnation in FILE (kept.h). It has the assemblies 100 (configuration), 101 and 103 (it consumes 4 bytes of
  * each), 102 and 104 (it produces 2, a counter). It sends by each connection at that connection's
  * own interval, to the port that a Sockaddr Info item beside the open names. It names ports in its
  * reply where the open did, or where it takes data on another port than 2222. Each datum goes into
  * the log, if one is named. */
 #include "flows.h"
+#include "kept.h"
 #include <poll.h>
 
 enum { PORT = 2, MOST_PEERS = 32, MOST_WAITING = 64, MOST_WAIT = 5 };
@@ -101,6 +102,7 @@ static void produced(const cip_output *output, const uint8_t *bytes) {
 }
 
 static void take_outputs(void) {
+    keep_incarnation(&device);
     static uint8_t bytes[CIP_MOST_BYTES];
     cip_output output;
     while (cip_next(&device, &output, bytes, sizeof bytes) == CIP_DONE) {
@@ -273,12 +275,6 @@ static void new_peer(int listener) {
     inet_ntop(AF_INET, &from.sin_addr, peers[i].address, sizeof peers[i].address);
 }
 
-static void pass(uint64_t from, uint64_t to) {
-    uint64_t by = to - from > 65535 ? 65535 : to - from;
-    if (by > 0 && cip_tick(&device, (uint16_t)by) == CIP_DONE)
-        take_outputs();
-}
-
 /* The counter goes on, and this assembly is sent by those connections of it that are due. The
  * device counts for the others too: where connections of different intervals share an assembly, the
  * slower ones see counts left out. */
@@ -318,9 +314,10 @@ static uint64_t produce_due(uint64_t now) {
 }
 
 static uint32_t make_device(void) {
+    const uint32_t first = first_of_life();
     const cip_config config = {.kind = CIP_ADAPTER,
-                               .first_id = 0x00010001,
-                               .first_number = 0x00010001,
+                               .first_id = first,
+                               .first_number = first,
                                .pending_room = 16,
                                .hop_room = 64,
                                .vendor = 0x0101,
@@ -338,10 +335,13 @@ static uint32_t make_device(void) {
 }
 
 int main(int count, char **words) {
-    for (int option; (option = getopt(count, words, "p:")) != -1;) {
-        if (option != 'p')
+    for (int option; (option = getopt(count, words, "k:p:")) != -1;) {
+        if (option == 'k')
+            kept_in = optarg;
+        else if (option == 'p')
+            own_port = port_from(optarg);
+        else
             return 2;
-        own_port = port_from(optarg);
     }
     count -= optind - 1;
     words += optind - 1;
@@ -362,14 +362,18 @@ int main(int count, char **words) {
     listen(listener, 16);
     printf("ready\n");
     fflush(stdout);
-    uint64_t last = milliseconds(), next = UINT64_MAX,
-             end = last + (count > 2 ? strtoull(words[2], 0, 10) : 5000);
-    while (last < end) {
+    uint64_t now = milliseconds(), last = now, next = UINT64_MAX,
+             end = now + (count > 2 ? strtoull(words[2], 0, 10) : 5000);
+    while (now < end) {
         struct pollfd fds[3 + MOST_PEERS] = {
             {listener, POLLIN, 0}, {udp, POLLIN, 0}, {data_socket, POLLIN, 0}};
         for (int i = 0; i < MOST_PEERS; i++)
             fds[3 + i] = (struct pollfd){peers[i].socket, POLLIN, 0};
-        poll(fds, 3 + MOST_PEERS, wait_until(next, last * 1000, MOST_WAIT));
+        poll(fds, 3 + MOST_PEERS, wait_until(next, now * 1000, MOST_WAIT));
+        now = milliseconds();
+        last = pass_time(&device, last, now, take_outputs);
+        if (last < now)
+            continue; /* the frames wait until the time is taken */
         for (int i = 0; i < MOST_PEERS; i++)
             if (fds[3 + i].fd >= 0 && fds[3 + i].revents)
                 from_peer(i);
@@ -379,9 +383,6 @@ int main(int count, char **words) {
             from_any(udp);
         if (fds[2].revents & POLLIN)
             from_data();
-        uint64_t now = milliseconds();
-        pass(last, now);
-        last = now;
         next = produce_due(now * 1000);
     }
     for (int i = 0; i < MOST_PEERS; i++)

@@ -3,12 +3,13 @@
  * or not, Forward_Close, and the data of connections. All of CIP is the library's; here are sockets
  * and the encapsulation alone.
  *
- * bridge FIRST SECOND [MILLISECONDS]: its own IP addresses on the networks of its ports 2 and 3. On
- * each it listens on TCP and UDP port 44818, takes data on UDP port 2222, and connects to others on
+ * bridge [-k FILE] FIRST SECOND [MILLISECONDS]: its own IP addresses on the networks of its ports 2
+ * and 3. It keeps its incarnation in FILE (kept.h). On each network it listens on TCP and UDP port 44818, takes data on UDP port 2222, and connects to others on
  * TCP port 44818. Data go to the port that a Sockaddr Info item beside the open, or beside the
  * reply to it, names. It ends after so long, or else at SIGTERM. At SIGUSR1 the cable of the second
  * network is cut: its TCP connections end and data to it and from it are lost, until SIGUSR2. */
 #include "flows.h"
+#include "kept.h"
 #include <errno.h>
 #include <fcntl.h>
 #include <poll.h>
@@ -191,6 +192,7 @@ static void request_to(network *on, const cip_output *output, const uint8_t *byt
 }
 
 static void take_outputs(void) {
+    keep_incarnation(&device);
     static uint8_t bytes[CIP_MOST_BYTES];
     cip_output output;
     while (cip_next(&device, &output, bytes, sizeof bytes) == CIP_DONE) {
@@ -429,18 +431,6 @@ static void new_peer(network *on) {
 
 /* ---- the loop */
 
-/* Time went by since `last`; how far the device's clock has come. */
-static uint64_t pass(uint64_t last, uint64_t now) {
-    while (last < now) {
-        uint64_t by = now - last > 65535 ? 65535 : now - last;
-        if (status_of(cip_tick(&device, (uint16_t)by)) != CIP_DONE)
-            break; /* the same time is given again */
-        take_outputs();
-        last += by;
-    }
-    return last;
-}
-
 /* How long to sleep where nothing comes in: until the device's next deadline. */
 static int idle(uint64_t last, uint64_t end) {
     uint64_t most = end - last < MOST_IDLE ? end - last : MOST_IDLE, milliseconds;
@@ -451,9 +441,10 @@ static int idle(uint64_t last, uint64_t end) {
 }
 
 static uint32_t make_device(void) {
+    const uint32_t first = first_of_life();
     const cip_config config = {.kind = CIP_INDEXED,
-                               .first_id = 0x00010001,
-                               .first_number = 0x00010001,
+                               .first_id = first,
+                               .first_number = first,
                                .pending_room = ROOM,
                                .hop_room = ROOM,
                                .vendor = 0x0101,
@@ -542,8 +533,13 @@ static void serve(network *on, const struct pollfd *fds) {
 }
 
 int main(int count, char **words) {
-    if (count < 3) {
-        fprintf(stderr, "usage: bridge FIRST SECOND [MILLISECONDS]\n");
+    int option = getopt(count, words, "k:");
+    if (option == 'k')
+        kept_in = optarg;
+    count -= optind - 1;
+    words += optind - 1;
+    if (option == '?' || count < 3) {
+        fprintf(stderr, "usage: bridge [-k FILE] FIRST SECOND [MILLISECONDS]\n");
         return 2;
     }
     networks[0].address = words[1];
@@ -570,7 +566,12 @@ int main(int count, char **words) {
         int ready = poll(fds, NETWORKS * EACH, 0);
         if (ready == 0)
             ready = poll(fds, NETWORKS * EACH, idle(last, until));
-        last = pass(last, milliseconds());
+        uint64_t now = milliseconds();
+        last = pass_time(&device, last, now, take_outputs);
+        if (last < now) {
+            refused++;
+            continue; /* the frames wait until the time is taken */
+        }
         if (is_cut != 0 && !networks[1].cut)
             hang_up_all(&networks[1]);
         networks[1].cut = is_cut != 0;

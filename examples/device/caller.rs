@@ -84,6 +84,7 @@ extern "C" {
         bytes: *const u8,
         length: usize,
     ) -> u32;
+    fn cip_tick(device: &mut Device, milliseconds: u16) -> u32;
     fn cip_next(device: &mut Device, output: &mut Output, buffer: *mut u8, room: usize) -> u32;
     fn cip_next_deadline(device: &mut Device, milliseconds: &mut u64) -> u32;
     fn cip_free(device: &mut Device);
@@ -138,6 +139,8 @@ fn main() {
             1,
         );
         assert_eq!(status, DONE);
+        // the time that went by, before the frame that came
+        assert_eq!(cip_tick(&mut device, 5), DONE);
         let status = cip_request(
             &mut device,
             2,

@@ -49,7 +49,8 @@ enum cip_status {
 /* What each call can answer at all. cip_new: DONE, IN_USE, BAD_ARGUMENT, NO_MEMORY. The calls that
  * give an event or a command: DONE, NO_DEVICE, UNREAD, NO_MEMORY, BAD_ARGUMENT where they say so,
  * and cip_tick CLOCK_FULL. cip_next: DONE, NO_DEVICE, NOTHING, SHORT. cip_get: these and NO_MEMORY.
- * cip_connection, cip_pending and cip_next_deadline: DONE, NO_DEVICE, NO_MEMORY, NOTHING. */
+ * cip_connection and cip_pending: DONE, NO_DEVICE, NO_MEMORY, NOTHING. cip_next_deadline: DONE,
+ * NO_DEVICE, NOTHING. cip_incarnation: DONE, NO_DEVICE. */
 
 enum cip_kind {
     CIP_PLAIN = 0,        /* originates, routes and answers */
@@ -60,8 +61,9 @@ enum cip_kind {
 typedef struct cip_config {
     uint32_t kind;
     uint64_t clock;         /* the time at which it begins, in microseconds, below 2^63 */
-    uint32_t first_id;      /* the first connection id: an incarnation in the high half, which no
-                               earlier start had, and a count from 1 in the low half */
+    uint32_t first_id;      /* the first connection id: an incarnation in the high half, above every
+                               one in which the device ever was (cip_incarnation), and a count from
+                               1 in the low half */
     uint32_t first_number;  /* the first request number, in the same two halves */
     uint32_t pending_room;  /* how many requests may wait at once, 1 to 256 */
     uint32_t hop_room;      /* how many connections may be open or opening at once, 1 to 256 */
@@ -241,6 +243,15 @@ uint32_t cip_pending(cip_device *device, size_t at, cip_pending_row *pending);
  * anything. Nothing changes, and outputs may wait. A call looks at all that is open and all that
  * waits once, and takes no memory. */
 uint32_t cip_next_deadline(cip_device *device, uint64_t *milliseconds);
+
+/* The incarnation in which the device draws its connection ids, and that in which it draws its
+ * request numbers: the high half of the last that it drew, from first_id and first_number on. A
+ * Reset that is carried out raises both by one. A device that starts again must begin above every
+ * incarnation in which it ever was, or an id of an earlier life comes to stand for a connection of
+ * this one: so keep the greater of both in memory that survives, before the reply to a Reset goes
+ * out. The call may be made while outputs wait: behind the call that put out the reply, and before
+ * cip_next tells it, it says whether a reset was carried out. Nothing changes. */
+uint32_t cip_incarnation(cip_device *device, uint16_t *ids, uint16_t *numbers);
 
 /* CIP_VERSION of the header that the library belongs to. */
 uint32_t cip_version(void);

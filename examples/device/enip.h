@@ -10,6 +10,7 @@
 #ifndef ENIP_H
 #define ENIP_H
 
+#include "cip_device.h"
 #include <arpa/inet.h>
 #include <stdbool.h>
 #include <stdint.h>
@@ -263,6 +264,22 @@ static inline uint64_t milliseconds(void) {
     struct timespec t;
     clock_gettime(CLOCK_MONOTONIC, &t);
     return (uint64_t)t.tv_sec * 1000 + (uint64_t)t.tv_nsec / 1000000;
+}
+
+/* Time went by: the device ticks, at most 65,535 ms a call, and what comes of each tick is taken.
+ * How far its clock has come: less than `now` where memory was refused, and then the same time is
+ * given again. No frame is given before the clock has come so far: a connection is watched from the
+ * time of the device's clock on, so with a clock that is behind it would end too early. */
+static inline uint64_t pass_time(cip_device *device, uint64_t last, uint64_t now,
+                                 void (*take_outputs)(void)) {
+    while (last < now) {
+        uint64_t by = now - last > 65535 ? 65535 : now - last;
+        if (cip_tick(device, (uint16_t)by) != CIP_DONE)
+            break;
+        take_outputs();
+        last += by;
+    }
+    return last;
 }
 
 /* A UDP port from a word of the command line. */

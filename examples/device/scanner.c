@@ -27,6 +27,7 @@ static unsigned long arrived, gaps, others, opens, expired;
 static uint32_t ops;     /* the last op that was given */
 static uint32_t open_op; /* the op of the open, once it succeeded; 0 where none is open */
 static int answer;       /* to the last op: 0 none yet, 1 it succeeded, -1 it failed */
+static uint64_t told;    /* how much of the monotonic clock the device was told, in milliseconds */
 static uint8_t path[64], in[MOST_FRAME];
 static size_t path_length, filled;
 
@@ -131,24 +132,25 @@ static void from_data(void) {
         take_outputs();
 }
 
-static void pass(uint64_t by) {
-    if (by > 0 && cip_tick(&device, (uint16_t)by) == CIP_DONE)
-        take_outputs();
+/* The device is told the time, before a frame or a command; whether it took all of it. */
+static bool tell_time(uint64_t now) {
+    told = pass_time(&device, told, now, take_outputs);
+    return told >= now;
 }
 
 /* Runs for at most so long, or until the last op is answered; what is due is done each interval. */
 static void run(uint64_t for_ms, bool until_answer, void (*each_interval)(void)) {
-    uint64_t last = milliseconds(), end = last + for_ms, due = last * 1000;
-    while (last < end && !(until_answer && answer != 0)) {
+    uint64_t now = milliseconds(), end = now + for_ms, due = now * 1000;
+    while (now < end && !(until_answer && answer != 0)) {
         struct pollfd fds[] = {{tcp, POLLIN, 0}, {data_socket, POLLIN, 0}};
-        poll(fds, 2, wait_until(due, last * 1000, MOST_WAIT));
+        poll(fds, 2, wait_until(due, now * 1000, MOST_WAIT));
+        now = milliseconds();
+        if (!tell_time(now))
+            continue; /* the frames wait until the time is taken */
         if (fds[0].revents)
             from_target();
         if (fds[1].revents & POLLIN)
             from_data();
-        uint64_t now = milliseconds();
-        pass(now - last);
-        last = now;
         if (due > now * 1000)
             continue;
         if (each_interval != 0)
@@ -204,6 +206,7 @@ static void send_or_open(void) {
 /* One request along the path; whether it succeeded. */
 static bool ask(const uint8_t *request, size_t length) {
     answer = 0;
+    tell_time(milliseconds());
     if (cip_send(&device, ++ops, timing, path, path_length, request, length) == CIP_DONE)
         take_outputs();
     run(3000, true, 0);
@@ -271,6 +274,7 @@ int main(int count, char **words) {
     if (count > 6)
         data_log = log_at(words[6]);
     own_serial = ntohl(at_address(own, 0).sin_addr.s_addr);
+    told = milliseconds();
     if (make_device() != CIP_DONE)
         return 1;
     tcp = bound(SOCK_STREAM, own, 0);
@@ -290,6 +294,7 @@ int main(int count, char **words) {
     answer = 0;
     run(count > 3 ? strtoull(words[3], 0, 10) : 1000, false, send_or_open);
     answer = 0;
+    tell_time(milliseconds());
     if (open_op != 0 && cip_close(&device, ++ops, open_op, timing) == CIP_DONE)
         take_outputs();
     run(3000, true, 0);

@@ -24,6 +24,8 @@ int main(void) {
     uint32_t status = cip_new(&device, &config, (const uint8_t *)"E", 1, (const uint8_t *)"EA", 2,
                               &port, 1, &assembly, 1);
     if (status == CIP_DONE)
+        status = cip_tick(&device, 5); /* the time that went by, before the frame that came */
+    if (status == CIP_DONE)
         status = cip_request(&device, 2, scanner, 1, 1, get_all, sizeof get_all);
     while (status == CIP_DONE && cip_next(&device, &output, bytes, sizeof bytes) == CIP_DONE) {
         printf("output %u to port %u address %u:", output.kind, output.port, output.to[0]);

@@ -7,3 +7,4 @@ pub mod Given
 pub mod Reads
 pub mod Rows
 pub mod Deadlines
+pub mod Incarnations

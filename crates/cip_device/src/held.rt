@@ -1,6 +1,7 @@
 //! What lies on the heap behind a handle.
 ghost use Rattle.std.specs.Prelude.{◌≡◌, ◌≢◌, ◌↔◌, ℕ, ◌<◌, ◌≤◌, [], true, length, find, option_map, Some, IfOk};
 ghost use Rattle.cip_indexed.specs.NewModules.{config_of_new, state_of_new};
+ghost use Rattle.cip_base.specs.Counts.{incarnation};
 ghost use Rattle.cip_hops.specs.Hops.{is_past};
 ghost use Rattle.cip_module.specs.Deadlines.{is_any_due};
 ghost use Rattle.cip_module.specs.State.{initial_state};
@@ -11,6 +12,7 @@ ghost use Rattle.cip_device.specs.Outputs.{IsNext, IsNextOutline, next_length};
 ghost use Rattle.cip_device.specs.Reads.{is_row_of, IsRead, IsCounted, HasNone};
 ghost use Rattle.cip_device.specs.Rows.{IsConnectionAt, IsPendingAt, NoConnectionAt, NoPendingAt};
 ghost use Rattle.cip_device.specs.Deadlines.{IsSoonest, IsAtRest};
+ghost use Rattle.cip_device.specs.Incarnations.{AreIncarnations};
 ghost use Rattle.cip_device.specs.Statuses.{IsNextStatus, IsReadStatus, IsStepStatus, IsTableStatus};
 
 use crate::deadlines::milliseconds_until;
@@ -57,6 +59,28 @@ fn module_now(module_: &NewModule) -> u64
         NewModule::Plain(inner) => inner.as_ref().now(),
         NewModule::Adapter(inner) => inner.as_ref().now(),
         NewModule::Indexed(inner) => inner.as_ref().now(),
+    }
+}
+
+// The incarnation of the connection ids of a module of any kind.
+fn module_id_incarnation(module_: &NewModule) -> u16
+    ensures { result ≡ incarnation (state_of_new module_.now).hops.next }
+{
+    match module_ {
+        NewModule::Plain(inner) => inner.as_ref().id_incarnation(),
+        NewModule::Adapter(inner) => inner.as_ref().id_incarnation(),
+        NewModule::Indexed(inner) => inner.as_ref().id_incarnation(),
+    }
+}
+
+// The incarnation of the request numbers of a module of any kind.
+fn module_number_incarnation(module_: &NewModule) -> u16
+    ensures { result ≡ incarnation (state_of_new module_.now).pendings.next }
+{
+    match module_ {
+        NewModule::Plain(inner) => inner.as_ref().number_incarnation(),
+        NewModule::Adapter(inner) => inner.as_ref().number_incarnation(),
+        NewModule::Indexed(inner) => inner.as_ref().number_incarnation(),
     }
 }
 
@@ -228,5 +252,13 @@ impl Held {
         };
         *milliseconds = milliseconds_until(module_now(&self.module_), deadline);
         DONE
+    }
+
+    /// The incarnations of the connection ids and of the request numbers.
+    pub(crate) fn incarnation(&self, ids: &mut u16, numbers: &mut u16)
+        ensures { AreIncarnations (shown_of self.now) ids.new numbers.new }
+    {
+        *ids = module_id_incarnation(&self.module_);
+        *numbers = module_number_incarnation(&self.module_);
     }
 }

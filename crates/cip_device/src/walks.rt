@@ -1,11 +1,13 @@
-//! What C reads of a device's tables: connections, requests that wait, and the next deadline.
+//! What C reads of a device's tables: connections, requests that wait, the next deadline, and the
+//! incarnations.
 ghost use Rattle.std.specs.Prelude.{◌≡◌};
 ghost use Rattle.cip_device.specs.Deadlines.{IsDeadlineAnswer};
+ghost use Rattle.cip_device.specs.Incarnations.{IsIncarnationAnswer};
 ghost use Rattle.cip_device.specs.Rows.{IsConnectionAnswer, IsPendingAnswer};
 ghost use Rattle.cip_device.specs.Shown.{shown};
 
 use crate::handle::CipDevice;
-use crate::numbers::NO_DEVICE;
+use crate::numbers::{DONE, NO_DEVICE};
 use crate::rows::{CipConnectionRow, CipPendingRow};
 use std::alloc::Global;
 use std::mem::replace;
@@ -64,4 +66,23 @@ pub extern "C" fn cip_next_deadline(
     let status = held.as_ref().next_deadline(milliseconds);
     *device = CipDevice::of(held);
     status
+}
+
+/// Tells the incarnations in which connection ids and request numbers are drawn.
+#[unsafe(no_mangle)]
+pub extern "C" fn cip_incarnation(
+    alloc: Global,
+    device: &mut CipDevice,
+    ids: &mut u16,
+    numbers: &mut u16,
+) -> u32
+    ensures kept { shown device.new.held ≡ shown device.old.held }
+    ensures answer { IsIncarnationAnswer result (shown device.old.held) ids.new numbers.new }
+{
+    let Some(held) = replace(device, CipDevice::empty(alloc)).into_box() else {
+        return NO_DEVICE;
+    };
+    held.as_ref().incarnation(ids, numbers);
+    *device = CipDevice::of(held);
+    DONE
 }

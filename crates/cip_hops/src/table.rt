@@ -7,6 +7,7 @@ ghost use Rattle.std.specs.FinMap as map;
 ghost use Rattle.slab.specs.Slab.{get as get_record};
 ghost use Rattle.cip_base.specs.Joined.{passes};
 ghost use Rattle.cip_base.specs.Counts.{count_of};
+ghost use Rattle.cip_base.specs.Counts as counts;
 ghost use Rattle.cip_base.specs.declared.triad.Triad.{Triad as Triads};
 ghost use Rattle.cip_hops.specs.declared.hop.Side.TheVariants.{Up, Down};
 ghost use Rattle.cip_hops.specs.Sides.{op_of};
@@ -366,11 +367,18 @@ impl HopTable {
         self.records.look_ahead(first);
     }
 
+    /// The incarnation of the ids that come next: the high 16 bits of the last that was given.
+    pub fn incarnation(&self) -> u16
+        ensures { result ≡ counts.incarnation self.now.next }
+    {
+        incarnation(self.next) as u16
+    }
+
     /// Whether a reset can follow: an incarnation is left after this one.
     pub fn can_reset(&self) -> bool
         ensures { result ≡ has_next_incarnation self.now }
     {
-        incarnation(self.next) < LAST_INCARNATION
+        u64::from(self.incarnation()) < LAST_INCARNATION
     }
 
     /// Removes all openings and hops, and begins the next incarnation with count 1. The room stays,

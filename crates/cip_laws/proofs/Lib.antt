@@ -44,3 +44,4 @@ pub mod Runs
 pub mod ProducedStand
 pub mod FailuresRead
 pub mod DataOnce
+pub mod Again

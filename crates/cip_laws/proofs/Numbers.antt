@@ -96,7 +96,7 @@ fewer_left : (config : ModuleSettings) (n : ℕ) (s : State) (asked : Request) (
 fewer_left config n s asked true = later_fewer s.pendings.next (reborn s.pendings.next) n (reborn_above s.pendings.next)
 fewer_left config n s asked false = omega arith
 
-numbers_each : (config : ModuleSettings) (n : ℕ) (s : State) (e : Effect)
+pub numbers_each : (config : ModuleSettings) (n : ℕ) (s : State) (e : Effect)
     → weight_in (is_request n) (output_of config s e) + undrawn n (apply config s e) ≤ undrawn n s + 0
 numbers_each config n s (Replies v bytes) = let none = no_request_up n v bytes in omega (arith, none)
 numbers_each config n s (Answers v request) =
@@ -115,15 +115,15 @@ numbers_each config n s e = omega arith
 
 -- ---- the number of a request
 
-mark_small : (b : Bool) → mark b ≤ 1
+pub mark_small : (b : Bool) → mark b ≤ 1
 mark_small true = omega arith
 mark_small false = omega arith
 
-mark_one : (b : Bool) → 1 ≤ mark b → b ≡ true
+pub mark_one : (b : Bool) → 1 ≤ mark b → b ≡ true
 mark_one true h = refl
 mark_one false h = absurd (omega (arith, h))
 
-mark_none : (b : Bool) → mark b ≡ 0 → b ≡ false
+pub mark_none : (b : Bool) → mark b ≡ 0 → b ≡ false
 mark_none true h = absurd (omega (arith, h))
 mark_none false h = refl
 

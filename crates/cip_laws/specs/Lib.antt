@@ -1,3 +1,4 @@
+pub mod Resets
 pub mod Tells
 pub mod Histories
 pub mod Births

@@ -8,8 +8,9 @@ mod views;
 
 pub use effects::{effects_change_the_tables, effects_tell, outputs_come_from_effects};
 pub use histories::{
-    connections_are_opened_by_successes, ids_are_born_once, numbers_are_born_once,
-    ops_are_done_once, requests_are_replied_once, requests_stem_from_turns, tables_stay_in_order,
+    a_reset_begins_anew, connections_are_opened_by_successes, ids_are_born_once,
+    numbers_are_born_once, ops_are_done_once, ops_end_once, requests_are_replied_once,
+    requests_stem_from_turns, tables_stay_in_order,
 };
 pub use messages::{
     data_go_on, failures_are_read_back, failures_have_a_status,

@@ -1,5 +1,6 @@
 //! A module with one port that answers, and sends no request on.
 ghost use Rattle.std.specs.Prelude.{◌≡◌, ℕ, IfOk};
+ghost use Rattle.cip_base.specs.Counts.{incarnation};
 ghost use Rattle.cip_hops.specs.Hops.{is_past};
 ghost use Rattle.cip_module.specs.Deadlines.{is_any_due};
 ghost use Rattle.cip_config.specs.declared.config.ModuleKind.{ModuleKind as Kind};
@@ -44,6 +45,20 @@ impl AdapterModule {
         ensures { (time : ℕ) → is_past time result ≡ is_any_due time (state_of_adapter self.now) }
     {
         self.device.first_deadline()
+    }
+
+    /// The incarnation of the connection ids that it draws: the high 16 bits of the last.
+    pub fn id_incarnation(&self) -> u16
+        ensures { result ≡ incarnation (state_of_adapter self.now).hops.next }
+    {
+        self.device.id_incarnation()
+    }
+
+    /// The incarnation of the request numbers that it draws: the high 16 bits of the last.
+    pub fn number_incarnation(&self) -> u16
+        ensures { result ≡ incarnation (state_of_adapter self.now).pendings.next }
+    {
+        self.device.number_incarnation()
     }
 }
 

@@ -94,6 +94,20 @@ impl Device {
         }
     }
 
+    /// The incarnation of the connection ids that it draws: the high 16 bits of the last.
+    pub fn id_incarnation(&self) -> u16
+        ensures { result ≡ incarnation (state_of_device self.now).hops.next }
+    {
+        self.hops.incarnation()
+    }
+
+    /// The incarnation of the request numbers that it draws: the high 16 bits of the last.
+    pub fn number_incarnation(&self) -> u16
+        ensures { result ≡ incarnation (state_of_device self.now).pendings.next }
+    {
+        self.pendings.incarnation()
+    }
+
     /// The row of the connection that a command of this op opened; NoMemory where an allocation is
     /// refused.
     pub fn row_by_op(&self, op: u32) -> Result<Option<HopRow>, NoMemory>

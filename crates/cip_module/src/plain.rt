@@ -1,6 +1,7 @@
 //! A module that originates, routes and answers. It decodes each message and writes what goes on
 //! anew.
 ghost use Rattle.std.specs.Prelude.{◌≡◌, ℕ, IfOk};
+ghost use Rattle.cip_base.specs.Counts.{incarnation};
 ghost use Rattle.cip_hops.specs.Hops.{is_past};
 ghost use Rattle.cip_module.specs.Deadlines.{is_any_due};
 ghost use Rattle.cip_config.specs.declared.config.ModuleKind.{ModuleKind as Kind};
@@ -46,6 +47,20 @@ impl PlainModule {
         ensures { (time : ℕ) → is_past time result ≡ is_any_due time (state_of_plain self.now) }
     {
         self.device.first_deadline()
+    }
+
+    /// The incarnation of the connection ids that it draws: the high 16 bits of the last.
+    pub fn id_incarnation(&self) -> u16
+        ensures { result ≡ incarnation (state_of_plain self.now).hops.next }
+    {
+        self.device.id_incarnation()
+    }
+
+    /// The incarnation of the request numbers that it draws: the high 16 bits of the last.
+    pub fn number_incarnation(&self) -> u16
+        ensures { result ≡ incarnation (state_of_plain self.now).pendings.next }
+    {
+        self.device.number_incarnation()
     }
 }
 

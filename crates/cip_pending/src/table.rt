@@ -5,6 +5,7 @@ ghost use Rattle.std.specs.Ordering.{nat_cmp};
 ghost use Rattle.std.specs.Option.{option_copied, option_to_list};
 ghost use Rattle.std.specs.FinMap as map;
 ghost use Rattle.slab.specs.Slab.{get as get_record};
+ghost use Rattle.cip_base.specs.Counts as counts;
 ghost use Rattle.cip_base.specs.Counts.{count_of};
 ghost use Rattle.cip_pending.specs.Pendings.{has_next_incarnation, reset, refusal, add_gives, added, waiting_at, without_if, IsWithout, is_due, first_due, due, rest, first_after, is_after, IsWithin};
 ghost use Rattle.cip_pending.specs.Quiet.{is_reached};
@@ -183,11 +184,18 @@ impl PendingTable {
         self.records.look_ahead(first);
     }
 
+    /// The incarnation of the numbers that come next: the high 16 bits of the last that was given.
+    pub fn incarnation(&self) -> u16
+        ensures { result ≡ counts.incarnation self.now.next }
+    {
+        incarnation(self.next) as u16
+    }
+
     /// Whether a reset can follow: an incarnation is left after this one.
     pub fn can_reset(&self) -> bool
         ensures { result ≡ has_next_incarnation self.now }
     {
-        incarnation(self.next) < LAST_INCARNATION
+        u64::from(self.incarnation()) < LAST_INCARNATION
     }
 
     /// Removes all requests, and begins the next incarnation with count 1. The room stays, and no

@@ -90,17 +90,19 @@ abbrev pub FitsWith : AssemblyMap → EndLink → Option Application → Type 0
 FitsWith m link None = ⊥
 FitsWith m link (Some a) = IsSomeAnd (map.get m link.config) (λ held. length held ≤ length a.bytes)
 
--- an open that fits has an application path, whose configuration bytes are at least as many as the assembly has
-pub fitting : (t : Ends) (o : Open) (link : EndLink) → row_at t o ≡ Ok link → FitsWith t.objects.assemblies link (application_of (segments_of o.path))
+-- an open that fits has an application path, whose configuration bytes are at least as many as the assembly has, whatever is owned
+pub fits_row : (m : AssemblyMap) (owned : ℕ → Bool) (o : Open) (link : EndLink) → end_row m owned o ≡ Ok link
+    → FitsWith m link (application_of (segments_of o.path))
 unfolding end_row
-fitting t o link e =
-    elim (application_of (segments_of o.path)) as (λ (p : Option Application). application_row t.objects.assemblies (λ i. is_some (map.get t.owners i)) o.fields
-    p ≡ Ok link → FitsWith t.objects.assemblies link p) [
+fits_row m owned o link e =
+    elim (application_of (segments_of o.path)) as (λ (p : Option Application). application_row m owned o.fields p ≡ Ok link → FitsWith m link p) [
       | None ↦ λ e. cc
-      | Some a ↦ λ e. held_fits t.objects.assemblies o.fields a link
-          (sized_fits (λ i. is_some (map.get t.owners i)) o.fields a (size_in t.objects.assemblies a.config) (size_in t.objects.assemblies a.consume)
-          (size_in t.objects.assemblies a.produce) link e)
+      | Some a ↦ λ e. held_fits m o.fields a link
+          (sized_fits owned o.fields a (size_in m a.config) (size_in m a.consume) (size_in m a.produce) link e)
     ] e
+
+pub fitting : (t : Ends) (o : Open) (link : EndLink) → row_at t o ≡ Ok link → FitsWith t.objects.assemblies link (application_of (segments_of o.path))
+fitting t o link e = fits_row t.objects.assemblies (λ i. is_some (map.get t.owners i)) o link e
 
 -- ---- as `accept` does it
 

@@ -22,7 +22,7 @@ pub use chassis::CHASSIS;
 pub use fault::{LoadFault, Syntax};
 pub use found::{Excerpt, Found};
 pub use key::Key;
-pub use laws::{the_way_back_leads_back, walks_go_by_hops};
+pub use laws::{the_way_back_leads_back, walks_go_by_hops, what_keeps_every_rule_is_loaded};
 pub use limits::{MAX_LINKS, MAX_MODULES};
 pub use links::Link;
 pub use loading::load;

@@ -18,7 +18,9 @@ use Rattle.cip_module.specs.ReplyRows as reply
 use Rattle.cip_module.specs.State.{State}
 use Rattle.cip_module.specs.Table.{Stepped, reply_effects, table_step}
 use Rattle.cip_laws.specs.Turns.{Has}
+use Rattle.cip_laws.specs.Histories.{Turn, IsHistory}
 use Rattle.cip_laws.proofs.Dones.{done_once}
+use Rattle.cip_laws.proofs.EndsOnce.{ended_once, last_of}
 use Rattle.cip_topology.specs.Plan.{Plan}
 use Rattle.cip_world.specs.declared.journal.FrameName.{FrameName}
 use Rattle.cip_world.specs.declared.journal.Input.{Input}
@@ -84,6 +86,9 @@ replies_tell t j run = record {
   once = λ m config is port n from. replied_once t j m config run is port n from;
   after = λ m config is port n from h. replied_after t j m config run is port n from h;
   done = λ m config is op. let all = done_once op config (part m j) (run_history t.plan j m config run is) in omega (arith, all);
+  ended = λ m config is op. ended_once op config (part m j) (run_history t.plan j m config run is);
+  last = λ m config is later before turn parted op has.
+      last_of op config later before turn (subst (λ (turns : List Turn). IsHistory config turns) parted (run_history t.plan j m config run is)) has;
   answers = λ k s f port n from bytes input event.
       answers t s.before f s.at.0 port n from bytes s.taken.event (run_before t.plan j k run s) event
       (given_arrival t.plan s.before s.at.0 s.input s.taken.event f port from s.taken.given input);
