@@ -1,4 +1,5 @@
 //! The data group.
 
 pub(crate) mod outputs;
+pub(crate) mod room;
 pub(crate) mod steps;

@@ -1,5 +1,5 @@
-//! A module that originates, routes and answers. It decodes each message and writes what goes on
-//! anew.
+//! A module that originates, routes and answers. It decodes each request and reply and writes what
+//! goes on of it anew; the bytes of a datum and of an Enter go on as they are.
 ghost use Rattle.std.specs.Prelude.{◌≡◌, ℕ, IfOk};
 ghost use Rattle.cip_base.specs.Counts.{incarnation};
 ghost use Rattle.cip_hops.specs.Hops.{is_past};
@@ -16,8 +16,9 @@ use cip_config::{ModuleConfig, ModuleKind};
 use cip_event::{Event, Output};
 use std::alloc::Global;
 
-/// A module that originates, routes and answers. It decodes each message and writes what goes on
-/// anew.
+/// A module that originates, routes and answers. It decodes each request and reply and writes what
+/// goes on of it anew; the bytes of a datum and of an Enter go on as they are, in the buffer in
+/// which they came, or in one of their length where it has room for more than twice as many and 16.
 #[derive(Drop)]
 pub struct PlainModule {
     pub(crate) device: Device,

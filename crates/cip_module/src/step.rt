@@ -13,6 +13,7 @@ ghost use Rattle.cip_event.specs.declared.event.Output.TheVariants as outputs;
 ghost use Rattle.cip_event.specs.declared.event.Command.TheVariants.{Enter};
 
 use crate::contract::StepFault;
+use crate::data::room::fitted;
 use crate::device::Device;
 use crate::making::Making;
 use crate::reaction::{Edit, Reaction};
@@ -97,7 +98,8 @@ impl Device {
         }
     }
 
-    // A frame that holds a datum, whose bytes go on or up as they are.
+    // A frame that holds a datum, whose bytes go on or up as they are, but for a buffer with far
+    // more room than bytes. All memory is taken before anything changes.
     fn datum(
         &mut self,
         port: PortNumber,
@@ -116,8 +118,16 @@ impl Device {
             let body = Body::Data { id, bytes };
             return Err(StepFault::NoMemory(Event::Frame { port, from, body }));
         };
-        outputs.push_reserved(self.take_datum(port, &from, id, bytes));
-        Ok(outputs)
+        match fitted(self.alloc, bytes) {
+            Ok(bytes) => {
+                outputs.push_reserved(self.take_datum(port, &from, id, bytes));
+                Ok(outputs)
+            }
+            Err(bytes) => {
+                let body = Body::Data { id, bytes };
+                Err(StepFault::NoMemory(Event::Frame { port, from, body }))
+            }
+        }
     }
 
     // An Enter.
@@ -131,8 +141,13 @@ impl Device {
         let Ok(mut outputs) = Vec::with_capacity(self.alloc, 1) else {
             return Err(StepFault::NoMemory(Event::Command(Command::Enter { of, bytes })));
         };
-        outputs.push_reserved(self.enter(of, bytes));
-        Ok(outputs)
+        match self.enter(of, bytes) {
+            Ok(output) => {
+                outputs.push_reserved(output);
+                Ok(outputs)
+            }
+            Err(bytes) => Err(StepFault::NoMemory(Event::Command(Command::Enter { of, bytes }))),
+        }
     }
 
     // A message, or a command but for an Enter.

@@ -1,5 +1,5 @@
 //! The command group: what a module's own application asks for.
-ghost use Rattle.std.specs.Prelude.{◌≡◌, ◌∷◌, [], ℕ, ◌≤◌, ◌<◌, ◌^◌, false, List, length};
+ghost use Rattle.std.specs.Prelude.{◌≡◌, ◌∷◌, [], ℕ, ◌≤◌, ◌<◌, ◌^◌, false, List, length, IfErr};
 ghost use Rattle.std.specs.Option.{option_to_list};
 ghost use Rattle.cip_open.specs.Open.{FitWidth};
 ghost use Rattle.cip_unconnected.specs.Unconnected.{Fits};
@@ -15,6 +15,7 @@ ghost use Rattle.cip_module.specs.Code.Does.{Handled, Handles};
 ghost use Rattle.cip_module.specs.Code.Reacts.{entered_output, ReactsWhole};
 
 use crate::data::outputs::datum_down;
+use crate::data::room::fitted;
 use crate::device::Device;
 use crate::making::Making;
 use crate::messages::no_bytes;
@@ -172,14 +173,16 @@ impl Device {
         Ok(datum_down(hop, no_bytes(self.alloc)))
     }
 
-    /// An Enter, whose bytes go on as they are. It takes no memory.
-    pub(crate) fn enter(&self, of: u32, bytes: Bytes) -> Output
-        ensures { Handled self.now self.now (enter_effects bytes (hop_by_op self.now.hops of))
-            (result ∷ []) }
+    /// An Enter, whose bytes go on as they are, but for a buffer with far more room than bytes.
+    /// They come back where memory is refused.
+    pub(crate) fn enter(&self, of: u32, bytes: Bytes) -> Result<Output, Bytes>
+        ensures done { Handles self.now self.now (enter_effects bytes (hop_by_op self.now.hops of))
+            result }
+        ensures back { IfErr result (λ back. back ≡ bytes) }
     {
         match self.entered(of, bytes.as_slice()) {
-            Ok(output) => output.filled(bytes),
-            Err(fault) => Output::Refused(fault),
+            Ok(output) => Ok(output.filled(fitted(self.alloc, bytes)?)),
+            Err(fault) => Ok(Output::Refused(fault)),
         }
     }
 
