@@ -239,9 +239,10 @@ uint32_t cip_pending(cip_device *device, size_t at, cip_pending_row *pending);
 
 /* How long nothing happens of itself: any shorter tick changes the time alone, and at a tick of
  * *milliseconds, which is at least 1, a request is given up or a connection expires. It may be more
- * than one cip_tick can take; what comes in before may change it. NOTHING only where no tick does
- * anything. Nothing changes, and outputs may wait. A call looks at all that is open and all that
- * waits once, and takes no memory. */
+ * than one cip_tick can take, and end past the last time of the clock, which no tick then reaches;
+ * what comes in before may change it. DONE exactly where a request waits for its time, or a side of
+ * a connection, NOTHING where none does: then no tick does anything. Nothing changes, and outputs
+ * may wait. A call looks at all that is open and all that waits once, and takes no memory. */
 uint32_t cip_next_deadline(cip_device *device, uint64_t *milliseconds);
 
 /* The incarnation in which the device draws its connection ids, and that in which it draws its

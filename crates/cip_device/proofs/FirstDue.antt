@@ -1,9 +1,9 @@
 -- What a tick does before the first deadline, and what at it.
-use Rattle.std.proofs.Common.{◌≡◌, ◌≢◌, ℕ, ◌+◌, ◌*◌, ◌^◌, ◌<◌, ◌≤◌, Bool, true, false, ◌||◌, List, [], ◌∷◌, ◌++◌, map, nat_lt, if◌then◌else◌, refl, sym, ap, ◌∙◌, IfSome, Option, Some, None}
+use Rattle.std.proofs.Common.{◌≡◌, ◌≢◌, ⊥, ℕ, ◌+◌, ◌*◌, ◌^◌, ◌<◌, ◌≤◌, Bool, true, false, ◌||◌, List, [], ◌∷◌, ◌++◌, map, nat_lt, if◌then◌else◌, refl, sym, ap, ◌∙◌, IfSome, Option, Some, None}
 use Rattle.std.specs.List.{filter, filter_map, cons_option, list_any}
 use Rattle.std.specs.Option.{option_map_or}
 use Rattle.std.specs.FinMap as finite
-use Rattle.std.proofs.lemmas.Bool.{le-leb, lt-leb}
+use Rattle.std.proofs.lemmas.Bool.{le-leb, lt-leb, le-ltb}
 use Rattle.cip_pending.specs.Pendings.{is_due, due}
 use Rattle.cip_base.specs.declared.triad.Triad.{Triad}
 use Rattle.cip_hops.specs.declared.hop.Hop.{Hop}
@@ -21,7 +21,7 @@ use Rattle.cip_module.specs.Table.{Stepped, table_step, after_effects, tick_effe
 use Rattle.cip_module.specs.Views.{row_of, hop_row_of}
 use Rattle.cip_module.proofs.TimeOuts.{ticked}
 use Rattle.cip_module.proofs.Walks.{due_open, opens}
-use Rattle.cip_device.specs.Deadlines.{is_given_up, is_silent, is_any_due, IsStill, IsSoonest}
+use Rattle.cip_device.specs.Deadlines.{is_given_up, is_silent, is_any_due, IsStill, IsSoonest, Waits}
 use Rattle.cip_device.specs.Rows.{pendings_of, connections_of}
 use Rattle.cip_device.specs.Shown.{Shown}
 
@@ -136,6 +136,10 @@ module _ (config : ModuleSettings) (s : State) (ms : ℕ) where
       let both = both_empty shown hop_timed_out (due then_at s.pendings) (hops.due then_at s.hops) (sym outputs_are ∙ none) in
       let never : true ≡ false = sym e ∙ due_none s then_at both.0 both.1 in cc)
 
+  -- past the clock's end there is no step
+  pub ended : 2 ^ 63 ≤ then_at → table_step config s (events.Tick ms) ≡ None
+  ended past = ap (λ b. after_effects config s (if b then Some (tick_effects s (1000 * ms)) else None)) (le-ltb then_at (2 ^ 63) past)
+
 -- ---- the first deadline
 
 -- the first time at which something is due, and the time that it is
@@ -150,6 +154,13 @@ module _ (s : Shown) (now : ℕ) (first : Option ℕ) (h : IsFirst s now first) 
   pub at_rest : first ≡ None → (ms : ℕ) → IsStill s ms
   at_rest none ms = still s.config s.state ms (sym (due_at (s.state.now + 1000 * ms)) ∙ ap (is_past (s.state.now + 1000 * ms)) none)
 
+  pub nothing_waits : first ≡ None → Waits s → ⊥
+  nothing_waits none waits =
+      let never : true ≡ false = sym waits.1 ∙ sym (h.due waits.0) ∙ ap (is_past waits.0) none in cc
+
+  pub something_waits : (deadline : ℕ) → first ≡ Some deadline → Waits s
+  something_waits deadline is = (deadline, sym (h.due deadline) ∙ ap (is_past deadline) is ∙ le-leb deadline deadline (omega arith))
+
   pub soonest : (deadline ms : ℕ) → first ≡ Some deadline → 0 < ms → deadline ≤ now + 1000 * ms
       → ((shorter : ℕ) → 0 < shorter → shorter < ms → now + 1000 * shorter < deadline) → IsSoonest s ms
   soonest deadline ms is some past least =
@@ -157,7 +168,10 @@ module _ (s : Shown) (now : ℕ) (first : Option ℕ) (h : IsFirst s now first) 
       ap (λ t. is_past (t + 1000 * k) first) (sym h.time_is) ∙ ap (is_past (now + 1000 * k)) is in
       record {
         some = some;
+        due = sym (h.due (s.state.now + 1000 * ms)) ∙ at ms ∙ le-leb deadline (now + 1000 * ms) past;
+        not_yet = λ k positive below. sym (h.due (s.state.now + 1000 * k)) ∙ at k ∙ lt-leb deadline (now + 1000 * k) (least k positive below);
         before = λ k positive below. still s.config s.state k
             (sym (due_at (s.state.now + 1000 * k)) ∙ at k ∙ lt-leb deadline (now + 1000 * k) (least k positive below));
         then_ = happens s.config s.state ms (sym (due_at (s.state.now + 1000 * ms)) ∙ at ms ∙ le-leb deadline (now + 1000 * ms) past);
+        past_the_end = ended s.config s.state ms;
       }

@@ -23,3 +23,7 @@ IsReadStatus result =
 -- to who reads a table: done, no device, refused memory, nothing
 abbrev pub IsTableStatus : ℕ → Type 0
 IsTableStatus result = (result ≡ 0) ⊎ ((result ≡ 1) ⊎ ((result ≡ 5) ⊎ (result ≡ 7)))
+
+-- to who asks for the next deadline: done, no device, nothing; it takes no memory
+abbrev pub IsDeadlineStatus : ℕ → Type 0
+IsDeadlineStatus result = (result ≡ 0) ⊎ ((result ≡ 1) ⊎ (result ≡ 7))

@@ -11,9 +11,9 @@ ghost use Rattle.cip_device.specs.Shown.{shown_of, IsDeviceStep, IsFull, IsReady
 ghost use Rattle.cip_device.specs.Outputs.{IsNext, IsNextOutline, next_length};
 ghost use Rattle.cip_device.specs.Reads.{is_row_of, IsRead, IsCounted, HasNone};
 ghost use Rattle.cip_device.specs.Rows.{IsConnectionAt, IsPendingAt, NoConnectionAt, NoPendingAt};
-ghost use Rattle.cip_device.specs.Deadlines.{IsSoonest, IsAtRest};
+ghost use Rattle.cip_device.specs.Deadlines.{IsSoonest, IsAtRest, Waits};
 ghost use Rattle.cip_device.specs.Incarnations.{AreIncarnations};
-ghost use Rattle.cip_device.specs.Statuses.{IsNextStatus, IsReadStatus, IsStepStatus, IsTableStatus};
+ghost use Rattle.cip_device.specs.Statuses.{IsDeadlineStatus, IsNextStatus, IsReadStatus, IsStepStatus, IsTableStatus};
 
 use crate::deadlines::milliseconds_until;
 use crate::numbers::{CLOCK_FULL, DONE, NO_MEMORY, NOTHING, SHORT, UNREAD};
@@ -245,7 +245,8 @@ impl Held {
         ensures done { result ≡ 0 → IsSoonest (shown_of self.now) milliseconds.new }
         ensures known { result ≢ 1 }
         ensures nothing { result ≡ 7 → IsAtRest (Some (shown_of self.now)) }
-        ensures among { IsTableStatus result }
+        ensures waits { (result ≡ 0) ↔ Waits (shown_of self.now) }
+        ensures among { IsDeadlineStatus result }
     {
         let Some(deadline) = module_deadline(&self.module_) else {
             return NOTHING;

@@ -1,6 +1,6 @@
 use Rattle.std.proofs.Common.{None, Some, refl}
 use Rattle.cip_device.specs.Shown.{shown_of}
-use Rattle.cip_device.proofs.FirstDue.{at_rest, soonest}
+use Rattle.cip_device.proofs.FirstDue.{at_rest, soonest, nothing_waits, something_waits}
 use Rattle.cip_device.proofs.held.Held.next_deadline.Goals as goal
 
 pub returns-in_default-clause-nothing : goal.returns-in_default-clause-nothing
