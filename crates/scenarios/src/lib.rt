@@ -18,6 +18,8 @@ mod explained_faults;
 #[cfg(test)]
 mod falling_silent;
 #[cfg(test)]
+mod keeping_room;
+#[cfg(test)]
 mod moving_data;
 #[cfg(test)]
 mod opening;
