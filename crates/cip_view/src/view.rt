@@ -4,7 +4,7 @@ ghost use Rattle.std.specs.Prelude.{◌≡◌, ℕ, List, []};
 use crate::pieces::Pieces;
 use cip_base::NoMemory;
 use cip_read::{Line, ReadFault, Reader};
-use memchr::memchr;
+use cip_words::line_end;
 use std::alloc::Global;
 
 /// How a transcript ends.
@@ -58,7 +58,7 @@ pub fn feed<V: View>(
     piece: &[u8],
 ) -> Result<(), ReadFault> {
     let mut rest = piece;
-    while let Some(end) = memchr(b'\n', rest) {
+    while let Some(end) = line_end(rest) {
         pieces.put(&rest[..end])?;
         take_line(alloc, reader, pieces, view)?;
         rest = &rest[end + 1..];
