@@ -279,7 +279,7 @@ fn put_note(text: &mut Draft, line: &[u8]) -> Result<(), NoMemory> {
         Ok(line) => put_word(text, "{\"note\":", line)?,
         Err(_) => text.put("{\"note\":null")?,
     }
-    text.put("}\n")
+    text.put("}")
 }
 
 // The ops that have not ended.
@@ -308,14 +308,16 @@ fn put_end(text: &mut Draft, book: &Book<'_>, ending: Ending) -> Result<(), NoMe
     text.put(",\"open\":[")?;
     put_ops(text, book)?;
     text.put_count("],\"waiting\":", book.waiting() as u64)?;
-    text.put("}}\n")
+    text.put("}}")
 }
 
-// An entry, with its end.
-fn put_whole(out: &mut String, entry: &Draft) -> Result<(), NoMemory> {
-    out.reserve(entry.len().saturating_add(3))?;
-    out.push_str(entry.as_str())?;
-    out.push_str("]}\n")?;
+// An object on a line of its own. Its memory is asked for at once, and that of the line's end
+// after it: where this is refused, the object stands alone.
+fn put_line(out: &mut String, object: &Draft, behind: &str) -> Result<(), NoMemory> {
+    out.reserve(object.len().saturating_add(behind.len()))?;
+    out.push_str(object.as_str())?;
+    out.push_str(behind)?;
+    out.push_str("\n")?;
     Ok(())
 }
 
@@ -352,7 +354,7 @@ impl<'a> JsonView<'a> {
         if self.entry.is_empty() {
             return Ok(());
         }
-        let result = put_whole(&mut self.out, &self.entry);
+        let result = put_line(&mut self.out, &self.entry, "]}");
         self.entry.clear();
         self.has_output = false;
         result
@@ -458,16 +460,14 @@ impl<'a> JsonView<'a> {
         self.put_entry()?;
         self.part.clear();
         put_note(&mut self.part, text)?;
-        self.out.push_str(self.part.as_str())?;
-        Ok(())
+        put_line(&mut self.out, &self.part, "")
     }
 
     fn take_end(&mut self, ending: Ending) -> Result<(), NoMemory> {
         self.put_entry()?;
         self.part.clear();
         put_end(&mut self.part, &self.book, ending)?;
-        self.out.push_str(self.part.as_str())?;
-        Ok(())
+        put_line(&mut self.out, &self.part, "")
     }
 }
 
