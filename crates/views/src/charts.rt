@@ -4,10 +4,10 @@ use crate::dice::Dice;
 use crate::made::transcript;
 use crate::old_chart::ChartView as OldChart;
 use crate::plants::{Shape, first_of, plant, rounds_of, run_of};
-use crate::shown::compare;
+use crate::shown::{compare, topology_of};
 use cip_base::ModuleId;
 use cip_chart::{ChartView, Cut};
-use cip_topology::{CHASSIS, Topology, load};
+use cip_topology::{CHASSIS, Topology};
 use cip_view::View;
 use std::alloc::{AllocError, Global};
 use std::process::Abort;
@@ -53,7 +53,60 @@ fn cut_of(alloc: Global, part: Part) -> Result<Cut, AllocError> {
     Ok(cut)
 }
 
-// The chart of a transcript is what it was, as SVG and as a page. It tells whether there is one.
+fn new_chart(
+    alloc: Global,
+    topology: &Topology,
+    part: Part,
+    is_page: bool,
+) -> Result<ChartView<'_>, AllocError> {
+    match ChartView::new(alloc, topology, cut_of(alloc, part)?, is_page) {
+        Ok(view) => Ok(view),
+        Err(_) => Err(AllocError),
+    }
+}
+
+fn old_chart(
+    alloc: Global,
+    topology: &Topology,
+    part: Part,
+    is_page: bool,
+) -> Result<OldChart<'_>, AllocError> {
+    match OldChart::new(alloc, topology, cut_of(alloc, part)?, is_page) {
+        Ok(view) => Ok(view),
+        Err(_) => Err(AllocError),
+    }
+}
+
+// Both charts of a transcript are the same. It tells whether there is one.
+fn compare_both(
+    rt: &impl Abort,
+    alloc: Global,
+    dice: &mut Dice,
+    topology: &Topology,
+    text: &str,
+    view: &mut ChartView<'_>,
+    other: &mut OldChart<'_>,
+) -> Result<bool, AllocError> {
+    compare(rt, alloc, dice, topology, text, view, other)?;
+    Ok(!view.written().is_empty())
+}
+
+// The chart of a transcript is what it was. It tells whether there is one.
+fn compare_chart(
+    rt: &impl Abort,
+    alloc: Global,
+    dice: &mut Dice,
+    topology: &Topology,
+    text: &str,
+    part: Part,
+    is_page: bool,
+) -> Result<bool, AllocError> {
+    let mut view = new_chart(alloc, topology, part, is_page)?;
+    let mut other = old_chart(alloc, topology, part, is_page)?;
+    compare_both(rt, alloc, dice, topology, text, &mut view, &mut other)
+}
+
+// The chart of a transcript is what it was, as SVG and as a page. Of a run there is one.
 fn compare_charts(
     rt: &impl Abort,
     alloc: Global,
@@ -61,53 +114,119 @@ fn compare_charts(
     topology: &Topology,
     text: &str,
     part: Part,
-) -> Result<bool, AllocError> {
-    let mut is_made = true;
-    for is_page in [false, true] {
-        let made = ChartView::new(alloc, topology, cut_of(alloc, part)?, is_page);
-        let kept = OldChart::new(alloc, topology, cut_of(alloc, part)?, is_page);
-        let (Ok(mut view), Ok(mut other)) = (made, kept) else {
-            return Err(AllocError);
-        };
-        compare(rt, alloc, dice, topology, text, &mut view, &mut other)?;
-        is_made = is_made && !view.written().is_empty();
-    }
-    Ok(is_made)
+    is_run: bool,
+) -> Result<(), AllocError> {
+    let is_drawn = compare_chart(rt, alloc, dice, topology, text, part, false)?;
+    let is_page = compare_chart(rt, alloc, dice, topology, text, part, true)?;
+    assert!(rt; !is_run || is_drawn && is_page, "no chart of:\n{text}");
+    Ok(())
 }
 
-#[test]
-fn charts_of_short_transcripts(rt: HostRuntime) -> Result<(), Fail> {
-    let alloc = rt.alloc();
-    let topology = load(alloc, CHASSIS).ok().ok_or("no chassis")?;
+// A short transcript, which may be no run.
+fn compare_short(
+    rt: &impl Abort,
+    alloc: Global,
+    dice: &mut Dice,
+    topology: &Topology,
+) -> Result<(), AllocError> {
+    let entries = dice.below(40).saturating_add(1);
+    let text = transcript(alloc, dice, entries)?;
+    let part = part_of(dice, 0, entries);
+    compare_charts(rt, alloc, dice, topology, text.as_str(), part, false)
+}
+
+fn compare_each_short(
+    rt: &impl Abort,
+    alloc: Global,
+    topology: &Topology,
+) -> Result<(), AllocError> {
     let mut dice = Dice(2);
     for _ in 0..200 {
-        let entries = dice.below(40).saturating_add(1);
-        let text = transcript(alloc, &mut dice, entries)?;
-        let part = part_of(&mut dice, 0, entries);
-        compare_charts(&rt, alloc, &mut dice, &topology, text.as_str(), part)?;
+        compare_short(rt, alloc, &mut dice, topology)?;
     }
     Ok(())
 }
 
 #[test]
-fn charts_of_runs(rt: HostRuntime) -> Result<(), Fail> {
+fn charts_of_short_transcripts(rt: HostRuntime) -> Result<(), Fail> {
     let alloc = rt.alloc();
+    let topology = topology_of(alloc, CHASSIS).ok_or("no chassis")?;
+    compare_each_short(&rt, alloc, &topology)?;
+    Ok(())
+}
+
+// The topology of a plant of so many modules.
+fn plant_of(alloc: Global, modules: usize) -> Result<Option<Topology>, AllocError> {
+    let text = plant(alloc, modules)?;
+    Ok(topology_of(alloc, text.as_str()))
+}
+
+// A run over a plant of so many modules.
+fn compare_run(
+    rt: &impl Abort,
+    alloc: Global,
+    dice: &mut Dice,
+    topology: &Topology,
+    modules: usize,
+) -> Result<(), AllocError> {
+    let shape = Shape {
+        modules,
+        entries: dice.below(120).saturating_add(1),
+        late: dice.below(60),
+        loops: dice.below(9).saturating_add(1),
+    };
+    let first = first_of(dice);
+    let text = run_of(alloc, dice, shape, first)?;
+    let part = part_of(dice, first, shape.entries);
+    compare_charts(rt, alloc, dice, topology, text.as_str(), part, true)
+}
+
+fn compare_run_of(
+    rt: &impl Abort,
+    alloc: Global,
+    dice: &mut Dice,
+    modules: usize,
+) -> Result<(), Fail> {
+    let topology = plant_of(alloc, modules)?.ok_or("no plant")?;
+    compare_run(rt, alloc, dice, &topology, modules)?;
+    Ok(())
+}
+
+#[test]
+fn charts_of_runs(rt: HostRuntime) -> Result<(), Fail> {
     let mut dice = Dice(3);
     for i in 0..60usize {
-        let modules = i % 12 + 1;
-        let made = plant(alloc, modules)?;
-        let topology = load(alloc, made.as_str()).ok().ok_or("no plant")?;
-        let shape = Shape {
-            modules,
-            entries: dice.below(120).saturating_add(1),
-            late: dice.below(60),
-            loops: dice.below(9).saturating_add(1),
-        };
-        let first = first_of(&mut dice);
-        let text = run_of(alloc, &mut dice, shape, first)?;
-        let part = part_of(&mut dice, first, shape.entries);
-        let is_made = compare_charts(&rt, alloc, &mut dice, &topology, text.as_str(), part)?;
-        assert!(&rt; is_made, "no chart of:\n{text}");
+        compare_run_of(&rt, rt.alloc(), &mut dice, i % 12 + 1)?;
+    }
+    Ok(())
+}
+
+// Rounds of so many entries.
+fn compare_cycle(
+    rt: &impl Abort,
+    alloc: Global,
+    dice: &mut Dice,
+    topology: &Topology,
+    length: usize,
+    rounds: usize,
+) -> Result<(), AllocError> {
+    let first = first_of(dice);
+    let text = rounds_of(alloc, dice, length, rounds, first)?;
+    let entries = rounds.saturating_mul(length);
+    let part = part_of(dice, first, entries);
+    compare_charts(rt, alloc, dice, topology, text.as_str(), part, true)
+}
+
+fn compare_each_cycle(
+    rt: &impl Abort,
+    alloc: Global,
+    topology: &Topology,
+) -> Result<(), AllocError> {
+    let mut dice = Dice(4);
+    for length in [1, 2, 3, 5, 47, 48, 49] {
+        for rounds in 1..6usize {
+            compare_cycle(rt, alloc, &mut dice, topology, length, rounds)?;
+        }
     }
     Ok(())
 }
@@ -115,18 +234,7 @@ fn charts_of_runs(rt: HostRuntime) -> Result<(), Fail> {
 #[test]
 fn charts_of_cycles(rt: HostRuntime) -> Result<(), Fail> {
     let alloc = rt.alloc();
-    let made = plant(alloc, 3)?;
-    let topology = load(alloc, made.as_str()).ok().ok_or("no plant")?;
-    let mut dice = Dice(4);
-    for length in [1, 2, 3, 5, 47, 48, 49] {
-        for rounds in 1..6usize {
-            let first = first_of(&mut dice);
-            let text = rounds_of(alloc, &mut dice, length, rounds, first)?;
-            let entries = rounds.saturating_mul(length);
-            let part = part_of(&mut dice, first, entries);
-            let is_made = compare_charts(&rt, alloc, &mut dice, &topology, text.as_str(), part)?;
-            assert!(&rt; is_made, "no chart of:\n{text}");
-        }
-    }
+    let topology = plant_of(alloc, 3)?.ok_or("no plant")?;
+    compare_each_cycle(&rt, alloc, &topology)?;
     Ok(())
 }

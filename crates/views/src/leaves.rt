@@ -1,9 +1,9 @@
 //! Statuses, services, bytes and names, each beside its form from before.
 use cip_decode::{
-    Pairs, PathText, decode_reply, decode_request, put_reply_json, put_request_json, reply_json,
-    request_json,
+    Pairs, PathText, Reply, Request, decode_reply, decode_request, put_reply_json,
+    put_request_json, reply_json, request_json,
 };
-use cip_segment::view_path;
+use cip_segment::{PathView, view_path};
 use cip_text::Draft;
 use cip_view::NameText;
 use std::alloc::{AllocError, Global};
@@ -40,15 +40,41 @@ impl fmt::Display for EachCharacter<'_> {
     }
 }
 
+// Both forms of a message are the same text.
+fn same(rt: &impl Abort, text: &str, tree: &str, bytes: &[u8]) {
+    assert!(rt; text == tree, "{}", Pairs(bytes));
+}
+
+fn request_put(alloc: Global, request: &Request<'_>) -> Result<Draft, AllocError> {
+    let mut text = Draft::new(alloc);
+    match put_request_json(&mut text, request) {
+        Ok(()) => Ok(text),
+        Err(_) => Err(AllocError),
+    }
+}
+
+fn request_tree(alloc: Global, request: &Request<'_>) -> Result<String, AllocError> {
+    request_json(alloc, request)?.to_string(alloc)
+}
+
+fn reply_put(alloc: Global, reply: &Reply<'_>) -> Result<Draft, AllocError> {
+    let mut text = Draft::new(alloc);
+    match put_reply_json(&mut text, reply) {
+        Ok(()) => Ok(text),
+        Err(_) => Err(AllocError),
+    }
+}
+
+fn reply_tree(alloc: Global, reply: &Reply<'_>) -> Result<String, AllocError> {
+    reply_json(alloc, reply)?.to_string(alloc)
+}
+
 // A request is the same in both forms; one that can't be read has none.
 fn compare_request(rt: &impl Abort, alloc: Global, bytes: &[u8]) -> Result<(), AllocError> {
     if let Ok(request) = decode_request(bytes) {
-        let mut text = Draft::new(alloc);
-        if put_request_json(&mut text, &request).is_err() {
-            return Err(AllocError);
-        }
-        let tree = request_json(alloc, &request)?.to_string(alloc)?;
-        assert!(rt; text.as_str() == tree.as_str(), "{}", Pairs(bytes));
+        let text = request_put(alloc, &request)?;
+        let tree = request_tree(alloc, &request)?;
+        same(rt, text.as_str(), tree.as_str(), bytes);
     }
     Ok(())
 }
@@ -56,12 +82,9 @@ fn compare_request(rt: &impl Abort, alloc: Global, bytes: &[u8]) -> Result<(), A
 // A reply likewise.
 fn compare_reply(rt: &impl Abort, alloc: Global, bytes: &[u8]) -> Result<(), AllocError> {
     if let Ok(reply) = decode_reply(bytes) {
-        let mut text = Draft::new(alloc);
-        if put_reply_json(&mut text, &reply).is_err() {
-            return Err(AllocError);
-        }
-        let tree = reply_json(alloc, &reply)?.to_string(alloc)?;
-        assert!(rt; text.as_str() == tree.as_str(), "{}", Pairs(bytes));
+        let text = reply_put(alloc, &reply)?;
+        let tree = reply_tree(alloc, &reply)?;
+        same(rt, text.as_str(), tree.as_str(), bytes);
     }
     Ok(())
 }
@@ -81,19 +104,33 @@ fn each_service_and_status_as_json(rt: HostRuntime) -> Result<(), Fail> {
     Ok(())
 }
 
+// What is shown is as it was.
+fn as_each(rt: &impl Abort, text: &str, each: &str) {
+    assert!(rt; text == each, "{text} and not {each}");
+}
+
+fn compare_pairs(rt: &impl Abort, alloc: Global, bytes: &[u8]) -> Result<(), AllocError> {
+    let pairs = format!(in alloc; "{}", Pairs(bytes))?;
+    let each = format!(in alloc; "{}", EachPair(bytes))?;
+    as_each(rt, pairs.as_str(), each.as_str());
+    Ok(())
+}
+
+fn compare_name(rt: &impl Abort, alloc: Global, bytes: &[u8]) -> Result<(), AllocError> {
+    let name = format!(in alloc; "{}", NameText(bytes))?;
+    let each = format!(in alloc; "{}", EachCharacter(bytes))?;
+    as_each(rt, name.as_str(), each.as_str());
+    Ok(())
+}
+
 #[test]
 fn pairs_and_names_as_one_by_one(rt: HostRuntime) -> Result<(), Fail> {
     let alloc = rt.alloc();
-    let mut bytes = Vec::new(alloc);
+    let mut bytes = [0u8; 300];
     for i in 0..300usize {
-        let slice = bytes.as_slice();
-        let pairs = format!(in alloc; "{}", Pairs(slice))?;
-        let each = format!(in alloc; "{}", EachPair(slice))?;
-        assert!(&rt; pairs.as_str() == each.as_str(), "{i} bytes");
-        let name = format!(in alloc; "{}", NameText(slice))?;
-        let characters = format!(in alloc; "{}", EachCharacter(slice))?;
-        assert!(&rt; name.as_str() == characters.as_str(), "{i} bytes");
-        bytes.push((i % 256) as u8)?;
+        compare_pairs(&rt, alloc, &bytes[..i])?;
+        compare_name(&rt, alloc, &bytes[..i])?;
+        bytes[i] = (i % 256) as u8;
     }
     Ok(())
 }
@@ -128,18 +165,37 @@ fn symbol_of(alloc: Global, first: u8, count: u8) -> Result<Vec<u8>, AllocError>
     Ok(bytes)
 }
 
+// A path of one symbol of so many characters.
+fn compare_symbol(
+    rt: &impl Abort,
+    alloc: Global,
+    path: PathView<'_>,
+    name: &[u8],
+) -> Result<(), AllocError> {
+    let text = format!(in alloc; "{}", PathText(path))?;
+    let each = format!(in alloc; "{}", EachOfSymbol(name))?;
+    as_each(rt, text.as_str(), each.as_str());
+    Ok(())
+}
+
+fn compare_path(rt: &impl Abort, alloc: Global, bytes: &[u8], count: u8) -> Result<(), Fail> {
+    let path = view_path(bytes).ok().ok_or("no path")?;
+    let name = bytes.get(2..2 + usize::from(count)).ok_or("no name")?;
+    compare_symbol(rt, alloc, path, name)?;
+    Ok(())
+}
+
+fn compare_symbol_of(rt: &impl Abort, alloc: Global, first: u8, count: u8) -> Result<(), Fail> {
+    let bytes = symbol_of(alloc, first, count)?;
+    compare_path(rt, alloc, bytes.as_slice(), count)
+}
+
 #[test]
 fn symbols_as_one_by_one(rt: HostRuntime) -> Result<(), Fail> {
     let alloc = rt.alloc();
     for first in 0..=255u8 {
         for count in 1..40u8 {
-            let bytes = symbol_of(alloc, first, count)?;
-            let path = view_path(bytes.as_slice()).ok().ok_or("no path")?;
-            let text = format!(in alloc; "{}", PathText(path))?;
-            let end = 2 + usize::from(count);
-            let name = bytes.as_slice().get(2..end).ok_or("no name")?;
-            let each = format!(in alloc; "{}", EachOfSymbol(name))?;
-            assert!(&rt; text.as_str() == each.as_str(), "{count} from {first}");
+            compare_symbol_of(&rt, alloc, first, count)?;
         }
     }
     Ok(())

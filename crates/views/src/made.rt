@@ -166,10 +166,17 @@ fn put_entry(text: &mut String, dice: &mut Dice, number: usize) -> Result<(), Al
     }
 }
 
-/// A transcript of so many entries, over the chassis. One in some has a faulty line, or is cut
-/// within a line, or begins within an entry.
-pub fn transcript(alloc: Global, dice: &mut Dice, entries: usize) -> Result<String, AllocError> {
-    let mut text = String::new(alloc);
+// The outputs of an entry.
+fn put_outputs(text: &mut String, dice: &mut Dice) -> Result<(), AllocError> {
+    for k in 0..dice.below(4) {
+        write!(text, "  {k} ")?;
+        put_output(text, dice)?;
+        text.push_str("\n")?;
+    }
+    Ok(())
+}
+
+fn put_transcript(text: &mut String, dice: &mut Dice, entries: usize) -> Result<(), AllocError> {
     let first = if dice.is_rare(3) {
         dice.below(1_000)
     } else {
@@ -179,13 +186,9 @@ pub fn transcript(alloc: Global, dice: &mut Dice, entries: usize) -> Result<Stri
     let begin = if dice.is_rare(4) { 0 } else { 1 };
     for i in 0..entries {
         if begin <= i {
-            put_entry(&mut text, dice, first.saturating_add(i))?;
+            put_entry(text, dice, first.saturating_add(i))?;
         }
-        for k in 0..dice.below(4) {
-            write!(text, "  {k} ")?;
-            put_output(&mut text, dice)?;
-            text.push_str("\n")?;
-        }
+        put_outputs(text, dice)?;
         if dice.is_rare(6) {
             writeln!(text, "{}", dice.one_of(NOTES))?;
         }
@@ -196,5 +199,13 @@ pub fn transcript(alloc: Global, dice: &mut Dice, entries: usize) -> Result<Stri
     if dice.is_rare(3) {
         text.push_str("  0 send 2 05 req")?;
     }
+    Ok(())
+}
+
+/// A transcript of so many entries, over the chassis. One in some has a faulty line, or is cut
+/// within a line, or begins within an entry.
+pub fn transcript(alloc: Global, dice: &mut Dice, entries: usize) -> Result<String, AllocError> {
+    let mut text = String::new(alloc);
+    put_transcript(&mut text, dice, entries)?;
     Ok(text)
 }

@@ -51,10 +51,7 @@ const TICKS: &[&str] = &[
 
 const NUMBERS: &[&str] = &["0", "9", "10", "99", "100", "9999", "10000", "4294967295"];
 
-/// A topology of so many modules, at most as many as there are addresses. Every third one has a
-/// second port.
-pub fn plant(alloc: Global, modules: usize) -> Result<String, AllocError> {
-    let mut text = String::new(alloc);
+fn put_plant(text: &mut String, modules: usize) -> Result<(), AllocError> {
     text.push_str("[[link]]\nname = \"net-1\"\nkind = \"text\"\nlongest = 16\n")?;
     text.push_str("[[link]]\nname = \"net_2\"\nkind = \"byte\"\nfirst = 0\nlast = 255\n")?;
     for (i, address) in ADDRESSES.iter().take(modules).enumerate() {
@@ -69,6 +66,14 @@ pub fn plant(alloc: Global, modules: usize) -> Result<String, AllocError> {
             write!(text, "address = \"{i:02X}\"\n")?;
         }
     }
+    Ok(())
+}
+
+/// A topology of so many modules, at most as many as there are addresses. Every third one has a
+/// second port.
+pub fn plant(alloc: Global, modules: usize) -> Result<String, AllocError> {
+    let mut text = String::new(alloc);
+    put_plant(&mut text, modules)?;
     Ok(text)
 }
 
@@ -152,6 +157,52 @@ fn put_head(
     Ok(at)
 }
 
+// An output of this number: one of any kind, or a frame that is then on its way.
+fn put_sent(
+    text: &mut String,
+    dice: &mut Dice,
+    flying: &mut Vec<Flying>,
+    shape: Shape,
+    at: usize,
+    frame: Flying,
+) -> Result<(), AllocError> {
+    if dice.is_rare(3) {
+        return put_output(text, dice);
+    }
+    // one address more than there are modules
+    let other = dice.below(shape.modules.saturating_add(1));
+    let to = if dice.is_rare(shape.loops) { at } else { other };
+    put_send(text, dice, to)?;
+    if to < shape.modules {
+        flying.push(Flying { to, ..frame })?;
+    }
+    Ok(())
+}
+
+fn put_run(
+    text: &mut String,
+    dice: &mut Dice,
+    flying: &mut Vec<Flying>,
+    shape: Shape,
+    first: u64,
+) -> Result<(), AllocError> {
+    for i in 0..shape.entries {
+        let number = first.saturating_add(i as u64);
+        let at = put_head(text, dice, flying, shape, number)?;
+        for k in 0..dice.below(3) {
+            let frame = Flying {
+                entry: number,
+                output: k,
+                to: at,
+            };
+            write!(text, "  {k} ")?;
+            put_sent(text, dice, flying, shape, at, frame)?;
+            text.push_str("\n")?;
+        }
+    }
+    Ok(())
+}
+
 /// The transcript of a run over a plant, with frames that arrive long after they were sent.
 pub fn run_of(
     alloc: Global,
@@ -161,29 +212,7 @@ pub fn run_of(
 ) -> Result<String, AllocError> {
     let mut text = String::new(alloc);
     let mut flying = Vec::new(alloc);
-    for i in 0..shape.entries {
-        let number = first.saturating_add(i as u64);
-        let at = put_head(&mut text, dice, &mut flying, shape, number)?;
-        for k in 0..dice.below(3) {
-            write!(text, "  {k} ")?;
-            if dice.is_rare(3) {
-                put_output(&mut text, dice)?;
-            } else {
-                // one address more than there are modules
-                let other = dice.below(shape.modules.saturating_add(1));
-                let to = if dice.is_rare(shape.loops) { at } else { other };
-                put_send(&mut text, dice, to)?;
-                if to < shape.modules {
-                    flying.push(Flying {
-                        entry: number,
-                        output: k,
-                        to,
-                    })?;
-                }
-            }
-            text.push_str("\n")?;
-        }
-    }
+    put_run(&mut text, dice, &mut flying, shape, first)?;
     Ok(text)
 }
 
@@ -214,6 +243,25 @@ fn put_round(
     Ok(())
 }
 
+fn put_rounds(
+    text: &mut String,
+    dice: &mut Dice,
+    length: usize,
+    rounds: usize,
+    first: u64,
+) -> Result<(), AllocError> {
+    let mut number = first;
+    for _ in 0..rounds {
+        put_round(text, dice, number, length)?;
+        number = number.saturating_add(length as u64);
+        if dice.is_rare(6) {
+            writeln!(text, "{number} M2 tick 10")?;
+            number = number.saturating_add(1);
+        }
+    }
+    Ok(())
+}
+
 /// Rounds of cyclic data, each of so many entries, with something else between some of them.
 pub fn rounds_of(
     alloc: Global,
@@ -223,14 +271,6 @@ pub fn rounds_of(
     first: u64,
 ) -> Result<String, AllocError> {
     let mut text = String::new(alloc);
-    let mut number = first;
-    for _ in 0..rounds {
-        put_round(&mut text, dice, number, length)?;
-        number = number.saturating_add(length as u64);
-        if dice.is_rare(6) {
-            writeln!(text, "{number} M2 tick 10")?;
-            number = number.saturating_add(1);
-        }
-    }
+    put_rounds(&mut text, dice, length, rounds, first)?;
     Ok(text)
 }

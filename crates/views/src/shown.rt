@@ -18,6 +18,13 @@ struct Shown<'a> {
     fault: String,
 }
 
+/// A transcript that goes through two views.
+#[derive(Drop)]
+struct Both<'a> {
+    first: Shown<'a>,
+    second: Shown<'a>,
+}
+
 fn shown_over(alloc: Global, topology: &Topology) -> Shown<'_> {
     Shown {
         reader: Reader::new(topology),
@@ -88,6 +95,53 @@ fn end<V: View>(alloc: Global, shown: &Shown<'_>, view: &mut V) -> Result<(), Al
     Ok(())
 }
 
+// Both have shown the same, and a line under way is the same.
+fn same<V: View, W: View>(
+    rt: &impl Abort,
+    both: &Both<'_>,
+    view: &V,
+    other: &W,
+    place: &str,
+    text: &str,
+) {
+    assert!(rt; view.written() == other.written(), "{place} of:\n{text}");
+    assert!(rt;
+        both.first.pieces.held() == both.second.pieces.held(),
+        "{place} of:\n{text}"
+    );
+}
+
+// Each piece goes through both, and their end.
+fn compare_pieces<V: View, W: View>(
+    rt: &impl Abort,
+    alloc: Global,
+    dice: &mut Dice,
+    text: &str,
+    both: &mut Both<'_>,
+    view: &mut V,
+    other: &mut W,
+) -> Result<(), AllocError> {
+    let bytes = text.as_bytes();
+    let size = dice.below(bytes.len()).saturating_add(1);
+    for piece in bytes.chunks(size) {
+        show(alloc, &mut both.first, true, view, piece)?;
+        show(alloc, &mut both.second, false, other, piece)?;
+        same(rt, both, view, other, "a piece", text);
+        if dice.is_rare(2) {
+            view.clear();
+            other.clear();
+        }
+    }
+    end(alloc, &both.first, view)?;
+    end(alloc, &both.second, other)?;
+    same(rt, both, view, other, "the end", text);
+    assert!(rt;
+        both.first.fault.as_str() == both.second.fault.as_str(),
+        "the fault of:\n{text}"
+    );
+    Ok(())
+}
+
 /// Both views show the same of a transcript, and say the same of its fault.
 pub fn compare<V: View, W: View>(
     rt: &impl Abort,
@@ -98,46 +152,59 @@ pub fn compare<V: View, W: View>(
     view: &mut V,
     other: &mut W,
 ) -> Result<(), AllocError> {
-    let bytes = text.as_bytes();
-    let mut first = shown_over(alloc, topology);
-    let mut second = shown_over(alloc, topology);
-    let size = dice.below(bytes.len()).saturating_add(1);
-    for piece in bytes.chunks(size) {
-        show(alloc, &mut first, true, view, piece)?;
-        show(alloc, &mut second, false, other, piece)?;
-        assert!(rt; view.written() == other.written(), "a piece of:\n{text}");
-        assert!(rt;
-            first.pieces.held() == second.pieces.held(),
-            "a piece of:\n{text}"
-        );
-        if dice.is_rare(2) {
-            view.clear();
-            other.clear();
-        }
+    let mut both = Both {
+        first: shown_over(alloc, topology),
+        second: shown_over(alloc, topology),
+    };
+    compare_pieces(rt, alloc, dice, text, &mut both, view, other)
+}
+
+/// The topology of a text that has one.
+pub fn topology_of(alloc: Global, text: &str) -> Option<Topology> {
+    load(alloc, text).ok()
+}
+
+// The JSON of a transcript is that of the tree of values.
+fn compare_json(
+    rt: &impl Abort,
+    alloc: Global,
+    dice: &mut Dice,
+    topology: &Topology,
+    text: &str,
+) -> Result<(), AllocError> {
+    let mut view = JsonView::new(alloc, topology);
+    let mut tree = TreeView::new(alloc, topology);
+    compare(rt, alloc, dice, topology, text, &mut view, &mut tree)
+}
+
+fn compare_made_json(
+    rt: &impl Abort,
+    alloc: Global,
+    dice: &mut Dice,
+    topology: &Topology,
+) -> Result<(), AllocError> {
+    let entries = dice.below(24).saturating_add(1);
+    let text = transcript(alloc, dice, entries)?;
+    compare_json(rt, alloc, dice, topology, text.as_str())
+}
+
+fn compare_each_json(
+    rt: &impl Abort,
+    alloc: Global,
+    topology: &Topology,
+) -> Result<(), AllocError> {
+    let mut dice = Dice(1);
+    for _ in 0..300 {
+        compare_made_json(rt, alloc, &mut dice, topology)?;
     }
-    end(alloc, &first, view)?;
-    end(alloc, &second, other)?;
-    assert!(rt; view.written() == other.written(), "the end of:\n{text}");
-    assert!(rt;
-        first.fault.as_str() == second.fault.as_str(),
-        "the fault of:\n{text}"
-    );
     Ok(())
 }
 
 #[test]
 fn json_is_that_of_the_tree_of_values(rt: HostRuntime) -> Result<(), Fail> {
     let alloc = rt.alloc();
-    let topology = load(alloc, CHASSIS).ok().ok_or("no chassis")?;
-    let mut dice = Dice(1);
-    for _ in 0..300 {
-        let mut view = JsonView::new(alloc, &topology);
-        let mut tree = TreeView::new(alloc, &topology);
-        let entries = dice.below(24).saturating_add(1);
-        let text = transcript(alloc, &mut dice, entries)?;
-        let text = text.as_str();
-        compare(&rt, alloc, &mut dice, &topology, text, &mut view, &mut tree)?;
-    }
+    let topology = topology_of(alloc, CHASSIS).ok_or("no chassis")?;
+    compare_each_json(&rt, alloc, &topology)?;
     Ok(())
 }
 
@@ -158,17 +225,32 @@ const LINES: &[&[u8]] = &[
     b"a line that is longer than thirty-two bytes, with \t in it",
 ];
 
+// A line that is no part of an entry, shown behind the others.
+fn compare_line<V: View, W: View>(
+    rt: &impl Abort,
+    alloc: Global,
+    line: &[u8],
+    view: &mut V,
+    other: &mut W,
+) {
+    let is_shown = view.line(alloc, line, Line::Note(Note::Quiet)).is_ok();
+    let is_also = other.line(alloc, line, Line::Note(Note::Quiet)).is_ok();
+    assert!(rt; is_shown && is_also, "{line:?}");
+    assert!(rt; view.written() == other.written(), "{line:?}");
+}
+
+fn compare_lines(rt: &impl Abort, alloc: Global, topology: &Topology) {
+    let mut view = JsonView::new(alloc, topology);
+    let mut tree = TreeView::new(alloc, topology);
+    for line in LINES {
+        compare_line(rt, alloc, line, &mut view, &mut tree);
+    }
+}
+
 #[test]
 fn lines_of_any_bytes_are_strings(rt: HostRuntime) -> Result<(), Fail> {
     let alloc = rt.alloc();
-    let topology = load(alloc, CHASSIS).ok().ok_or("no chassis")?;
-    let mut view = JsonView::new(alloc, &topology);
-    let mut tree = TreeView::new(alloc, &topology);
-    for line in LINES {
-        let shown = view.line(alloc, line, Line::Note(Note::Quiet));
-        let other = tree.line(alloc, line, Line::Note(Note::Quiet));
-        assert!(&rt; shown.is_ok() && other.is_ok(), "{line:?}");
-        assert!(&rt; view.written() == tree.written(), "{line:?}");
-    }
+    let topology = topology_of(alloc, CHASSIS).ok_or("no chassis")?;
+    compare_lines(&rt, alloc, &topology);
     Ok(())
 }
