@@ -312,6 +312,21 @@ impl<'a> ChartView<'a> {
         }
     }
 
+    // The chart as it was gathered.
+    fn put_drawn(&self, alloc: Global, out: &mut String) -> Result<(), NoMemory> {
+        if self.is_page {
+            put_page(alloc, self, out)
+        } else {
+            put_svg(alloc, self, false, out)
+        }
+    }
+
+    fn drawn(&self, alloc: Global) -> Result<String, NoMemory> {
+        let mut out = String::new(alloc);
+        self.put_drawn(alloc, &mut out)?;
+        Ok(out)
+    }
+
     // What is said below the chart.
     fn put_notes(&mut self, alloc: Global, ending: Ending) -> Result<(), NoMemory> {
         if ending.is_cut {
@@ -344,13 +359,7 @@ impl View for ChartView<'_> {
     fn end(&mut self, alloc: Global, _rest: &[u8], ending: Ending) -> Result<(), NoMemory> {
         self.put_notes(alloc, ending)?;
         fold(&mut self.rows);
-        let mut out = String::new(alloc);
-        if self.is_page {
-            put_page(alloc, self, &mut out)?;
-        } else {
-            put_svg(alloc, self, false, &mut out)?;
-        }
-        self.out = out;
+        self.out = self.drawn(alloc)?;
         Ok(())
     }
 
