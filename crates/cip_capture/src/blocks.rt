@@ -102,9 +102,8 @@ fn front(comment: &[u8]) -> &[u8] {
     front
 }
 
-// An option with a comment, and the end of the options.
-fn put_comment(body: &mut Vec<u8>, comment: &[u8]) -> Result<(), NoMemory> {
-    let text = front(comment);
+// An option with the front of a comment, and the end of the options.
+fn put_comment(body: &mut Vec<u8>, text: &[u8]) -> Result<(), NoMemory> {
     put_word(body, 1)?;
     put_word(body, u16::try_from(text.len()).unwrap_or(u16::MAX))?;
     body.extend_from_slice(text)?;
@@ -113,7 +112,7 @@ fn put_comment(body: &mut Vec<u8>, comment: &[u8]) -> Result<(), NoMemory> {
     Ok(())
 }
 
-/// A packet at a time in microseconds, with a comment.
+/// A packet at a time in microseconds, with the front of a comment.
 pub(crate) fn put_packet(
     alloc: Global,
     out: &mut Vec<u8>,
@@ -121,7 +120,8 @@ pub(crate) fn put_packet(
     packet: &[u8],
     comment: &[u8],
 ) -> Result<(), NoMemory> {
-    let count = packet.len().saturating_add(comment.len());
+    let text = front(comment);
+    let count = packet.len().saturating_add(text.len());
     let mut body = Vec::with_capacity(alloc, count.saturating_add(40))?;
     put_double(&mut body, 0)?;
     put_double(
@@ -136,6 +136,6 @@ pub(crate) fn put_packet(
     put_double(&mut body, length_of(packet.len()))?;
     body.extend_from_slice(packet)?;
     put_pad(&mut body, packet.len())?;
-    put_comment(&mut body, comment)?;
+    put_comment(&mut body, text)?;
     put_block(out, PACKET, body.as_slice())
 }
