@@ -1,14 +1,13 @@
 -- Lines, one part at a time.
 use Rattle.std.proofs.Common.{◌≡◌, ℕ, ◌<◌, ◌≤◌, ◌+◌, true, false, List, [], ◌∷◌, ◌++◌, map, length, get_or, drop, refl, ap, arith, ◌==◌, append_assoc}
-use Rattle.std.proofs.Common.{append-nil, Bor, take, sym, ◌∙◌, inl, inr, length-take, take-append-drop, take_all, get_or-take}
+use Rattle.std.proofs.Common.{append-nil, Bor, take, sym, ◌∙◌, length-take, take-append-drop, take_all, get_or-take}
 use Rattle.std.specs.List.{All, slice_split}
 use Rattle.std.specs.Str.Lines.{lines, lines_of_parts, strip_carriage_return}
-use Rattle.std.proofs.lemmas.Bool.{cases_Bool}
 use Rattle.std.proofs.lemmas.Bool.Decides.{nat_tests}
 use Rattle.std.proofs.lemmas.List.{drop_more, drop_all}
 use Rattle.std.proofs.lemmas.List.Elements.{All-from_get_or}
 use Rattle.std.proofs.lemmas.List.Splits.{slice_split_at, slice_split_none, length-slice_split}
-use Rattle.memchr.specs.Find.{Nowhere, Passes, is_byte}
+use Rattle.cip_words.specs.Shown.{HasNoNewline}
 use Rattle.cip_script.specs.Text.{is_newline}
 
 -- what references lead to
@@ -48,26 +47,19 @@ line_none items found i all h last empty e =
     let before = rw (drop_more items i unread h, drop_all (i + 1) items last, empty) at e in
     rw (drop_all (i + 1) items last) before
 
--- no byte of these is a newline
-abbrev pub NoNewline : List ℕ → ℕ → Type 0
-NoNewline bs n = Nowhere (Passes (is_byte 10) bs) 0 n
-
-not_newline : (b : ℕ) → ((b == 10) ≡ true → ⊥) → is_newline b ≡ false
-not_newline b h = elim (cases_Bool (b == 10)) [ inl is ↦ absurd (h is) | inr other ↦ other ]
-
-plain_front : (bs : List ℕ) (n : ℕ) → n ≤ length bs → NoNewline bs n → All (λ b. is_newline b ≡ false) (take n bs)
+plain_front : (bs : List ℕ) (n : ℕ) → n ≤ length bs → HasNoNewline bs n → All (λ b. is_newline b ≡ false) (take n bs)
 plain_front bs n h none =
     All-from_get_or (λ b. is_newline b ≡ false) (take n bs) 0
     (λ k within.
     let lt : k < n = omega (arith, length-take n bs) in
-    rw (get_or-take n bs k 0 lt) (not_newline (get_or bs k 0) (none k (omega arith) lt)))
+    rw (get_or-take n bs k 0 lt) (none k lt))
 
 more_lines : (x : List ℕ) (parts : List (List ℕ)) → 0 < length parts → lines_of_parts (x ∷ parts) ≡ strip_carriage_return x ∷ lines_of_parts parts
 more_lines x [] h = absurd (omega arith)
 more_lines x (y ∷ more) h = refl
 
 -- the line before the first newline
-pub line_first : (bs : List ℕ) (n : ℕ) → n < length bs → NoNewline bs n → (get_or bs n 0 == 10) ≡ true
+pub line_first : (bs : List ℕ) (n : ℕ) → n < length bs → HasNoNewline bs n → (get_or bs n 0 == 10) ≡ true
     → lines bs ≡ strip_carriage_return (take n bs) ∷ lines (drop (n + 1) bs)
 line_first bs n h none at =
     let rest : List ℕ = drop (n + 1) bs in
@@ -78,7 +70,7 @@ line_first bs n h none at =
     ∙ more_lines (take n bs) (slice_split is_newline rest) (omega (arith, length-slice_split is_newline rest))
 
 -- a line without a newline behind it
-pub line_alone : (bs : List ℕ) → 0 < length bs → NoNewline bs (length bs) → lines bs ≡ bs ∷ []
+pub line_alone : (bs : List ℕ) → 0 < length bs → HasNoNewline bs (length bs) → lines bs ≡ bs ∷ []
 line_alone bs some none =
     let whole : take (length bs) bs ≡ bs = take_all (length bs) bs (omega arith) in
     let plain : All (λ b. is_newline b ≡ false) (take (length bs) bs) = plain_front bs (length bs) (omega arith) none in

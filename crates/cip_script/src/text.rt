@@ -9,7 +9,7 @@ ghost use Rattle.hex.specs.Hex.{decode_of};
 ghost use Rattle.cip_script.specs.Text.{words_of, kept_words, bytes_of, ok_bytes, is_newline};
 
 use cip_tool::digit;
-use memchr::memchr;
+use cip_words::line_end;
 use std::alloc::{AllocError, Global};
 
 /// The line as a text, if it is ASCII.
@@ -70,7 +70,7 @@ pub(crate) fn first_line(text: &str) -> (&str, &str)
     ensures less { length result.1.now < length text.now }
     ensures lines { lines text.now ≡ result.0.now ∷ lines result.1.now }
 {
-    match memchr(b'\n', text.as_bytes()) {
+    match line_end(text.as_bytes()) {
         Some(newline) => (line_before(text, newline), &text[newline + 1..]),
         None => (text, ""),
     }
