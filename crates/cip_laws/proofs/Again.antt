@@ -1,9 +1,9 @@
 -- After a reset a module is as it was made, in its next incarnation, and nothing that was drawn before stands there any more.
-use Rattle.std.proofs.Common.{◌≡◌, ℕ, ◌+◌, ◌≤◌, ◌<◌, Bool, true, false, cond, List, [], ◌∷◌, ◌++◌, length, Option, Some, None, refl, sym, ap, subst, ◌∙◌, ◌⊎◌, inl, inr, arith, eqb, leb}
+use Rattle.std.proofs.Common.{◌≡◌, ℕ, ◌+◌, ◌≤◌, ◌<◌, Bool, true, false, cond, List, [], ◌∷◌, ◌++◌, length, Option, Some, None, refl, sym, ap, subst, ◌∙◌, inl, inr, arith, eqb, leb}
 use Rattle.std.specs.FinMap as map
 use Rattle.std.specs.Option.{option_and_then, option_map_or}
 use Rattle.std.specs.Ordering.{nat_cmp}
-use Rattle.std.specs.Prelude.{IsSomeAnd, option_map, is_some}
+use Rattle.std.specs.Prelude.{IsSomeAnd, option_map}
 use Rattle.std.proofs.lemmas.Bool.{and_parts, cond_both, eq-eqb, eqb-true, leb-true, leb-false}
 use Rattle.cip_base.specs.Counts.{reborn}
 use Rattle.cip_base.specs.Triads.{triad_cmp}
@@ -12,9 +12,7 @@ use Rattle.cip_segment.specs.Reading.{segments_of}
 use Rattle.cip_message.specs.Request.{Request}
 use Rattle.cip_open.specs.Open.{Open as OpenRequest}
 use Rattle.cip_pending.specs.declared.entry.Entry.{Entry}
-use Rattle.cip_pending.specs.declared.entry.UpSide.{UpSide}
 use Rattle.cip_pending.specs.Kinds.{opened_triad}
-use Rattle.cip_hops.specs.declared.opening.Opening.{Opening}
 use Rattle.cip_hops.specs.declared.opening.OwnIds.{OwnIds}
 use Rattle.cip_hops.specs.declared.hop.Hop.{Hop}
 use Rattle.cip_hops.specs.declared.hop.Held.{Held}
@@ -22,20 +20,19 @@ use Rattle.cip_hops.specs.declared.hop.Held.TheVariants.{Opening as IsOpening, O
 use Rattle.cip_hops.specs.Sides.{own_ids, up_is, down_is}
 use Rattle.cip_hops.specs.Hops.{Hops, as_hop, ids_of, is_id, hop_at, hop_by_up, hop_by_down, is_hop_by_up, is_hop_by_down, open_in, finished, begun, change_in, changed, touched, counted}
 use Rattle.cip_target.specs.ApplicationPath.{Application, application_of}
-use Rattle.cip_target.specs.Assemblies.{AssemblyMap, HasSize, size_in, written_over, zeroed, configs_in}
+use Rattle.cip_target.specs.Assemblies.{AssemblyMap, size_in, zeroed, configs_in}
 use Rattle.cip_target.specs.declared.config.AssemblyConfig.{AssemblyConfig}
 use Rattle.cip_target.specs.declared.link.EndLink.{EndLink}
-use Rattle.cip_target.specs.Ends.{Ends, HasSizes, configured, configuration_of}
+use Rattle.cip_target.specs.Ends.{Ends, configured, configuration_of}
 use Rattle.cip_target.proofs.Fitting.{FitsWith, fits_row}
 use Rattle.cip_target.proofs.Resets.{reset_again, reset_sizes}
 use Rattle.cip_target.proofs.Sizes.{put_sizes, written_sizes, answered_sizes}
 use Rattle.cip_config.specs.declared.config.ModuleSettings.{ModuleSettings}
 use Rattle.cip_event.specs.declared.event.Body.TheVariants as bodies
-use Rattle.cip_event.specs.declared.event.Output.{Output}
 use Rattle.cip_event.specs.declared.event.Output.TheVariants as outputs
-use Rattle.cip_module.specs.Effects.{Effect, Answers, Begins, Accepts, Finishes, Takes, PendingTimesOut, Removes, HopTimesOut, Renews, Counts, Writes, objects_of, resets, answered_state, abandoned, abandoned_if, removed, given_up, renewed, recounted, overwritten, apply, output_of, applied, outputs_of}
+use Rattle.cip_module.specs.Effects.{Effect, Answers, Begins, Accepts, Finishes, Takes, PendingTimesOut, Removes, HopTimesOut, Renews, Counts, Writes, resets, answered_state, abandoned, abandoned_if, removed, given_up, overwritten, apply, output_of, applied, outputs_of}
 use Rattle.cip_module.specs.Resets.{reset_state}
-use Rattle.cip_module.specs.State.{State, initial_state}
+use Rattle.cip_module.specs.State.{State}
 use Rattle.cip_module.proofs.Found.{found_own}
 use Rattle.cip_module.proofs.Removed.{open_at}
 use Rattle.cip_laws.specs.Births.{HasId}
@@ -47,7 +44,7 @@ use Rattle.cip_laws.specs.Weights.{mark, is_request, weight_in}
 use Rattle.cip_laws.proofs.Births.{own_range}
 use Rattle.cip_laws.proofs.Numbers.{undrawn, numbers_each, mark_small, mark_one, mark_none}
 use Rattle.cip_laws.proofs.Puts.{pending_cases}
-use Rattle.cip_laws.proofs.Rises.{numbers_after, ids_after, numbers_rise, ids_rise}
+use Rattle.cip_laws.proofs.Rises.{numbers_after, ids_after}
 use Rattle.cip_laws.proofs.Stands.{same_ids, HeldCase, Stands, Begun, Ended, Finished, held_cases}
 use Rattle.cip_laws.proofs.Triads.{own_triads}
 use Rattle.cip_laws.proofs.Turns.{Turned, newest, by_turn}

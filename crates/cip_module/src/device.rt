@@ -1,6 +1,7 @@
 //! What the modules of each kind share: their tables, which fit one another.
 ghost use Rattle.std.specs.Prelude.{◌≡◌, ℕ, IfOk};
 ghost use Rattle.std.specs.Option.{option_map};
+ghost use Rattle.cip_base.specs.Counts.{incarnation};
 ghost use Rattle.cip_hops.specs.Hops.{hop_by_op, hop_by_up, is_past};
 ghost use Rattle.cip_module.specs.Deadlines.{is_any_due};
 ghost use Rattle.cip_target.specs.Ends.{fresh};

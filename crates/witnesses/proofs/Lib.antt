@@ -17,3 +17,4 @@ pub mod DonesTold
 pub mod Told
 pub mod ResetRun
 pub mod ResetBridge
+pub mod OpenedAgain

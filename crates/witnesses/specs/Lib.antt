@@ -12,3 +12,4 @@ pub mod LapsedRun
 pub mod Told
 pub mod ResetRun
 pub mod ResetBridge
+pub mod OpenedAgain

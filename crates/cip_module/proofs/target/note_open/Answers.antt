@@ -1,4 +1,4 @@
-use Rattle.std.proofs.Common.{◌≡◌, List, ℕ, Option, ap, sym, ◌∙◌, Some}
+use Rattle.std.proofs.Common.{List, ℕ, Option, ap, sym, ◌∙◌, Some}
 use Rattle.cip_base.specs.declared.triad.Triad.{Triad}
 use Rattle.cip_hops.specs.declared.hop.Hop.{Hop}
 use Rattle.cip_hops.specs.Hops.{first_after}
