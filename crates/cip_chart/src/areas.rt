@@ -1,4 +1,8 @@
 //! Which parts of a chart are taken, so that no text hides another.
+ghost use Rattle.std.specs.Prelude.{◌≡◌, ◌&&◌, ◌||◌, nat_le, nat_lt, slice_get};
+ghost use Rattle.cip_chart.specs.Bands.{meets, is_crossed, crosses, texts_cost, lines_cost};
+ghost use Rattle.cip_chart.specs.Bands.{band_cost, whole_cost, IsTold};
+
 use crate::layout::ROW;
 use crate::line::Line;
 use cip_base::NoMemory;
@@ -58,15 +62,32 @@ impl Spot {
 
 impl Area {
     // Whether two texts meet.
-    fn meets(self, other: Area) -> bool {
+    fn meets(self, other: Area) -> bool
+        ensures { result ≡ meets self other }
+    {
         self.left <= other.right
             && other.left <= self.right
             && self.top <= other.bottom
             && other.top <= self.bottom
     }
 
+    // How bad it is that a text stands on these, with what was found before.
+    fn cost_of_texts(self, texts: &[Area], before: u64) -> u64
+        ensures { result ≡ texts_cost self texts.now before }
+    {
+        let mut cost = before;
+        for i in 0..texts.len() {
+            if self.meets(texts[i]) {
+                cost = cost.saturating_add(ON_TEXT);
+            }
+        }
+        cost
+    }
+
     // Whether a line goes through the text.
-    fn is_crossed(self, line: Line) -> bool {
+    fn is_crossed(self, line: Line) -> bool
+        ensures { result ≡ is_crossed self line }
+    {
         match line.within(self.top, self.bottom) {
             Some((left, right)) => self.left <= right && left <= self.right,
             None => false,
@@ -95,12 +116,16 @@ struct Passing {
 
 impl Passing {
     // Whether the line stands beside a text that begins or ends in the band.
-    fn is_beside(self, area: Area) -> bool {
+    fn is_beside(self, area: Area) -> bool
+        ensures { result ≡ (nat_lt self.right area.left || nat_lt area.right self.left) }
+    {
         self.right < area.left || area.right < self.left
     }
 
     // Whether it goes no further to either side than such a text.
-    fn is_between(self, area: Area) -> bool {
+    fn is_between(self, area: Area) -> bool
+        ensures { result ≡ (nat_le area.left self.left && nat_le self.right area.right) }
+    {
         area.left <= self.left && self.right <= area.right
     }
 }
@@ -187,7 +212,9 @@ impl Areas {
     }
 
     // Whether a line goes through a text that begins or ends in the band.
-    fn is_crossed(&self, area: Area, passing: Passing) -> bool {
+    fn is_crossed(&self, area: Area, passing: Passing) -> bool
+        ensures { result ≡ crosses area passing (slice_get self.now.lines.items passing.line) }
+    {
         if passing.is_beside(area) {
             return false;
         }
@@ -198,32 +225,43 @@ impl Areas {
         }
     }
 
-    // How bad it is that a text stands here, by the things of one band and what was found before,
-    // as far as it is below a limit.
-    fn cost_in(&self, area: Area, band: u64, before: u64, limit: u64) -> u64 {
+    // How bad it is that a text stands on these lines, with what was found before, as far as it is
+    // below a limit.
+    fn cost_of_lines(&self, area: Area, passings: &[Passing], before: u64, limit: u64) -> u64
+        ensures { IsTold limit result
+            (lines_cost self.now.lines.items area passings.now before) }
+    {
         let mut cost = before;
-        let Some(things) = self.bands.get(band as usize) else {
-            return cost;
-        };
-        for other in &things.texts {
-            if area.meets(*other) {
-                cost = cost.saturating_add(ON_TEXT);
-            }
-        }
-        for passing in &things.lines {
+        for i in 0..passings.len() {
             if limit <= cost {
                 return cost;
             }
-            if self.is_crossed(area, *passing) {
+            if self.is_crossed(area, passings[i]) {
                 cost = cost.saturating_add(ON_LINE);
             }
         }
         cost
     }
 
+    // How bad it is that a text stands here, by the things of one band and what was found before,
+    // as far as it is below a limit.
+    fn cost_in(&self, area: Area, band: u64, before: u64, limit: u64) -> u64
+        ensures { IsTold limit result
+            (band_cost self.now.lines.items area (slice_get self.now.bands.items band) before) }
+    {
+        let Some(things) = self.bands.get(band as usize) else {
+            return before;
+        };
+        let cost = area.cost_of_texts(things.texts.as_slice(), before);
+        self.cost_of_lines(area, things.lines.as_slice(), cost, limit)
+    }
+
     /// How bad it is that a text stands here, with what was found before: that alone where nothing
     /// is. Where it is not below the limit it may be told as less, but not as below the limit.
-    pub(crate) fn cost(&self, area: Area, before: u64, limit: u64) -> u64 {
+    pub(crate) fn cost(&self, area: Area, before: u64, limit: u64) -> u64
+        ensures { IsTold limit result
+            (whole_cost self.now.lines.items self.now.bands.items area before) }
+    {
         let (first, last) = (area.top / ROW, area.bottom / ROW);
         let cost = self.cost_in(area, first, before, limit);
         if first == last {

@@ -1,4 +1,7 @@
 //! The lines of frames.
+ghost use Rattle.std.specs.Prelude.{◌≡◌, ◌==◌, is_some, IsTrue, IsFalse};
+ghost use Rattle.cip_chart.specs.Bands.{share, between, thousandths, x_at, reach, within, IsBetween};
+
 use crate::collect::ChartView;
 use crate::layout::{Heights, ROW, x_of};
 use crate::model::{Arrow, Fate};
@@ -13,13 +16,19 @@ pub(crate) struct Line {
 }
 
 // So many thousandths of a way.
-fn share(way: u64, thousandths: u64) -> u64 {
+#[tactic(auto, unfolding(crate::specs::Bands::share))]
+fn share(way: u64, thousandths: u64) -> u64
+    ensures { result ≡ share way thousandths }
+{
     let whole = (way / 1000).saturating_mul(thousandths);
     whole.saturating_add((way % 1000).saturating_mul(thousandths) / 1000)
 }
 
 // A point so many thousandths of the way from one place to another.
-fn between(from: u64, to: u64, thousandths: u64) -> u64 {
+#[tactic(auto, unfolding(crate::specs::Bands::between))]
+fn between(from: u64, to: u64, thousandths: u64) -> u64
+    ensures { result ≡ between from to thousandths }
+{
     if from <= to {
         from.saturating_add(share(to - from, thousandths))
     } else {
@@ -28,7 +37,10 @@ fn between(from: u64, to: u64, thousandths: u64) -> u64 {
 }
 
 // How far a place is from the first of two others, in thousandths of the way to the second.
-fn thousandths(from: u64, to: u64, at: u64) -> u64 {
+#[tactic(auto, unfolding(crate::specs::Bands::thousandths))]
+fn thousandths(from: u64, to: u64, at: u64) -> u64
+    ensures { result ≡ thousandths from to at }
+{
     let way = to.saturating_sub(from);
     if way == 0 {
         return 0;
@@ -38,7 +50,9 @@ fn thousandths(from: u64, to: u64, at: u64) -> u64 {
 
 impl Line {
     /// A line from a module to itself is a loop.
-    pub(crate) fn is_loop(self) -> bool {
+    pub(crate) fn is_loop(self) -> bool
+        ensures { result ≡ (self.x1 == self.x2) }
+    {
         self.x1 == self.x2
     }
 
@@ -49,7 +63,10 @@ impl Line {
     }
 
     // Where the line is at this height, between its ends.
-    fn x_at(self, y: u64) -> u64 {
+    #[tactic(auto, unfolding(crate::specs::Bands::x_at))]
+    fn x_at(self, y: u64) -> u64
+        ensures { result ≡ x_at self y }
+    {
         if self.y1 <= self.y2 {
             return between(self.x1, self.x2, thousandths(self.y1, self.y2, y));
         }
@@ -57,24 +74,39 @@ impl Line {
     }
 
     /// Whether the line is anywhere between two heights.
-    pub(crate) fn is_at(self, top: u64, bottom: u64) -> bool {
+    #[tactic(auto, unfolding(crate::specs::Bands::within))]
+    pub(crate) fn is_at(self, top: u64, bottom: u64) -> bool
+        ensures within { result ≡ is_some (within self top bottom) }
+        ensures yes { IsTrue result → IsBetween self top bottom }
+        ensures no { IsFalse result → IsBetween self top bottom → ⊥ }
+    {
         let high = self.y1.min(self.y2).max(top);
         high <= self.y1.max(self.y2).min(bottom)
     }
 
+    // How far the line goes to the left and to the right from one of its heights to another.
+    fn reach(self, high: u64, low: u64) -> (u64, u64)
+        ensures { result ≡ reach self high low }
+    {
+        if self.is_loop() {
+            return (self.x1, self.x1.saturating_add(53));
+        }
+        let (a, b) = (self.x_at(high), self.x_at(low));
+        (a.min(b), a.max(b))
+    }
+
     /// How far the line goes to the left and to the right between two heights; None where it is not
     /// there.
-    pub(crate) fn within(self, top: u64, bottom: u64) -> Option<(u64, u64)> {
+    #[tactic(auto, unfolding(crate::specs::Bands::within))]
+    pub(crate) fn within(self, top: u64, bottom: u64) -> Option<(u64, u64)>
+        ensures { result ≡ within self top bottom }
+    {
         let high = self.y1.min(self.y2).max(top);
         let low = self.y1.max(self.y2).min(bottom);
         if low < high {
             return None;
         }
-        if self.is_loop() {
-            return Some((self.x1, self.x1.saturating_add(53)));
-        }
-        let (a, b) = (self.x_at(high), self.x_at(low));
-        Some((a.min(b), a.max(b)))
+        Some(self.reach(high, low))
     }
 
     // The part of a line that a lost frame came.
