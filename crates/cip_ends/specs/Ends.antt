@@ -1,9 +1,11 @@
 -- With which reply an op is done, and in which entry. A module gives an op one Done at most.
 use Rattle.std.specs.Prelude.{ℕ, List, [], ◌∷◌, Option, Some, None, ◌≡◌, ◌==◌, ◌≤◌, ◌<◌}
 use Rattle.std.specs.Prelude.{if◌then◌else◌, slice_get}
+use Rattle.cip_base.specs.declared.numbers.ModuleId.{ModuleId}
 use Rattle.cip_event.specs.declared.event.Output.{Output}
 use Rattle.cip_event.specs.declared.event.Output.TheVariants.{Send, Done, Refused, Consumed}
 use Rattle.cip_event.specs.declared.event.Output.TheVariants.{Arrived, Expired, Ended, Dropped}
+use Rattle.cip_world.specs.declared.journal.Input.{Input}
 use Rattle.cip_world.specs.declared.journal.Entry.{Entry}
 use Rattle.cip_world.specs.declared.journal.Entry.TheVariants.{Step, Lost}
 
@@ -45,3 +47,18 @@ pub record IsReply (j : List Entry) (m op : ℕ) (reply : List ℕ) : Type 0 whe
 abbrev pub HasNoEnd : List Entry → ℕ → ℕ → ℕ → ℕ → Type 0
 HasNoEnd j m op from to = (k : ℕ) (entry : Entry) → from ≤ k → k < to
     → slice_get j k ≡ Some entry → reply_in m op entry ≡ None
+
+-- an output of an entry with which the op of the module is done
+pub record IsDoneAt (j : List Entry) (m op place index : ℕ) (reply : List ℕ) : Type 0 where
+  pub at : ModuleId
+  pub input : Input
+  pub outputs : List Output
+  pub here : slice_get j place ≡ Some (Step at input outputs)
+  pub same : at.0 ≡ m
+  pub done : slice_get outputs index ≡ Some (Done op reply)
+
+-- no two outputs are such
+abbrev pub HasOneDone : List Entry → ℕ → ℕ → Type 0
+HasOneDone j m op = (place index other behind : ℕ) (reply found : List ℕ)
+    → IsDoneAt j m op place index reply → IsDoneAt j m op other behind found
+    → (place ≡ other) × (index ≡ behind)

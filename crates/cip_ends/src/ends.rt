@@ -1,7 +1,8 @@
 //! Where ops ended.
-ghost use Rattle.std.specs.Prelude.{◌≡◌, ◌≤◌, ℕ, List, length, IfNone, IfSome, option_copied};
+ghost use Rattle.std.specs.Prelude.{◌≡◌, ◌≤◌, ℕ, List, length, IfNone, IfSome, IsSomeAnd};
+ghost use Rattle.std.specs.Prelude.{option_copied};
 ghost use Rattle.cip_ends.specs.Ends.{first_reply, reply_in, reply_of};
-ghost use Rattle.cip_ends.specs.Ends.{HasNoEnd, IsEndAt, IsReply};
+ghost use Rattle.cip_ends.specs.Ends.{HasNoEnd, HasOneDone, IsDoneAt, IsEndAt, IsReply};
 
 use cip_base::{Bytes, ModuleId, NoMemory};
 use cip_module::Output;
@@ -46,24 +47,24 @@ fn reply_in(entry: &Entry, module_: ModuleId, number: u32) -> Option<&Bytes>
     }
 }
 
-// The place of the last of these entries in which an op of a module is done.
-fn last_end(
-    journal: &[Entry],
+// The last of these entries in which an op of a module is done: its place, and the reply.
+fn last_end<'a>(
+    journal: &'a [Entry],
     from: usize,
     to: usize,
     module_: ModuleId,
     number: u32,
-) -> Option<usize>
+) -> Option<(usize, &'a Bytes)>
     requires { to ≤ length journal.now }
-    ensures some { IfSome result (λ place. (reply : List ℕ)
-        × IsEndAt journal.now module_.0 number place reply) }
+    ensures some { IfSome result
+        (λ end. IsEndAt journal.now module_.0 number end.0 end.1.now) }
     ensures none { IfNone result (HasNoEnd journal.now module_.0 number from to) }
 {
     let mut left = to;
     while left > from {
         left -= 1;
-        if let Some(_reply) = reply_in(&journal[left], module_, number) {
-            return Some(left);
+        if let Some(reply) = reply_in(&journal[left], module_, number) {
+            return Some((left, reply));
         }
     }
     None
@@ -124,43 +125,22 @@ impl Ends {
         }
     }
 
-    // The place that was read, where the op of the module is done there.
-    fn known(&self, journal: &[Entry], module_: ModuleId, number: u32) -> Option<usize>
-        ensures { IfSome result (λ place. (reply : List ℕ)
-            × IsEndAt journal.now module_.0 number place reply) }
+    // The reply at the place that was read, where the op of the module is done there.
+    fn known<'a>(&self, journal: &'a [Entry], module_: ModuleId, number: u32) -> Option<&'a Bytes>
+        ensures { IfSome result (λ reply. IsReply journal.now module_.0 number reply.now) }
     {
         let place = *self.places.get(&(module_.0, number))?;
         if place < journal.len() {
-            if let Some(_reply) = reply_in(&journal[place], module_, number) {
-                return Some(place);
-            }
+            reply_in(&journal[place], module_, number)
+        } else {
+            None
         }
-        None
-    }
-
-    // The place of an entry in which an op of a module is done.
-    fn place(&mut self, journal: &[Entry], module_: ModuleId, number: u32) -> Option<usize>
-        ensures some { IfSome result (λ place. (reply : List ℕ)
-            × IsEndAt journal.now module_.0 number place reply) }
-        ensures none { IfNone result
-            (HasNoEnd journal.now module_.0 number 0 (length journal.now)) }
-    {
-        let count = journal.len();
-        if let Some(place) = last_end(journal, self.read, count, module_, number) {
-            self.walk(journal, count - place);
-            return Some(place);
-        }
-        if let Some(place) = self.known(journal, module_, number) {
-            self.walk(journal, count.saturating_sub(self.read));
-            return Some(place);
-        }
-        // all that was read is looked at too, before the answer is that the op is done nowhere
-        last_end(journal, 0, count, module_, number)
     }
 
     /// The reply with which an op is done, None where it is done nowhere. A module gives an op one
-    /// Done at most (`ops_are_done_once`), so it is the only one. The entries that were not read
-    /// are looked at from the newest on; of the others it is known where the op ended.
+    /// Done at most (`ops_are_done_once`): where the journal has one, it is that one's. The entries
+    /// that were not read are looked at from the newest on; of the others it is known where the op
+    /// ended.
     pub fn done<'a>(
         &mut self,
         journal: &'a [Entry],
@@ -170,8 +150,25 @@ impl Ends {
         ensures some { IfSome result (λ reply. IsReply journal.now module_.0 number reply.now) }
         ensures none { IfNone result
             (HasNoEnd journal.now module_.0 number 0 (length journal.now)) }
+        ensures only { HasOneDone journal.now module_.0 number
+            → (place index : ℕ) (reply : List ℕ)
+            → IsDoneAt journal.now module_.0 number place index reply
+            → IsSomeAnd result (λ found. found.now ≡ reply) }
     {
-        let place = self.place(journal, module_, number)?;
-        reply_in(&journal[place], module_, number)
+        let count = journal.len();
+        let read = self.read.min(count);
+        if let Some((place, reply)) = last_end(journal, read, count, module_, number) {
+            self.walk(journal, count - place);
+            return Some(reply);
+        }
+        if let Some(reply) = self.known(journal, module_, number) {
+            self.walk(journal, count - read);
+            return Some(reply);
+        }
+        // all that was read is looked at too, before the answer is that the op is done nowhere
+        match last_end(journal, 0, read, module_, number) {
+            Some((_place, reply)) => Some(reply),
+            None => None,
+        }
     }
 }

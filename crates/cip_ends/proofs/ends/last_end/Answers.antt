@@ -4,11 +4,9 @@ use Rattle.cip_ends.proofs.Ending.{end_here, none_before}
 use Rattle.cip_ends.proofs.ends.last_end.Goals as goal
 
 pub returns-in-Some-clause-some : goal.returns-in-Some-clause-some
-returns-in-Some-clause-some c = (
-  c.in-Some._reply.now,
-  end_here c.args.journal.now c.args.module_.0 c.args.number (c.loop-left.left - 1) c.index-journal-left.result c.in-Some._reply.now
-      (search rules) c.index-journal-left.is (search rules),
-)
+returns-in-Some-clause-some c =
+    end_here c.args.journal.now c.args.module_.0 c.args.number (c.loop-left.left - 1) c.index-journal-left.result c.in-Some.reply.now
+    (search rules) c.index-journal-left.is (search rules)
 
 pub loop-left-preserved : goal.loop-left-preserved
 loop-left-preserved c =
