@@ -1,8 +1,11 @@
 //! The words of a line, one by one.
 ghost use Rattle.std.specs.Prelude.{◌≡◌, ◌<◌, ◌^◌, length, map, IfOk, None, MatchOption};
+ghost use Rattle.std.specs.Prelude.{IfErr};
 ghost use Rattle.cip_words.specs.Shown.{below, number_of, bytes_of};
 ghost use Rattle.cip_read.specs.Fields.{Gives, nth, texts, port_of, ms_of, address_of, frame_of};
 ghost use Rattle.cip_read.specs.Fields.{module_of, name_by, if_address};
+ghost use Rattle.cip_read.specs.declared.fault.LineFault.TheVariants.{Word};
+ghost use Rattle.cip_read.specs.declared.fault.Expected.TheVariants.{Frame};
 
 use crate::fault::{Expected, LineFault};
 use crate::line::FrameName;
@@ -133,7 +136,8 @@ fn halves(word: &str) -> Option<(&str, &str)>
 
 // `E` and `K`.
 fn frame_in(entry: &str, output: &str, k: usize) -> Result<FrameName, LineFault>
-    ensures { Gives result (name_by entry.now output.now) }
+    ensures name { Gives result (name_by entry.now output.now) }
+    ensures fault { IfErr result (λ fault. fault ≡ Word k Frame) }
 {
     match (number(entry), number(output)) {
         (Some(entry), Some(output)) => Ok(FrameName {
@@ -147,7 +151,8 @@ fn frame_in(entry: &str, output: &str, k: usize) -> Result<FrameName, LineFault>
 /// The name of a frame, `E.K`.
 pub(crate) fn frame_at(words: &[&str], k: usize) -> Result<FrameName, LineFault>
     requires { k < length words.now }
-    ensures { Gives result (frame_of (nth (texts words.now) k)) }
+    ensures name { Gives result (frame_of (nth (texts words.now) k)) }
+    ensures fault { IfErr result (λ fault. fault ≡ Word k Frame) }
 {
     match halves(nth(words, k)) {
         Some((entry, output)) => frame_in(entry, output, k),
