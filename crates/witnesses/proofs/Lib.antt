@@ -18,3 +18,4 @@ pub mod Told
 pub mod ResetRun
 pub mod ResetBridge
 pub mod OpenedAgain
+pub mod ResetTold

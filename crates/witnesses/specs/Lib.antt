@@ -13,3 +13,4 @@ pub mod Told
 pub mod ResetRun
 pub mod ResetBridge
 pub mod OpenedAgain
+pub mod ResetTold

@@ -1,12 +1,17 @@
 //! Which plans are topologies, which journals are runs over them, and what holds of a run.
-ghost use Rattle.std.specs.Prelude.{◌≡◌, [], ◌∷◌, Some, None};
+ghost use Rattle.std.specs.Prelude.{◌≡◌, ◌≤◌, ◌<◌, [], ◌∷◌, ◌++◌, Some, None};
 ghost use Rattle.std.specs.FinMap as map;
-ghost use Rattle.cip_pending.specs.declared.entry.UpSide.TheVariants.{Link};
+ghost use Rattle.cip_base.specs.Counts.{reborn};
+ghost use Rattle.cip_pending.specs.declared.entry.UpSide.TheVariants.{Link, Local};
+ghost use Rattle.cip_hops.specs.Hops.{hop_by_up, hop_by_down};
 ghost use Rattle.cip_event.specs.declared.event.Body.TheVariants.{Request};
 ghost use Rattle.cip_event.specs.declared.event.Command.TheVariants.{Close};
 ghost use Rattle.cip_event.specs.declared.event.Output.TheVariants.{Arrived, Consumed, Done, Send};
+ghost use Rattle.cip_module.specs.State.{initial_state};
+ghost use Rattle.cip_laws.specs.Births.{IsBirth};
+ghost use Rattle.cip_laws.specs.Resets.{ResetIn, made_again};
 ghost use Rattle.cip_laws.specs.Turns.{Gave};
-ghost use Rattle.cip_laws.specs.Weights.{is_reply, weight};
+ghost use Rattle.cip_laws.specs.Weights.{is_ended, is_reply, weight};
 ghost use Rattle.cip_topology.specs.Plan.{IsTopology};
 ghost use Rattle.cip_world.specs.declared.journal.Entry.TheVariants.{Step, Lost};
 ghost use Rattle.cip_world.specs.declared.journal.Input.TheVariants.{Command};
@@ -19,7 +24,7 @@ ghost use Rattle.cip_world.specs.Roots.{root_of};
 ghost use Rattle.cip_world.specs.Runs.{IsRun, IsWaiting, state_in};
 ghost use Rattle.cip_world.specs.Trails.{trail_of};
 ghost use Rattle.cip_world.specs.TrailTells.{OpenedIn, SentIn};
-ghost use Rattle.witnesses.specs.Plans.{plant, cell, row, scanner, triad, frame};
+ghost use Rattle.witnesses.specs.Plans.{plant, cell, row, scanner, first_bridge, triad, frame};
 ghost use Rattle.witnesses.specs.StoredRun as stored;
 ghost use Rattle.witnesses.specs.ConnectedRun as connected;
 ghost use Rattle.witnesses.specs.FailedOpen as failed;
@@ -32,6 +37,8 @@ ghost use Rattle.witnesses.specs.OneAfterTheOther as twice;
 ghost use Rattle.witnesses.specs.LapsedRun as lapsed;
 ghost use Rattle.witnesses.specs.ResetRun as resets;
 ghost use Rattle.witnesses.specs.ResetBridge as reset_bridge;
+ghost use Rattle.witnesses.specs.OpenedAgain as again;
+ghost use Rattle.witnesses.specs.ResetTold as told;
 ghost use Rattle.witnesses.specs.Told.{ConsumedFrom, ArrivedFrom, FailsAt, SucceedsAt, AnsweredAt, ComesLate};
 
 /// The plans are topologies.
@@ -85,6 +92,51 @@ pub fn a_module_resets_itself()
 /// asked through the bridge again goes on under the first number of the next incarnation.
 pub fn a_bridge_is_reset()
     ensures { IsRun row reset_bridge.is_answered }
+{}
+
+/// A connection that is opened through a bridge that was reset, with a datum down and one up. In the
+/// end the scanner resets itself, and the op that opened ends.
+pub fn opened_again()
+    ensures { IsRun row again.ends }
+{}
+
+/// What a reset does, at the bridge of that run: it is as it was made, in its next incarnation; what
+/// it draws later is of that one; no request waits under the number of the first request, and no
+/// connection goes by the ids that were next before.
+pub fn a_reset_is_told_of()
+    ensures reset { ResetIn first_bridge [] told.is_reset }
+    ensures turns { part 1 again.up_at_first ≡ told.after_it ++ (told.is_reset ∷ []) }
+    ensures state { state_in first_bridge 1 again.resets
+        ≡ made_again first_bridge (initial_state first_bridge) }
+    ensures numbers { reborn first_bridge.first_number
+        ≤ (state_in first_bridge 1 again.up_at_first).pendings.next }
+    ensures ids { reborn first_bridge.first_id
+        ≤ (state_in first_bridge 1 again.up_at_first).hops.next }
+    ensures waiting { map.get (state_in first_bridge 1 again.up_at_first).pendings.entries 1
+        ≡ None }
+    ensures connections { (hop_by_up (state_in first_bridge 1 again.up_at_first).hops 34 2 (1 ∷ [])
+        ≡ None) × (hop_by_down (state_in first_bridge 1 again.up_at_first).hops 33 1 (3 ∷ [])
+        ≡ None) }
+{}
+
+/// The open through that bridge draws its number and its ids in its turn.
+pub fn an_open_draws_its_numbers()
+    ensures number { ((state_in first_bridge 1 again.opens).pendings.next ≤ 65537)
+        × (65537 < (state_in first_bridge 1 again.at_first).pendings.next) }
+    ensures born { IsBirth first_bridge told.begins told.own (told.is_reset ∷ []) told.goes_on }
+    ensures ids { ((state_in first_bridge 1 again.opens).hops.next ≤ 65538)
+        × (65538 < (state_in first_bridge 1 again.at_first).hops.next) }
+{}
+
+/// The module that resets itself gives one Ended of its open, and neither a Done nor an Ended of it
+/// behind that.
+pub fn an_end_is_told_of()
+    ensures turns { part 0 resets.comes_late
+        ≡ told.behind_it ++ (told.resets_itself ∷ part 0 resets.opens) }
+    ensures ended { weight (is_ended 1) (part 0 resets.comes_late) ≡ 1 }
+    ensures most { weight (is_ended 1) (part 0 resets.comes_late) ≤ 1 }
+    ensures last { (weight (is_reply (Local 1)) (told.behind_it ++ (told.resets_itself ∷ [])) ≡ 0)
+        × (weight (is_ended 1) told.behind_it ≡ 0) }
 {}
 
 /// A large open through the two bridges. The chain of its connection stands in the end.

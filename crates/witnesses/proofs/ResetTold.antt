@@ -1,0 +1,129 @@
+-- What a reset does, at the bridge that is reset and used again, and at the scanner that resets itself.
+use Rattle.std.proofs.Common.{◌≡◌, ℕ, ◌≤◌, ◌<◌, List, [], ◌∷◌, ◌++◌, Some, None, refl, true, inl, inr, arith}
+use Rattle.std.specs.FinMap as map
+use Rattle.cip_base.specs.Counts.{reborn}
+use Rattle.cip_pending.specs.declared.entry.UpSide.TheVariants.{Link, Local}
+use Rattle.cip_hops.specs.Hops.{hop_by_up, hop_by_down}
+use Rattle.cip_event.specs.declared.event.Body.TheVariants as bodies
+use Rattle.cip_event.specs.declared.event.Output.TheVariants as outputs
+use Rattle.cip_module.specs.State.{State, initial_state}
+use Rattle.cip_laws.specs.Births.{IsBirth, HasId}
+use Rattle.cip_laws.specs.Histories.{Turn, IsHistory, state_after}
+use Rattle.cip_laws.specs.Resets.{ResetIn, made_again}
+use Rattle.cip_laws.specs.Weights.{is_reply, is_ended, weight}
+use Rattle.cip_laws.proofs.Again.{reset_makes_again, numbers_from_reset, ids_drawn_from_reset, none_waits, none_by_up, none_by_down, number_range}
+use Rattle.cip_laws.proofs.Births.{birth_range}
+use Rattle.cip_world.specs.Journals.{part}
+use Rattle.cip_world.specs.Runs.{state_in}
+use Rattle.cip_world.proofs.Chassis.{chassis}
+use Rattle.cip_world.proofs.Parts.{run_history}
+use Rattle.cip_world.proofs.RepliesTell.{replies_tell}
+use Rattle.cip_message.specs.Counted.{counted_at, counted_path_at}
+use Rattle.cip_message.specs.Failure.{failure_at}
+use Rattle.cip_message.specs.ReplyAt.{reply_at}
+use Rattle.cip_message.specs.RequestAt.{request_at}
+use Rattle.cip_close.specs.CloseAt.{close_at}
+use Rattle.cip_close.specs.SuccessAt.{close_reply_at}
+use Rattle.cip_module.specs.CloseRows.{close_row}
+use Rattle.cip_module.specs.CommandRows.{send_row}
+use Rattle.cip_module.specs.DataRows.{data_row}
+use Rattle.cip_module.specs.Links.{link_refusal}
+use Rattle.cip_module.specs.OpenRows.{open_row}
+use Rattle.cip_module.specs.ReplyRows.{reply_row}
+use Rattle.cip_module.specs.RequestRows.{request_row}
+use Rattle.cip_module.specs.UnconnectedRows.{unconnected_row}
+use Rattle.cip_open.specs.OpenAt.{open_at}
+use Rattle.cip_open.specs.SuccessAt.{open_reply_at}
+use Rattle.cip_segment.specs.Reading.{behind, hop_of, path_at, segments_of, segments_within}
+use Rattle.cip_segment.specs.Scan.{bytes_at, double_at, logical_at, narrow_at, number_at, other_at, padded_at, plain_port_at, point_at, port_at, segment_at, size_at, words_at}
+use Rattle.cip_target.specs.Ends.{end_row}
+use Rattle.cip_target.specs.Rows.{target_row}
+use Rattle.cip_unconnected.specs.UnconnectedAt.{unconnected_at}
+use Rattle.witnesses.specs.Plans.{scanner, first_bridge, plant, row}
+use Rattle.witnesses.specs.OpenedAgain as again
+use Rattle.witnesses.specs.ResetRun as resetting
+use Rattle.witnesses.specs.ResetTold.{is_reset, goes_on, after_it, begins, own, resets_itself, behind_it}
+use Rattle.witnesses.proofs.Maps.{none_waits as none_wait, none_held, held_first, held_none, held_get, held_twice, entry_get, entry_gone, pendings_none, bytes_none}
+use Rattle.witnesses.proofs.OpenedAgain.{run_resets, run_at_first, run_up_at_first}
+use Rattle.witnesses.proofs.ResetRun.{reset_under_way}
+use Rattle.witnesses.proofs.Topologies.{plant_is}
+
+-- ---- the bridge
+
+pub turns_are : part 1 again.up_at_first ≡ after_it ++ (is_reset ∷ [])
+turns_are = refl
+
+pub resets_there : ResetIn first_bridge [] is_reset
+unfolding behind bytes_at close_at close_reply_at close_row counted_at counted_path_at data_row double_at end_row failure_at hop_of link_refusal logical_at
+    narrow_at number_at open_at open_reply_at open_row other_at padded_at path_at plain_port_at point_at port_at reply_at reply_row request_at request_row
+    segment_at segments_of segments_within send_row size_at target_row unconnected_at unconnected_row words_at
+resets_there = record {
+  up = Link 2 (1 ∷ []) 1;
+  request = record { service = 5; path = 32 ∷ 1 ∷ 36 ∷ 1 ∷ []; data_ = [] };
+  decided = simp (none_wait, none_held, held_first) refl;
+  read = simp (none_wait, none_held, held_first) refl;
+}
+
+abbrev at_first : IsHistory first_bridge (is_reset ∷ [])
+at_first = run_history row again.resets 1 first_bridge run_resets refl
+
+abbrev in_the_end : IsHistory first_bridge (after_it ++ (is_reset ∷ []))
+in_the_end = run_history row again.up_at_first 1 first_bridge run_up_at_first refl
+
+pub is_made_again : state_in first_bridge 1 again.resets ≡ made_again first_bridge (initial_state first_bridge)
+is_made_again = reset_makes_again first_bridge is_reset [] at_first resets_there
+
+pub numbers_are_later : reborn first_bridge.first_number ≤ (state_in first_bridge 1 again.up_at_first).pendings.next
+numbers_are_later = numbers_from_reset first_bridge after_it [] is_reset in_the_end resets_there
+
+pub ids_are_later : reborn first_bridge.first_id ≤ (state_in first_bridge 1 again.up_at_first).hops.next
+ids_are_later = ids_drawn_from_reset first_bridge after_it [] is_reset in_the_end resets_there
+
+-- no request under the number that the first one had
+pub none_waits_there : map.get (state_in first_bridge 1 again.up_at_first).pendings.entries 1 ≡ None
+none_waits_there = none_waits first_bridge after_it [] is_reset in_the_end resets_there 1 (omega arith)
+
+-- no connection by the ids that the first one would have had
+pub none_goes_there : (hop_by_up (state_in first_bridge 1 again.up_at_first).hops 34 2 (1 ∷ []) ≡ None)
+    × (hop_by_down (state_in first_bridge 1 again.up_at_first).hops 33 1 (3 ∷ []) ≡ None)
+none_goes_there = (
+  none_by_up first_bridge after_it [] is_reset in_the_end resets_there 34 2 (1 ∷ []) (omega arith),
+  none_by_down first_bridge after_it [] is_reset in_the_end resets_there 33 1 (3 ∷ []) (omega arith),
+)
+
+-- ---- the open through it
+
+abbrev opened : IsHistory first_bridge (goes_on ∷ is_reset ∷ [])
+opened = run_history row again.at_first 1 first_bridge run_at_first refl
+
+pub number_is_drawn : ((state_in first_bridge 1 again.opens).pendings.next ≤ 65537)
+    × (65537 < (state_in first_bridge 1 again.at_first).pendings.next)
+number_is_drawn = number_range first_bridge goes_on (is_reset ∷ []) 1 65537 (3 ∷ []) again.second_request opened (inl refl)
+
+pub is_born : IsBirth first_bridge begins own (is_reset ∷ []) goes_on
+unfolding behind bytes_at close_at close_reply_at close_row counted_at counted_path_at data_row double_at end_row failure_at hop_of link_refusal logical_at
+    narrow_at number_at open_at open_reply_at open_row other_at padded_at path_at plain_port_at point_at port_at reply_at reply_row request_at request_row
+    segment_at segments_of segments_within send_row size_at target_row unconnected_at unconnected_row words_at
+is_born = record {
+  is = simp (none_wait, none_held, held_first, held_none, pendings_none, bytes_none) refl;
+  ids_are = simp (none_wait, none_held, held_first, held_none, pendings_none, bytes_none) refl;
+}
+
+pub ids_are_drawn : ((state_in first_bridge 1 again.opens).hops.next ≤ 65538) × (65538 < (state_in first_bridge 1 again.at_first).hops.next)
+ids_are_drawn = birth_range first_bridge begins own (is_reset ∷ []) goes_on 65538 opened is_born (inl refl)
+
+-- ---- the scanner that resets itself
+
+pub turns_behind : part 0 resetting.comes_late ≡ behind_it ++ (resets_itself ∷ part 0 resetting.opens)
+turns_behind = refl
+
+pub one_ended : weight (is_ended 1) (part 0 resetting.comes_late) ≡ 1
+one_ended = refl
+
+pub at_most_one : weight (is_ended 1) (part 0 resetting.comes_late) ≤ 1
+at_most_one = (replies_tell (chassis plant plant_is) resetting.comes_late reset_under_way).ended 0 scanner refl 1
+
+pub nothing_behind : (weight (is_reply (Local 1)) (behind_it ++ (resets_itself ∷ [])) ≡ 0) × (weight (is_ended 1) behind_it ≡ 0)
+nothing_behind =
+    (replies_tell (chassis plant plant_is) resetting.comes_late reset_under_way).last 0 scanner refl behind_it (part 0 resetting.opens) resets_itself refl 1
+    (inr (inl refl))
