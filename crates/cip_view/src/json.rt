@@ -348,7 +348,7 @@ impl<'a> JsonView<'a> {
         }
     }
 
-    // The entry under way is whole. Where memory is refused it is lost, and no other takes its
+    // The entry under way is whole. Where its memory is refused it is lost, and no other takes its
     // place.
     fn put_entry(&mut self) -> Result<(), NoMemory> {
         if self.entry.is_empty() {
