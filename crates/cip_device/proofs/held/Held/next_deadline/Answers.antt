@@ -12,3 +12,16 @@ returns-clause-done c _ =
     soonest (shown_of c.args.self.now) c.module_now.result (Some c.in-Some.deadline)
     (record { time_is = c.module_now.ensures; due = c.in-Some.ensures }) c.in-Some.deadline c.milliseconds_until.result refl
     c.milliseconds_until.ensures.some c.milliseconds_until.ensures.past c.milliseconds_until.ensures.least
+
+pub returns-in_default-clause-waits : goal.returns-in_default-clause-waits
+returns-in_default-clause-waits c = (
+  λ done. absurd (cc),
+  λ waits. absurd (nothing_waits (shown_of c.args.self.now) (shown_of c.args.self.now).state.now None (record { time_is = refl; due = c.in_default.ensures }) refl waits),
+)
+
+pub returns-clause-waits : goal.returns-clause-waits
+returns-clause-waits c = (
+  λ done. something_waits (shown_of c.args.self.now) c.module_now.result (Some c.in-Some.deadline)
+      (record { time_is = c.module_now.ensures; due = c.in-Some.ensures }) c.in-Some.deadline refl,
+  λ waits. refl,
+)
