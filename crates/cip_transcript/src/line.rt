@@ -5,7 +5,7 @@ ghost use Rattle.std.specs.Prelude.{length, take, codes, decimal, IfOk};
 ghost use Rattle.hex.specs.Hex.{encode_upper};
 ghost use Rattle.cip_transcript.specs.Show.{bytes_text, four_digits};
 
-use crate::pieces::{fill_pairs, put};
+use crate::pieces::{fill_pairs, put_front};
 use cip_base::NoMemory;
 use itoa::Buffer;
 
@@ -180,6 +180,6 @@ pub(crate) fn room_for(
     if count <= ROOM - at {
         return Ok(at);
     }
-    put(text, &room[..at])?;
+    put_front(text, &room[..at])?;
     Ok(0)
 }

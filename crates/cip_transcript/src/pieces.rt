@@ -1,5 +1,5 @@
 //! Text behind text: bytes, numbers and hexadecimal pairs, each written once into its place.
-ghost use Rattle.std.specs.Prelude.{◌≡◌, ◌*◌, ◌++◌, length, OnOk, decimal};
+ghost use Rattle.std.specs.Prelude.{◌≡◌, ℕ, ◌*◌, ◌++◌, length, take, OnOk, OnErr, decimal};
 ghost use Rattle.hex.specs.Hex.{encode_upper};
 ghost use Rattle.cip_transcript.specs.Show.{bytes_text, optional_text};
 
@@ -23,6 +23,31 @@ pub fn put(text: &mut Vec<u8>, bytes: &[u8]) -> Result<(), NoMemory>
 {
     text.extend_from_slice(bytes)?;
     Ok(())
+}
+
+// Puts bytes behind a text one by one: after NoMemory those stand there that had room.
+fn put_each(text: &mut Vec<u8>, bytes: &[u8]) -> Result<(), NoMemory>
+    ensures ok { OnOk result (text.new.items ≡ text.old.items ++ bytes.now) }
+    ensures err { OnErr result
+        ((count : ℕ) × (text.new.items ≡ text.old.items ++ take count bytes.now)) }
+{
+    'bytes: for i in 0..bytes.len() {
+        text.push(bytes[i])?;
+    }
+    Ok(())
+}
+
+/// Puts a line in the making behind a text. NoMemory where an allocation is refused: then as much
+/// of its front stands there as had room.
+pub(crate) fn put_front(text: &mut Vec<u8>, bytes: &[u8]) -> Result<(), NoMemory>
+    ensures ok { OnOk result (text.new.items ≡ text.old.items ++ bytes.now) }
+    ensures err { OnErr result
+        ((count : ℕ) × (text.new.items ≡ text.old.items ++ take count bytes.now)) }
+{
+    if text.extend_from_slice(bytes).is_ok() {
+        return Ok(());
+    }
+    put_each(text, bytes)
 }
 
 /// A number in decimal digits.

@@ -8,7 +8,7 @@ ghost use Rattle.cip_transcript.specs.Show.{name_of, numbers_text, trail_text, n
 ghost use Rattle.cip_transcript.specs.Show.{chain_text, head_text, lost_text, entry_text};
 
 use crate::line::{ROOM, byte, number, number_then, pairs, room_for, word};
-use crate::pieces::{put, put_bytes, put_number};
+use crate::pieces::{put, put_bytes, put_front, put_number};
 use cip_base::{Address, Bytes, ModuleId, NoMemory, PortNumber, Triad};
 use cip_chain::ChainView;
 use cip_module::{Body, Command, Dropped, Output, Refused};
@@ -26,7 +26,7 @@ fn put_long_end(
     ensures text { IfOk result (λ next. text.new.items ++ take next room.new
         ≡ text.old.items ++ take at room.old ++ bytes_text bytes.now ++ codes "\n") }
 {
-    put(text, &room[..at])?;
+    put_front(text, &room[..at])?;
     put_bytes(text, bytes)?;
     Ok(byte(room, 0, b'\n'))
 }
@@ -361,7 +361,7 @@ fn put_long_head(
         ≡ text.old.items ++ take at room.old ++ name.now ++ codes " " ++ input_text input.now
         ++ codes "\n") }
 {
-    put(text, &room[..at])?;
+    put_front(text, &room[..at])?;
     put(text, name)?;
     Ok(input_at(room, 0, input))
 }
@@ -411,11 +411,11 @@ pub fn put_entry(
         Entry::Step { at, input, outputs } => {
             let next = put_head(text, &mut room, number, name_in(names, at.0), input)?;
             let end = put_outputs(text, &mut room, next, outputs.as_slice())?;
-            put(text, &room[..end])
+            put_front(text, &room[..end])
         }
         Entry::Lost { frame } => {
             let end = lost_at(&mut room, number, *frame);
-            put(text, &room[..end])
+            put_front(text, &room[..end])
         }
     }
 }
