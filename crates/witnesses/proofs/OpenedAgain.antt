@@ -4,7 +4,10 @@ use Rattle.cip_event.specs.declared.event.Command.TheVariants as commands
 use Rattle.cip_event.specs.declared.event.Event.TheVariants as events
 use Rattle.cip_event.specs.declared.event.Body.TheVariants as bodies
 use Rattle.cip_event.specs.declared.event.Output.TheVariants as outputs
-use Rattle.cip_module.specs.State.{initial_state}
+use Rattle.std.proofs.Common.{subst, sym}
+use Rattle.std.specs.FinMap.{empty}
+use Rattle.cip_module.specs.State.{State, initial_state}
+use Rattle.cip_laws.specs.Histories.{next_state}
 use Rattle.cip_world.specs.Runs.{IsRun, state_in}
 use Rattle.cip_message.specs.Counted.{counted_at, counted_path_at}
 use Rattle.cip_message.specs.Failure.{failure_at}
@@ -39,21 +42,21 @@ by_sends : Gives scanner (initial_state scanner) (events.Command (commands.Send 
 unfolding behind bytes_at close_at close_reply_at close_row counted_at counted_path_at data_row double_at end_row failure_at hop_of link_refusal logical_at
     narrow_at number_at open_at open_reply_at open_row other_at padded_at path_at plain_port_at point_at port_at reply_at reply_row request_at request_row
     segment_at segments_of segments_within send_row size_at target_row unconnected_at unconnected_row words_at
-by_sends = simp (none_waits, none_held, held_first) (_, refl)
+by_sends = simp (none_waits) (_, refl)
 
 by_resets : Gives first_bridge (state_in first_bridge 1 sends) (events.Frame 2 (1 ∷ []) (bodies.Request 1 reset))
     (outputs.Send 2 (1 ∷ []) (bodies.Reply 1 done) ∷ [])
 unfolding behind bytes_at close_at close_reply_at close_row counted_at counted_path_at data_row double_at end_row failure_at hop_of link_refusal logical_at
     narrow_at number_at open_at open_reply_at open_row other_at padded_at path_at plain_port_at point_at port_at reply_at reply_row request_at request_row
     segment_at segments_of segments_within send_row size_at target_row unconnected_at unconnected_row words_at
-by_resets = simp (none_waits, none_held, held_first, held_none, pendings_none, bytes_none) (_, refl)
+by_resets = simp (held_none, pendings_none) (_, refl)
 
 by_is_told : Gives scanner (state_in scanner 0 resets) (events.Frame 2 (5 ∷ []) (bodies.Reply 1 done))
     (outputs.Done 1 done ∷ [])
 unfolding behind bytes_at close_at close_reply_at close_row counted_at counted_path_at data_row double_at end_row failure_at hop_of link_refusal logical_at
     narrow_at number_at open_at open_reply_at open_row other_at padded_at path_at plain_port_at point_at port_at reply_at reply_row request_at request_row
     segment_at segments_of segments_within send_row size_at target_row unconnected_at unconnected_row words_at
-by_is_told = simp (none_waits, none_held, held_first, entry_get, entry_gone) (_, refl)
+by_is_told = simp (none_waits, entry_get, entry_gone) (_, refl)
 
 by_opens : Gives scanner (state_in scanner 0 is_told) (events.Command (commands.Open 2 (record { tick = 7; ticks = 250 }) path params))
     (outputs.Send 2 (5 ∷ []) (bodies.Request 2 first_request) ∷ [])
@@ -67,7 +70,7 @@ by_at_first : Gives first_bridge (state_in first_bridge 1 opens) (events.Frame 2
 unfolding behind bytes_at close_at close_reply_at close_row counted_at counted_path_at data_row double_at end_row failure_at hop_of link_refusal logical_at
     narrow_at number_at open_at open_reply_at open_row other_at padded_at path_at plain_port_at point_at port_at reply_at reply_row request_at request_row
     segment_at segments_of segments_within send_row size_at target_row unconnected_at unconnected_row words_at
-by_at_first = simp (none_waits, none_held, held_first, bytes_none, pendings_none, held_none) (_, refl)
+by_at_first = simp (none_waits, none_held, held_first, bytes_none) (_, refl)
 
 by_at_second : Gives second_bridge (state_in second_bridge 2 at_first) (events.Frame 1 (0 ∷ []) (bodies.Request 65537 second_request))
     (outputs.Send 2 (7 ∷ []) (bodies.Request 1 third_request) ∷ [])
@@ -95,7 +98,7 @@ by_back_at_first : Gives first_bridge (state_in first_bridge 1 back_at_second) (
 unfolding behind bytes_at close_at close_reply_at close_row counted_at counted_path_at data_row double_at end_row failure_at hop_of link_refusal logical_at
     narrow_at number_at open_at open_reply_at open_row other_at padded_at path_at plain_port_at point_at port_at reply_at reply_row request_at request_row
     segment_at segments_of segments_within send_row size_at target_row unconnected_at unconnected_row words_at
-by_back_at_first = simp (none_waits, none_held, held_first, held_none, held_get, held_twice, entry_get, entry_gone, bytes_none, pendings_none) (_, refl)
+by_back_at_first = simp (none_waits, none_held, held_first, held_get, held_twice, entry_get, entry_gone, bytes_none) (_, refl)
 
 by_stands : Gives scanner (state_in scanner 0 back_at_first) (events.Frame 2 (5 ∷ []) (bodies.Reply 2 third_success))
     (outputs.Done 2 third_success ∷ [])
@@ -116,7 +119,7 @@ by_down_at_first : Gives first_bridge (state_in first_bridge 1 entered) (events.
 unfolding behind bytes_at close_at close_reply_at close_row counted_at counted_path_at data_row double_at end_row failure_at hop_of link_refusal logical_at
     narrow_at number_at open_at open_reply_at open_row other_at padded_at path_at plain_port_at point_at port_at reply_at reply_row request_at request_row
     segment_at segments_of segments_within send_row size_at target_row unconnected_at unconnected_row words_at
-by_down_at_first = simp (none_waits, none_held, held_first, held_none, held_get, held_entries, held_twice, entry_get, entry_gone, bytes_none, pendings_none) (_, refl)
+by_down_at_first = simp (none_waits, none_held, held_first, held_none, held_get, held_entries, held_twice, entry_get, entry_gone, bytes_none) (_, refl)
 
 by_down_at_second : Gives second_bridge (state_in second_bridge 2 down_at_first) (events.Frame 1 (0 ∷ []) (bodies.Data 50 datum))
     (outputs.Send 2 (7 ∷ []) (bodies.Data 65 datum) ∷ [])
@@ -153,12 +156,43 @@ unfolding behind bytes_at close_at close_reply_at close_row counted_at counted_p
     segment_at segments_of segments_within send_row size_at target_row unconnected_at unconnected_row words_at
 by_up_at_second = simp (none_waits, none_held, held_first, held_none, held_get, held_entries, held_twice, entry_get, entry_gone) (_, refl)
 
-by_up_at_first : Gives first_bridge (state_in first_bridge 1 up_at_second) (events.Frame 1 (3 ∷ []) (bodies.Data 65537 (1 ∷ 0 ∷ 17 ∷ 34 ∷ [])))
+-- the bridge right after its reset
+abbrev fresh : State
+fresh = record {
+  now = 0;
+  pendings = record { room = 256; next = 65537; entries = empty };
+  hops = record { room = 256; next = 65537; held = empty };
+  assemblies = empty;
+  ops = [];
+}
+
+is_fresh : state_in first_bridge 1 resets ≡ fresh
+unfolding behind bytes_at close_at close_reply_at close_row counted_at counted_path_at data_row double_at end_row failure_at hop_of link_refusal logical_at
+    narrow_at number_at open_at open_reply_at open_row other_at padded_at path_at plain_port_at point_at port_at reply_at reply_row request_at request_row
+    segment_at segments_of segments_within send_row size_at target_row unconnected_at unconnected_row words_at
+is_fresh = simp bytes_none refl
+
+-- from then on, until the datum that comes up
+abbrev onward : State → State
+onward s =
+    next_state first_bridge
+    (next_state first_bridge (next_state first_bridge s (events.Frame 2 (1 ∷ []) (bodies.Request 2 first_request)))
+    (events.Frame 1 (3 ∷ []) (bodies.Reply 65537 second_success)))
+    (events.Frame 2 (1 ∷ []) (bodies.Data 65538 datum))
+
+from_fresh : Gives first_bridge (onward fresh) (events.Frame 1 (3 ∷ []) (bodies.Data 65537 (1 ∷ 0 ∷ 17 ∷ 34 ∷ [])))
     (outputs.Send 2 (1 ∷ []) (bodies.Data 17 (1 ∷ 0 ∷ 17 ∷ 34 ∷ [])) ∷ [])
 unfolding behind bytes_at close_at close_reply_at close_row counted_at counted_path_at data_row double_at end_row failure_at hop_of link_refusal logical_at
     narrow_at number_at open_at open_reply_at open_row other_at padded_at path_at plain_port_at point_at port_at reply_at reply_row request_at request_row
     segment_at segments_of segments_within send_row size_at target_row unconnected_at unconnected_row words_at
-by_up_at_first = simp (none_waits, none_held, held_first, held_none, held_get, held_entries, held_twice, entry_get, entry_gone, bytes_none, pendings_none) (_, refl)
+from_fresh = simp (none_waits, none_held, held_first, held_none, held_get, held_entries, held_twice, entry_get, entry_gone) (_, refl)
+
+by_up_at_first : Gives first_bridge (state_in first_bridge 1 up_at_second) (events.Frame 1 (3 ∷ []) (bodies.Data 65537 (1 ∷ 0 ∷ 17 ∷ 34 ∷ [])))
+    (outputs.Send 2 (1 ∷ []) (bodies.Data 17 (1 ∷ 0 ∷ 17 ∷ 34 ∷ [])) ∷ [])
+by_up_at_first =
+    subst (λ (s : State). Gives first_bridge (onward s) (events.Frame 1 (3 ∷ []) (bodies.Data 65537 (1 ∷ 0 ∷ 17 ∷ 34 ∷ [])))
+    (outputs.Send 2 (1 ∷ []) (bodies.Data 17 (1 ∷ 0 ∷ 17 ∷ 34 ∷ [])) ∷ []))
+    (sym is_fresh) from_fresh
 
 by_arrived : Gives scanner (state_in scanner 0 up_at_first) (events.Frame 2 (5 ∷ []) (bodies.Data 17 (1 ∷ 0 ∷ 17 ∷ 34 ∷ [])))
     (outputs.Arrived 2 (1 ∷ 0 ∷ 17 ∷ 34 ∷ []) ∷ [])

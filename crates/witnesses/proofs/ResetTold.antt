@@ -1,14 +1,12 @@
 -- What a reset does, at the bridge that is reset and used again, and at the scanner that resets itself.
-use Rattle.std.proofs.Common.{◌≡◌, ℕ, ◌≤◌, ◌<◌, List, [], ◌∷◌, ◌++◌, Some, None, refl, true, inl, inr, arith}
+use Rattle.std.proofs.Common.{◌≡◌, ◌≤◌, ◌<◌, [], ◌∷◌, ◌++◌, None, refl, inl, inr, arith}
 use Rattle.std.specs.FinMap as map
 use Rattle.cip_base.specs.Counts.{reborn}
 use Rattle.cip_pending.specs.declared.entry.UpSide.TheVariants.{Link, Local}
 use Rattle.cip_hops.specs.Hops.{hop_by_up, hop_by_down}
-use Rattle.cip_event.specs.declared.event.Body.TheVariants as bodies
-use Rattle.cip_event.specs.declared.event.Output.TheVariants as outputs
-use Rattle.cip_module.specs.State.{State, initial_state}
-use Rattle.cip_laws.specs.Births.{IsBirth, HasId}
-use Rattle.cip_laws.specs.Histories.{Turn, IsHistory, state_after}
+use Rattle.cip_module.specs.State.{initial_state}
+use Rattle.cip_laws.specs.Births.{IsBirth}
+use Rattle.cip_laws.specs.Histories.{IsHistory}
 use Rattle.cip_laws.specs.Resets.{ResetIn, made_again}
 use Rattle.cip_laws.specs.Weights.{is_reply, is_ended, weight}
 use Rattle.cip_laws.proofs.Again.{reset_makes_again, numbers_from_reset, ids_drawn_from_reset, none_waits, none_by_up, none_by_down, number_range}
@@ -43,7 +41,7 @@ use Rattle.witnesses.specs.Plans.{scanner, first_bridge, plant, row}
 use Rattle.witnesses.specs.OpenedAgain as again
 use Rattle.witnesses.specs.ResetRun as resetting
 use Rattle.witnesses.specs.ResetTold.{is_reset, goes_on, after_it, begins, own, resets_itself, behind_it}
-use Rattle.witnesses.proofs.Maps.{none_waits as none_wait, none_held, held_first, held_none, held_get, held_twice, entry_get, entry_gone, pendings_none, bytes_none}
+use Rattle.witnesses.proofs.Maps.{none_waits as none_wait, none_held, held_first, bytes_none}
 use Rattle.witnesses.proofs.OpenedAgain.{run_resets, run_at_first, run_up_at_first}
 use Rattle.witnesses.proofs.ResetRun.{reset_under_way}
 use Rattle.witnesses.proofs.Topologies.{plant_is}
@@ -60,8 +58,8 @@ unfolding behind bytes_at close_at close_reply_at close_row counted_at counted_p
 resets_there = record {
   up = Link 2 (1 ∷ []) 1;
   request = record { service = 5; path = 32 ∷ 1 ∷ 36 ∷ 1 ∷ []; data_ = [] };
-  decided = simp (none_wait, none_held, held_first) refl;
-  read = simp (none_wait, none_held, held_first) refl;
+  decided = refl;
+  read = refl;
 }
 
 abbrev at_first : IsHistory first_bridge (is_reset ∷ [])
@@ -105,8 +103,8 @@ unfolding behind bytes_at close_at close_reply_at close_row counted_at counted_p
     narrow_at number_at open_at open_reply_at open_row other_at padded_at path_at plain_port_at point_at port_at reply_at reply_row request_at request_row
     segment_at segments_of segments_within send_row size_at target_row unconnected_at unconnected_row words_at
 is_born = record {
-  is = simp (none_wait, none_held, held_first, held_none, pendings_none, bytes_none) refl;
-  ids_are = simp (none_wait, none_held, held_first, held_none, pendings_none, bytes_none) refl;
+  is = simp (none_wait, none_held, held_first, bytes_none) refl;
+  ids_are = refl;
 }
 
 pub ids_are_drawn : ((state_in first_bridge 1 again.opens).hops.next ≤ 65538) × (65538 < (state_in first_bridge 1 again.at_first).hops.next)
