@@ -11,7 +11,7 @@ use cip_world::{Entry, FrameName, Input};
 use std::alloc::Global;
 use std::collections::BTreeMap;
 
-// So many entries are walked in the time in which one is read, or more.
+// So many entries with few outputs are walked in the time in which one is read, or more.
 const WALKED_FOR_ONE: usize = 32;
 
 // What became of the first request that an entry sent.
@@ -191,8 +191,8 @@ fn follow(alloc: Global, onwards: &[Onward], first: Option<usize>) -> Result<Vec
 }
 
 /// Finds the trails in one journal that grows: it keeps where each op began and where each request
-/// arrived, and reads no entry twice. It reads none before as much was walked as reading costs, so
-/// a few trails take no memory and no more time than the walks.
+/// arrived, and reads no entry twice. It reads none before as much was walked as reading costs
+/// where an entry has few outputs, so a few trails take no memory and no more time than the walks.
 #[derive(Drop)]
 pub struct TrailIndex {
     alloc: Global,

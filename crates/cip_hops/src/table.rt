@@ -340,7 +340,7 @@ impl HopTable {
     }
 
     /// The first time, in microseconds, at which either side of a connection has been silent for
-    /// too long; None where there is no connection. It looks at each connection once.
+    /// too long; None where no side of a connection is watched. It looks at each connection once.
     pub fn first_deadline(&self) -> Option<u64>
         ensures { (time : ℕ) → is_past time result
             ≡ list_any (is_entry_due time) (map.entries self.now.held) }

@@ -140,8 +140,8 @@ impl Draft {
         }
     }
 
-    /// Puts what a value shows, as `write!` does. NoMemory where an allocation is refused: then
-    /// what was put of it goes again.
+    /// Puts what a value shows, as `write!` does. NoMemory where an allocation is refused, or where
+    /// the value gives up: then what was put of it is taken off again, which no clause says.
     pub fn write_fmt<D: fmt::Display + Drop>(&mut self, value: D) -> Result<(), NoMemory>
         ensures { OnOk result (AppendsText self.old self.new (D.output value)) }
     {

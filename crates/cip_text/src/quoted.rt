@@ -26,7 +26,8 @@ impl Draft {
     }
 
     /// Puts a text as a JSON string, with its quotation marks. NoMemory where an allocation is
-    /// refused.
+    /// refused. The clause says what is put of a plain text, without quotation marks, backslashes
+    /// and control characters; of another it is what serde_json writes.
     pub fn put_quoted(&mut self, part: &str) -> Result<(), NoMemory>
         ensures { OnOk result (IsTrue (list_all is_plain part.now)
             → self.new ≡ self.old ++ 34 ∷ part.now ++ 34 ∷ []) }
