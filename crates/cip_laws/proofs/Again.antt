@@ -32,7 +32,10 @@ use Rattle.cip_event.specs.declared.event.Body.TheVariants as bodies
 use Rattle.cip_event.specs.declared.event.Output.TheVariants as outputs
 use Rattle.cip_module.specs.Effects.{Effect, Answers, Begins, Accepts, Finishes, Takes, PendingTimesOut, Removes, HopTimesOut, Renews, Counts, Writes, resets, answered_state, abandoned, abandoned_if, removed, given_up, overwritten, apply, output_of, applied, outputs_of}
 use Rattle.cip_module.specs.Resets.{reset_state}
-use Rattle.cip_module.specs.State.{State}
+use Rattle.cip_module.specs.State.{State, spent_with}
+use Rattle.cip_module.specs.Table.{with_spending}
+use Rattle.cip_pending.specs.declared.entry.UpSide.{UpSide}
+use Rattle.cip_pending.specs.declared.entry.UpSide.TheVariants.{Link, Local}
 use Rattle.cip_module.proofs.Found.{found_own}
 use Rattle.cip_module.proofs.Removed.{open_at}
 use Rattle.cip_laws.specs.Births.{HasId}
@@ -193,24 +196,38 @@ made_stays config (turn ∷ turns) h =
 cleared : (config : ModuleSettings) (m : AssemblyMap) → AreSized config.assemblies m → zeroed (configs_in m) ≡ zeroed config.assemblies
 cleared config m sized = ap (λ (t : Ends). t.objects.assemblies) (reset_again (with_nobody config m) config.assemblies sized)
 
-state_is : (config : ModuleSettings) (s : State) → Made config s → reset_state s ≡ made_again config s
+-- a frame uses no op up
+abbrev no_op : UpSide
+no_op = Link 0 [] 0
+
+state_is : (config : ModuleSettings) (s : State) → Made config s → reset_state s ≡ made_again config no_op s
 state_is config s made = let bytes = cleared config s.assemblies made.sized in let p = made.pendings in let h = made.hops in cc
 
 effects_are : (config : ModuleSettings) (turns : List Turn) (turn : Turn) (r : ResetIn config turns turn)
     (now : Turned config (state_after config turns) turn.event (state_after config (turn ∷ turns)) turn.outputs)
-    → now.effects ≡ Answers r.up r.request ∷ []
-effects_are config turns turn r now = let both : Some now.effects ≡ Some (Answers r.up r.request ∷ []) = sym now.decided ∙ r.decided in cc
+    → now.effects ≡ with_spending r.up (Answers r.up r.request ∷ [])
+effects_are config turns turn r now =
+    let both : Some now.effects ≡ Some (with_spending r.up (Answers r.up r.request ∷ [])) = sym now.decided ∙ r.decided in cc
+
+spent : (config : ModuleSettings) (s : State) (op : ℕ) → Made config s → Made config (record s { ops = spent_with op s.ops })
+spent config s op made = record { pendings = made.pendings; hops = made.hops; sized = made.sized }
+
+by_up : (config : ModuleSettings) (s : State) (up : UpSide) (asked : Request) → Made config s → resets config s asked ≡ true
+    → applied config s (with_spending up (Answers up asked ∷ [])) ≡ made_again config up s
+by_up config s (Link port address number) asked made read = ap (λ (b : Bool). answered_state b config s asked) read ∙ state_is config s made
+by_up config s (Local op) asked made read =
+    ap (λ (b : Bool). answered_state b config (record s { ops = spent_with op s.ops }) asked) read
+    ∙ state_is config (record s { ops = spent_with op s.ops }) (spent config s op made)
 
 -- it is as it was made, in its next incarnation
-pub reset_makes_again : (config : ModuleSettings) (turn : Turn) (turns : List Turn) → IsHistory config (turn ∷ turns) → ResetIn config turns turn
-    → state_after config (turn ∷ turns) ≡ made_again config (state_after config turns)
+pub reset_makes_again : (config : ModuleSettings) (turn : Turn) (turns : List Turn) → IsHistory config (turn ∷ turns) → (r : ResetIn config turns turn)
+    → state_after config (turn ∷ turns) ≡ made_again config r.up (state_after config turns)
 reset_makes_again config turn turns h r =
     let now = newest config turn turns h in
     let s = state_after config turns in
     sym now.state
     ∙ ap (applied config s) (effects_are config turns turn r now)
-    ∙ ap (λ (b : Bool). answered_state b config s r.request) r.read
-    ∙ state_is config s (made_stays config turns h.0)
+    ∙ by_up config s r.up r.request (made_stays config turns h.0) r.read
 
 -- ---- what stands has a number or an id of the incarnation that it was drawn in
 
@@ -280,7 +297,7 @@ module _ (config : ModuleSettings) (later before : List Turn) (turn : Turn) (h :
     abbrev there : State
     there = state_after config (later ++ (turn ∷ before))
 
-    made : state_after config (turn ∷ before) ≡ made_again config at_reset
+    made : state_after config (turn ∷ before) ≡ made_again config r.up at_reset
     made = reset_makes_again config turn before (earlier config later (turn ∷ before) h) r
 
     from_reset : AreFrom (reborn at_reset.pendings.next) there
