@@ -1,12 +1,12 @@
 /* An EtherNet/IP adapter: encapsulation over TCP and UDP port 44818, class 1 data over UDP port
  * 2222. All of CIP is the library's; here are sockets and the encapsulation alone.
  *
- * adapter [-k FILE] [-p DATA_PORT] [ADDRESS [MILLISECONDS [LOG]]]: on 127.0.0.1 for 5,000 ms, if not
- * said; then it ends. It keeps its incarnation in FILE (kept.h). It has the assemblies 100 (configuration), 101 and 103 (it consumes 4 bytes of
- * each), 102 and 104 (it produces 2, a counter). It sends by each connection at that connection's
- * own interval, to the port that a Sockaddr Info item beside the open names. It names ports in its
- * reply where the open did, or where it takes data on another port than 2222. Each datum goes into
- * the log, if one is named. */
+ * adapter [-k FILE] [-p DATA_PORT] [ADDRESS [MILLISECONDS [LOG]]]: on 127.0.0.1 for 5,000 ms, if
+ * not said; then it ends. It keeps its incarnation in FILE (kept.h). It has the assemblies 100
+ * (configuration), 101 and 103 (it consumes 4 bytes of each), 102 and 104 (it produces 2, a
+ * counter). It sends by each connection at that connection's own interval, to the port that a
+ * Sockaddr Info item beside the open names. It names ports in its reply where the open did, or
+ * where it takes data on another port than 2222. Each datum goes into the log, if one is named. */
 #include "flows.h"
 #include "kept.h"
 #include <poll.h>

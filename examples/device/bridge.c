@@ -4,10 +4,11 @@
  * and the encapsulation alone.
  *
  * bridge [-k FILE] FIRST SECOND [MILLISECONDS]: its own IP addresses on the networks of its ports 2
- * and 3. It keeps its incarnation in FILE (kept.h). On each network it listens on TCP and UDP port 44818, takes data on UDP port 2222, and connects to others on
- * TCP port 44818. Data go to the port that a Sockaddr Info item beside the open, or beside the
- * reply to it, names. It ends after so long, or else at SIGTERM. At SIGUSR1 the cable of the second
- * network is cut: its TCP connections end and data to it and from it are lost, until SIGUSR2. */
+ * and 3. It keeps its incarnation in FILE (kept.h). On each network it listens on TCP and UDP port
+ * 44818, takes data on UDP port 2222, and connects to others on TCP port 44818. Data go to the port
+ * that a Sockaddr Info item beside the open, or beside the reply to it, names. It ends after so
+ * long, or else at SIGTERM. At SIGUSR1 the cable of the second network is cut: its TCP connections
+ * end and data to it and from it are lost, until SIGUSR2. */
 #include "flows.h"
 #include "kept.h"
 #include <errno.h>

@@ -130,7 +130,7 @@ run_is_told = and_frame row resets _ (record { at = 1; port = 2; address = 1 ∷
 run_enters : IsRun row enters
 run_enters = and_command row is_told 0 scanner (commands.Enter 1 datum) _ run_is_told refl by_enters
 
-run_is_unknown : IsRun row is_unknown
+pub run_is_unknown : IsRun row is_unknown
 run_is_unknown = and_frame row enters _ (record { at = 0; port = 2; address = 5 ∷ [] }) (record { at = 1; port = 2; address = 1 ∷ [] }) first_bridge
     (bodies.Data 34 datum) _ run_enters refl refl refl refl by_is_unknown
 

@@ -93,7 +93,7 @@ by_comes_late = simp (none_waits, none_held, held_first, entry_first, entry_get,
 run_opens : IsRun plant opens
 run_opens = and_command plant [] 0 scanner (commands.Open 1 (record { tick = 7; ticks = 250 }) path params) _ tt refl by_opens
 
-run_resets : IsRun plant resets
+pub run_resets : IsRun plant resets
 run_resets = and_command plant opens 0 scanner (commands.Send 2 (record { tick = 7; ticks = 250 }) [] reset) _ run_opens refl by_resets
 
 run_asks : IsRun plant asks

@@ -1,5 +1,5 @@
 -- What a reset does, at the bridge that is reset and used again, and at the scanner that resets itself.
-use Rattle.std.proofs.Common.{◌≡◌, ◌≤◌, ◌<◌, [], ◌∷◌, ◌++◌, None, refl, inl, inr, arith}
+use Rattle.std.proofs.Common.{Some, ◌≡◌, ◌≤◌, ◌<◌, [], ◌∷◌, ◌++◌, None, refl, inl, inr, arith}
 use Rattle.std.specs.FinMap as map
 use Rattle.cip_base.specs.Counts.{reborn}
 use Rattle.cip_pending.specs.declared.entry.UpSide.TheVariants.{Link, Local}
@@ -40,10 +40,13 @@ use Rattle.cip_unconnected.specs.UnconnectedAt.{unconnected_at}
 use Rattle.witnesses.specs.Plans.{scanner, first_bridge, plant, row}
 use Rattle.witnesses.specs.OpenedAgain as again
 use Rattle.witnesses.specs.ResetRun as resetting
-use Rattle.witnesses.specs.ResetTold.{is_reset, goes_on, after_it, begins, own, resets_itself, behind_it}
-use Rattle.witnesses.proofs.Maps.{none_waits as none_wait, none_held, held_first, bytes_none}
+use Rattle.witnesses.specs.ResetBridge as under
+use Rattle.witnesses.specs.ChainedRun.{of_first}
+use Rattle.witnesses.specs.ResetTold.{is_reset, goes_on, after_it, begins, own, resets_under_it, finds_none, resets_itself, behind_it}
+use Rattle.witnesses.proofs.Maps.{none_waits as none_wait, none_held, held_first, held_none, held_get, held_entries, held_twice, entry_get, entry_gone, bytes_none}
 use Rattle.witnesses.proofs.OpenedAgain.{run_resets, run_at_first, run_up_at_first}
-use Rattle.witnesses.proofs.ResetRun.{reset_under_way}
+use Rattle.witnesses.proofs.ResetRun.{reset_under_way, run_resets as run_resetting}
+use Rattle.witnesses.proofs.ResetBridge.{run_is_unknown}
 use Rattle.witnesses.proofs.Topologies.{plant_is}
 
 -- ---- the bridge
@@ -68,7 +71,8 @@ at_first = run_history row again.resets 1 first_bridge run_resets refl
 abbrev in_the_end : IsHistory first_bridge (after_it ++ (is_reset ∷ []))
 in_the_end = run_history row again.up_at_first 1 first_bridge run_up_at_first refl
 
-pub is_made_again : state_in first_bridge 1 again.resets ≡ made_again first_bridge (initial_state first_bridge)
+pub is_made_again : state_in first_bridge 1 again.resets ≡ made_again first_bridge (Link 2 (1 ∷ []) 1) (initial_state first_bridge)
+unfolding resets_there
 is_made_again = reset_makes_again first_bridge is_reset [] at_first resets_there
 
 pub numbers_are_later : reborn first_bridge.first_number ≤ (state_in first_bridge 1 again.up_at_first).pendings.next
@@ -110,7 +114,57 @@ is_born = record {
 pub ids_are_drawn : ((state_in first_bridge 1 again.opens).hops.next ≤ 65538) × (65538 < (state_in first_bridge 1 again.at_first).hops.next)
 ids_are_drawn = birth_range first_bridge begins own (is_reset ∷ []) goes_on 65538 opened is_born (inl refl)
 
+-- ---- the bridge that is reset under a connection
+
+pub under_it : ResetIn first_bridge (part 1 under.sends) resets_under_it
+unfolding behind bytes_at close_at close_reply_at close_row counted_at counted_path_at data_row double_at end_row failure_at hop_of link_refusal logical_at
+    narrow_at number_at open_at open_reply_at open_row other_at padded_at path_at plain_port_at point_at port_at reply_at reply_row request_at request_row
+    segment_at segments_of segments_within send_row size_at target_row unconnected_at unconnected_row words_at
+under_it = record {
+  up = Link 2 (1 ∷ []) 2;
+  request = record { service = 5; path = 32 ∷ 1 ∷ 36 ∷ 1 ∷ []; data_ = [] };
+  decided = refl;
+  read = simp (none_wait, none_held, held_first, held_get, held_twice, entry_get, entry_gone) refl;
+}
+
+-- it had the connection, under the id that a datum names
+pub stood_there : hop_by_up (state_in first_bridge 1 under.sends).hops 34 2 (1 ∷ []) ≡ Some of_first
+unfolding behind bytes_at close_at close_reply_at close_row counted_at counted_path_at data_row double_at end_row failure_at hop_of link_refusal logical_at
+    narrow_at number_at open_at open_reply_at open_row other_at padded_at path_at plain_port_at point_at port_at reply_at reply_row request_at request_row
+    segment_at segments_of segments_within send_row size_at target_row unconnected_at unconnected_row words_at
+stood_there = simp (none_wait, none_held, held_first, held_none, held_get, held_entries, held_twice, entry_get, entry_gone) refl
+
+next_there : (state_in first_bridge 1 under.sends).hops.next ≡ 35
+unfolding behind bytes_at close_at close_reply_at close_row counted_at counted_path_at data_row double_at end_row failure_at hop_of link_refusal logical_at
+    narrow_at number_at open_at open_reply_at open_row other_at padded_at path_at plain_port_at point_at port_at reply_at reply_row request_at request_row
+    segment_at segments_of segments_within send_row size_at target_row unconnected_at unconnected_row words_at
+next_there = simp (none_wait, none_held, held_first, held_get, held_twice, entry_get, entry_gone) refl
+
+abbrev behind_the_datum : IsHistory first_bridge ((finds_none ∷ []) ++ (resets_under_it ∷ part 1 under.sends))
+behind_the_datum = run_history row under.is_unknown 1 first_bridge run_is_unknown refl
+
+-- and has none then
+pub none_is_left : hop_by_up (state_in first_bridge 1 under.is_unknown).hops 34 2 (1 ∷ []) ≡ None
+none_is_left = none_by_up first_bridge (finds_none ∷ []) (part 1 under.sends) resets_under_it behind_the_datum under_it 34 2 (1 ∷ [])
+    (let next = next_there in omega (arith, next))
+
 -- ---- the scanner that resets itself
+
+pub by_its_command : ResetIn scanner (part 0 resetting.opens) resets_itself
+unfolding behind bytes_at close_at close_reply_at close_row counted_at counted_path_at data_row double_at end_row failure_at hop_of link_refusal logical_at
+    narrow_at number_at open_at open_reply_at open_row other_at padded_at path_at plain_port_at point_at port_at reply_at reply_row request_at request_row
+    segment_at segments_of segments_within send_row size_at target_row unconnected_at unconnected_row words_at
+by_its_command = record {
+  up = Local 2;
+  request = record { service = 5; path = 32 ∷ 1 ∷ 36 ∷ 1 ∷ []; data_ = [] };
+  decided = simp (none_wait, none_held, held_first) refl;
+  read = simp (none_wait, none_held, held_first) refl;
+}
+
+-- its used ops are kept, and that of the command is one more
+pub made_by_command : state_in scanner 0 resetting.resets ≡ made_again scanner (Local 2) (state_in scanner 0 resetting.opens)
+unfolding by_its_command
+made_by_command = reset_makes_again scanner resets_itself (part 0 resetting.opens) (run_history plant resetting.resets 0 scanner run_resetting refl) by_its_command
 
 pub turns_behind : part 0 resetting.comes_late ≡ behind_it ++ (resets_itself ∷ part 0 resetting.opens)
 turns_behind = refl

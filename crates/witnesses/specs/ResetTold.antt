@@ -6,7 +6,7 @@ use Rattle.cip_hops.specs.declared.opening.HopUp.TheVariants.{Link as UpLink}
 use Rattle.cip_hops.specs.declared.opening.HopDown.TheVariants.{Link as DownLink}
 use Rattle.cip_event.specs.declared.event.Body.TheVariants as bodies
 use Rattle.cip_event.specs.declared.event.Command.TheVariants as commands
-use Rattle.cip_event.specs.declared.event.Dropped.TheVariants.{Late}
+use Rattle.cip_event.specs.declared.event.Dropped.TheVariants.{Late, UnknownId}
 use Rattle.cip_event.specs.declared.event.Event.TheVariants as events
 use Rattle.cip_event.specs.declared.event.Output.TheVariants as outputs
 use Rattle.cip_laws.specs.Histories.{Turn}
@@ -54,6 +54,21 @@ begins = opening (UpLink 2 (1 ∷ []) 17) (DownLink 1 (3 ∷ [])) (1 ∷ 3 ∷ 2
 
 abbrev pub own : OwnIds
 own = record { up = Some 65538; down = Some 65537 }
+
+-- ---- the bridge that is reset under a connection
+
+abbrev pub resets_under_it : Turn
+resets_under_it = record {
+  event = events.Frame 2 (1 ∷ []) (bodies.Request 2 reset);
+  outputs = outputs.Send 2 (1 ∷ []) (bodies.Reply 2 done) ∷ [];
+}
+
+-- a datum of the connection comes, and is unknown
+abbrev pub finds_none : Turn
+finds_none = record {
+  event = events.Frame 2 (1 ∷ []) (bodies.Data 34 datum);
+  outputs = outputs.Dropped UnknownId ∷ [];
+}
 
 -- ---- the scanner that resets itself while its open is under way
 

@@ -107,7 +107,7 @@ pub fn a_reset_is_told_of()
     ensures reset { ResetIn first_bridge [] told.is_reset }
     ensures turns { part 1 again.up_at_first ≡ told.after_it ++ (told.is_reset ∷ []) }
     ensures state { state_in first_bridge 1 again.resets
-        ≡ made_again first_bridge (initial_state first_bridge) }
+        ≡ made_again first_bridge (Link 2 (1 ∷ []) 1) (initial_state first_bridge) }
     ensures numbers { reborn first_bridge.first_number
         ≤ (state_in first_bridge 1 again.up_at_first).pendings.next }
     ensures ids { reborn first_bridge.first_id
@@ -117,6 +117,24 @@ pub fn a_reset_is_told_of()
     ensures connections { (hop_by_up (state_in first_bridge 1 again.up_at_first).hops 34 2 (1 ∷ [])
         ≡ None) × (hop_by_down (state_in first_bridge 1 again.up_at_first).hops 33 1 (3 ∷ [])
         ≡ None) }
+{}
+
+/// A bridge that is reset under a connection has none any more under the id by which a datum of it
+/// comes.
+pub fn a_connection_is_forgotten()
+    ensures reset { ResetIn first_bridge (part 1 reset_bridge.sends) told.resets_under_it }
+    ensures stood { hop_by_up (state_in first_bridge 1 reset_bridge.sends).hops 34 2 (1 ∷ [])
+        ≡ Some chained.of_first }
+    ensures gone { hop_by_up (state_in first_bridge 1 reset_bridge.is_unknown).hops 34 2 (1 ∷ [])
+        ≡ None }
+{}
+
+/// A module that resets itself by its own command is as it was made, in its next incarnation, with
+/// its used ops and that of the command.
+pub fn a_command_resets()
+    ensures reset { ResetIn scanner (part 0 resets.opens) told.resets_itself }
+    ensures state { state_in scanner 0 resets.resets
+        ≡ made_again scanner (Local 2) (state_in scanner 0 resets.opens) }
 {}
 
 /// The open through that bridge draws its number and its ids in its turn.
