@@ -164,7 +164,8 @@ by_its_command = record {
 -- its used ops are kept, and that of the command is one more
 pub made_by_command : state_in scanner 0 resetting.resets ≡ made_again scanner (Local 2) (state_in scanner 0 resetting.opens)
 unfolding by_its_command
-made_by_command = reset_makes_again scanner resets_itself (part 0 resetting.opens) (run_history plant resetting.resets 0 scanner run_resetting refl) by_its_command
+made_by_command = reset_makes_again scanner resets_itself (part 0 resetting.opens)
+    (run_history plant resetting.resets 0 scanner run_resetting refl) by_its_command
 
 pub turns_behind : part 0 resetting.comes_late ≡ behind_it ++ (resets_itself ∷ part 0 resetting.opens)
 turns_behind = refl

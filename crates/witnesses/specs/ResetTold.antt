@@ -1,4 +1,5 @@
--- The turns of the bridge that is reset and used again, and those of the scanner that resets itself.
+-- The turns of the bridge that is reset and used again, and those of the scanner that resets
+-- itself.
 use Rattle.std.specs.Prelude.{List, [], ◌∷◌, Some}
 use Rattle.cip_hops.specs.declared.opening.Opening.{Opening}
 use Rattle.cip_hops.specs.declared.opening.OwnIds.{OwnIds}
@@ -86,7 +87,8 @@ behind_it =
       outputs = outputs.Dropped Late ∷ [];
     }
     ∷ record {
-      event = events.Command (commands.Send 3 (record { tick = 7; ticks = 250 }) (2 ∷ 5 ∷ []) asked);
+      event = events.Command
+          (commands.Send 3 (record { tick = 7; ticks = 250 }) (2 ∷ 5 ∷ []) asked);
       outputs = outputs.Send 2 (5 ∷ []) (bodies.Request 65537 asked) ∷ [];
     }
     ∷ []

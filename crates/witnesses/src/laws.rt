@@ -94,15 +94,15 @@ pub fn a_bridge_is_reset()
     ensures { IsRun row reset_bridge.is_answered }
 {}
 
-/// A connection that is opened through a bridge that was reset, with a datum down and one up. In the
-/// end the scanner resets itself, and the op that opened ends.
+/// A connection that is opened through a bridge that was reset, with a datum down and one up. In
+/// the end the scanner resets itself, and the op that opened ends.
 pub fn opened_again()
     ensures { IsRun row again.ends }
 {}
 
-/// What a reset does, at the bridge of that run: it is as it was made, in its next incarnation; what
-/// it draws later is of that one; no request waits under the number of the first request, and no
-/// connection goes by the ids that were next before.
+/// What a reset does, at the bridge of that run: it is as it was made, in its next incarnation;
+/// what it draws later is of that one; no request waits under the number of the first request, and
+/// no connection goes by the ids that were next before.
 pub fn a_reset_is_told_of()
     ensures reset { ResetIn first_bridge [] told.is_reset }
     ensures turns { part 1 again.up_at_first ≡ told.after_it ++ (told.is_reset ∷ []) }
