@@ -16,7 +16,8 @@ returns-clause-done c _ =
 pub returns-in_default-clause-waits : goal.returns-in_default-clause-waits
 returns-in_default-clause-waits c = (
   λ done. absurd (cc),
-  λ waits. absurd (nothing_waits (shown_of c.args.self.now) (shown_of c.args.self.now).state.now None (record { time_is = refl; due = c.in_default.ensures }) refl waits),
+  λ waits. absurd (nothing_waits (shown_of c.args.self.now) (shown_of c.args.self.now).state.now None
+      (record { time_is = refl; due = c.in_default.ensures }) refl waits),
 )
 
 pub returns-clause-waits : goal.returns-clause-waits
