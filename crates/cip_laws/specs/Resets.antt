@@ -1,5 +1,5 @@
--- A turn in which a module resets itself, and what it is then (Volume 1, chapter 5, Identity object,
--- service Reset).
+-- A turn in which a module resets itself, and what it is then (Volume 1, chapter 5, Identity
+-- object, service Reset).
 use Rattle.std.specs.Prelude.{◌≡◌, ℕ, true, List, [], ◌∷◌, Some}
 use Rattle.std.specs.FinMap.{empty}
 use Rattle.cip_base.specs.Counts.{reborn}
@@ -13,8 +13,8 @@ use Rattle.cip_module.specs.State.{State, spent_with}
 use Rattle.cip_module.specs.Table.{decide, with_spending}
 use Rattle.cip_laws.specs.Histories.{Turn, state_after}
 
--- the module's own objects answer a request, which came in a frame or by a command, and read it as a
--- reset for which an incarnation is left
+-- the module's own objects answer a request, which came in a frame or by a command, and read it
+-- as a reset for which an incarnation is left
 pub record ResetIn (config : ModuleSettings) (before : List Turn) (turn : Turn) : Type 0 where
   pub up : UpSide
   pub request : Request
