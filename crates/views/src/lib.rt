@@ -17,5 +17,3 @@ mod old_chart;
 mod plants;
 #[cfg(test)]
 mod shown;
-#[cfg(test)]
-mod tree_view;

@@ -1,13 +1,13 @@
 //! What a view shows, piece by piece, beside what its form from before shows.
 use crate::dice::Dice;
 use crate::made::transcript;
-use crate::tree_view::TreeView;
 use cip_read::{Line, Note, ReadFault, Reader};
 use cip_topology::{CHASSIS, Topology, load};
 use cip_view::{JsonView, Pieces, View, feed, finish};
 use std::alloc::{AllocError, Global};
 use std::process::Abort;
 use std::test::Fail;
+use tree_view::TreeView;
 
 /// A transcript that goes through a view.
 #[derive(Drop)]

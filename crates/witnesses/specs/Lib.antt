@@ -14,3 +14,4 @@ pub mod ResetRun
 pub mod ResetBridge
 pub mod OpenedAgain
 pub mod ResetTold
+pub mod Bounds

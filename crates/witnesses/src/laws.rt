@@ -1,9 +1,14 @@
 //! Which plans are topologies, which journals are runs over them, and what holds of a run.
-ghost use Rattle.std.specs.Prelude.{◌≡◌, ◌≤◌, ◌<◌, [], ◌∷◌, ◌++◌, Some, None};
+ghost use Rattle.std.specs.Prelude.{◌≡◌, ◌≤◌, ◌<◌, true, false, [], ◌∷◌, ◌++◌, Some, None, codes};
 ghost use Rattle.std.specs.FinMap as map;
 ghost use Rattle.cip_base.specs.Counts.{reborn};
+ghost use Rattle.cip_base.specs.Words.{Octets};
 ghost use Rattle.cip_pending.specs.declared.entry.UpSide.TheVariants.{Link, Local};
 ghost use Rattle.cip_hops.specs.Hops.{hop_by_up, hop_by_down};
+ghost use Rattle.cip_target.specs.Identity.{is_product_name};
+ghost use Rattle.cip_config.specs.declared.config.LegalAddresses.{LegalAddresses};
+ghost use Rattle.cip_config.specs.declared.config.LegalAddresses.TheVariants.{Byte, Text};
+ghost use Rattle.cip_config.specs.Config.{is_name, is_range, is_legal};
 ghost use Rattle.cip_event.specs.declared.event.Body.TheVariants.{Request};
 ghost use Rattle.cip_event.specs.declared.event.Command.TheVariants.{Close};
 ghost use Rattle.cip_event.specs.declared.event.Output.TheVariants.{Arrived, Consumed, Done, Send};
@@ -24,6 +29,7 @@ ghost use Rattle.cip_world.specs.Roots.{root_of};
 ghost use Rattle.cip_world.specs.Runs.{IsRun, IsWaiting, state_in};
 ghost use Rattle.cip_world.specs.Trails.{trail_of};
 ghost use Rattle.cip_world.specs.TrailTells.{OpenedIn, SentIn};
+ghost use Rattle.witnesses.specs.Bounds.{IsNameOfSixteen, IsRangeOfSixteen, IsAddressFrom21, IsProductNameOf32};
 ghost use Rattle.witnesses.specs.Plans.{plant, cell, row, scanner, first_bridge, triad, frame};
 ghost use Rattle.witnesses.specs.StoredRun as stored;
 ghost use Rattle.witnesses.specs.ConnectedRun as connected;
@@ -157,6 +163,47 @@ pub fn an_end_is_told_of()
         × (weight (is_ended 1) told.behind_it ≡ 0) }
 {}
 
+/// Names, addresses and product names are just those that their bounds in numbers let through: a
+/// name has 1 to 16 letters, digits, `_` or `-`; a text link has addresses of at most 1 to 16
+/// characters from 21 to 7E, a byte link those from a first to a last byte; and a product name has
+/// at most 32 characters from 20 to 7E.
+pub fn bounds_in_numbers()
+    ensures name { (s : Octets) → is_name s ≡ true → IsNameOfSixteen s }
+    ensures named { (s : Octets) → IsNameOfSixteen s → is_name s ≡ true }
+    ensures range { (l : LegalAddresses) → is_range l ≡ true → IsRangeOfSixteen l }
+    ensures ranged { (l : LegalAddresses) → IsRangeOfSixteen l → is_range l ≡ true }
+    ensures address { (l : LegalAddresses) (a : Octets) → is_legal l a ≡ true
+        → IsAddressFrom21 l a }
+    ensures addressed { (l : LegalAddresses) (a : Octets) → IsAddressFrom21 l a
+        → is_legal l a ≡ true }
+    ensures product_name { (s : Octets) → is_product_name s ≡ true → IsProductNameOf32 s }
+    ensures product_named { (s : Octets) → IsProductNameOf32 s → is_product_name s ≡ true }
+{}
+
+/// Each bound is met, and none can be passed.
+pub fn bounds_are_met()
+    ensures names { (is_name (codes "0") ≡ true) × (is_name (codes "azAZ09_-azAZ09_-") ≡ true) }
+    ensures no_names { (is_name [] ≡ false) × (is_name (codes "azAZ09_-azAZ09_-a") ≡ false)
+        × (is_name (codes "a b") ≡ false) × (is_name (codes "a.b") ≡ false) }
+    ensures ranges { (is_range (Text 1) ≡ true) × (is_range (Text 16) ≡ true)
+        × (is_range (Byte 0 255) ≡ true) × (is_range (Byte 7 7) ≡ true) }
+    ensures no_ranges { (is_range (Text 0) ≡ false) × (is_range (Text 17) ≡ false)
+        × (is_range (Byte 8 7) ≡ false) }
+    ensures addresses { (is_legal (Byte 3 5) (3 ∷ []) ≡ true)
+        × (is_legal (Byte 3 5) (5 ∷ []) ≡ true)
+        × (is_legal (Text 2) (0x21 ∷ 0x7E ∷ []) ≡ true) × (is_legal (Text 2) (0x21 ∷ []) ≡ true) }
+    ensures no_addresses { (is_legal (Byte 3 5) (2 ∷ []) ≡ false)
+        × (is_legal (Byte 3 5) (6 ∷ []) ≡ false) × (is_legal (Byte 3 5) (3 ∷ 3 ∷ []) ≡ false)
+        × (is_legal (Byte 3 5) [] ≡ false) × (is_legal (Text 2) (0x20 ∷ []) ≡ false)
+        × (is_legal (Text 2) (0x7F ∷ []) ≡ false)
+        × (is_legal (Text 2) (0x21 ∷ 0x21 ∷ 0x21 ∷ []) ≡ false) }
+    ensures product_names { (is_product_name [] ≡ true)
+        × (is_product_name (codes " ~ ~ ~ ~ ~ ~ ~ ~ ~ ~ ~ ~ ~ ~ ~ ~") ≡ true) }
+    ensures no_product_names {
+        (is_product_name (codes " ~ ~ ~ ~ ~ ~ ~ ~ ~ ~ ~ ~ ~ ~ ~ ~ ") ≡ false)
+        × (is_product_name (0x1F ∷ []) ≡ false) × (is_product_name (0x7F ∷ []) ≡ false) }
+{}
+
 /// A large open through the two bridges. The chain of its connection stands in the end.
 pub fn large_run()
     ensures run { IsRun row large.stands }
@@ -222,7 +269,8 @@ pub fn a_failure_tells_where()
     ensures opened { OpenedIn plant failed.ends 0 1 0 failed.path }
     ensures done { Gave (part 0 failed.ends) (Done 1 failed.failure) }
     ensures trail { trail_of failed.ends 0 1 ≡ 0 ∷ 1 ∷ 2 ∷ [] }
-    ensures tells { FailsAt plant failed.ends (0 ∷ 1 ∷ 2 ∷ []) 0 failed.path failed.failure 2 3 }
+    ensures tells { FailsAt plant failed.ends (0 ∷ 1 ∷ 2 ∷ []) 0 failed.path false
+        failed.failure 2 3 }
 {}
 
 /// So does the Done of the open that times out there.
@@ -230,7 +278,7 @@ pub fn a_time_out_tells_where()
     ensures opened { OpenedIn plant timed_out.ends 0 1 0 timed_out.path }
     ensures done { Gave (part 0 timed_out.ends) (Done 1 timed_out.failure) }
     ensures trail { trail_of timed_out.ends 0 1 ≡ 0 ∷ 1 ∷ 2 ∷ [] }
-    ensures tells { FailsAt plant timed_out.ends (0 ∷ 1 ∷ 2 ∷ []) 0 timed_out.path
+    ensures tells { FailsAt plant timed_out.ends (0 ∷ 1 ∷ 2 ∷ []) 0 timed_out.path false
         timed_out.failure 2 3 }
 {}
 
@@ -240,8 +288,17 @@ pub fn a_success_tells_where()
     ensures opened { OpenedIn row chained.arrived 0 1 0 chained.path }
     ensures done { Gave (part 0 chained.arrived) (Done 1 chained.third_success) }
     ensures trail { trail_of chained.arrived 0 1 ≡ 0 ∷ 1 ∷ 2 ∷ 3 ∷ [] }
-    ensures tells { SucceedsAt row chained.arrived (0 ∷ 1 ∷ 2 ∷ 3 ∷ []) 0 chained.path
+    ensures tells { SucceedsAt row chained.arrived (0 ∷ 1 ∷ 2 ∷ 3 ∷ []) 0 chained.path false
         chained.third_success 3 3 }
+{}
+
+/// So does a large open, by the service of a large one.
+pub fn a_large_success_tells_where()
+    ensures opened { OpenedIn row large.stands 0 1 0 chained.path }
+    ensures done { Gave (part 0 large.stands) (Done 1 large.third_success) }
+    ensures trail { trail_of large.stands 0 1 ≡ 0 ∷ 1 ∷ 2 ∷ 3 ∷ [] }
+    ensures tells { SucceedsAt row large.stands (0 ∷ 1 ∷ 2 ∷ 3 ∷ []) 0 chained.path true
+        large.third_success 3 3 }
 {}
 
 /// The Done of the Send is what the second bridge answers, in entry 2, the last of its trail.

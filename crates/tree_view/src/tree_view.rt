@@ -1,4 +1,4 @@
-//! The JSON view as it was when it made a tree of values for each entry, kept to compare with.
+//! The entries as trees of values.
 ghost use Rattle.std.specs.Prelude.{◌≡◌, [], string_bytes};
 
 use cip_base::{Address, ModuleId, NoMemory, PortNumber, Triad};

@@ -1,0 +1,67 @@
+//! Shows the transcript of its standard input, of a run over the chassis, as JSON: in the form from
+//! before, which made a tree of values for each entry.
+//!
+//! What it writes goes out piece by piece, as in `cipview json`, so that both can be refused memory
+//! and compared.
+#![tactic(auto)]
+
+mod fault;
+
+use cip_read::Reader;
+use cip_topology::{CHASSIS, Topology, load};
+use cip_view::{Pieces, View, feed, finish};
+use fault::Fault;
+use std::alloc::Global;
+use std::io;
+use std::io::{Read, Write};
+use std::process::ExitCode;
+use tree_view::TreeView;
+
+// The bytes of one read.
+const PIECE: usize = 65_536;
+
+// What is to be written goes out.
+fn write_out(rt: &HostRuntime, view: &mut TreeView<'_>) -> Result<(), Fault> {
+    let bytes = view.written();
+    if bytes.is_empty() {
+        return Ok(());
+    }
+    io::writer(rt).write_all(bytes)?;
+    view.clear();
+    Ok(())
+}
+
+// Shows the transcript, piece by piece.
+fn show(rt: &HostRuntime, alloc: Global, topology: &Topology) -> Result<(), Fault> {
+    let mut view = TreeView::new(alloc, topology);
+    let mut reader = Reader::new(topology);
+    let mut pieces = Pieces::new(alloc);
+    let mut input = rt.reader();
+    let mut piece = vec![in alloc; 0u8; PIECE]?;
+    for _ in 0..u64::MAX {
+        let count = input.read(piece.as_mut_slice())?;
+        if count == 0 {
+            break;
+        }
+        let fed = feed(alloc, &mut reader, &mut pieces, &mut view, &piece[..count]);
+        write_out(rt, &mut view)?;
+        fed?;
+    }
+    finish(alloc, &reader, &pieces, &mut view)?;
+    write_out(rt, &mut view)
+}
+
+fn play(rt: &HostRuntime, alloc: Global) -> Result<(), Fault> {
+    let topology = load(alloc, CHASSIS)?;
+    show(rt, alloc, &topology)
+}
+
+fn main(rt: HostRuntime) -> ExitCode {
+    match play(&rt, rt.alloc()) {
+        Ok(()) => ExitCode::SUCCESS,
+        Err(fault) => {
+            let _ = eprintln!(rt; "played_views: {fault}");
+            ExitCode::from(fault.status())
+        }
+    }
+}
