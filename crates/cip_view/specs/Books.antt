@@ -1,5 +1,6 @@
 -- What is known of a run.
-use Rattle.std.specs.Prelude.{◌≡◌, ℕ, if◌then◌else◌, List, Option, Some, None, option_map}
+use Rattle.std.specs.Prelude.{◌≡◌, ℕ, ◌==◌, Bool, false, if◌then◌else◌, List, [], ◌∷◌, Option, Some, None, option_map}
+use Rattle.cip_message.specs.Numbers.{word_in}
 use Rattle.cip_base.specs.declared.numbers.ModuleId.{ModuleId}
 use Rattle.cip_event.specs.declared.event.Body.{Body}
 use Rattle.cip_read.specs.declared.line.Given.{Given}
@@ -50,3 +51,19 @@ abbrev pub Knows : Plan → Option Step → ℕ → List ℕ → Body → Option
 Knows t None port to body found = found ≡ None
 Knows t (Some step) port to body None = ⊥
 Knows t (Some step) port to body (Some sent) = IsSent t step port to body sent
+
+-- the sequence count in front of a datum, where its connection has the transport class 1 (Volume 1,
+-- chapter 3, transport classes)
+abbrev pub counted_of : ℕ → List ℕ → Option ℕ
+counted_of class (low ∷ high ∷ rest) =
+    if class == 1 then Some (word_in (low ∷ high ∷ rest) 0) else None
+counted_of class bytes = None
+
+abbrev pub count_of : Option ℕ → List ℕ → Option ℕ
+count_of None bytes = None
+count_of (Some class) bytes = counted_of class bytes
+
+-- the count is that of the last datum
+abbrev pub is_repeated : Option ℕ → Option ℕ → Bool
+is_repeated (Some last) (Some count) = last == count
+is_repeated last count = false

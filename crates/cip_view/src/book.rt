@@ -1,7 +1,7 @@
 //! What is known of a run while its transcript is read: the frames on their way, the connections
 //! that were opened, and the ops that have not ended.
 ghost use Rattle.std.specs.Prelude.{◌≡◌, Some, None, IfOk, option_map, unwrap_or, slice_get, codes};
-ghost use Rattle.cip_view.specs.Books.{at_of, arrived_of, made_at, Knows};
+ghost use Rattle.cip_view.specs.Books.{at_of, arrived_of, made_at, count_of, is_repeated, Knows};
 
 use crate::label::{Kind, Label, label_of};
 use cip_base::{Address, ModuleId, NoMemory, PortNumber, Triad};
@@ -52,9 +52,31 @@ pub struct Book<'a> {
     ids: BTreeMap<(usize, u32), Triad>,
     // the connection that an op of a module opened
     opened: BTreeMap<(usize, u32), Triad>,
+    // the sequence count of the last datum of a connection that a module consumed
+    counts: BTreeMap<(usize, Triad), u16>,
     // the ops that have not ended
     ops: BTreeMap<(usize, u32), CommandWord>,
     step: Option<Step>,
+}
+
+// The sequence count of a datum, where its connection has the transport class 1.
+fn count_of(class: Option<u8>, bytes: &[u8]) -> Option<u16>
+    ensures { result ≡ count_of class bytes.now }
+{
+    match (class, bytes) {
+        (Some(1), [low, high, ..]) => Some(u16::from_le_bytes([*low, *high])),
+        _ => None,
+    }
+}
+
+// Whether a datum's sequence count is that of the last one.
+fn is_repeated(last: Option<u16>, count: Option<u16>) -> bool
+    ensures { result ≡ is_repeated last count }
+{
+    match (last, count) {
+        (Some(last), Some(count)) => last == count,
+        _ => false,
+    }
 }
 
 // Whether a command's number is an op of its own.
@@ -77,6 +99,7 @@ impl<'a> Book<'a> {
             classes: BTreeMap::new(alloc),
             ids: BTreeMap::new(alloc),
             opened: BTreeMap::new(alloc),
+            counts: BTreeMap::new(alloc),
             ops: BTreeMap::new(alloc),
             step: None,
         }
@@ -192,6 +215,7 @@ impl<'a> Book<'a> {
         if let Ok(reply) = decode_reply(bytes) {
             if let Answer::Opened(opened) = reply.answer {
                 self.ids.insert((at.0, opened.ot_id), opened.triad)?;
+                self.counts.remove(&(at.0, opened.triad));
             }
         }
         Ok(())
@@ -271,6 +295,37 @@ impl<'a> Book<'a> {
     {
         if let Some(step) = self.step {
             self.ops.remove(&(step.at.0, op));
+        }
+    }
+
+    // The count of the last datum of a connection that this module consumed, and from now on this.
+    fn note_count(
+        &mut self,
+        at: ModuleId,
+        triad: Triad,
+        count: u16,
+    ) -> Result<Option<u16>, NoMemory>
+        ensures over { self.new.topology ≡ self.old.topology }
+        ensures step { self.new.step ≡ self.old.step }
+    {
+        let last = self.counts.get(&(at.0, triad)).copied();
+        self.counts.insert((at.0, triad), count)?;
+        Ok(last)
+    }
+
+    /// The module of the step under way consumed a datum: whether its sequence count repeats that of
+    /// the last one, so that it is not written (Volume 1, chapter 3, transport class 1).
+    pub fn consume(&mut self, triad: Triad, bytes: &[u8]) -> Result<bool, NoMemory>
+        ensures over { self.new.topology ≡ self.old.topology }
+        ensures step { self.new.step ≡ self.old.step }
+    {
+        let class = self.classes.get(&triad).copied();
+        match (self.step, count_of(class, bytes)) {
+            (Some(step), Some(count)) => {
+                let last = self.note_count(step.at, triad, count)?;
+                Ok(is_repeated(last, Some(count)))
+            }
+            _ => Ok(false),
         }
     }
 

@@ -217,11 +217,12 @@ fn put_body(
 
 fn put_consumed(
     text: &mut Draft,
-    book: &Book<'_>,
+    book: &mut Book<'_>,
     triad: Triad,
     instance: u32,
     bytes: &[u8],
 ) -> Result<(), NoMemory> {
+    let is_repeated = book.consume(triad, bytes)?;
     put_bytes(
         text,
         "{\"consumed\":{\"bytes\":\"",
@@ -229,6 +230,9 @@ fn put_consumed(
         "\",\"instance\":",
     )?;
     text.put_number(u64::from(instance))?;
+    if is_repeated {
+        text.put(",\"repeated\":true")?;
+    }
     text.put(",\"says\":")?;
     put_datum(text, book.of_triad(triad), bytes)?;
     text.put("}}")
@@ -417,7 +421,7 @@ impl<'a> JsonView<'a> {
             } => {
                 put_consumed(
                     &mut self.part,
-                    &self.book,
+                    &mut self.book,
                     *triad,
                     *instance,
                     bytes.as_slice(),

@@ -6,7 +6,7 @@ use crate::label::NameText;
 use crate::reasons::{command_word, drop_reason, refusal_reason};
 use crate::says::{BodyText, DatumText, OfText, ReplyText};
 use crate::view::{Ending, View};
-use cip_base::{Address, ModuleId, NoMemory, PortNumber};
+use cip_base::{Address, ModuleId, NoMemory, PortNumber, Triad};
 use cip_decode::{Pairs, decode_reply};
 use cip_event::{Body, Output};
 use cip_read::{FrameName, Given, Line};
@@ -102,10 +102,18 @@ impl<'a> TextView<'a> {
         Ok(())
     }
 
-    fn put_datum(&mut self, known: Known, bytes: &[u8]) -> Result<(), NoMemory> {
+    fn put_datum(&mut self, known: Known, bytes: &[u8], behind: &str) -> Result<(), NoMemory> {
         let datum = DatumText { known, bytes };
-        writeln!(self.out, "    datum{}: {datum}", OfText(known))?;
+        writeln!(self.out, "    datum{}: {datum}{behind}", OfText(known))?;
         Ok(())
+    }
+
+    // A datum came to its target.
+    fn put_consumed(&mut self, triad: Triad, bytes: &[u8]) -> Result<(), NoMemory> {
+        let is_repeated = self.book.consume(triad, bytes)?;
+        let known = self.book.of_triad(triad);
+        let behind = if is_repeated { "; repeated: not written" } else { "" };
+        self.put_datum(known, bytes, behind)
     }
 
     // What an output says.
@@ -119,12 +127,11 @@ impl<'a> TextView<'a> {
                 Ok(())
             }
             Output::Consumed { triad, bytes, .. } => {
-                let known = self.book.of_triad(*triad);
-                self.put_datum(known, bytes.as_slice())
+                self.put_consumed(*triad, bytes.as_slice())
             }
             Output::Arrived { op, bytes } => {
                 let known = self.book.of_op(*op);
-                self.put_datum(known, bytes.as_slice())
+                self.put_datum(known, bytes.as_slice(), "")
             }
             Output::Expired { .. } => {
                 self.out.push_str("    the connection was silent for too long, and is gone\n")?;

@@ -408,7 +408,11 @@ impl<'a> TreeView<'a> {
         triad: Triad,
         instance: u32,
         bytes: &[u8],
+        is_repeated: bool,
     ) -> Result<(), AllocError> {
+        if is_repeated {
+            put(object, alloc, "repeated", Value::from(true))?;
+        }
         put(object, alloc, "instance", Value::from(instance))?;
         put(object, alloc, "bytes", pairs(alloc, bytes)?)?;
         let says = datum_json(alloc, self.book.of_triad(triad), bytes)?;
@@ -416,14 +420,15 @@ impl<'a> TreeView<'a> {
     }
 
     fn consumed_json(
-        &self,
+        &mut self,
         alloc: Global,
         triad: Triad,
         instance: u32,
         bytes: &[u8],
     ) -> Result<Value, NoMemory> {
+        let is_repeated = self.book.consume(triad, bytes)?;
         let mut consumed = Map::new(alloc);
-        self.put_consumed(alloc, &mut consumed, triad, instance, bytes)?;
+        self.put_consumed(alloc, &mut consumed, triad, instance, bytes, is_repeated)?;
         Ok(object_of(alloc, "consumed", Value::Object(consumed))?)
     }
 

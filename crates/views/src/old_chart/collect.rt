@@ -284,6 +284,14 @@ impl<'a> ChartView<'a> {
         Ok(())
     }
 
+    // Whether a datum is consumed that repeats the one before.
+    fn is_repeated(&mut self, output: &Output) -> Result<bool, NoMemory> {
+        match output {
+            Output::Consumed { triad, bytes, .. } => self.book.consume(*triad, bytes.as_slice()),
+            _ => Ok(false),
+        }
+    }
+
     fn take_output(
         &mut self,
         alloc: Global,
@@ -296,8 +304,11 @@ impl<'a> ChartView<'a> {
             Output::Refused(_) => self.book.refused(),
             _ => {}
         }
+        let is_repeated = self.is_repeated(output)?;
         match output {
-            Output::Consumed { .. } | Output::Arrived { .. } => self.change_look(None),
+            Output::Consumed { .. } | Output::Arrived { .. } if !is_repeated => {
+                self.change_look(None)
+            }
             _ => {
                 if let Some(place) = self.row {
                     if let Some(row) = self.rows.get_mut(place) {
@@ -306,7 +317,7 @@ impl<'a> ChartView<'a> {
                 }
             }
         }
-        match mark_of(alloc, output)? {
+        match mark_of(alloc, output, is_repeated)? {
             Some((text, is_bad)) => self.put_mark(text, is_bad),
             None => Ok(()),
         }
