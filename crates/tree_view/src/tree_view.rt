@@ -1,4 +1,4 @@
-//! The entries as trees of values.
+//! The JSON view as it was when it made a tree of values for each entry, kept to compare with.
 ghost use Rattle.std.specs.Prelude.{◌≡◌, [], string_bytes};
 
 use cip_base::{Address, ModuleId, NoMemory, PortNumber, Triad};
@@ -7,10 +7,8 @@ use cip_event::{Body, Output};
 use cip_read::{CommandWord, FrameName, Given, Line};
 use cip_topology::Topology;
 use cip_view::{Book, Ending, Known, NameText, Sent, View, drop_word, refusal_word};
-use serde_json::{Map, Value, json, put};
+use serde_json::{Value, json};
 use std::alloc::{AllocError, Global};
-
-type Object = Map<String, Value>;
 
 fn pairs(alloc: Global, bytes: &[u8]) -> Result<Value, AllocError> {
     Ok(Value::String(format!(in alloc; "{}", Pairs(bytes))?))
@@ -18,13 +16,6 @@ fn pairs(alloc: Global, bytes: &[u8]) -> Result<Value, AllocError> {
 
 fn name_json(alloc: Global, name: &[u8]) -> Result<Value, AllocError> {
     Ok(Value::String(format!(in alloc; "{}", NameText(name))?))
-}
-
-// An object with one member.
-fn object_of(alloc: Global, name: &str, value: Value) -> Result<Value, AllocError> {
-    let mut object = Map::new(alloc);
-    put(&mut object, alloc, name, value)?;
-    Ok(Value::Object(object))
 }
 
 fn frame_json(alloc: Global, frame: FrameName) -> Result<Value, AllocError> {
@@ -37,7 +28,7 @@ fn decoded_request(alloc: Global, bytes: &[u8]) -> Result<Value, AllocError> {
         Ok(request) => request_json(alloc, &request),
         Err(fault) => {
             let text = format!(in alloc; "{fault}")?;
-            object_of(alloc, "unreadable", Value::String(text))
+            json!(in alloc; {"unreadable": text})
         }
     }
 }
@@ -48,7 +39,7 @@ fn decoded_reply(alloc: Global, bytes: &[u8]) -> Result<Value, AllocError> {
         Ok(reply) => reply_json(alloc, &reply),
         Err(fault) => {
             let text = format!(in alloc; "{fault}")?;
-            object_of(alloc, "unreadable", Value::String(text))
+            json!(in alloc; {"unreadable": text})
         }
     }
 }
@@ -60,77 +51,41 @@ fn known_triad(alloc: Global, triad: Option<Triad>) -> Result<Value, AllocError>
     }
 }
 
-fn put_datum(
-    alloc: Global,
-    object: &mut Object,
-    known: Known,
-    bytes: &[u8],
-) -> Result<(), AllocError> {
-    put(object, alloc, "triad", known_triad(alloc, known.triad)?)?;
-    match (known.class_, bytes) {
-        (Some(1), [low, high, rest @ ..]) => {
-            let count = u16::from_le_bytes([*low, *high]);
-            put(object, alloc, "count", Value::from(count))?;
-            put(object, alloc, "data", pairs(alloc, rest)?)
-        }
-        _ => {
-            put(object, alloc, "count", Value::Null)?;
-            put(object, alloc, "data", pairs(alloc, bytes)?)
-        }
-    }
-}
-
 // A datum: its connection where it is known, its sequence count where it has one.
 fn datum_json(alloc: Global, known: Known, bytes: &[u8]) -> Result<Value, AllocError> {
-    let mut object = Map::new(alloc);
-    put_datum(alloc, &mut object, known, bytes)?;
-    Ok(Value::Object(object))
+    let triad = known_triad(alloc, known.triad)?;
+    let (count, rest) = match (known.class_, bytes) {
+        (Some(1), [low, high, rest @ ..]) => {
+            (Value::from(u16::from_le_bytes([*low, *high])), rest)
+        }
+        _ => (Value::Null, bytes),
+    };
+    let data = pairs(alloc, rest)?;
+    json!(in alloc; {"triad": triad, "count": count, "data": data})
 }
 
 // The word of a command, and what its number is.
-fn words_of(word: CommandWord) -> (&'static str, &'static str) {
+fn command_json(alloc: Global, word: CommandWord, number: u32) -> Result<Value, AllocError> {
     match word {
-        CommandWord::Send => ("send", "op"),
-        CommandWord::Open => ("open", "op"),
-        CommandWord::Large => ("large", "op"),
-        CommandWord::Close => ("close", "op"),
-        CommandWord::Enter => ("enter", "of"),
-        CommandWord::Set => ("set", "instance"),
-        CommandWord::Produce => ("produce", "instance"),
-    }
-}
-
-fn put_given(alloc: Global, object: &mut Object, given: Given) -> Result<(), AllocError> {
-    match given {
-        Given::Command(word, number) => {
-            let (word, name) = words_of(word);
-            put(object, alloc, "command", Value::try_from_str(alloc, word)?)?;
-            put(object, alloc, name, Value::from(number))
-        }
-        Given::Tick(ms) => put(object, alloc, "tick_ms", Value::from(ms)),
-        Given::Frame(frame) => put(object, alloc, "frame", frame_json(alloc, frame)?),
+        CommandWord::Send => json!(in alloc; {"command": "send", "op": number}),
+        CommandWord::Open => json!(in alloc; {"command": "open", "op": number}),
+        CommandWord::Large => json!(in alloc; {"command": "large", "op": number}),
+        CommandWord::Close => json!(in alloc; {"command": "close", "op": number}),
+        CommandWord::Enter => json!(in alloc; {"command": "enter", "of": number}),
+        CommandWord::Set => json!(in alloc; {"command": "set", "instance": number}),
+        CommandWord::Produce => json!(in alloc; {"command": "produce", "instance": number}),
     }
 }
 
 fn given_json(alloc: Global, given: Given) -> Result<Value, AllocError> {
-    let mut object = Map::new(alloc);
-    put_given(alloc, &mut object, given)?;
-    Ok(Value::Object(object))
-}
-
-// A line that shows no part of an entry.
-fn note_json(alloc: Global, text: &[u8]) -> Result<Value, AllocError> {
-    let line = match std::str::from_utf8(text) {
-        Ok(text) => Value::try_from_str(alloc, text)?,
-        Err(_) => Value::Null,
-    };
-    object_of(alloc, "note", line)
-}
-
-// An entry with its outputs.
-fn entry_json(alloc: Global, head: Value, outputs: Vec<Value>) -> Result<Value, AllocError> {
-    let list = Value::Array(outputs);
-    json!(in alloc; {"entry": head, "outputs": list})
+    match given {
+        Given::Command(word, number) => command_json(alloc, word, number),
+        Given::Tick(ms) => json!(in alloc; {"tick_ms": ms}),
+        Given::Frame(frame) => {
+            let frame = frame_json(alloc, frame)?;
+            json!(in alloc; {"frame": frame})
+        }
+    }
 }
 
 /// The entries as JSON.
@@ -171,104 +126,32 @@ impl<'a> TreeView<'a> {
         Ok(())
     }
 
-    // An entry with its outputs.
-    fn put_whole(
-        &mut self,
-        alloc: Global,
-        head: Value,
-        outputs: Vec<Value>,
-    ) -> Result<(), NoMemory> {
-        let entry = entry_json(alloc, head, outputs)?;
-        self.put(alloc, &entry)
-    }
-
     // The entry under way is whole.
     fn put_entry(&mut self, alloc: Global) -> Result<(), NoMemory> {
         let outputs = std::mem::replace(&mut self.outputs, Vec::new(alloc));
-        match self.head.take() {
-            Some(head) => self.put_whole(alloc, head, outputs),
-            None if outputs.is_empty() => Ok(()),
-            None => self.put_whole(alloc, Value::Null, outputs),
+        if let Some(head) = self.head.take() {
+            let list = Value::Array(outputs);
+            let entry = json!(in alloc; {"entry": head, "outputs": list})?;
+            return self.put(alloc, &entry);
         }
-    }
-
-    fn put_arrived(
-        &self,
-        alloc: Global,
-        object: &mut Object,
-        sent: Sent,
-    ) -> Result<(), AllocError> {
-        let from = name_json(alloc, self.book.name(sent.from))?;
-        put(object, alloc, "from", from)?;
-        let label = format!(in alloc; "{}", sent.label)?;
-        put(object, alloc, "label", Value::String(label))
-    }
-
-    fn sent_json(&self, alloc: Global, sent: Sent) -> Result<Value, AllocError> {
-        let mut object = Map::new(alloc);
-        self.put_arrived(alloc, &mut object, sent)?;
-        Ok(Value::Object(object))
+        if !outputs.is_empty() {
+            let list = Value::Array(outputs);
+            let entry = json!(in alloc; {"entry": null, "outputs": list})?;
+            return self.put(alloc, &entry);
+        }
+        Ok(())
     }
 
     // The frame that the step was given.
     fn arrived_json(&self, alloc: Global, sent: Option<Sent>) -> Result<Value, AllocError> {
         match sent {
-            Some(sent) => self.sent_json(alloc, sent),
+            Some(sent) => {
+                let label = format!(in alloc; "{}", sent.label)?;
+                let from = name_json(alloc, self.book.name(sent.from))?;
+                json!(in alloc; {"from": from, "label": label})
+            }
             None => Ok(Value::Null),
         }
-    }
-
-    fn put_step(
-        &self,
-        alloc: Global,
-        object: &mut Object,
-        entry: usize,
-        at: ModuleId,
-        given: Given,
-    ) -> Result<(), AllocError> {
-        put(object, alloc, "number", Value::from(entry))?;
-        let name = name_json(alloc, self.book.name(at))?;
-        put(object, alloc, "module", name)?;
-        put(object, alloc, "given", given_json(alloc, given)?)?;
-        let arrived = self.arrived_json(alloc, self.book.arrived())?;
-        put(object, alloc, "arrived", arrived)
-    }
-
-    fn step_json(
-        &self,
-        alloc: Global,
-        entry: usize,
-        at: ModuleId,
-        given: Given,
-    ) -> Result<Value, AllocError> {
-        let mut object = Map::new(alloc);
-        self.put_step(alloc, &mut object, entry, at, given)?;
-        Ok(Value::Object(object))
-    }
-
-    fn put_lost(
-        &self,
-        alloc: Global,
-        object: &mut Object,
-        entry: usize,
-        frame: FrameName,
-        sent: Option<Sent>,
-    ) -> Result<(), AllocError> {
-        put(object, alloc, "number", Value::from(entry))?;
-        put(object, alloc, "lost", frame_json(alloc, frame)?)?;
-        put(object, alloc, "arrived", self.arrived_json(alloc, sent)?)
-    }
-
-    fn lost_json(
-        &self,
-        alloc: Global,
-        entry: usize,
-        frame: FrameName,
-        sent: Option<Sent>,
-    ) -> Result<Value, AllocError> {
-        let mut object = Map::new(alloc);
-        self.put_lost(alloc, &mut object, entry, frame, sent)?;
-        Ok(Value::Object(object))
     }
 
     fn take_step(
@@ -280,7 +163,15 @@ impl<'a> TreeView<'a> {
     ) -> Result<(), NoMemory> {
         self.put_entry(alloc)?;
         self.book.begin(entry, at, given)?;
-        let head = self.step_json(alloc, entry, at, given)?;
+        let name = name_json(alloc, self.book.name(at))?;
+        let given = given_json(alloc, given)?;
+        let arrived = self.arrived_json(alloc, self.book.arrived())?;
+        let head = json!(in alloc; {
+            "number": entry,
+            "module": name,
+            "given": given,
+            "arrived": arrived
+        })?;
         self.head = Some(head);
         Ok(())
     }
@@ -288,47 +179,10 @@ impl<'a> TreeView<'a> {
     fn take_lost(&mut self, alloc: Global, entry: usize, frame: FrameName) -> Result<(), NoMemory> {
         self.put_entry(alloc)?;
         let sent = self.book.lose(frame);
-        let head = self.lost_json(alloc, entry, frame, sent)?;
-        self.head = Some(head);
+        let frame = frame_json(alloc, frame)?;
+        let arrived = self.arrived_json(alloc, sent)?;
+        self.head = Some(json!(in alloc; {"number": entry, "lost": frame, "arrived": arrived})?);
         Ok(())
-    }
-
-    fn put_body(
-        &self,
-        alloc: Global,
-        object: &mut Object,
-        body: &Body,
-        to: Option<ModuleId>,
-    ) -> Result<(), AllocError> {
-        let bytes = match body {
-            Body::Request { number, bytes } => {
-                put(object, alloc, "request", Value::from(*number))?;
-                put(
-                    object,
-                    alloc,
-                    "says",
-                    decoded_request(alloc, bytes.as_slice())?,
-                )?;
-                bytes.as_slice()
-            }
-            Body::Reply { number, bytes } => {
-                put(object, alloc, "reply", Value::from(*number))?;
-                put(
-                    object,
-                    alloc,
-                    "says",
-                    decoded_reply(alloc, bytes.as_slice())?,
-                )?;
-                bytes.as_slice()
-            }
-            Body::Data { id, bytes } => {
-                put(object, alloc, "data", Value::from(*id))?;
-                let says = datum_json(alloc, self.book.of_id(to, *id), bytes.as_slice())?;
-                put(object, alloc, "says", says)?;
-                bytes.as_slice()
-            }
-        };
-        put(object, alloc, "bytes", pairs(alloc, bytes)?)
     }
 
     fn body_json(
@@ -337,28 +191,23 @@ impl<'a> TreeView<'a> {
         body: &Body,
         to: Option<ModuleId>,
     ) -> Result<Value, AllocError> {
-        let mut object = Map::new(alloc);
-        self.put_body(alloc, &mut object, body, to)?;
-        Ok(Value::Object(object))
-    }
-
-    fn put_send(
-        &self,
-        alloc: Global,
-        object: &mut Object,
-        to: &Address,
-        body: &Body,
-        sent: Option<Sent>,
-    ) -> Result<(), AllocError> {
-        let (node, made_at) = match sent {
-            Some(sent) => (sent.to, sent.made_at),
-            None => (None, None),
-        };
-        put(object, alloc, "address", pairs(alloc, to.as_slice())?)?;
-        put(object, alloc, "to", self.module_json(alloc, node)?)?;
-        let made_at = self.module_json(alloc, made_at)?;
-        put(object, alloc, "refused_at", made_at)?;
-        put(object, alloc, "holds", self.body_json(alloc, body, node)?)
+        match body {
+            Body::Request { number, bytes } => {
+                let says = decoded_request(alloc, bytes.as_slice())?;
+                let bytes = pairs(alloc, bytes.as_slice())?;
+                json!(in alloc; {"request": *number, "bytes": bytes, "says": says})
+            }
+            Body::Reply { number, bytes } => {
+                let says = decoded_reply(alloc, bytes.as_slice())?;
+                let bytes = pairs(alloc, bytes.as_slice())?;
+                json!(in alloc; {"reply": *number, "bytes": bytes, "says": says})
+            }
+            Body::Data { id, bytes } => {
+                let says = datum_json(alloc, self.book.of_id(to, *id), bytes.as_slice())?;
+                let bytes = pairs(alloc, bytes.as_slice())?;
+                json!(in alloc; {"data": *id, "bytes": bytes, "says": says})
+            }
+        }
     }
 
     fn send_json(
@@ -370,85 +219,60 @@ impl<'a> TreeView<'a> {
         body: &Body,
     ) -> Result<Value, NoMemory> {
         let sent = self.book.send(index, port, to, body)?;
-        let mut frame = Map::new(alloc);
-        put(&mut frame, alloc, "port", Value::from(port.get()))?;
-        self.put_send(alloc, &mut frame, to, body, sent)?;
-        Ok(object_of(alloc, "send", Value::Object(frame))?)
-    }
-
-    fn put_done(
-        &self,
-        alloc: Global,
-        object: &mut Object,
-        op: u32,
-        reply: &[u8],
-    ) -> Result<(), AllocError> {
-        let made_at = match decode_reply(reply) {
-            Ok(reply) if reply.view.general != 0 => self.book.made_at(),
-            _ => None,
+        let (node, made_at) = match sent {
+            Some(sent) => (sent.to, sent.made_at),
+            None => (None, None),
         };
-        put(object, alloc, "op", Value::from(op))?;
-        put(object, alloc, "bytes", pairs(alloc, reply)?)?;
-        put(object, alloc, "says", decoded_reply(alloc, reply)?)?;
+        let holds = self.body_json(alloc, body, node)?;
+        let address = pairs(alloc, to.as_slice())?;
+        let node = self.module_json(alloc, node)?;
         let made_at = self.module_json(alloc, made_at)?;
-        put(object, alloc, "refused_at", made_at)
+        let frame = json!(in alloc; {
+            "port": port.get(),
+            "address": address,
+            "to": node,
+            "refused_at": made_at,
+            "holds": holds
+        })?;
+        Ok(json!(in alloc; {"send": frame})?)
     }
 
     fn done_json(&mut self, alloc: Global, op: u32, reply: &[u8]) -> Result<Value, NoMemory> {
         self.book.done(op);
-        let mut done = Map::new(alloc);
-        self.put_done(alloc, &mut done, op, reply)?;
-        Ok(object_of(alloc, "done", Value::Object(done))?)
-    }
-
-    fn put_consumed(
-        &self,
-        alloc: Global,
-        object: &mut Object,
-        triad: Triad,
-        instance: u32,
-        bytes: &[u8],
-        is_repeated: bool,
-    ) -> Result<(), AllocError> {
-        if is_repeated {
-            put(object, alloc, "repeated", Value::from(true))?;
-        }
-        put(object, alloc, "instance", Value::from(instance))?;
-        put(object, alloc, "bytes", pairs(alloc, bytes)?)?;
-        let says = datum_json(alloc, self.book.of_triad(triad), bytes)?;
-        put(object, alloc, "says", says)
+        let made_at = match decode_reply(reply) {
+            Ok(reply) if reply.view.general != 0 => self.book.made_at(),
+            _ => None,
+        };
+        let made_at = self.module_json(alloc, made_at)?;
+        let says = decoded_reply(alloc, reply)?;
+        let bytes = pairs(alloc, reply)?;
+        let done = json!(in alloc; {
+            "op": op,
+            "bytes": bytes,
+            "says": says,
+            "refused_at": made_at
+        })?;
+        Ok(json!(in alloc; {"done": done})?)
     }
 
     fn consumed_json(
-        &mut self,
+        &self,
         alloc: Global,
         triad: Triad,
         instance: u32,
         bytes: &[u8],
     ) -> Result<Value, NoMemory> {
-        let is_repeated = self.book.consume(triad, bytes)?;
-        let mut consumed = Map::new(alloc);
-        self.put_consumed(alloc, &mut consumed, triad, instance, bytes, is_repeated)?;
-        Ok(object_of(alloc, "consumed", Value::Object(consumed))?)
-    }
-
-    fn put_datum(
-        &self,
-        alloc: Global,
-        object: &mut Object,
-        op: u32,
-        bytes: &[u8],
-    ) -> Result<(), AllocError> {
-        put(object, alloc, "op", Value::from(op))?;
-        put(object, alloc, "bytes", pairs(alloc, bytes)?)?;
-        let says = datum_json(alloc, self.book.of_op(op), bytes)?;
-        put(object, alloc, "says", says)
+        let says = datum_json(alloc, self.book.of_triad(triad), bytes)?;
+        let bytes = pairs(alloc, bytes)?;
+        let consumed = json!(in alloc; {"instance": instance, "bytes": bytes, "says": says})?;
+        Ok(json!(in alloc; {"consumed": consumed})?)
     }
 
     fn arrived_datum(&self, alloc: Global, op: u32, bytes: &[u8]) -> Result<Value, NoMemory> {
-        let mut arrived = Map::new(alloc);
-        self.put_datum(alloc, &mut arrived, op, bytes)?;
-        Ok(object_of(alloc, "arrived", Value::Object(arrived))?)
+        let says = datum_json(alloc, self.book.of_op(op), bytes)?;
+        let bytes = pairs(alloc, bytes)?;
+        let arrived = json!(in alloc; {"op": op, "bytes": bytes, "says": says})?;
+        Ok(json!(in alloc; {"arrived": arrived})?)
     }
 
     fn output_json(
@@ -462,8 +286,7 @@ impl<'a> TreeView<'a> {
             Output::Done { op, reply } => self.done_json(alloc, *op, reply.as_slice()),
             Output::Refused(fault) => {
                 self.book.refused();
-                let word = Value::try_from_str(alloc, refusal_word(*fault))?;
-                Ok(object_of(alloc, "refused", word)?)
+                Ok(json!(in alloc; {"refused": refusal_word(*fault)})?)
             }
             Output::Consumed {
                 triad,
@@ -473,17 +296,14 @@ impl<'a> TreeView<'a> {
             Output::Arrived { op, bytes } => self.arrived_datum(alloc, *op, bytes.as_slice()),
             Output::Expired { triad } => {
                 let triad = triad_json(alloc, *triad)?;
-                Ok(object_of(alloc, "expired", triad)?)
+                Ok(json!(in alloc; {"expired": triad})?)
             }
             Output::Ended { op } => {
                 self.book.done(*op);
-                let ended = object_of(alloc, "op", Value::from(*op))?;
-                Ok(object_of(alloc, "ended", ended)?)
+                let ended = json!(in alloc; {"op": *op})?;
+                Ok(json!(in alloc; {"ended": ended})?)
             }
-            Output::Dropped(reason) => {
-                let word = Value::try_from_str(alloc, drop_word(*reason))?;
-                Ok(object_of(alloc, "dropped", word)?)
-            }
+            Output::Dropped(reason) => Ok(json!(in alloc; {"dropped": drop_word(*reason)})?),
         }
     }
 
@@ -500,38 +320,22 @@ impl<'a> TreeView<'a> {
 
     fn take_note(&mut self, alloc: Global, text: &[u8]) -> Result<(), NoMemory> {
         self.put_entry(alloc)?;
-        let note = note_json(alloc, text)?;
+        let line = match std::str::from_utf8(text) {
+            Ok(text) => Value::try_from_str(alloc, text)?,
+            Err(_) => Value::Null,
+        };
+        let note = json!(in alloc; {"note": line})?;
         self.put(alloc, &note)
-    }
-
-    fn put_ops(&self, alloc: Global, list: &mut Vec<Value>) -> Result<(), NoMemory> {
-        for ((place, op), _) in self.book.ops() {
-            let name = name_json(alloc, self.book.name(ModuleId(*place)))?;
-            list.push(json!(in alloc; {"module": name, "op": *op})?)?;
-        }
-        Ok(())
     }
 
     // The ops that have not ended.
     fn open_json(&self, alloc: Global) -> Result<Value, NoMemory> {
         let mut list = Vec::new(alloc);
-        self.put_ops(alloc, &mut list)?;
+        for ((place, op), _) in self.book.ops() {
+            let name = name_json(alloc, self.book.name(ModuleId(*place)))?;
+            list.push(json!(in alloc; {"module": name, "op": *op})?)?;
+        }
         Ok(Value::Array(list))
-    }
-
-    fn put_end(&self, alloc: Global, object: &mut Object, ending: Ending) -> Result<(), NoMemory> {
-        put(object, alloc, "lines", Value::from(ending.lines))?;
-        put(object, alloc, "cut", Value::from(ending.is_cut))?;
-        put(object, alloc, "open", self.open_json(alloc)?)?;
-        put(object, alloc, "waiting", Value::from(self.book.waiting()))?;
-        Ok(())
-    }
-
-    // How the transcript ends.
-    fn end_json(&self, alloc: Global, ending: Ending) -> Result<Value, NoMemory> {
-        let mut end = Map::new(alloc);
-        self.put_end(alloc, &mut end, ending)?;
-        Ok(object_of(alloc, "end", Value::Object(end))?)
     }
 }
 
@@ -549,7 +353,15 @@ impl View for TreeView<'_> {
 
     fn end(&mut self, alloc: Global, _rest: &[u8], ending: Ending) -> Result<(), NoMemory> {
         self.put_entry(alloc)?;
-        let end = self.end_json(alloc, ending)?;
+        let open = self.open_json(alloc)?;
+        let waiting = self.book.waiting();
+        let end = json!(in alloc; {
+            "lines": ending.lines,
+            "cut": ending.is_cut,
+            "open": open,
+            "waiting": waiting
+        })?;
+        let end = json!(in alloc; {"end": end})?;
         self.put(alloc, &end)
     }
 

@@ -1,6 +1,6 @@
 //! Transcripts that look like those of runs, and some that do not.
 use crate::dice::Dice;
-use crate::messages::{DATA, REPLIES, REQUESTS};
+use crate::messages::{COUNTED, DATA, REPLIES, REQUESTS};
 use std::alloc::{AllocError, Global};
 
 const NAMES: &[&str] = &["S", "A", "B", "E"];
@@ -134,8 +134,10 @@ pub fn put_output(text: &mut String, dice: &mut Dice) -> Result<(), AllocError> 
         }
         2 => write!(text, "refused {}", dice.one_of(REFUSALS)),
         3 => {
-            write!(text, "consumed {} {op} ", dice.one_of(TRIADS))?;
-            put_message(text, dice, DATA)
+            // a count of its own, as a view says which datum repeats the one before
+            let count = dice.below(65_536);
+            write!(text, "consumed {} {op} {count:04X}", dice.one_of(TRIADS))?;
+            text.push_str(dice.one_of(COUNTED))
         }
         4 => {
             write!(text, "arrived {op} ")?;

@@ -65,3 +65,6 @@ pub const DATA: &[&str] = &[
      00000000000000000000000000000000000000000000000000000000",
     "-",
 ];
+
+/// What stands behind the sequence count of a datum.
+pub const COUNTED: &[&str] = &["AABBCCDD", "07", "", "00000000000000000000000000000000"];

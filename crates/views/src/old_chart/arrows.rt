@@ -59,34 +59,8 @@ fn shown_of(
     }))
 }
 
-// The lines of the arrows that are shown take their places.
-fn take_lines(
-    alloc: Global,
-    chart: &ChartView<'_>,
-    heights: &Heights,
-    areas: &mut Areas,
-    arrows: &mut Vec<Shown>,
-) -> Result<(), NoMemory> {
-    for (place, arrow) in chart.arrows.iter().enumerate() {
-        if let Some(arrow) = shown_of(alloc, chart, heights, place, arrow)? {
-            areas.put_line(arrow.line)?;
-            arrows.push(arrow)?;
-        }
-    }
-    Ok(())
-}
-
-// And then the labels, one by one.
-fn take_labels(areas: &mut Areas, arrows: &mut Vec<Shown>) -> Result<(), NoMemory> {
-    for arrow in arrows.iter_mut() {
-        let characters = arrow.label.len();
-        arrow.spot = spot_of(areas, arrow.line, arrow.is_whole, characters);
-        areas.put_text(arrow.spot.area(width_of(characters)))?;
-    }
-    Ok(())
-}
-
-/// The arrows that are shown, each label where nothing else stands.
+/// The arrows that are shown, each label where nothing else stands: the lines take their places,
+/// and then the labels, one by one.
 pub(crate) fn take_arrows(
     alloc: Global,
     chart: &ChartView<'_>,
@@ -94,8 +68,17 @@ pub(crate) fn take_arrows(
     areas: &mut Areas,
 ) -> Result<Vec<Shown>, NoMemory> {
     let mut arrows = Vec::new(alloc);
-    take_lines(alloc, chart, heights, areas, &mut arrows)?;
-    take_labels(areas, &mut arrows)?;
+    for (place, arrow) in chart.arrows.iter().enumerate() {
+        if let Some(arrow) = shown_of(alloc, chart, heights, place, arrow)? {
+            areas.put_line(arrow.line)?;
+            arrows.push(arrow)?;
+        }
+    }
+    for arrow in arrows.iter_mut() {
+        let characters = arrow.label.len();
+        arrow.spot = spot_of(areas, arrow.line, arrow.is_whole, characters);
+        areas.put_text(arrow.spot.area(width_of(characters)))?;
+    }
     Ok(arrows)
 }
 

@@ -284,14 +284,6 @@ impl<'a> ChartView<'a> {
         Ok(())
     }
 
-    // Whether a datum is consumed that repeats the one before.
-    fn is_repeated(&mut self, output: &Output) -> Result<bool, NoMemory> {
-        match output {
-            Output::Consumed { triad, bytes, .. } => self.book.consume(*triad, bytes.as_slice()),
-            _ => Ok(false),
-        }
-    }
-
     fn take_output(
         &mut self,
         alloc: Global,
@@ -304,11 +296,8 @@ impl<'a> ChartView<'a> {
             Output::Refused(_) => self.book.refused(),
             _ => {}
         }
-        let is_repeated = self.is_repeated(output)?;
         match output {
-            Output::Consumed { .. } | Output::Arrived { .. } if !is_repeated => {
-                self.change_look(None)
-            }
+            Output::Consumed { .. } | Output::Arrived { .. } => self.change_look(None),
             _ => {
                 if let Some(place) = self.row {
                     if let Some(row) = self.rows.get_mut(place) {
@@ -317,25 +306,10 @@ impl<'a> ChartView<'a> {
                 }
             }
         }
-        match mark_of(alloc, output, is_repeated)? {
+        match mark_of(alloc, output)? {
             Some((text, is_bad)) => self.put_mark(text, is_bad),
             None => Ok(()),
         }
-    }
-
-    // The chart as it was gathered.
-    fn put_drawn(&self, alloc: Global, out: &mut String) -> Result<(), NoMemory> {
-        if self.is_page {
-            put_page(alloc, self, out)
-        } else {
-            put_svg(alloc, self, false, out)
-        }
-    }
-
-    fn drawn(&self, alloc: Global) -> Result<String, NoMemory> {
-        let mut out = String::new(alloc);
-        self.put_drawn(alloc, &mut out)?;
-        Ok(out)
     }
 
     // What is said below the chart.
@@ -370,7 +344,13 @@ impl View for ChartView<'_> {
     fn end(&mut self, alloc: Global, _rest: &[u8], ending: Ending) -> Result<(), NoMemory> {
         self.put_notes(alloc, ending)?;
         fold(&mut self.rows);
-        self.out = self.drawn(alloc)?;
+        let mut out = String::new(alloc);
+        if self.is_page {
+            put_page(alloc, self, &mut out)?;
+        } else {
+            put_svg(alloc, self, false, &mut out)?;
+        }
+        self.out = out;
         Ok(())
     }
 

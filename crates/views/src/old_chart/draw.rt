@@ -1,6 +1,6 @@
 //! The chart as SVG.
 use crate::old_chart::areas::{Areas, width_of};
-use crate::old_chart::arrows::{Shown, put_arrows, take_arrows};
+use crate::old_chart::arrows::{put_arrows, take_arrows};
 use crate::old_chart::collect::ChartView;
 use crate::old_chart::escape::put_escaped;
 use crate::old_chart::layout::{Heights, LEFT, MARK, SPACING};
@@ -56,58 +56,6 @@ fn put_head(width: u64, height: u64, out: &mut String) -> Result<(), NoMemory> {
     Ok(())
 }
 
-// All that is drawn, where each text has its place.
-fn put_all(
-    alloc: Global,
-    chart: &ChartView<'_>,
-    heights: &Heights,
-    right: u64,
-    arrows: &[Shown],
-    is_link: bool,
-    out: &mut String,
-) -> Result<(), NoMemory> {
-    let end = heights.end();
-    let width = width_with(chart, right);
-    let notes = MARK.saturating_mul(chart.notes.len() as u64);
-    let height = end.saturating_add(20).saturating_add(notes);
-    put_head(width, height, out)?;
-    put_lives(chart, heights, body_of(chart.topology), out)?;
-    put_rows(chart, heights, width, out)?;
-    put_arrows(chart, arrows, is_link, out)?;
-    put_marks(alloc, chart, heights, out)?;
-    put_notes(chart.notes.as_slice(), end, out)?;
-    out.push_str("</svg>\n")?;
-    Ok(())
-}
-
-// The texts take their places, and are drawn.
-fn put_placed(
-    alloc: Global,
-    chart: &ChartView<'_>,
-    heights: &Heights,
-    areas: &mut Areas,
-    is_link: bool,
-    out: &mut String,
-) -> Result<(), NoMemory> {
-    take_names(chart, heights, areas)?;
-    take_rows(alloc, chart, heights, areas)?;
-    let arrows = take_arrows(alloc, chart, heights, areas)?;
-    let (right, arrows) = (areas.right, arrows.as_slice());
-    put_all(alloc, chart, heights, right, arrows, is_link, out)
-}
-
-// The chart with its rows at these heights.
-fn put_over(
-    alloc: Global,
-    chart: &ChartView<'_>,
-    heights: &Heights,
-    is_link: bool,
-    out: &mut String,
-) -> Result<(), NoMemory> {
-    let mut areas = Areas::new(alloc, heights.end())?;
-    put_placed(alloc, chart, heights, &mut areas, is_link, out)
-}
-
 /// The chart as SVG, its arrows as links to what their messages say where that stands on a page.
 pub(crate) fn put_svg(
     alloc: Global,
@@ -117,5 +65,20 @@ pub(crate) fn put_svg(
 ) -> Result<(), NoMemory> {
     let body = body_of(chart.topology);
     let heights = Heights::of(alloc, chart.rows.as_slice(), body)?;
-    put_over(alloc, chart, &heights, is_link, out)
+    let end = heights.end();
+    let mut areas = Areas::new(alloc, end)?;
+    take_names(chart, &heights, &mut areas)?;
+    take_rows(alloc, chart, &heights, &mut areas)?;
+    let arrows = take_arrows(alloc, chart, &heights, &mut areas)?;
+    let width = width_with(chart, areas.right);
+    let notes = MARK.saturating_mul(chart.notes.len() as u64);
+    let height = end.saturating_add(20).saturating_add(notes);
+    put_head(width, height, out)?;
+    put_lives(chart, &heights, body, out)?;
+    put_rows(chart, &heights, width, out)?;
+    put_arrows(chart, arrows.as_slice(), is_link, out)?;
+    put_marks(alloc, chart, &heights, out)?;
+    put_notes(chart.notes.as_slice(), end, out)?;
+    out.push_str("</svg>\n")?;
+    Ok(())
 }

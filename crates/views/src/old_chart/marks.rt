@@ -17,24 +17,8 @@ fn done_text(alloc: Global, op: u32, reply: &[u8]) -> Result<(String, bool), All
     }
 }
 
-// A datum that was consumed, and whether it was written.
-fn consumed_text(
-    alloc: Global,
-    instance: u32,
-    count: usize,
-    is_repeated: bool,
-) -> Result<String, AllocError> {
-    let behind = if is_repeated { ", repeated: not written" } else { "" };
-    format!(in alloc; "consumed {instance} ({count} bytes){behind}")
-}
-
-/// The text of a mark, and whether it tells of something bad; None for a frame that goes out. Of a
-/// datum that was consumed is told whether it repeats the one before.
-pub(crate) fn mark_of(
-    alloc: Global,
-    output: &Output,
-    is_repeated: bool,
-) -> Result<Option<(String, bool)>, NoMemory> {
+/// The text of a mark, and whether it tells of something bad; None for a frame that goes out.
+pub(crate) fn mark_of(alloc: Global, output: &Output) -> Result<Option<(String, bool)>, NoMemory> {
     let found = match output {
         Output::Send { .. } => return Ok(None),
         Output::Done { op, reply } => done_text(alloc, *op, reply.as_slice())?,
@@ -49,7 +33,7 @@ pub(crate) fn mark_of(
         } => {
             let count = bytes.as_slice().len();
             (
-                consumed_text(alloc, *instance, count, is_repeated)?,
+                format!(in alloc; "consumed {instance} ({count} bytes)")?,
                 false,
             )
         }
