@@ -246,9 +246,9 @@ uint32_t cip_pending(cip_device *device, size_t at, cip_pending_row *pending);
 uint32_t cip_next_deadline(cip_device *device, uint64_t *milliseconds);
 
 /* The incarnation in which the device draws its connection ids, and that in which it draws its
- * request numbers: the high half of the last that it drew, from first_id and first_number on. A
- * Reset that is carried out raises both by one. A device that starts again must begin above every
- * incarnation in which it ever was, or an id of an earlier life comes to stand for a connection of
+ * request numbers: those of first_id and first_number, and one more for each Reset that was carried
+ * out; what it draws until the next Reset has it in its high half. A device that starts again must
+ * begin above every incarnation in which it ever was, or an id of an earlier life comes to stand for a connection of
  * this one: so keep the greater of both in memory that survives, before the reply to a Reset goes
  * out. The call may be made while outputs wait: behind the call that put out the reply, and before
  * cip_next tells it, it says whether a reset was carried out. Nothing changes. */

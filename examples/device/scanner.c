@@ -203,10 +203,11 @@ static void send_or_open(void) {
         take_outputs();
 }
 
-/* One request along the path; whether it succeeded. */
+/* One request along the path; whether it succeeded. Without the time it isn't asked. */
 static bool ask(const uint8_t *request, size_t length) {
     answer = 0;
-    tell_time(milliseconds());
+    if (!tell_time(milliseconds()))
+        return false;
     if (cip_send(&device, ++ops, timing, path, path_length, request, length) == CIP_DONE)
         take_outputs();
     run(3000, true, 0);
@@ -294,8 +295,8 @@ int main(int count, char **words) {
     answer = 0;
     run(count > 3 ? strtoull(words[3], 0, 10) : 1000, false, send_or_open);
     answer = 0;
-    tell_time(milliseconds());
-    if (open_op != 0 && cip_close(&device, ++ops, open_op, timing) == CIP_DONE)
+    if (tell_time(milliseconds()) && open_op != 0 &&
+        cip_close(&device, ++ops, open_op, timing) == CIP_DONE)
         take_outputs();
     run(3000, true, 0);
     bool is_closed = answer > 0;

@@ -3,7 +3,7 @@ use Rattle.std.specs.Prelude.{◌≡◌, ◌↔◌, ◌⊎◌, ℕ, Option, Some
 use Rattle.cip_base.specs.Counts.{incarnation}
 use Rattle.cip_device.specs.Shown.{Shown}
 
--- each is that of what comes next, so of the last that was drawn
+-- each is that of what comes next, and of what is drawn until the next reset
 abbrev pub AreIncarnations : Shown → ℕ → ℕ → Type 0
 AreIncarnations s ids numbers =
     (ids ≡ incarnation s.state.hops.next) × (numbers ≡ incarnation s.state.pendings.next)

@@ -1,21 +1,29 @@
 -- What a reset does, at the bridge that is reset and used again, and at the scanner that resets itself.
-use Rattle.std.proofs.Common.{Some, ◌≡◌, ◌≤◌, ◌<◌, [], ◌∷◌, ◌++◌, None, refl, inl, inr, arith}
+use Rattle.std.proofs.Common.{Some, ◌≡◌, ℕ, ◌≤◌, ◌<◌, List, [], ◌∷◌, ◌++◌, None, refl, inl, inr, arith}
 use Rattle.std.specs.FinMap as map
 use Rattle.cip_base.specs.Counts.{reborn}
 use Rattle.cip_pending.specs.declared.entry.UpSide.TheVariants.{Link, Local}
+use Rattle.cip_event.specs.declared.event.Body.TheVariants as bodies
+use Rattle.cip_event.specs.declared.event.Output.TheVariants as outputs
+use Rattle.cip_hops.specs.declared.hop.Held.TheVariants.{Open}
 use Rattle.cip_hops.specs.Hops.{hop_by_up, hop_by_down}
 use Rattle.cip_module.specs.State.{initial_state}
 use Rattle.cip_laws.specs.Births.{IsBirth}
 use Rattle.cip_laws.specs.Histories.{IsHistory}
 use Rattle.cip_laws.specs.Resets.{ResetIn, made_again}
+use Rattle.cip_laws.specs.Turns.{Has}
 use Rattle.cip_laws.specs.Weights.{is_reply, is_ended, weight}
 use Rattle.cip_laws.proofs.Again.{reset_makes_again, numbers_from_reset, ids_drawn_from_reset, none_waits, none_by_up, none_by_down, number_range}
 use Rattle.cip_laws.proofs.Births.{birth_range}
 use Rattle.cip_world.specs.Journals.{part}
+use Rattle.cip_world.specs.Mirrors.{IsOlder}
+use Rattle.cip_world.specs.ResetSteps.{IsResetBy}
 use Rattle.cip_world.specs.Runs.{state_in}
 use Rattle.cip_world.proofs.Chassis.{chassis}
+use Rattle.cip_world.proofs.Moments.{run_older}
 use Rattle.cip_world.proofs.Parts.{run_history}
 use Rattle.cip_world.proofs.RepliesTell.{replies_tell}
+use Rattle.cip_world.proofs.ResetMirrors.{none_mirrors}
 use Rattle.cip_message.specs.Counted.{counted_at, counted_path_at}
 use Rattle.cip_message.specs.Failure.{failure_at}
 use Rattle.cip_message.specs.ReplyAt.{reply_at}
@@ -37,17 +45,17 @@ use Rattle.cip_segment.specs.Scan.{bytes_at, double_at, logical_at, narrow_at, n
 use Rattle.cip_target.specs.Ends.{end_row}
 use Rattle.cip_target.specs.Rows.{target_row}
 use Rattle.cip_unconnected.specs.UnconnectedAt.{unconnected_at}
-use Rattle.witnesses.specs.Plans.{scanner, first_bridge, plant, row}
+use Rattle.witnesses.specs.Plans.{scanner, first_bridge, plant, row, triad}
 use Rattle.witnesses.specs.OpenedAgain as again
 use Rattle.witnesses.specs.ResetRun as resetting
 use Rattle.witnesses.specs.ResetBridge as under
-use Rattle.witnesses.specs.ChainedRun.{of_first}
-use Rattle.witnesses.specs.ResetTold.{is_reset, goes_on, after_it, begins, own, resets_under_it, finds_none, resets_itself, behind_it}
+use Rattle.witnesses.specs.ChainedRun.{of_first, of_scanner, stands}
+use Rattle.witnesses.specs.ResetTold.{is_reset, goes_on, after_it, begins, own, resets_under_it, finds_none, resets_itself, behind_it, ends_itself}
 use Rattle.witnesses.proofs.Maps.{none_waits as none_wait, none_held, held_first, held_none, held_get, held_entries, held_twice, entry_get, entry_gone, bytes_none}
-use Rattle.witnesses.proofs.OpenedAgain.{run_resets, run_at_first, run_up_at_first}
+use Rattle.witnesses.proofs.OpenedAgain.{run_resets, run_at_first, run_up_at_first, run_ends}
 use Rattle.witnesses.proofs.ResetRun.{reset_under_way, run_resets as run_resetting}
 use Rattle.witnesses.proofs.ResetBridge.{run_is_unknown}
-use Rattle.witnesses.proofs.Topologies.{plant_is}
+use Rattle.witnesses.proofs.Topologies.{plant_is, row_is}
 
 -- ---- the bridge
 
@@ -98,9 +106,12 @@ none_goes_there = (
 abbrev opened : IsHistory first_bridge (goes_on ∷ is_reset ∷ [])
 opened = run_history row again.at_first 1 first_bridge run_at_first refl
 
+pub number_is_sent : Has goes_on.outputs (outputs.Send 1 (3 ∷ []) (bodies.Request 65537 again.second_request))
+number_is_sent = inl refl
+
 pub number_is_drawn : ((state_in first_bridge 1 again.opens).pendings.next ≤ 65537)
     × (65537 < (state_in first_bridge 1 again.at_first).pendings.next)
-number_is_drawn = number_range first_bridge goes_on (is_reset ∷ []) 1 65537 (3 ∷ []) again.second_request opened (inl refl)
+number_is_drawn = number_range first_bridge goes_on (is_reset ∷ []) 1 65537 (3 ∷ []) again.second_request opened number_is_sent
 
 pub is_born : IsBirth first_bridge begins own (is_reset ∷ []) goes_on
 unfolding behind bytes_at close_at close_reply_at close_row counted_at counted_path_at data_row double_at end_row failure_at hop_of link_refusal logical_at
@@ -148,6 +159,51 @@ pub none_is_left : hop_by_up (state_in first_bridge 1 under.is_unknown).hops 34 
 none_is_left = none_by_up first_bridge (finds_none ∷ []) (part 1 under.sends) resets_under_it behind_the_datum under_it 34 2 (1 ∷ [])
     (let next = next_there in omega (arith, next))
 
+under_resets : IsOlder (under.resetting ∷ under.sends) under.is_unknown
+under_resets = inr (inr (inr (inl refl)))
+
+number_there : (state_in first_bridge 1 under.sends).pendings.next ≡ 2
+unfolding behind bytes_at close_at close_reply_at close_row counted_at counted_path_at data_row double_at end_row failure_at hop_of link_refusal logical_at
+    narrow_at number_at open_at open_reply_at open_row other_at padded_at path_at plain_port_at point_at port_at reply_at reply_row request_at request_row
+    segment_at segments_of segments_within send_row size_at target_row unconnected_at unconnected_row words_at
+number_there = simp (none_wait, none_held, held_first, held_get, held_twice, entry_get, entry_gone) refl
+
+-- what it had drawn before, clause by clause
+pub counts_there : ((state_in first_bridge 1 under.sends).pendings.next ≡ 2) × ((state_in first_bridge 1 under.sends).hops.next ≡ 35)
+counts_there = (number_there, next_there)
+
+pub made_under_it : state_in first_bridge 1 under.resets ≡ made_again first_bridge (Link 2 (1 ∷ []) 2) (state_in first_bridge 1 under.sends)
+unfolding under_it
+made_under_it = reset_makes_again first_bridge resets_under_it (part 1 under.sends)
+    (run_history row under.resets 1 first_bridge (run_older row under.resets under.is_unknown under_resets run_is_unknown) refl) under_it
+
+pub none_waits_under_it : map.get (state_in first_bridge 1 under.is_unknown).pendings.entries 1 ≡ None
+none_waits_under_it = none_waits first_bridge (finds_none ∷ []) (part 1 under.sends) resets_under_it behind_the_datum under_it 1
+    (let next = number_there in omega (arith, next))
+
+pub none_goes_down : hop_by_down (state_in first_bridge 1 under.is_unknown).hops 33 1 (3 ∷ []) ≡ None
+none_goes_down = none_by_down first_bridge (finds_none ∷ []) (part 1 under.sends) resets_under_it behind_the_datum under_it 33 1 (3 ∷ [])
+    (let next = next_there in omega (arith, next))
+
+-- ---- the connection of the scanner, which stood before
+
+pub scanner_has : map.get (state_in scanner 0 stands).hops.held triad ≡ Some (Open of_scanner)
+unfolding behind bytes_at close_at close_reply_at close_row counted_at counted_path_at data_row double_at end_row failure_at hop_of link_refusal logical_at
+    narrow_at number_at open_at open_reply_at open_row other_at padded_at path_at plain_port_at point_at port_at reply_at reply_row request_at request_row
+    segment_at segments_of segments_within send_row size_at target_row unconnected_at unconnected_row words_at
+scanner_has = simp (none_wait, none_held, held_first, held_none, held_get, held_entries, held_twice, entry_get, entry_gone) refl
+
+pub resets_under : IsResetBy first_bridge 1 under.resetting under.sends
+resets_under = record { turn = resets_under_it; newest = refl; reset = under_it }
+
+pub is_before : IsOlder stands under.sends
+is_before = inr (inl refl)
+
+pub none_mirrors_it : (by : ℕ) (from : List ℕ) → hop_by_up (state_in first_bridge 1 under.is_unknown).hops 34 by from ≡ None
+none_mirrors_it by from =
+    none_mirrors (chassis row row_is) under.is_unknown stands under.sends under.resetting 0 1 scanner first_bridge run_is_unknown is_before under_resets refl
+    refl resets_under triad of_scanner 2 (5 ∷ []) scanner_has refl (record { at = 1; port = 2; address = 1 ∷ [] }) refl refl 34 refl by from
+
 -- ---- the scanner that resets itself
 
 pub by_its_command : ResetIn scanner (part 0 resetting.opens) resets_itself
@@ -180,3 +236,24 @@ pub nothing_behind : (weight (is_reply (Local 1)) (behind_it ++ (resets_itself �
 nothing_behind =
     (replies_tell (chassis plant plant_is) resetting.comes_late reset_under_way).last 0 scanner refl behind_it (part 0 resetting.opens) resets_itself refl 1
     (inr (inl refl))
+
+-- ---- the scanner that resets itself with its connection open
+
+pub ends_turns : part 0 again.ends ≡ [] ++ (ends_itself ∷ part 0 again.arrived)
+ends_turns = refl
+
+pub op_is_done : weight (is_reply (Local 2)) (part 0 again.ends) ≡ 1
+op_is_done = refl
+
+pub op_is_ended : weight (is_ended 2) (part 0 again.ends) ≡ 1
+op_is_ended = refl
+
+pub done_at_most_once : weight (is_reply (Local 2)) (part 0 again.ends) ≤ 1
+done_at_most_once = (replies_tell (chassis row row_is) again.ends run_ends).done 0 scanner refl 2
+
+pub ended_at_most_once : weight (is_ended 2) (part 0 again.ends) ≤ 1
+ended_at_most_once = (replies_tell (chassis row row_is) again.ends run_ends).ended 0 scanner refl 2
+
+pub none_behind_the_end : (weight (is_reply (Local 2)) ([] ++ (ends_itself ∷ [])) ≡ 0) × (weight (is_ended 2) [] ≡ 0)
+none_behind_the_end =
+    (replies_tell (chassis row row_is) again.ends run_ends).last 0 scanner refl [] (part 0 again.arrived) ends_itself refl 2 (inr (inl refl))

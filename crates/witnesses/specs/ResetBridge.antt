@@ -9,6 +9,7 @@ use Rattle.witnesses.specs.ChainedRun.{stands, datum}
 use Rattle.witnesses.specs.LateReply.{asked, sent_on, answer}
 use Rattle.witnesses.specs.ResetRun.{reset, done}
 use Rattle.cip_world.specs.declared.journal.Input.TheVariants.{Command, Frame}
+use Rattle.cip_world.specs.declared.journal.Entry.{Entry}
 use Rattle.cip_world.specs.declared.journal.Entry.TheVariants.{Step}
 use Rattle.cip_world.specs.Journals.{Journal}
 
@@ -17,10 +18,13 @@ sends = Step (record { 0 = 0 })
     (Command (commands.Send 2 (record { tick = 7; ticks = 250 }) (2 ∷ 5 ∷ []) reset))
     (outputs.Send 2 (5 ∷ []) (bodies.Request 2 reset) ∷ []) ∷ stands
 
-abbrev pub resets : Journal
-resets = Step (record { 0 = 1 })
+abbrev pub resetting : Entry
+resetting = Step (record { 0 = 1 })
     (Frame 2 (1 ∷ []) (frame 7))
-    (outputs.Send 2 (1 ∷ []) (bodies.Reply 2 done) ∷ []) ∷ sends
+    (outputs.Send 2 (1 ∷ []) (bodies.Reply 2 done) ∷ [])
+
+abbrev pub resets : Journal
+resets = resetting ∷ sends
 
 abbrev pub is_told : Journal
 is_told = Step (record { 0 = 0 })

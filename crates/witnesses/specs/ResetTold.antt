@@ -92,3 +92,11 @@ behind_it =
       outputs = outputs.Send 2 (5 ∷ []) (bodies.Request 65537 asked) ∷ [];
     }
     ∷ []
+
+-- ---- the scanner that resets itself with its connection open
+
+abbrev pub ends_itself : Turn
+ends_itself = record {
+  event = events.Command (commands.Send 3 (record { tick = 7; ticks = 250 }) [] reset);
+  outputs = outputs.Done 3 done ∷ outputs.Ended 2 ∷ [];
+}

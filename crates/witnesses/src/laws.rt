@@ -1,10 +1,11 @@
 //! Which plans are topologies, which journals are runs over them, and what holds of a run.
-ghost use Rattle.std.specs.Prelude.{◌≡◌, ◌≤◌, ◌<◌, true, false, [], ◌∷◌, ◌++◌, Some, None, codes};
+ghost use Rattle.std.specs.Prelude.{◌≡◌, ℕ, ◌≤◌, ◌<◌, true, false, List, [], ◌∷◌, ◌++◌, Some, None, codes};
 ghost use Rattle.std.specs.FinMap as map;
 ghost use Rattle.cip_base.specs.Counts.{reborn};
 ghost use Rattle.cip_base.specs.Words.{Octets};
 ghost use Rattle.cip_pending.specs.declared.entry.UpSide.TheVariants.{Link, Local};
 ghost use Rattle.cip_hops.specs.Hops.{hop_by_up, hop_by_down};
+ghost use Rattle.cip_hops.specs.declared.hop.Held.TheVariants.{Open};
 ghost use Rattle.cip_target.specs.Identity.{is_product_name};
 ghost use Rattle.cip_config.specs.declared.config.LegalAddresses.{LegalAddresses};
 ghost use Rattle.cip_config.specs.declared.config.LegalAddresses.TheVariants.{Byte, Text};
@@ -15,7 +16,7 @@ ghost use Rattle.cip_event.specs.declared.event.Output.TheVariants.{Arrived, Con
 ghost use Rattle.cip_module.specs.State.{initial_state};
 ghost use Rattle.cip_laws.specs.Births.{IsBirth};
 ghost use Rattle.cip_laws.specs.Resets.{ResetIn, made_again};
-ghost use Rattle.cip_laws.specs.Turns.{Gave};
+ghost use Rattle.cip_laws.specs.Turns.{Gave, Has};
 ghost use Rattle.cip_laws.specs.Weights.{is_ended, is_reply, weight};
 ghost use Rattle.cip_topology.specs.Plan.{IsTopology};
 ghost use Rattle.cip_world.specs.declared.journal.Entry.TheVariants.{Step, Lost};
@@ -25,6 +26,7 @@ ghost use Rattle.cip_world.specs.Chains.{HasHop, IsChain, AreDeliveries, AreKept
 ghost use Rattle.cip_world.specs.Entering.{HasOutput, before_entry, IsTaken, IsEntered};
 ghost use Rattle.cip_world.specs.Journals.{entry_at, part};
 ghost use Rattle.cip_world.specs.Mirrors.{IsOlder, Mirrors, IsMirrored};
+ghost use Rattle.cip_world.specs.ResetSteps.{IsResetBy};
 ghost use Rattle.cip_world.specs.Roots.{root_of};
 ghost use Rattle.cip_world.specs.Runs.{IsRun, IsWaiting, state_in};
 ghost use Rattle.cip_world.specs.Trails.{trail_of};
@@ -131,8 +133,26 @@ pub fn a_connection_is_forgotten()
     ensures reset { ResetIn first_bridge (part 1 reset_bridge.sends) told.resets_under_it }
     ensures stood { hop_by_up (state_in first_bridge 1 reset_bridge.sends).hops 34 2 (1 ∷ [])
         ≡ Some chained.of_first }
+    ensures drawn { ((state_in first_bridge 1 reset_bridge.sends).pendings.next ≡ 2)
+        × ((state_in first_bridge 1 reset_bridge.sends).hops.next ≡ 35) }
+    ensures state { state_in first_bridge 1 reset_bridge.resets
+        ≡ made_again first_bridge (Link 2 (1 ∷ []) 2) (state_in first_bridge 1 reset_bridge.sends) }
+    ensures waiting { map.get (state_in first_bridge 1 reset_bridge.is_unknown).pendings.entries 1
+        ≡ None }
     ensures gone { hop_by_up (state_in first_bridge 1 reset_bridge.is_unknown).hops 34 2 (1 ∷ [])
         ≡ None }
+    ensures none_down { hop_by_down (state_in first_bridge 1 reset_bridge.is_unknown).hops 33 1
+        (3 ∷ []) ≡ None }
+{}
+
+/// The scanner's connection stood before that reset, and is mirrored by none there since.
+pub fn a_connection_is_mirrored_no_more()
+    ensures stood { map.get (state_in scanner 0 chained.stands).hops.held triad
+        ≡ Some (Open chained.of_scanner) }
+    ensures older { IsOlder chained.stands reset_bridge.sends }
+    ensures reset { IsResetBy first_bridge 1 reset_bridge.resetting reset_bridge.sends }
+    ensures none { (by : ℕ) (from : List ℕ)
+        → hop_by_up (state_in first_bridge 1 reset_bridge.is_unknown).hops 34 by from ≡ None }
 {}
 
 /// A module that resets itself by its own command is as it was made, in its next incarnation, with
@@ -145,6 +165,8 @@ pub fn a_command_resets()
 
 /// The open through that bridge draws its number and its ids in its turn.
 pub fn an_open_draws_its_numbers()
+    ensures sent { Has told.goes_on.outputs
+        (Send 1 (3 ∷ []) (Request 65537 again.second_request)) }
     ensures number { ((state_in first_bridge 1 again.opens).pendings.next ≤ 65537)
         × (65537 < (state_in first_bridge 1 again.at_first).pendings.next) }
     ensures born { IsBirth first_bridge told.begins told.own (told.is_reset ∷ []) told.goes_on }
@@ -161,6 +183,18 @@ pub fn an_end_is_told_of()
     ensures most { weight (is_ended 1) (part 0 resets.comes_late) ≤ 1 }
     ensures last { (weight (is_reply (Local 1)) (told.behind_it ++ (told.resets_itself ∷ [])) ≡ 0)
         × (weight (is_ended 1) told.behind_it ≡ 0) }
+{}
+
+/// The scanner that resets itself with its connection open gave one Done of the op that opened it,
+/// gives one Ended of it, and nothing of it behind that.
+pub fn an_open_connection_ends()
+    ensures turns { part 0 again.ends ≡ [] ++ (told.ends_itself ∷ part 0 again.arrived) }
+    ensures done { (weight (is_reply (Local 2)) (part 0 again.ends) ≡ 1)
+        × (weight (is_reply (Local 2)) (part 0 again.ends) ≤ 1) }
+    ensures ended { (weight (is_ended 2) (part 0 again.ends) ≡ 1)
+        × (weight (is_ended 2) (part 0 again.ends) ≤ 1) }
+    ensures last { (weight (is_reply (Local 2)) ([] ++ (told.ends_itself ∷ [])) ≡ 0)
+        × (weight (is_ended 2) [] ≡ 0) }
 {}
 
 /// Names, addresses and product names are just those that their bounds in numbers let through: a

@@ -1,5 +1,8 @@
-use Rattle.witnesses.proofs.ResetTold.{number_is_drawn, is_born, ids_are_drawn}
+use Rattle.witnesses.proofs.ResetTold.{number_is_sent, number_is_drawn, is_born, ids_are_drawn}
 use Rattle.witnesses.proofs.laws.an_open_draws_its_numbers.Goals as goal
+
+pub returns-clause-sent : goal.returns-clause-sent
+returns-clause-sent c = number_is_sent
 
 pub returns-clause-number : goal.returns-clause-number
 returns-clause-number c = number_is_drawn
