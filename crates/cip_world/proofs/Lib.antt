@@ -55,4 +55,3 @@ pub mod SendTrails
 pub mod DonesTell
 pub mod CloseTrails
 pub mod RepliesTell
-pub mod ResetMirrors

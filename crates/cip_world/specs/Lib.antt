@@ -17,4 +17,3 @@ pub mod Trails
 pub mod StepsIn
 pub mod TrailTells
 pub mod RepliesTell
-pub mod ResetSteps

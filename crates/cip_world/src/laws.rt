@@ -7,7 +7,6 @@ ghost use Rattle.cip_base.specs.declared.timing.Timing.{Timing};
 ghost use Rattle.cip_base.specs.declared.triad.Triad.{Triad};
 ghost use Rattle.cip_hops.specs.declared.hop.Held.TheVariants.{Open};
 ghost use Rattle.cip_hops.specs.declared.hop.Hop.{Hop};
-ghost use Rattle.cip_hops.specs.Hops.{hop_by_up};
 ghost use Rattle.cip_hops.specs.declared.opening.HopDown.TheVariants.{Link as DownLink};
 ghost use Rattle.cip_open.specs.Open.{Open as OpenRequest};
 ghost use Rattle.cip_pending.specs.declared.entry.Entry.{Entry as Pending};
@@ -21,9 +20,8 @@ ghost use Rattle.cip_event.specs.declared.event.Output.TheVariants.{Arrived, Con
 ghost use Rattle.cip_laws.specs.Histories.{IsHistory};
 ghost use Rattle.cip_laws.specs.Weights.{same_up, is_reply, is_asked_by, weight, came};
 ghost use Rattle.cip_topology.specs.Plan.{Plan, IsTopology};
-ghost use Rattle.cip_topology.specs.Nodes.{Way, across};
+ghost use Rattle.cip_topology.specs.Nodes.{Way};
 ghost use Rattle.cip_world.specs.declared.journal.FrameName.{FrameName as Name};
-ghost use Rattle.cip_world.specs.declared.journal.Entry.{Entry as Made};
 ghost use Rattle.cip_world.specs.declared.journal.Entry.TheVariants.{Step, Lost};
 ghost use Rattle.cip_world.specs.declared.journal.Input.TheVariants as inputs;
 ghost use Rattle.cip_world.specs.Journals.{Journal, entry_at, same_name, part};
@@ -34,7 +32,6 @@ ghost use Rattle.cip_world.specs.Answers.{Answered};
 ghost use Rattle.cip_world.specs.Mirrors.{IsOlder, IsMirrored};
 ghost use Rattle.cip_world.specs.Chains.{Member, IsChain, last_of, AreDeliveries, AreKept, IsTakenBy};
 ghost use Rattle.cip_world.specs.Entering.{HasOutput, before_entry, IsTaken, IsEntered, IsOpened, ConsumedOf, ArrivedOf};
-ghost use Rattle.cip_world.specs.ResetSteps.{IsResetBy};
 ghost use Rattle.cip_world.specs.Roots.{root_of};
 ghost use Rattle.cip_world.specs.Trails.{trail_of};
 
@@ -93,21 +90,6 @@ pub fn hops_are_mirrored()
         → map.get (state_in config m k).hops.held q ≡ Some (Open h)
         → h.opening.down ≡ DownLink port address
         → IsMirrored t j (record { at = m; port = port; address = address }) h }
-{}
-
-/// A connection that stood before its neighbour was reset is mirrored there no more: at no moment
-/// since does the neighbour find a connection under the id by which it is sent the data, so it drops
-/// each datum of it.
-pub fn a_reset_leaves_no_mirror()
-    ensures { (t : Plan) → IsTopology t → (j k before : Journal) (entry : Made) (m n : ℕ)
-        (config there : Settings) → IsRun t j → IsOlder k before → IsOlder (entry ∷ before) j
-        → IsModule t m config → IsModule t n there → IsResetBy there n entry before
-        → (q : Triad) (h : Hop) (port : ℕ) (address : List ℕ)
-        → map.get (state_in config m k).hops.held q ≡ Some (Open h)
-        → h.opening.down ≡ DownLink port address → (way : Way)
-        → across t (record { at = m; port = port; address = address }) ≡ Some way
-        → way.at ≡ n → (id : ℕ) → h.their_id ≡ Some id → (by : ℕ) (from : List ℕ)
-        → hop_by_up (state_in there n j).hops id by from ≡ None }
 {}
 
 /// Each datum that an end takes is one that was entered, unchanged and at most once: its root is an

@@ -1,5 +1,5 @@
 -- What the Dones of concrete runs tell of their trails.
-use Rattle.std.proofs.Common.{◌≡◌, ℕ, Bool, true, false, List, [], ◌∷◌, Ok, Some, refl, sym, subst, ap, ◌∙◌, inl, inr, arith, Result}
+use Rattle.std.proofs.Common.{◌≡◌, ℕ, false, List, [], ◌∷◌, Ok, Some, refl, sym, subst, ap, ◌∙◌, inl, inr, arith, Result}
 use Rattle.std.specs.List.{list_any}
 use Rattle.cip_base.proofs.MapCases.{some_same}
 use Rattle.cip_base.specs.declared.numbers.ModuleId.{ModuleId}
@@ -12,20 +12,16 @@ use Rattle.cip_message.specs.RequestAt.{request_at}
 use Rattle.cip_message.specs.declared.failure.ConnectionFailure.{ConnectionFailure}
 use Rattle.cip_message.specs.declared.fault.DataFault.{DataFault}
 use Rattle.cip_message.proofs.ReadAgain.{ok_reply}
-use Rattle.cip_event.specs.declared.event.Command.{Command as Asked}
 use Rattle.cip_event.specs.declared.event.Command.TheVariants as commands
-use Rattle.cip_event.specs.declared.event.LargeParams.{LargeParams}
 use Rattle.cip_event.specs.declared.event.OpenParams.{OpenParams}
 use Rattle.cip_event.specs.Params.{widened}
 use Rattle.cip_event.specs.declared.event.Output.{Output}
 use Rattle.cip_event.specs.declared.event.Output.TheVariants as outputs
 use Rattle.cip_laws.specs.Turns.{Gave}
-use Rattle.cip_open.specs.Open.{Open}
 use Rattle.cip_open.specs.OpenAt.{open_at}
 use Rattle.cip_segment.specs.Reading.{segments_within, path_at, segments_of, behind, hop_of}
 use Rattle.cip_segment.specs.Scan.{bytes_at, padded_at, narrow_at, double_at, point_at, words_at as path_words_at, number_at, size_at, plain_port_at, port_at, other_at, logical_at, segment_at}
-use Rattle.cip_module.specs.Table.{asked_open, open_of}
-use Rattle.cip_target.specs.declared.identity.IdentityFields.{IdentityFields}
+use Rattle.cip_module.specs.Table.{open_of}
 use Rattle.cip_topology.specs.Plan.{Plan}
 use Rattle.cip_topology.specs.Walk.{Stop, walk, walk_within}
 use Rattle.cip_world.specs.declared.journal.Entry.TheVariants.{Step}
@@ -44,65 +40,39 @@ use Rattle.witnesses.specs.StoredRun as stored
 use Rattle.witnesses.specs.FailedOpen as failed
 use Rattle.witnesses.specs.TimedOutOpen as timed_out
 use Rattle.witnesses.specs.ChainedRun as chained
-use Rattle.witnesses.specs.LargeRun as large_run
 use Rattle.witnesses.specs.Told.{FailsAt, SucceedsAt, AnsweredAt}
 use Rattle.witnesses.proofs.StoredRun.{stored_run}
 use Rattle.witnesses.proofs.FailedOpen.{failed_open}
 use Rattle.witnesses.proofs.TimedOutOpen.{timed_out_open}
 use Rattle.witnesses.proofs.ChainedRun.{chained_run}
-use Rattle.witnesses.proofs.LargeRun.{large_run as large_stands}
 use Rattle.witnesses.proofs.Topologies.{plant_is, row_is}
 
 -- ---- the command of an entry
 
--- an open, large or not
-record OpenedAs (large : Bool) (t : Plan) (j : Journal) (m op k : ℕ) (path : List ℕ) : Type 0 where
-  opened : OpenedIn t j m op k path
-  large_is : opened.request.fields.large ≡ large
-
-opened_by : (t : Plan) (j : Journal) (k op : ℕ) (at : ModuleId) (asked : Asked) (request : IdentityFields → Open) (path : List ℕ) (large : Bool)
-    (outs : List Output) → IsRun t j
-    → entry_at j k ≡ Some (Step at (Command asked) outs) → list_any is_refusal outs ≡ false
-    → ((i : IdentityFields) → asked_open i asked ≡ Some (op, request i)) → ((i : IdentityFields) → (request i).path ≡ path)
-    → ((i : IdentityFields) → (request i).fields.large ≡ large) → OpenedAs large t j at.0 op k path
-opened_by t j k op at asked request path large outs run there unrefused asks path_is large_is =
-    let x = at_number j k (Step at (Command asked) outs) there in
-    let next = (run_older t (Step at (Command asked) outs ∷ x.before) j x.older run).1 in
-    record {
-      opened = record {
-        step = record {
-          at = at;
-          input = Command asked;
-          outputs = outs;
-          before = x.before;
-          is = x.older;
-          number = x.number;
-          taken = next;
-        };
-        here = refl;
-        command = asked;
-        request = request next.config.identity;
-        event_is = next.given;
-        asks = asks next.config.identity;
-        path_is = path_is next.config.identity;
-        unrefused = unrefused;
-      };
-      large_is = large_is next.config.identity;
-    }
-
 opened_at : (t : Plan) (j : Journal) (k op : ℕ) (at : ModuleId) (timing : Timing) (path : List ℕ) (params : OpenParams) (outs : List Output) → IsRun t j
     → entry_at j k ≡ Some (Step at (Command (commands.Open op timing path params)) outs) → list_any is_refusal outs ≡ false
-    → OpenedAs false t j at.0 op k path
+    → OpenedIn t j at.0 op k path
 opened_at t j k op at timing path params outs run there unrefused =
-    opened_by t j k op at (commands.Open op timing path params) (λ (i : IdentityFields). open_of i false timing path (widened params)) path false outs run there
-    unrefused (λ i. refl) (λ i. refl) (λ i. refl)
-
-large_at : (t : Plan) (j : Journal) (k op : ℕ) (at : ModuleId) (timing : Timing) (path : List ℕ) (params : LargeParams) (outs : List Output) → IsRun t j
-    → entry_at j k ≡ Some (Step at (Command (commands.LargeOpen op timing path params)) outs) → list_any is_refusal outs ≡ false
-    → OpenedAs true t j at.0 op k path
-large_at t j k op at timing path params outs run there unrefused =
-    opened_by t j k op at (commands.LargeOpen op timing path params) (λ (i : IdentityFields). open_of i true timing path params) path true outs run there
-    unrefused (λ i. refl) (λ i. refl) (λ i. refl)
+    let x = at_number j k (Step at (Command (commands.Open op timing path params)) outs) there in
+    let next = (run_older t (Step at (Command (commands.Open op timing path params)) outs ∷ x.before) j x.older run).1 in
+    record {
+      step = record {
+        at = at;
+        input = Command (commands.Open op timing path params);
+        outputs = outs;
+        before = x.before;
+        is = x.older;
+        number = x.number;
+        taken = next;
+      };
+      here = refl;
+      command = commands.Open op timing path params;
+      request = open_of next.config.identity false timing path (widened params);
+      event_is = next.given;
+      asks = refl;
+      path_is = refl;
+      unrefused = unrefused;
+    }
 
 sent_at : (t : Plan) (j : Journal) (k op : ℕ) (at : ModuleId) (timing : Timing) (path request : List ℕ) (outs : List Output) → IsRun t j
     → entry_at j k ≡ Some (Step at (Command (commands.Send op timing path request)) outs) → list_any is_refusal outs ≡ false
@@ -137,13 +107,12 @@ gives x = Ok x
 ok_failure : (x y : ConnectionFailure) → gives x ≡ gives y → x ≡ y
 ok_failure x y e = cc
 
-module _ (t : Plan) (j : Journal) (m op k : ℕ) (path : List ℕ) (large : Bool) (bytes ks : List ℕ) (done : OpenDone t j ks m path large bytes) (r : Reply)
-    (read : reply_at bytes ≡ Ok r) where
+module _ (t : Plan) (j : Journal) (m op k : ℕ) (path bytes ks : List ℕ) (done : OpenDone t j ks m path bytes) (r : Reply) (read : reply_at bytes ≡ Ok r) where
   same : done.reply ≡ r
   same = ok_reply done.reply r (sym done.read ∙ read)
 
   fails_at : (f : ConnectionFailure) (place words : ℕ) → (r.general ≡ 0 → ⊥) → failure_at r.data_ ≡ Ok f → f.words ≡ Some words → IsOn place ks
-      → words_at j place ≡ Some words → FailsAt t j ks m path large bytes place words
+      → words_at j place ≡ Some words → FailsAt t j ks m path bytes place words
   fails_at f place words other data_is words_are on received =
       let w : TellsWhere t j ks done.reply = done.fails (λ e. other (ap (λ (x : Reply). x.general) (sym same) ∙ e)) in
       let failures : w.failure ≡ f = ok_failure w.failure f (sym w.read ∙ ap (λ (x : Reply). failure_at x.data_) same ∙ data_is) in
@@ -156,7 +125,7 @@ module _ (t : Plan) (j : Journal) (m op k : ℕ) (path : List ℕ) (large : Bool
       }
 
   succeeds_at : (place e : ℕ) (rest : List ℕ) → r.general ≡ 0 → tip ks ≡ Some place → walk t m path ≡ Some (record { at = e; path = rest })
-      → SucceedsAt t j ks m path large bytes place e
+      → SucceedsAt t j ks m path bytes place e
   succeeds_at place e rest success ends walks =
       let x : EndsThere t j ks m path = done.succeeds (ap (λ (x : Reply). x.general) same ∙ success) in
       let stops = some_same (record { at = x.step.at.0; path = x.o.path }) (record { at = e; path = rest }) (sym x.walks ∙ walks) in
@@ -169,11 +138,8 @@ module _ (t : Plan) (j : Journal) (m op k : ℕ) (path : List ℕ) (large : Bool
 
 -- ---- the open that fails, and the one that times out
 
-failed_small : OpenedAs false plant failed.ends 0 1 0 failed.path
-failed_small = opened_at plant failed.ends 0 1 (record { 0 = 0 }) (record { tick = 7; ticks = 250 }) failed.path params _ failed_open refl refl
-
 pub failed_opened : OpenedIn plant failed.ends 0 1 0 failed.path
-failed_opened = failed_small.opened
+failed_opened = opened_at plant failed.ends 0 1 (record { 0 = 0 }) (record { tick = 7; ticks = 250 }) failed.path params _ failed_open refl refl
 
 pub failed_done : Gave (part 0 failed.ends) (outputs.Done 1 failed.failure)
 failed_done = inl (inl refl)
@@ -207,20 +173,16 @@ unfolding behind bytes_at counted_at counted_path_at double_at failure_at hop_of
     path_words_at plain_port_at point_at port_at reply_at request_at segment_at segments_of segments_within size_at trail_of walk walk_within
 told_read = refl
 
-pub failed_tells : FailsAt plant failed.ends (0 ∷ 1 ∷ 2 ∷ []) 0 failed.path false failed.failure 2 3
+pub failed_tells : FailsAt plant failed.ends (0 ∷ 1 ∷ 2 ∷ []) 0 failed.path failed.failure 2 3
 failed_tells =
-    let done : OpenDone plant failed.ends (0 ∷ 1 ∷ 2 ∷ []) 0 failed.path false failed.failure =
-    subst (λ (ks : List ℕ). OpenDone plant failed.ends ks 0 failed.path false failed.failure) failed_trail
-    (subst (λ (large : Bool). OpenDone plant failed.ends (trail_of failed.ends 0 1) 0 failed.path large failed.failure) failed_small.large_is
-    ((tells (chassis plant plant_is) failed.ends failed_open 0 1).opens 0 failed.path failed_small.opened failed.failure failed_done)) in
-    fails_at plant failed.ends 0 1 0 failed.path false failed.failure (0 ∷ 1 ∷ 2 ∷ []) done (refused 785) failed_read told 2 3 (λ e. omega (arith, e)) told_read refl
+    let done : OpenDone plant failed.ends (0 ∷ 1 ∷ 2 ∷ []) 0 failed.path failed.failure =
+    subst (λ (ks : List ℕ). OpenDone plant failed.ends ks 0 failed.path failed.failure) failed_trail
+    ((tells (chassis plant plant_is) failed.ends failed_open 0 1).opens 0 failed.path failed_opened failed.failure failed_done) in
+    fails_at plant failed.ends 0 1 0 failed.path failed.failure (0 ∷ 1 ∷ 2 ∷ []) done (refused 785) failed_read told 2 3 (λ e. omega (arith, e)) told_read refl
     third failed_words
 
-timed_out_small : OpenedAs false plant timed_out.ends 0 1 0 timed_out.path
-timed_out_small = opened_at plant timed_out.ends 0 1 (record { 0 = 0 }) (record { tick = 0; ticks = 5 }) timed_out.path params _ timed_out_open refl refl
-
 pub timed_out_opened : OpenedIn plant timed_out.ends 0 1 0 timed_out.path
-timed_out_opened = timed_out_small.opened
+timed_out_opened = opened_at plant timed_out.ends 0 1 (record { 0 = 0 }) (record { tick = 0; ticks = 5 }) timed_out.path params _ timed_out_open refl refl
 
 pub timed_out_done : Gave (part 0 timed_out.ends) (outputs.Done 1 timed_out.failure)
 timed_out_done = inl (inl refl)
@@ -240,22 +202,18 @@ unfolding behind bytes_at counted_at counted_path_at double_at failure_at hop_of
     path_words_at plain_port_at point_at port_at reply_at request_at segment_at segments_of segments_within size_at trail_of walk walk_within
 timed_out_read = refl
 
-pub timed_out_tells : FailsAt plant timed_out.ends (0 ∷ 1 ∷ 2 ∷ []) 0 timed_out.path false timed_out.failure 2 3
+pub timed_out_tells : FailsAt plant timed_out.ends (0 ∷ 1 ∷ 2 ∷ []) 0 timed_out.path timed_out.failure 2 3
 timed_out_tells =
-    let done : OpenDone plant timed_out.ends (0 ∷ 1 ∷ 2 ∷ []) 0 timed_out.path false timed_out.failure =
-    subst (λ (ks : List ℕ). OpenDone plant timed_out.ends ks 0 timed_out.path false timed_out.failure) timed_out_trail
-    (subst (λ (large : Bool). OpenDone plant timed_out.ends (trail_of timed_out.ends 0 1) 0 timed_out.path large timed_out.failure) timed_out_small.large_is
-    ((tells (chassis plant plant_is) timed_out.ends timed_out_open 0 1).opens 0 timed_out.path timed_out_small.opened timed_out.failure timed_out_done)) in
-    fails_at plant timed_out.ends 0 1 0 timed_out.path false timed_out.failure (0 ∷ 1 ∷ 2 ∷ []) done (refused 516) timed_out_read told 2 3 (λ e. omega (arith, e))
+    let done : OpenDone plant timed_out.ends (0 ∷ 1 ∷ 2 ∷ []) 0 timed_out.path timed_out.failure =
+    subst (λ (ks : List ℕ). OpenDone plant timed_out.ends ks 0 timed_out.path timed_out.failure) timed_out_trail
+    ((tells (chassis plant plant_is) timed_out.ends timed_out_open 0 1).opens 0 timed_out.path timed_out_opened timed_out.failure timed_out_done) in
+    fails_at plant timed_out.ends 0 1 0 timed_out.path timed_out.failure (0 ∷ 1 ∷ 2 ∷ []) done (refused 516) timed_out_read told 2 3 (λ e. omega (arith, e))
     told_read refl third timed_out_words
 
 -- ---- the open that succeeds
 
-chained_small : OpenedAs false row chained.arrived 0 1 0 chained.path
-chained_small = opened_at row chained.arrived 0 1 (record { 0 = 0 }) (record { tick = 7; ticks = 250 }) chained.path params _ chained_run refl refl
-
 pub chained_opened : OpenedIn row chained.arrived 0 1 0 chained.path
-chained_opened = chained_small.opened
+chained_opened = opened_at row chained.arrived 0 1 (record { 0 = 0 }) (record { tick = 7; ticks = 250 }) chained.path params _ chained_run refl refl
 
 pub chained_done : Gave (part 0 chained.arrived) (outputs.Done 1 chained.third_success)
 chained_done = inr (inr (inl (inl refl)))
@@ -283,44 +241,12 @@ unfolding behind bytes_at counted_at counted_path_at double_at failure_at hop_of
     path_words_at plain_port_at point_at port_at reply_at request_at segment_at segments_of segments_within size_at trail_of walk walk_within
 chained_walks = refl
 
-pub chained_tells : SucceedsAt row chained.arrived (0 ∷ 1 ∷ 2 ∷ 3 ∷ []) 0 chained.path false chained.third_success 3 3
+pub chained_tells : SucceedsAt row chained.arrived (0 ∷ 1 ∷ 2 ∷ 3 ∷ []) 0 chained.path chained.third_success 3 3
 chained_tells =
-    let done : OpenDone row chained.arrived (0 ∷ 1 ∷ 2 ∷ 3 ∷ []) 0 chained.path false chained.third_success =
-    subst (λ (ks : List ℕ). OpenDone row chained.arrived ks 0 chained.path false chained.third_success) chained_trail
-    (subst (λ (large : Bool). OpenDone row chained.arrived (trail_of chained.arrived 0 1) 0 chained.path large chained.third_success) chained_small.large_is
-    ((tells (chassis row row_is) chained.arrived chained_run 0 1).opens 0 chained.path chained_small.opened chained.third_success chained_done)) in
-    succeeds_at row chained.arrived 0 1 0 chained.path false chained.third_success (0 ∷ 1 ∷ 2 ∷ 3 ∷ []) done success chained_read 3 3
-    (32 ∷ 4 ∷ 36 ∷ 100 ∷ 44 ∷ 101 ∷ 44 ∷ 102 ∷ []) refl refl chained_walks
-
--- ---- the large one, by its own service
-
-large_large : OpenedAs true row large_run.stands 0 1 0 chained.path
-large_large = large_at row large_run.stands 0 1 (record { 0 = 0 }) (record { tick = 7; ticks = 250 }) chained.path large_run.large_params _ large_stands
-    refl refl
-
-pub large_opened : OpenedIn row large_run.stands 0 1 0 chained.path
-large_opened = large_large.opened
-
-pub large_done : Gave (part 0 large_run.stands) (outputs.Done 1 large_run.third_success)
-large_done = inl (inl refl)
-
-pub large_trail : trail_of large_run.stands 0 1 ≡ 0 ∷ 1 ∷ 2 ∷ 3 ∷ []
-unfolding behind bytes_at counted_at counted_path_at double_at failure_at hop_of logical_at narrow_at number_at open_at other_at padded_at path_at
-    path_words_at plain_port_at point_at port_at reply_at request_at segment_at segments_of segments_within size_at trail_of walk walk_within
-large_trail = refl
-
-large_read : reply_at large_run.third_success ≡ Ok (record success { service = 219 })
-unfolding behind bytes_at counted_at counted_path_at double_at failure_at hop_of logical_at narrow_at number_at open_at other_at padded_at path_at
-    path_words_at plain_port_at point_at port_at reply_at request_at segment_at segments_of segments_within size_at trail_of walk walk_within
-large_read = refl
-
-pub large_tells : SucceedsAt row large_run.stands (0 ∷ 1 ∷ 2 ∷ 3 ∷ []) 0 chained.path true large_run.third_success 3 3
-large_tells =
-    let done : OpenDone row large_run.stands (0 ∷ 1 ∷ 2 ∷ 3 ∷ []) 0 chained.path true large_run.third_success =
-    subst (λ (ks : List ℕ). OpenDone row large_run.stands ks 0 chained.path true large_run.third_success) large_trail
-    (subst (λ (large : Bool). OpenDone row large_run.stands (trail_of large_run.stands 0 1) 0 chained.path large large_run.third_success) large_large.large_is
-    ((tells (chassis row row_is) large_run.stands large_stands 0 1).opens 0 chained.path large_large.opened large_run.third_success large_done)) in
-    succeeds_at row large_run.stands 0 1 0 chained.path true large_run.third_success (0 ∷ 1 ∷ 2 ∷ 3 ∷ []) done (record success { service = 219 }) large_read 3 3
+    let done : OpenDone row chained.arrived (0 ∷ 1 ∷ 2 ∷ 3 ∷ []) 0 chained.path chained.third_success =
+    subst (λ (ks : List ℕ). OpenDone row chained.arrived ks 0 chained.path chained.third_success) chained_trail
+    ((tells (chassis row row_is) chained.arrived chained_run 0 1).opens 0 chained.path chained_opened chained.third_success chained_done) in
+    succeeds_at row chained.arrived 0 1 0 chained.path chained.third_success (0 ∷ 1 ∷ 2 ∷ 3 ∷ []) done success chained_read 3 3
     (32 ∷ 4 ∷ 36 ∷ 100 ∷ 44 ∷ 101 ∷ 44 ∷ 102 ∷ []) refl refl chained_walks
 
 -- ---- the Send that is answered

@@ -1,11 +1,10 @@
 -- What a reset does, at the bridge that is reset and used again, and at the scanner that resets itself.
-use Rattle.std.proofs.Common.{Some, ◌≡◌, ℕ, ◌≤◌, ◌<◌, List, [], ◌∷◌, ◌++◌, None, refl, inl, inr, arith}
+use Rattle.std.proofs.Common.{Some, ◌≡◌, ◌≤◌, ◌<◌, [], ◌∷◌, ◌++◌, None, refl, inl, inr, arith}
 use Rattle.std.specs.FinMap as map
 use Rattle.cip_base.specs.Counts.{reborn}
 use Rattle.cip_pending.specs.declared.entry.UpSide.TheVariants.{Link, Local}
 use Rattle.cip_event.specs.declared.event.Body.TheVariants as bodies
 use Rattle.cip_event.specs.declared.event.Output.TheVariants as outputs
-use Rattle.cip_hops.specs.declared.hop.Held.TheVariants.{Open}
 use Rattle.cip_hops.specs.Hops.{hop_by_up, hop_by_down}
 use Rattle.cip_module.specs.State.{initial_state}
 use Rattle.cip_laws.specs.Births.{IsBirth}
@@ -17,13 +16,11 @@ use Rattle.cip_laws.proofs.Again.{reset_makes_again, numbers_from_reset, ids_dra
 use Rattle.cip_laws.proofs.Births.{birth_range}
 use Rattle.cip_world.specs.Journals.{part}
 use Rattle.cip_world.specs.Mirrors.{IsOlder}
-use Rattle.cip_world.specs.ResetSteps.{IsResetBy}
 use Rattle.cip_world.specs.Runs.{state_in}
 use Rattle.cip_world.proofs.Chassis.{chassis}
 use Rattle.cip_world.proofs.Moments.{run_older}
 use Rattle.cip_world.proofs.Parts.{run_history}
 use Rattle.cip_world.proofs.RepliesTell.{replies_tell}
-use Rattle.cip_world.proofs.ResetMirrors.{none_mirrors}
 use Rattle.cip_message.specs.Counted.{counted_at, counted_path_at}
 use Rattle.cip_message.specs.Failure.{failure_at}
 use Rattle.cip_message.specs.ReplyAt.{reply_at}
@@ -45,11 +42,11 @@ use Rattle.cip_segment.specs.Scan.{bytes_at, double_at, logical_at, narrow_at, n
 use Rattle.cip_target.specs.Ends.{end_row}
 use Rattle.cip_target.specs.Rows.{target_row}
 use Rattle.cip_unconnected.specs.UnconnectedAt.{unconnected_at}
-use Rattle.witnesses.specs.Plans.{scanner, first_bridge, plant, row, triad}
+use Rattle.witnesses.specs.Plans.{scanner, first_bridge, plant, row}
 use Rattle.witnesses.specs.OpenedAgain as again
 use Rattle.witnesses.specs.ResetRun as resetting
 use Rattle.witnesses.specs.ResetBridge as under
-use Rattle.witnesses.specs.ChainedRun.{of_first, of_scanner, stands}
+use Rattle.witnesses.specs.ChainedRun.{of_first}
 use Rattle.witnesses.specs.ResetTold.{is_reset, goes_on, after_it, begins, own, resets_under_it, finds_none, resets_itself, behind_it, ends_itself}
 use Rattle.witnesses.proofs.Maps.{none_waits as none_wait, none_held, held_first, held_none, held_get, held_entries, held_twice, entry_get, entry_gone, bytes_none}
 use Rattle.witnesses.proofs.OpenedAgain.{run_resets, run_at_first, run_up_at_first, run_ends}
@@ -184,25 +181,6 @@ none_waits_under_it = none_waits first_bridge (finds_none ∷ []) (part 1 under.
 pub none_goes_down : hop_by_down (state_in first_bridge 1 under.is_unknown).hops 33 1 (3 ∷ []) ≡ None
 none_goes_down = none_by_down first_bridge (finds_none ∷ []) (part 1 under.sends) resets_under_it behind_the_datum under_it 33 1 (3 ∷ [])
     (let next = next_there in omega (arith, next))
-
--- ---- the connection of the scanner, which stood before
-
-pub scanner_has : map.get (state_in scanner 0 stands).hops.held triad ≡ Some (Open of_scanner)
-unfolding behind bytes_at close_at close_reply_at close_row counted_at counted_path_at data_row double_at end_row failure_at hop_of link_refusal logical_at
-    narrow_at number_at open_at open_reply_at open_row other_at padded_at path_at plain_port_at point_at port_at reply_at reply_row request_at request_row
-    segment_at segments_of segments_within send_row size_at target_row unconnected_at unconnected_row words_at
-scanner_has = simp (none_wait, none_held, held_first, held_none, held_get, held_entries, held_twice, entry_get, entry_gone) refl
-
-pub resets_under : IsResetBy first_bridge 1 under.resetting under.sends
-resets_under = record { turn = resets_under_it; newest = refl; reset = under_it }
-
-pub is_before : IsOlder stands under.sends
-is_before = inr (inl refl)
-
-pub none_mirrors_it : (by : ℕ) (from : List ℕ) → hop_by_up (state_in first_bridge 1 under.is_unknown).hops 34 by from ≡ None
-none_mirrors_it by from =
-    none_mirrors (chassis row row_is) under.is_unknown stands under.sends under.resetting 0 1 scanner first_bridge run_is_unknown is_before under_resets refl
-    refl resets_under triad of_scanner 2 (5 ∷ []) scanner_has refl (record { at = 1; port = 2; address = 1 ∷ [] }) refl refl 34 refl by from
 
 -- ---- the scanner that resets itself
 
