@@ -24,7 +24,11 @@ fn consumed_text(
     count: usize,
     is_repeated: bool,
 ) -> Result<String, AllocError> {
-    let behind = if is_repeated { ", repeated: not written" } else { "" };
+    let behind = if is_repeated {
+        ", repeated: not written"
+    } else {
+        ""
+    };
     format!(in alloc; "consumed {instance} ({count} bytes){behind}")
 }
 
@@ -48,10 +52,7 @@ pub(crate) fn mark_of(
             ..
         } => {
             let count = bytes.as_slice().len();
-            (
-                consumed_text(alloc, *instance, count, is_repeated)?,
-                false,
-            )
+            (consumed_text(alloc, *instance, count, is_repeated)?, false)
         }
         Output::Arrived { op, bytes } => {
             let count = bytes.as_slice().len();

@@ -112,7 +112,11 @@ impl<'a> TextView<'a> {
     fn put_consumed(&mut self, triad: Triad, bytes: &[u8]) -> Result<(), NoMemory> {
         let is_repeated = self.book.consume(triad, bytes)?;
         let known = self.book.of_triad(triad);
-        let behind = if is_repeated { "; repeated: not written" } else { "" };
+        let behind = if is_repeated {
+            "; repeated: not written"
+        } else {
+            ""
+        };
         self.put_datum(known, bytes, behind)
     }
 
@@ -126,9 +130,7 @@ impl<'a> TextView<'a> {
                 writeln!(self.out, "    {}", refusal_reason(*fault))?;
                 Ok(())
             }
-            Output::Consumed { triad, bytes, .. } => {
-                self.put_consumed(*triad, bytes.as_slice())
-            }
+            Output::Consumed { triad, bytes, .. } => { self.put_consumed(*triad, bytes.as_slice()) }
             Output::Arrived { op, bytes } => {
                 let known = self.book.of_op(*op);
                 self.put_datum(known, bytes.as_slice(), "")

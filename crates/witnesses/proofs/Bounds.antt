@@ -47,9 +47,11 @@ of_names c h = by_digit (nat_le 48 c && nat_le c 57) refl
         by_line : (b : Bool) → (c == 95) ≡ b → IsOfNames c
         by_line true f = inr (inr (inr (inl (grind (arith, nat_tests)))))
         by_line false f = inr (inr (inr (inr (grind (arith, nat_tests)))))
+
     by_capital : (b : Bool) → (nat_le 65 c && nat_le c 90) ≡ b → (nat_le 48 c && nat_le c 57) ≡ false → IsOfNames c
     by_capital true e no = inr (inl (from_to 65 90 c e))
     by_capital false e no = by_low (nat_le 97 c && nat_le c 122) refl no e
+
     by_digit : (b : Bool) → (nat_le 48 c && nat_le c 57) ≡ b → IsOfNames c
     by_digit true e = inl (from_to 48 57 c e)
     by_digit false e = by_capital (nat_le 65 c && nat_le c 90) refl e

@@ -221,8 +221,7 @@ pub fn bounds_are_met()
         × (is_legal (Text 2) (0x21 ∷ 0x21 ∷ 0x21 ∷ []) ≡ false) }
     ensures product_names { (is_product_name [] ≡ true)
         × (is_product_name (codes " ~ ~ ~ ~ ~ ~ ~ ~ ~ ~ ~ ~ ~ ~ ~ ~") ≡ true) }
-    ensures no_product_names {
-        (is_product_name (codes " ~ ~ ~ ~ ~ ~ ~ ~ ~ ~ ~ ~ ~ ~ ~ ~ ") ≡ false)
+    ensures no_product_names { (is_product_name (codes " ~ ~ ~ ~ ~ ~ ~ ~ ~ ~ ~ ~ ~ ~ ~ ~ ") ≡ false)
         × (is_product_name (0x1F ∷ []) ≡ false) × (is_product_name (0x7F ∷ []) ≡ false) }
 {}
 
