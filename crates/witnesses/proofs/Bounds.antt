@@ -1,8 +1,8 @@
 -- The bounds in numbers are those of the definitions.
-use Rattle.std.proofs.Common.{◌≡◌, ◌⊎◌, ℕ, ◌≤◌, Bool, true, List, [], ◌∷◌, length, refl, sym, ap, ◌∙◌, inl, inr, arith, tt}
+use Rattle.std.proofs.Common.{◌≡◌, ◌⊎◌, ℕ, ◌≤◌, Bool, true, false, List, [], ◌∷◌, length, refl, sym, ap, ◌∙◌, inl, inr, arith}
 use Rattle.std.specs.Prelude.{◌&&◌, ◌==◌, nat_le, slice_index}
 use Rattle.std.specs.List.{list_all}
-use Rattle.std.proofs.lemmas.Bool.{and_parts}
+use Rattle.std.proofs.lemmas.Bool.{and_parts, eqb-true}
 use Rattle.std.proofs.lemmas.Bool.Decides.{nat_tests}
 use Rattle.cip_config.specs.declared.config.LegalAddresses.{LegalAddresses}
 use Rattle.cip_config.specs.declared.config.LegalAddresses.TheVariants.{Byte, Text}
@@ -83,7 +83,8 @@ numbers_range (Text longest) h = in_range 1 16 longest h
 pub address_in_numbers : (legal : LegalAddresses) (a : List ℕ) → is_legal legal a ≡ true → IsAddressFrom21 legal a
 address_in_numbers (Byte first last) [] h = absurd (cc)
 address_in_numbers (Byte first last) (c ∷ []) h = (c, refl, from_to first last c h)
-address_in_numbers (Byte first last) (c ∷ d ∷ a) h = absurd (cc)
+address_in_numbers (Byte first last) (c ∷ d ∷ a) h =
+    let one = eqb-true (length (c ∷ d ∷ a)) 1 (and_parts (length (c ∷ d ∷ a) == 1) (nat_le first c && nat_le c last) h).0 in absurd (omega (arith, one))
 address_in_numbers (Text longest) a h =
     let parts = and_parts (nat_le (length a) longest) (list_all is_text_byte a) h in
     (le_is (length a) longest parts.0, each_of is_text_byte (IsFromTo 0x21 0x7E) (from_to 0x21 0x7E) a parts.1)
