@@ -1,6 +1,6 @@
 -- The bounds in numbers are those of the definitions.
 use Rattle.std.proofs.Common.{◌≡◌, ◌⊎◌, ℕ, ◌≤◌, Bool, true, false, List, [], ◌∷◌, length, refl, sym, ap, ◌∙◌, inl, inr, arith}
-use Rattle.std.specs.Prelude.{◌&&◌, ◌==◌, nat_le, slice_index}
+use Rattle.std.specs.Prelude.{◌&&◌, ◌||◌, ◌==◌, nat_le, slice_index}
 use Rattle.std.specs.List.{list_all}
 use Rattle.std.proofs.lemmas.Bool.{and_parts, eqb-true}
 use Rattle.std.proofs.lemmas.Bool.Decides.{nat_tests}
@@ -37,24 +37,27 @@ in_range first last c h = both (nat_le first c) (nat_le c last) (is_le first c h
 
 -- ---- names
 
+by_line : (c : ℕ) (b : Bool) → (c == 95) ≡ b → (nat_le 48 c && nat_le c 57) ≡ false → (nat_le 65 c && nat_le c 90) ≡ false
+    → (nat_le 97 c && nat_le c 122) ≡ false → is_name_byte c ≡ true → IsOfNames c
+by_line c true e digit capital low h = inr (inr (inr (inl (eqb-true c 95 e))))
+by_line c false e digit capital low h =
+    inr (inr (inr (inr (eqb-true c 45 (sym (λ i. digit i || (capital i || (low i || (e i || c == 45)))) ∙ h)))))
+
+by_low : (c : ℕ) (b : Bool) → (nat_le 97 c && nat_le c 122) ≡ b → (nat_le 48 c && nat_le c 57) ≡ false → (nat_le 65 c && nat_le c 90) ≡ false
+    → is_name_byte c ≡ true → IsOfNames c
+by_low c true e digit capital h = inr (inr (inl (from_to 97 122 c e)))
+by_low c false e digit capital h = by_line c (c == 95) refl digit capital e h
+
+by_capital : (c : ℕ) (b : Bool) → (nat_le 65 c && nat_le c 90) ≡ b → (nat_le 48 c && nat_le c 57) ≡ false → is_name_byte c ≡ true → IsOfNames c
+by_capital c true e digit h = inr (inl (from_to 65 90 c e))
+by_capital c false e digit h = by_low c (nat_le 97 c && nat_le c 122) refl digit e h
+
+by_digit : (c : ℕ) (b : Bool) → (nat_le 48 c && nat_le c 57) ≡ b → is_name_byte c ≡ true → IsOfNames c
+by_digit c true e h = inl (from_to 48 57 c e)
+by_digit c false e h = by_capital c (nat_le 65 c && nat_le c 90) refl e h
+
 of_names : (c : ℕ) → is_name_byte c ≡ true → IsOfNames c
-of_names c h = by_digit (nat_le 48 c && nat_le c 57) refl
-  where
-    by_low : (b : Bool) → (nat_le 97 c && nat_le c 122) ≡ b → (nat_le 48 c && nat_le c 57) ≡ false → (nat_le 65 c && nat_le c 90) ≡ false → IsOfNames c
-    by_low true e no other = inr (inr (inl (from_to 97 122 c e)))
-    by_low false e no other = by_line (c == 95) refl
-      where
-        by_line : (b : Bool) → (c == 95) ≡ b → IsOfNames c
-        by_line true f = inr (inr (inr (inl (grind (arith, nat_tests)))))
-        by_line false f = inr (inr (inr (inr (grind (arith, nat_tests)))))
-
-    by_capital : (b : Bool) → (nat_le 65 c && nat_le c 90) ≡ b → (nat_le 48 c && nat_le c 57) ≡ false → IsOfNames c
-    by_capital true e no = inr (inl (from_to 65 90 c e))
-    by_capital false e no = by_low (nat_le 97 c && nat_le c 122) refl no e
-
-    by_digit : (b : Bool) → (nat_le 48 c && nat_le c 57) ≡ b → IsOfNames c
-    by_digit true e = inl (from_to 48 57 c e)
-    by_digit false e = by_capital (nat_le 65 c && nat_le c 90) refl e
+of_names c h = by_digit c (nat_le 48 c && nat_le c 57) refl h
 
 is_of_names : (c : ℕ) → IsOfNames c → is_name_byte c ≡ true
 is_of_names c h = grind (arith, nat_tests)
