@@ -7,6 +7,7 @@ use crate::explaining::explain_load;
 use crate::reached::unreached;
 use crate::repairing::repair;
 use crate::report::Report;
+use crate::slots::decimal_addresses;
 use crate::strangers::strange_keys;
 use cip_base::NoMemory;
 use cip_topology::{LoadFault, load};
@@ -75,9 +76,9 @@ fn broken_rules(
 }
 
 /// Every rule that the text of a topology file breaks, in the order of `docs/TOPOLOGY.md`, each in
-/// the words of `explain_load`; each key that means nothing, with the nearest that does; and each
-/// module that no path reaches. What is no TOML is one fault. NoMemory where an allocation is
-/// refused.
+/// the words of `explain_load`; each key that means nothing, with the nearest that does; and, as
+/// warnings, each module that no path reaches, and each address of one byte that reads as another
+/// number in decimal. What is no TOML is one fault. NoMemory where an allocation is refused.
 ///
 /// To find the next fault the file is mended where the last one was: a name that is missing gets
 /// one, and a port that stands nowhere stands on a link of its own.
@@ -93,6 +94,7 @@ pub fn check(alloc: Global, text: &str) -> Result<Report, NoMemory>
         Err(_) => return Ok(report),
     };
     strange_keys(alloc, &document, &mut report)?;
+    decimal_addresses(alloc, &document, &mut report)?;
     if let Some(first) = first {
         broken_rules(alloc, document, first, &mut report)?;
     }
