@@ -3,6 +3,7 @@
 use crate::options::USAGE;
 use cip_base::NoMemory;
 use cip_check::{Escaped, NotUtf8};
+use cip_console::ConsoleFault;
 use cip_script::Explained;
 use cip_tool::AnswerFault;
 use cip_wide::LineFault;
@@ -56,10 +57,25 @@ pub enum Fault {
     /// A line of a wide script, and what is wrong with it.
     #[error("{}:{}: {}", Escaped(.0.as_str()), .1, .2)]
     Line(String, usize, LineFault),
+    /// The console, which plays the script that a wide script is.
+    #[error("{0}")]
+    Console(ConsoleFault),
     #[error("standard output can't be written")]
     Write,
     #[error("out of memory")]
     NoMemory,
+}
+
+// The exit status of a fault of the console. (No wide script is played on threads.)
+fn status_of(fault: &ConsoleFault) -> u8 {
+    match fault {
+        ConsoleFault::Script(..) => 1,
+        ConsoleFault::New(_) => 3,
+        ConsoleFault::Read => 4,
+        ConsoleFault::Write => 4,
+        ConsoleFault::NoMemory => 5,
+        ConsoleFault::Run(_) => 6,
+    }
 }
 
 impl Fault {
@@ -76,6 +92,7 @@ impl Fault {
             Fault::Topology(..) => 3,
             Fault::Script(..) => 1,
             Fault::Line(..) => 1,
+            Fault::Console(fault) => status_of(fault),
             Fault::Read(_, Unread::NoMemory) => 5,
             Fault::Read(..) => 4,
             Fault::Write => 4,

@@ -34,8 +34,14 @@ pub enum Task {
         topology: String,
         scripts: Vec<String>,
     },
-    /// A wide script, the standard input where no file is named, over the topology of a file.
+    /// A wide script, the standard input where no file is named, over the topology of a file: the
+    /// script that it is.
     Script {
+        topology: Option<String>,
+        script: Option<String>,
+    },
+    /// The same, and the transcript of that script.
+    Play {
         topology: Option<String>,
         script: Option<String>,
     },
@@ -66,6 +72,7 @@ usage: ciptool path PATH
        ciptool status GENERAL [ADDITIONAL]
        ciptool check FILE [SCRIPT ..]
        ciptool script [--topology FILE] [FILE]
+       ciptool play [--topology FILE] [FILE]
 `ciptool --help` says more";
 
 /// What the program does, and its options.
@@ -78,6 +85,7 @@ usage: ciptool path PATH
        ciptool status GENERAL [ADDITIONAL]
        ciptool check FILE [SCRIPT ..]
        ciptool script [--topology FILE] [FILE]
+       ciptool play [--topology FILE] [FILE]
 
   path     a path in words as hexadecimal, in its shortest spelling; or a path in hexadecimal
            in words
@@ -96,6 +104,7 @@ usage: ciptool path PATH
   script   a wide script, a FILE or the standard input, as a script for cipbridge: names for
            ops, paths in words, cut and pass for what waits on a link, tickall, repeat, expect;
            over the topology of a file, or the chassis that cipbridge has without one
+  play     a wide script likewise, played: the transcript that cipbridge writes of the script
   -h, --help      this text
   -V, --version   the version
 
@@ -151,8 +160,9 @@ fn check_command<'a>(alloc: Global) -> Result<Command<'a>, AllocError> {
         )
 }
 
-fn script_command<'a>(alloc: Global) -> Result<Command<'a>, AllocError> {
-    Command::new(alloc, "script")
+// What takes a wide script.
+fn wide_command<'a>(alloc: Global, name: &'a str) -> Result<Command<'a>, AllocError> {
+    Command::new(alloc, name)
         .arg(value(alloc, "topology"))?
         .arg(word(alloc, "FILE"))
 }
@@ -166,7 +176,8 @@ fn command<'a>(alloc: Global) -> Result<Command<'a>, AllocError> {
         .subcommand(params_command(alloc)?)?
         .subcommand(status_command(alloc)?)?
         .subcommand(check_command(alloc)?)?
-        .subcommand(script_command(alloc)?)
+        .subcommand(wide_command(alloc, "script")?)?
+        .subcommand(wide_command(alloc, "play")?)
 }
 
 fn wrong(alloc: Global, text: &str) -> OptionsFault {
@@ -280,6 +291,10 @@ fn task_of(alloc: Global, name: &str, matches: &ArgMatches<'_>) -> Result<Task, 
             topology: text_at(alloc, matches, "topology")?,
             script: text_at(alloc, matches, "FILE")?,
         }),
+        "play" => Ok(Task::Play {
+            topology: text_at(alloc, matches, "topology")?,
+            script: text_at(alloc, matches, "FILE")?,
+        }),
         _ => Ok(Task::Status(
             needed_at(alloc, matches, "GENERAL")?,
             text_at(alloc, matches, "ADDITIONAL")?,
@@ -322,7 +337,7 @@ pub fn read_task(alloc: Global, words: &[String]) -> Result<Task, OptionsFault> 
             Some((name, matches)) => task_of(alloc, name, matches),
             None => Err(wrong(
                 alloc,
-                "what is asked for? path, params, status, check or script",
+                "what is asked for? path, params, status, check, script or play",
             )),
         },
         Err(error) => task_for(alloc, &error),

@@ -3,6 +3,7 @@
 use crate::fault::{Fault, Unread};
 use crate::options::{HELP, OptionsFault, Task, VERSION, read_task};
 use cip_check::{Escaped, Report, RoomsFault, check, explain_load, small_rooms, text_of};
+use cip_console::{ConsoleFault, Out, Script, run};
 use cip_indexed::{NewModule, new_modules};
 use cip_module::Module;
 use cip_open::Params;
@@ -291,6 +292,26 @@ fn narrow_over(alloc: Global, topology: Topology, wide: &[u8]) -> Result<String,
     narrow(alloc, topology, modules, wide)
 }
 
+// The script that a wide script of a file, or of the standard input, is.
+fn narrowed(
+    rt: &HostRuntime,
+    alloc: Global,
+    topology: Topology,
+    script: Option<String>,
+) -> Result<String, Fault> {
+    let bytes = match script_of(rt, alloc, &script) {
+        Ok(bytes) => bytes,
+        Err(why) => return Err(Fault::Read(script_name(alloc, script)?, why)),
+    };
+    match narrow_over(alloc, topology, bytes.as_slice()) {
+        Ok(text) => Ok(text),
+        Err(WideFault::Line(line, fault)) => {
+            Err(Fault::Line(script_name(alloc, script)?, line, fault))
+        }
+        Err(WideFault::NoMemory) => Err(Fault::NoMemory),
+    }
+}
+
 // Writes the script that a wide script is.
 fn narrow_file(
     rt: &HostRuntime,
@@ -299,19 +320,45 @@ fn narrow_file(
     script: Option<String>,
 ) -> Result<(), Fault> {
     let topology = topology_of(rt, alloc, topology)?;
-    let bytes = match script_of(rt, alloc, &script) {
-        Ok(bytes) => bytes,
-        Err(why) => return Err(Fault::Read(script_name(alloc, script)?, why)),
+    let text = narrowed(rt, alloc, topology, script)?;
+    match print!(rt; "{text}") {
+        Ok(()) => Ok(()),
+        Err(_) => Err(Fault::Write),
+    }
+}
+
+// Runs a script over new modules of a topology, and writes the transcript.
+fn run_over(
+    rt: &HostRuntime,
+    alloc: Global,
+    topology: Topology,
+    script: &str,
+) -> Result<(), ConsoleFault> {
+    let made = new_modules(alloc, topology.configs())?;
+    let modules = boxes!(alloc, made, ConsoleFault::NoMemory);
+    let mut reader = Script {
+        rest: script.as_bytes(),
     };
-    match narrow_over(alloc, topology, bytes.as_slice()) {
-        Ok(text) => match print!(rt; "{text}") {
-            Ok(()) => Ok(()),
-            Err(_) => Err(Fault::Write),
-        },
-        Err(WideFault::Line(line, fault)) => {
-            Err(Fault::Line(script_name(alloc, script)?, line, fault))
-        }
-        Err(WideFault::NoMemory) => Err(Fault::NoMemory),
+    let mut writer = Out {
+        inner: io::writer(rt),
+    };
+    run(alloc, &mut reader, &mut writer, topology, modules)
+}
+
+// Writes the transcript of the script that a wide script is.
+fn play_file(
+    rt: &HostRuntime,
+    alloc: Global,
+    topology: Option<String>,
+    script: Option<String>,
+) -> Result<(), Fault> {
+    let topology = topology_of(rt, alloc, topology)?;
+    let again = topology.copy(alloc)?;
+    let text = narrowed(rt, alloc, topology, script)?;
+    match run_over(rt, alloc, again, text.as_str()) {
+        Ok(()) => Ok(()),
+        Err(ConsoleFault::NoMemory) => Err(Fault::NoMemory),
+        Err(fault) => Err(Fault::Console(fault)),
     }
 }
 
@@ -321,6 +368,7 @@ fn answer(rt: &HostRuntime, alloc: Global, task: Task) -> Result<(), Fault> {
         Task::Version => say_version(rt),
         Task::Check { topology, scripts } => check_file(rt, alloc, topology, scripts.as_slice()),
         Task::Script { topology, script } => narrow_file(rt, alloc, topology, script),
+        Task::Play { topology, script } => play_file(rt, alloc, topology, script),
         Task::Path(text) => {
             let text = path_answer(alloc, text.as_str())?;
             say(rt, text.as_str())
