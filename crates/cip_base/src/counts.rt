@@ -20,7 +20,7 @@ pub fn counts_given(next: u64) -> u64
     (next - 1) % COUNTS
 }
 
-/// The incarnation in which `next` comes next: the high 16 bits of the last that was given.
+/// The incarnation in which `next` comes next: the high 16 bits of the number before it.
 pub fn incarnation(next: u64) -> u64
     requires { 0 < next }
     ensures { result ≡ counts.incarnation next }

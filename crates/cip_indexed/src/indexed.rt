@@ -56,14 +56,14 @@ impl IndexedModule {
         self.device.first_deadline()
     }
 
-    /// The incarnation of the connection ids that it draws: the high 16 bits of the last.
+    /// The incarnation of the connection ids that it draws: their high 16 bits, until a Reset.
     pub fn id_incarnation(&self) -> u16
         ensures { result ≡ incarnation (state_of_indexed self.now).hops.next }
     {
         self.device.id_incarnation()
     }
 
-    /// The incarnation of the request numbers that it draws: the high 16 bits of the last.
+    /// The incarnation of the request numbers that it draws: their high 16 bits, until a Reset.
     pub fn number_incarnation(&self) -> u16
         ensures { result ≡ incarnation (state_of_indexed self.now).pendings.next }
     {

@@ -98,10 +98,10 @@ pub fn ids_are_born_once()
 {}
 
 /// After a turn in which a module is reset, by a frame or by its own command, it is as it was made,
-/// in its next incarnation, but with its clock and its used ops. From then on, whatever happens, each
-/// number and each id that it draws is of a later incarnation; no request waits under a number from
-/// before, so no reply to one is taken; and no connection goes by an id from before, so no datum
-/// under one is.
+/// in its next incarnation, but with its clock and its used ops. From then on, whatever happens,
+/// each number and each id that it draws is of a later incarnation; no request waits under a number
+/// from before, so no reply to one is taken; and no connection goes by an id from before, so no
+/// datum under one is.
 pub fn a_reset_begins_anew()
     ensures state { (config : Settings) (turn : Turn) (before : List Turn)
         → IsHistory config (turn ∷ before) → (r : ResetIn config before turn)

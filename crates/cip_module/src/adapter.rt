@@ -47,14 +47,14 @@ impl AdapterModule {
         self.device.first_deadline()
     }
 
-    /// The incarnation of the connection ids that it draws: the high 16 bits of the last.
+    /// The incarnation of the connection ids that it draws: their high 16 bits, until a Reset.
     pub fn id_incarnation(&self) -> u16
         ensures { result ≡ incarnation (state_of_adapter self.now).hops.next }
     {
         self.device.id_incarnation()
     }
 
-    /// The incarnation of the request numbers that it draws: the high 16 bits of the last.
+    /// The incarnation of the request numbers that it draws: their high 16 bits, until a Reset.
     pub fn number_incarnation(&self) -> u16
         ensures { result ≡ incarnation (state_of_adapter self.now).pendings.next }
     {

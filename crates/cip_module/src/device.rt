@@ -95,14 +95,14 @@ impl Device {
         }
     }
 
-    /// The incarnation of the connection ids that it draws: the high 16 bits of the last.
+    /// The incarnation of the connection ids that it draws: their high 16 bits, until a Reset.
     pub fn id_incarnation(&self) -> u16
         ensures { result ≡ incarnation (state_of_device self.now).hops.next }
     {
         self.hops.incarnation()
     }
 
-    /// The incarnation of the request numbers that it draws: the high 16 bits of the last.
+    /// The incarnation of the request numbers that it draws: their high 16 bits, until a Reset.
     pub fn number_incarnation(&self) -> u16
         ensures { result ≡ incarnation (state_of_device self.now).pendings.next }
     {

@@ -184,7 +184,7 @@ impl PendingTable {
         self.records.look_ahead(first);
     }
 
-    /// The incarnation of the numbers that come next: the high 16 bits of the last that was given.
+    /// The incarnation of the numbers that come next: their high 16 bits, until the next reset.
     pub fn incarnation(&self) -> u16
         ensures { result ≡ counts.incarnation self.now.next }
     {

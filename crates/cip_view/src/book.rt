@@ -313,8 +313,8 @@ impl<'a> Book<'a> {
         Ok(last)
     }
 
-    /// The module of the step under way consumed a datum: whether its sequence count repeats that of
-    /// the last one, so that it is not written (Volume 1, chapter 3, transport class 1).
+    /// The module of the step under way consumed a datum: whether its sequence count repeats that
+    /// of the last one, so that it is not written (Volume 1, chapter 3, transport class 1).
     pub fn consume(&mut self, triad: Triad, bytes: &[u8]) -> Result<bool, NoMemory>
         ensures over { self.new.topology ≡ self.old.topology }
         ensures step { self.new.step ≡ self.old.step }
