@@ -125,7 +125,7 @@ fn main() {
     let mut bytes = [0; 512];
     // Each pointer is to memory that lives over its call and that nothing else is given.
     unsafe {
-        assert_eq!(cip_version(), 1);
+        assert_eq!(cip_version(), 2);
         let status = cip_new(
             &mut device,
             &config,

@@ -27,7 +27,7 @@ extern "C" {
 #endif
 
 /* What cip_version answers, where the library has these functions. */
-#define CIP_VERSION 1
+#define CIP_VERSION 2
 
 typedef struct cip_device { void *at; } cip_device;
 #define CIP_DEVICE_EMPTY { 0 }
@@ -105,8 +105,9 @@ enum cip_output_kind {
     CIP_OUT_DATA = 3,       /* send a datum of the connection of this id there */
     CIP_OUT_DONE = 4,       /* the op has come to its end; the bytes are the reply */
     CIP_OUT_REFUSED = 5,    /* the command is refused, for this reason */
-    CIP_OUT_CONSUMED = 6,   /* a datum came to this instance */
-    CIP_OUT_ARRIVED = 7,    /* a datum came back to the open of this op */
+    CIP_OUT_CONSUMED = 6,   /* a datum came to this instance; its bytes begin with the sequence
+                               count where transport_class of its connection's row is 1 */
+    CIP_OUT_ARRIVED = 7,    /* a datum came back to the open of this op; likewise */
     CIP_OUT_EXPIRED = 8,    /* the connection was silent for too long, and is gone */
     CIP_OUT_DROPPED = 9,    /* the frame is dropped, for this reason */
     CIP_OUT_ENDED = 10      /* the device was reset: what this op asked for or opened is gone */
@@ -155,6 +156,8 @@ typedef struct cip_connection_row {
                                  where that is no link */
     uint32_t configuration, consumed, produced; /* its assemblies where it ends here, and else 0 */
     uint16_t ot_size, to_size;                  /* bytes of a datum, from and to its originator */
+    uint32_t ot_rpi, to_rpi;  /* the intervals that were asked for, in microseconds, likewise */
+    uint32_t transport_class; /* 1: its data begin with a sequence count of two bytes; 0: not so */
     uint64_t up_deadline, down_deadline;        /* when each side has been silent for too long, and
                                                    0 where it is no link */
 } cip_connection_row;
@@ -248,10 +251,11 @@ uint32_t cip_next_deadline(cip_device *device, uint64_t *milliseconds);
 /* The incarnation in which the device draws its connection ids, and that in which it draws its
  * request numbers: those of first_id and first_number, and one more for each Reset that was carried
  * out; what it draws until the next Reset has it in its high half. A device that starts again must
- * begin above every incarnation in which it ever was, or an id of an earlier life comes to stand for a connection of
- * this one: so keep the greater of both in memory that survives, before the reply to a Reset goes
- * out. The call may be made while outputs wait: behind the call that put out the reply, and before
- * cip_next tells it, it says whether a reset was carried out. Nothing changes. */
+ * begin above every incarnation in which it ever was, or an id of an earlier life comes to stand
+ * for a connection of this one: so keep the greater of both in memory that survives, before the
+ * reply to a Reset goes out. The call may be made while outputs wait: behind the call that put out
+ * the reply, and before cip_next tells it, it says whether a reset was carried out. Nothing
+ * changes. */
 uint32_t cip_incarnation(cip_device *device, uint16_t *ids, uint16_t *numbers);
 
 /* CIP_VERSION of the header that the library belongs to. */

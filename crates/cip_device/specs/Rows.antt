@@ -80,6 +80,9 @@ pub record IsConnection (row : HopRow) (out : CipConnectionRow) : Type 0 where
   pub ends : AreEnds row.down out
   pub ot_size : out.ot_size ≡ row.ot_size
   pub to_size : out.to_size ≡ row.to_size
+  pub ot_rpi : out.ot_rpi ≡ row.ot_rpi
+  pub to_rpi : out.to_rpi ≡ row.to_rpi
+  pub transport_class : out.transport_class ≡ row.class
   pub up_deadline : out.up_deadline ≡ or_zero row.up_deadline
   pub down_deadline : out.down_deadline ≡ or_zero row.down_deadline
 

@@ -1,7 +1,7 @@
 //! The numbers that stand for something in C.
 
 /// The version of what C sees.
-pub const VERSION: u32 = 1;
+pub const VERSION: u32 = 2;
 
 /// It was done.
 pub const DONE: u32 = 0;

@@ -46,6 +46,11 @@ pub struct CipConnectionRow {
     /// The sizes of a datum in bytes, from and to the originator.
     pub ot_size: u16,
     pub to_size: u16,
+    /// The requested packet intervals in microseconds, from and to the originator.
+    pub ot_rpi: u32,
+    pub to_rpi: u32,
+    /// The transport class: the data of class 1 begin with a sequence count of two bytes.
+    pub transport_class: u32,
     /// The times in microseconds at which each side has been silent for too long; 0 where that is
     /// no link.
     pub up_deadline: u64,
@@ -199,6 +204,9 @@ pub(crate) fn connection_of(row: &HopRow) -> CipConnectionRow
         produced,
         ot_size: row.ot_size,
         to_size: row.to_size,
+        ot_rpi: row.ot_rpi,
+        to_rpi: row.to_rpi,
+        transport_class: u32::from(row.class),
         up_deadline: time_or_zero(row.up_deadline),
         down_deadline: time_or_zero(row.down_deadline),
     }

@@ -31,6 +31,9 @@ hop_row_of hop = record {
   path = hop.opening.path;
   ot_size = hop.opening.ot_size;
   to_size = hop.opening.to_size;
+  ot_rpi = hop.opening.ot_rpi;
+  to_rpi = hop.opening.to_rpi;
+  class = hop.opening.class;
   up_deadline = hop.up_deadline;
   down_deadline = hop.down_deadline;
 }

@@ -45,6 +45,9 @@ pub(crate) fn hop_row(alloc: Global, hop: &Hop) -> Result<HopRow, NoMemory>
         path,
         ot_size: hop.opening.ot_size,
         to_size: hop.opening.to_size,
+        ot_rpi: hop.opening.ot_rpi,
+        to_rpi: hop.opening.to_rpi,
+        class: hop.opening.class,
         up_deadline: hop.up_deadline,
         down_deadline: hop.down_deadline,
     })

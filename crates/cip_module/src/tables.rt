@@ -90,6 +90,11 @@ pub struct HopRow {
     /// The sizes of a datum in bytes.
     pub ot_size: u16,
     pub to_size: u16,
+    /// The requested packet intervals in microseconds, O to T and T to O.
+    pub ot_rpi: u32,
+    pub to_rpi: u32,
+    /// The transport class: the data of class 1 begin with a sequence count.
+    pub class: u8,
     /// The times in microseconds at which each side has been silent for too long; None where the
     /// side is no link.
     pub up_deadline: Option<u64>,

@@ -34,7 +34,7 @@ use Rattle.cip_world.proofs.AskedOpens.{begins_asked}
 use Rattle.cip_world.proofs.Chassis.{Chassis}
 use Rattle.cip_world.proofs.Entries.{TurnIn, turn_in}
 use Rattle.cip_world.proofs.OpensGo.{AsksThat, Spelled, open_goes}
-use Rattle.cip_world.proofs.OpenTrails.{event_there, words_there, ReadAs, Outcome, Failed, Ended, open_outcome}
+use Rattle.cip_world.proofs.OpenTrails.{event_there, words_there, ReadAs, OpenReply, Outcome, Failed, Ended, open_outcome}
 use Rattle.cip_world.proofs.OpsOnce.{CommandIn, one_command, unrefused_in}
 use Rattle.cip_world.proofs.SendsGo.{Spelled as SendSpelled}
 use Rattle.cip_world.proofs.SendTrails.{none_sent, SendOutcome, Failed as SendFailed, Answered, send_outcome}
@@ -138,13 +138,14 @@ module _ (t : Chassis) (j : Journal) (run : IsRun t.plan j) (m op : ℕ) where
     unrefused = unrefused bytes r;
   }
 
-  outcome : (k : ℕ) (path bytes : List ℕ) → OpenedIn t.plan j m op k path → Gave (part m j) (outputs.Done op bytes)
-      → ReadAs (Outcome t.plan j m op m path) bytes
+  outcome : (k : ℕ) (path bytes : List ℕ) → (c : OpenedIn t.plan j m op k path) → Gave (part m j) (outputs.Done op bytes)
+      → ReadAs (OpenReply t.plan j m op m path c.request.fields.large) bytes
   outcome k path bytes c gave =
       let r = done_by bytes gave in
       let own = again k path bytes c r in
-      subst (λ (n : ℕ). ReadAs (Outcome t.plan j m op n path) bytes) r.here
-      (subst (λ (p : List ℕ). ReadAs (Outcome t.plan j m op r.step.at.0 p) bytes) own.path_is
+      let large = c.request.fields.large in
+      subst (λ (n : ℕ). ReadAs (OpenReply t.plan j m op n path large) bytes) r.here
+      (subst (λ (p : List ℕ). ReadAs (OpenReply t.plan j m op r.step.at.0 p large) bytes) own.path_is
       (open_outcome t.plan j run m op r.number r.step bytes r.replied own.request (opened_asks r.number path own) (opened_begins r.number path own).to))
 
   fails : (k : ℕ) (path : List ℕ) → OpenedIn t.plan j m op k path → (reply : Reply) → Outcome t.plan j m op m path reply
@@ -186,15 +187,16 @@ module _ (t : Chassis) (j : Journal) (run : IsRun t.plan j) (m op : ℕ) where
     walks = there ∙ walk_ends t.plan step.at.0 o.path accepted.ends;
   }
 
-  pub opens : (k : ℕ) (path : List ℕ) → OpenedIn t.plan j m op k path → (bytes : List ℕ) → Gave (part m j) (outputs.Done op bytes)
-      → OpenDone t.plan j (trail_of j m op) m path bytes
+  pub opens : (k : ℕ) (path : List ℕ) → (c : OpenedIn t.plan j m op k path) → (bytes : List ℕ) → Gave (part m j) (outputs.Done op bytes)
+      → OpenDone t.plan j (trail_of j m op) m path c.request.fields.large bytes
   opens k path c bytes gave =
       let x = outcome k path bytes c gave in
       record {
         reply = x.reply;
         read = x.read;
-        fails = fails k path c x.reply x.has;
-        succeeds = succeeds k path c x.reply x.has;
+        service_is = x.has.service_is;
+        fails = fails k path c x.reply x.has.ended;
+        succeeds = succeeds k path c x.reply x.has.ended;
       }
 
   -- ---- a Send

@@ -55,3 +55,4 @@ pub mod SendTrails
 pub mod DonesTell
 pub mod CloseTrails
 pub mod RepliesTell
+pub mod ResetMirrors

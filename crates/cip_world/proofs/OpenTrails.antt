@@ -59,7 +59,7 @@ use Rattle.cip_world.proofs.WaysBack.{Arrives, PutAt, Replied, ByRow, ByTarget, 
 use Rattle.cip_open.specs.Kinds.{open_service, open_reply_service}
 use Rattle.cip_open.proofs.Services.{service_low, reply_service_high}
 use Rattle.cip_message.specs.Manager.{manager_request}
-use Rattle.cip_pending.specs.Kinds.{opening_kind}
+use Rattle.cip_pending.specs.Kinds.{opening_kind, is_large_kind}
 use Rattle.cip_base.specs.declared.triad.Triad.{Triad}
 
 -- ---- words as received
@@ -126,6 +126,7 @@ walk_on t m port address path rest hop there first port_is address_is rest_is le
 pub record NextOpen (t : Plan) (j : Journal) (a b : ℕ) (s : StepIn t j a) (r : StepIn t j b) (o : Open) : Type 0 where
   pub next : Open
   pub asks : AsksThat r.taken.config r.taken.event next
+  pub large_is : next.fields.large ≡ o.fields.large
   pub shorter : words_of next.path < words_of o.path
   pub walks : walk t s.at.0 o.path ≡ walk t r.at.0 next.path
 
@@ -136,6 +137,7 @@ pub next_open : (t : Plan) (j : Journal) (a b n : ℕ) (s : StepIn t j a) (r : S
 next_open t j a b n s r o sending kind there g leads here event_is = record {
   next = lowered o g.own g.rest;
   asks = CameSo there.port n there.address (event_is ∙ ap (λ (x : List ℕ). events.Frame there.port there.address (bodies.Request n x)) g.bytes_are);
+  large_is = refl;
   shorter =
       let fall = words_fall o.path g.leads.hop g.leads.first in
       let same = ap (λ (x : List ℕ). length x / 2) g.leads.rest_is in
@@ -159,11 +161,17 @@ of_read P bytes r read x = subst P (ok_reply x.reply r (sym x.read ∙ read)) x.
 written : (P : Reply → Type 0) (r : Reply) (bytes : List ℕ) → 128 ≤ r.service → bytes ≡ reply_bytes r → P r → ReadAs P bytes
 written P r bytes big is has = record { reply = r; read = ap reply_at is ∙ reply_back r big; has = has }
 
-success_read : (large : Bool) (x : OpenSuccess) (bytes : List ℕ) → bytes ≡ open_reply_bytes large x → ReadAs (λ r. r.general ≡ 0) bytes
-success_read large x bytes is =
-    written (λ r. r.general ≡ 0) (done_with (open_reply_service large) (open_reply_data x)) bytes (reply_service_high large) is refl
+-- a success of an open, large or not
+record IsSuccess (large : Bool) (r : Reply) : Type 0 where
+  general_is : r.general ≡ 0
+  service_is : r.service ≡ open_reply_service large
 
-accepted_read : (o : Open) (id : ℕ) (bytes : List ℕ) → bytes ≡ accepted_bytes o id → ReadAs (λ r. r.general ≡ 0) bytes
+success_read : (large : Bool) (x : OpenSuccess) (bytes : List ℕ) → bytes ≡ open_reply_bytes large x → ReadAs (IsSuccess large) bytes
+success_read large x bytes is =
+    written (IsSuccess large) (done_with (open_reply_service large) (open_reply_data x)) bytes (reply_service_high large) is
+    (record { general_is = refl; service_is = refl })
+
+accepted_read : (o : Open) (id : ℕ) (bytes : List ℕ) → bytes ≡ accepted_bytes o id → ReadAs (IsSuccess o.fields.large) bytes
 accepted_read o id bytes is =
     success_read o.fields.large
     (record { ot_id = id; to_id = o.fields.to_id; triad = o.fields.triad; ot_api = o.fields.ot_rpi; to_api = o.fields.to_rpi; reply = [] }) bytes is
@@ -171,19 +179,24 @@ accepted_read o id bytes is =
 -- a success that is passed on stays one
 passed_read : (large : Bool) (held : Option Held) (came : List ℕ) (success : OpenSuccess) (bytes : List ℕ) (reply : Reply)
     → bytes ≡ succeeded large held came success
-    → reply_at came ≡ Ok reply → reply.general ≡ 0 → ReadAs (λ r. r.general ≡ 0) bytes
-passed_read large None came success bytes reply is read general = record { reply = reply; read = ap reply_at is ∙ read; has = general }
-passed_read large (Some x) came success bytes reply is read general = by_up (opening_of x).up is
+    → reply_at came ≡ Ok reply → IsSuccess large reply → ReadAs (IsSuccess large) bytes
+passed_read large None came success bytes reply is read succeeds = record { reply = reply; read = ap reply_at is ∙ read; has = succeeds }
+passed_read large (Some x) came success bytes reply is read succeeds = by_up (opening_of x).up is
   where
-    by_up : (up : HopUp) → bytes ≡ success_up large up (ids_of x) came success → ReadAs (λ r. r.general ≡ 0) bytes
+    by_up : (up : HopUp) → bytes ≡ success_up large up (ids_of x) came success → ReadAs (IsSuccess large) bytes
     by_up (UpLink port address id) e = success_read large (with_ids success (option_map_or (λ own. own) (ids_of x).up 0) id) bytes e
-    by_up (UpLocal op) e = record { reply = reply; read = ap reply_at e ∙ read; has = general }
+    by_up (UpLocal op) e = record { reply = reply; read = ap reply_at e ∙ read; has = succeeds }
 
 -- the reply to an open that waited too long
 late_of : (large : Bool) (triad : Triad) (words : ℕ)
     → timed_out_bytes (opening_kind large triad) words ≡ open_failed large (link_status TicksSpent) triad words
 late_of true triad words = refl
 late_of false triad words = refl
+
+-- whether the open that waits so is large
+kind_large : (large : Bool) (triad : Triad) → is_large_kind (opening_kind large triad) ≡ large
+kind_large true triad = refl
+kind_large false triad = refl
 
 -- the reply to an open whose trail came to entry k
 pub data Outcome (t : Plan) (j : Journal) (m op at : ℕ) (path : List ℕ) (r : Reply) : Type 0 where
@@ -210,50 +223,67 @@ renamed t j m op at path reply r general too (Failed place step o trail asks lar
     absurd (fails (ap (λ (y : Reply). y.general) (sym r_is) ∙ general))
 renamed t j m op at path reply r general too (Ended place step o bytes trail asks accepted was there) = Ended place step o bytes trail asks accepted too there
 
+-- the reply to an open, large or not, has that service
+pub record OpenReply (t : Plan) (j : Journal) (m op at : ℕ) (path : List ℕ) (large : Bool) (r : Reply) : Type 0 where
+  pub ended : Outcome t j m op at path r
+  pub service_is : r.service ≡ open_reply_service large
+
 module _ (t : Plan) (j : Journal) (run : IsRun t j) (m op : ℕ) where
   -- what was told of an open at an entry, of a reply that can be read
-  abbrev Told : ℕ → List ℕ → List ℕ → Type 0
-  Told at path bytes = ReadAs (Outcome t j m op at path) bytes
+  abbrev Told : ℕ → List ℕ → Bool → List ℕ → Type 0
+  Told at path large bytes = ReadAs (OpenReply t j m op at path large) bytes
 
   by_row : (k : ℕ) (s : StepIn t j k) (bytes : List ℕ) (o : Open) → AsksThat s.taken.config s.taken.event o → TrailTo t j m op k s
       → OpenRefused s.taken.config (state_before s) s.taken.event o bytes ⊎ OpenAccepted s.taken.config (state_before s) s.taken.event o bytes
-      → Told s.at.0 o.path bytes
+      → Told s.at.0 o.path o.fields.large bytes
   by_row k s bytes o asks to (inl refused) =
       let r = reply_with (open_reply_service refused.large) (open_status refused.refusal) (failure_data refused.failure) in
-      written (Outcome t j m op s.at.0 o.path) r bytes (reply_service_high refused.large) refused.bytes_are
-      (Failed k s o to asks refused.large (open_status refused.refusal) refused.failure refl refused.words_is refused.triad_there (open_fails refused.refusal)
-      (FailedByRow refused.refusal refused.why refl))
+      written (OpenReply t j m op s.at.0 o.path o.fields.large) r bytes (reply_service_high refused.large) refused.bytes_are
+      (record {
+        ended =
+            Failed k s o to asks refused.large (open_status refused.refusal) refused.failure refl refused.words_is refused.triad_there
+            (open_fails refused.refusal) (FailedByRow refused.refusal refused.why refl);
+        service_is = ap open_reply_service refused.large_is;
+      })
   by_row k s bytes o asks to (inr accepted) =
       let success = accepted_read o (state_before s).hops.next bytes accepted.bytes_are in
-      record { reply = success.reply; read = success.read; has = Ended k s o bytes to asks accepted success.has refl }
+      record {
+        reply = success.reply;
+        read = success.read;
+        has = record { ended = Ended k s o bytes to asks accepted success.has.general_is refl; service_is = success.has.service_is };
+      }
 
   by_tick : (k : ℕ) (s : StepIn t j k) (n : ℕ) (p : entries.Entry) (put : PutAt s n p) (l : ℕ) (tick : StepIn t j l) → tick.at.0 ≡ s.at.0
       → PendingTimesOutAs (state_before tick) tick.taken.event n → map.get (state_before tick).pendings.entries n ≡ Some p → k < l → (bytes : List ℕ)
       → bytes ≡ timed_out_bytes p.kind p.words
       → (o : Open) → AsksThat s.taken.config s.taken.event o → TrailTo t j m op k s
-      → OpenGoes s.taken.config (state_before s) s.taken.event o put.sending p.kind → Told s.at.0 o.path bytes
+      → OpenGoes s.taken.config (state_before s) s.taken.event o put.sending p.kind → Told s.at.0 o.path o.fields.large bytes
   by_tick k s n p put l tick here ends waits later bytes bytes_are o asks to g =
       let words_is : p.words ≡ words_of o.path = put.words_is ∙ g.words_are in
       let large = g.opening.large in
       let r = reply_with (open_reply_service large) (link_status TicksSpent) (failure_data (failed_at g.opening.triad p.words)) in
-      written (Outcome t j m op s.at.0 o.path) r bytes (reply_service_high large)
+      written (OpenReply t j m op s.at.0 o.path o.fields.large) r bytes (reply_service_high large)
       (bytes_are ∙ ap (λ (x : Kind). timed_out_bytes x p.words) g.kind_is ∙ late_of large g.opening.triad p.words)
-      (Failed k s o to asks large (link_status TicksSpent) (failed_at g.opening.triad p.words) refl
-      (ap (λ (w : ℕ). Some w) words_is) (λ none. absurd (cc)) (link_fails TicksSpent)
-      (FailedByTick (record {
-        number = n;
-        waiting = p;
-        bytes = put.sending.bytes;
-        sent =
-            subst (λ (x : Output). Has s.outputs x)
-            (λ i. outputs.Send (sym put.port_is i) (sym put.address_is i) (bodies.Request n put.sending.bytes)) put.sent;
-        place = l;
-        tick = tick;
-        here = here;
-        later = later;
-        waits = waits;
-        ends = ends;
-      }) refl))
+      (record {
+        ended =
+            Failed k s o to asks large (link_status TicksSpent) (failed_at g.opening.triad p.words) refl
+            (ap (λ (w : ℕ). Some w) words_is) (λ none. absurd (cc)) (link_fails TicksSpent)
+            (FailedByTick (record {
+              number = n;
+              waiting = p;
+              bytes = put.sending.bytes;
+              sent =
+                  subst (λ (x : Output). Has s.outputs x)
+                  (λ i. outputs.Send (sym put.port_is i) (sym put.address_is i) (bodies.Request n put.sending.bytes)) put.sent;
+              place = l;
+              tick = tick;
+              here = here;
+              later = later;
+              waits = waits;
+              ends = ends;
+            }) refl);
+        service_is = ap open_reply_service g.large_is;
+      })
 
   goes_there : (k : ℕ) (s : StepIn t j k) (n : ℕ) (p : entries.Entry) (put : PutAt s n p) (o : Open) → AsksThat s.taken.config s.taken.event o
       → OpenGoes s.taken.config (state_before s) s.taken.event o put.sending p.kind
@@ -266,22 +296,38 @@ module _ (t : Plan) (j : Journal) (run : IsRun t j) (m op : ℕ) where
       next_open t j k l n s next o put.sending p.kind arrives.there (goes_there k s n p put o asks) arrives.leads arrives.here arrives.event_is
 
   -- what was told below is told here
-  passed_on : (at to : ℕ) (path rest bytes : List ℕ) → walk t at path ≡ walk t to rest → Told to rest bytes → Told at path bytes
-  passed_on at to path rest bytes walks x = record { reply = x.reply; read = x.read; has = further t j m op at to path rest x.reply walks x.has }
-
-  succeeded_on : (at to : ℕ) (path rest bytes came : List ℕ) (reply : Reply) → walk t at path ≡ walk t to rest → reply_at came ≡ Ok reply
-      → reply.general ≡ 0
-      → ReadAs (λ r. r.general ≡ 0) bytes → Told to rest came → Told at path bytes
-  succeeded_on at to path rest bytes came reply walks read general x below = record {
+  passed_on : (at to : ℕ) (path rest : List ℕ) (large low : Bool) (bytes : List ℕ) → walk t at path ≡ walk t to rest → low ≡ large
+      → Told to rest low bytes → Told at path large bytes
+  passed_on at to path rest large low bytes walks same x = record {
     reply = x.reply;
     read = x.read;
-    has = further t j m op at to path rest x.reply walks
-        (renamed t j m op to rest reply x.reply general x.has (of_read (Outcome t j m op to rest) came reply read below));
+    has = record {
+      ended = further t j m op at to path rest x.reply walks x.has.ended;
+      service_is = x.has.service_is ∙ ap open_reply_service same;
+    };
   }
 
-  -- each reply to an open can be read, and tells how it ended
+  succeeded_on : (at to : ℕ) (path rest : List ℕ) (large low : Bool) (bytes came : List ℕ) (reply : Reply) → walk t at path ≡ walk t to rest
+      → low ≡ large → reply_at came ≡ Ok reply → reply.general ≡ 0 → (IsSuccess large reply → ReadAs (IsSuccess large) bytes)
+      → Told to rest low came → Told at path large bytes
+  succeeded_on at to path rest large low bytes came reply walks same read general passed below =
+      let told : OpenReply t j m op to rest low reply = of_read (OpenReply t j m op to rest low) came reply read below in
+      let x : ReadAs (IsSuccess large) bytes =
+      passed (record { general_is = general; service_is = told.service_is ∙ ap open_reply_service same }) in
+      record {
+        reply = x.reply;
+        read = x.read;
+        has = record {
+          ended =
+              further t j m op at to path rest x.reply walks
+              (renamed t j m op to rest reply x.reply general x.has.general_is told.ended);
+          service_is = x.has.service_is;
+        };
+      }
+
+  -- each reply to an open can be read, has its service, and tells how it ended
   pub open_outcome : (k : ℕ) (s : StepIn t j k) (bytes : List ℕ) → Replied t j k s bytes → (o : Open) → AsksThat s.taken.config s.taken.event o
-      → TrailTo t j m op k s → ReadAs (Outcome t j m op s.at.0 o.path) bytes
+      → TrailTo t j m op k s → ReadAs (OpenReply t j m op s.at.0 o.path o.fields.large) bytes
   open_outcome k s bytes (ByRow _ _ up _ told) o asks to =
       by_row k s bytes o asks to (open_replied s.taken.config (state_before s) s.taken.event o asks up bytes told)
   open_outcome k s bytes (ByTarget _ _ up asked _ told bytes_are) o asks to =
@@ -290,10 +336,13 @@ module _ (t : Plan) (j : Journal) (run : IsRun t j) (m op : ℕ) where
       by_tick k s n p put l tick here ends waits later bytes bytes_are o asks to (goes_there k s n p put o asks)
   open_outcome k s bytes (AsItCame _ _ n p put l next arrives _ below) o asks to =
       let on = there k s n p put l next arrives o asks in
-      passed_on s.at.0 next.at.0 o.path on.next.path bytes on.walks
+      passed_on s.at.0 next.at.0 o.path on.next.path o.fields.large on.next.fields.large bytes on.walks on.large_is
       (open_outcome l next bytes below on.next on.asks (trail_on t j run m op k l s next n put.sending arrives to))
-  open_outcome k s bytes (AsSuccess _ _ n p put l next arrives triad kind_is came reply read_below general large held success _ bytes_are below) o asks to =
+  open_outcome k s bytes (AsSuccess _ _ n p put l next arrives triad kind_is came reply read_below general held success _ bytes_are below) o asks to =
       let on = there k s n p put l next arrives o asks in
-      succeeded_on s.at.0 next.at.0 o.path on.next.path bytes came reply on.walks read_below general
-      (passed_read large held came success bytes reply bytes_are read_below general)
+      let g = goes_there k s n p put o asks in
+      let large : is_large_kind p.kind ≡ o.fields.large =
+      ap is_large_kind g.kind_is ∙ kind_large g.opening.large g.opening.triad ∙ g.large_is in
+      succeeded_on s.at.0 next.at.0 o.path on.next.path o.fields.large on.next.fields.large bytes came reply on.walks on.large_is read_below general
+      (passed_read o.fields.large held came success bytes reply (bytes_are ∙ ap (λ (b : Bool). succeeded b held came success) large) read_below)
       (open_outcome l next came below on.next on.asks (trail_on t j run m op k l s next n put.sending arrives to))

@@ -140,6 +140,7 @@ pub record OpenRefused (config : ModuleSettings) (s : State) (event : Event) (o 
   pub words_is : failure.words ≡ Some (words_of o.path)
   pub triad_there : HasTriadForWords failure
   pub large : Bool
+  pub large_is : large ≡ o.fields.large
   pub bytes_are : bytes ≡ open_failure_bytes large (open_status refusal) failure
 
 -- it was accepted, at the end of its path
@@ -156,6 +157,7 @@ pub record OpenGoes (config : ModuleSettings) (s : State) (event : Event) (o : O
   pub up : UpSide
   pub opening : Opening
   pub kind_is : kind ≡ kind_for opening
+  pub large_is : opening.large ≡ o.fields.large
   pub own : ℕ
   pub rest : List ℕ
   pub leads : LeadsOn config s o.fields.timing o.path sending.port sending.address rest
@@ -243,6 +245,7 @@ module _ (config : ModuleSettings) (s : State) (event : Event) (o : Open) (is : 
         up = sending.up;
         opening = opening;
         kind_is = kind_is;
+        large_is = ap (λ (x : Opening). x.large) h.opening_is ∙ ap (λ (x : Open). x.fields.large) same;
         own = s.hops.next;
         rest = h.rest;
         leads = subst (λ (x : Open). LeadsOn config s x.fields.timing x.path sending.port sending.address h.rest) same h.leads;
@@ -270,6 +273,7 @@ module _ (config : ModuleSettings) (s : State) (event : Event) (o : Open) (is : 
         refusal = unread_row o.fields.large (open_data o) fault;
         why = Unread up large asked fault came read (λ i. unread_row (sym same.0 i) (sym same.1 i) fault);
         large = o.fields.large;
+        large_is = refl;
         failure = record { triad = open_triad_of (open_data o); words = Some (words_of o.path) };
         words_is = refl;
         triad_there = has_triad o;
@@ -281,6 +285,7 @@ module _ (config : ModuleSettings) (s : State) (event : Event) (o : Open) (is : 
         refusal = refusal;
         why = Read up p asks meets;
         large = p.fields.large;
+        large_is = ap (λ (x : Open). x.fields.large) same;
         failure = failed_at p.fields.triad (words_of p.path);
         words_is = ap (λ (x : Open). Some (words_of x.path)) same;
         triad_there = λ none. absurd (cc);

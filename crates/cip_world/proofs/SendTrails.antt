@@ -79,7 +79,7 @@ module _ (t : Plan) (j : Journal) (run : IsRun t j) (m op : ℕ) where
       absurd (itself_stays s.taken.config (state_before s) s.taken.event asked r is put.sending p.kind put.why)
   itself_outcome k s bytes asked r (AsItCame _ _ n p put l next arrives _ below) is =
       absurd (itself_stays s.taken.config (state_before s) s.taken.event asked r is put.sending p.kind put.why)
-  itself_outcome k s bytes asked r (AsSuccess _ _ n p put l next arrives triad kind_is came reply read_below general large held success _ bytes_are below) is =
+  itself_outcome k s bytes asked r (AsSuccess _ _ n p put l next arrives triad kind_is came reply read_below general held success _ bytes_are below) is =
       absurd (itself_stays s.taken.config (state_before s) s.taken.event asked r is put.sending p.kind put.why)
 
   goes_there : (k : ℕ) (s : StepIn t j k) (n : ℕ) (p : entries.Entry) (put : PutAt s n p) (u : Unconnected) → AsksSendThat s.taken.event u
@@ -149,6 +149,6 @@ module _ (t : Plan) (j : Journal) (run : IsRun t j) (m op : ℕ) where
       let on = trail_on t j run m op k l s next n put.sending arrives to in
       by_rest k s bytes u n put.sending p.kind l next arrives below on g
       (λ v is. send_outcome l next bytes below v is on) (eqb (length g.rest) 0) refl g.bytes_are
-  send_outcome k s bytes (AsSuccess _ _ n p put l next arrives triad kind_is came reply read_below general large held success _ bytes_are below) u asks to =
+  send_outcome k s bytes (AsSuccess _ _ n p put l next arrives triad kind_is came reply read_below general held success _ bytes_are below) u asks to =
       let g = goes_there k s n p put u asks in
       let no : Some triad ≡ None = sym kind_is ∙ ap opened_triad g.kind_is in absurd (cc)

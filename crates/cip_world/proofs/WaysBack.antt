@@ -89,7 +89,7 @@ pub data Replied (t : Plan) (j : Journal) : (k : ℕ) → StepIn t j k → List 
       → (bytes : List ℕ) → Replied t j l r bytes → Replied t j k s bytes
   AsSuccess : (k : ℕ) (s : StepIn t j k) (n : ℕ) (p : entries.Entry) (put : PutAt s n p) (l : ℕ) (r : StepIn t j l) → Arrives t j k l s r n put.sending
       → (triad : Triad) → opened_triad p.kind ≡ Some triad → (came : List ℕ) (reply : Reply) → reply_at came ≡ Ok reply → reply.general ≡ 0
-      → (large : Bool) (held : Option Held) (success : OpenSuccess) (bytes : List ℕ) → bytes ≡ succeeded large held came success → Replied t j l r came
+      → (held : Option Held) (success : OpenSuccess) (bytes : List ℕ) → bytes ≡ succeeded (is_large_kind p.kind) held came success → Replied t j l r came
       → Replied t j k s bytes
 
 -- ---- frames of an entry
@@ -405,7 +405,7 @@ module _ (t : Chassis) (j : Journal) (run : IsRun t.plan j) (l : ℕ) (s : StepI
           replied =
               AsSuccess b.number b.step n p b.put b.below b.arrival b.arrives triad
               (ap (λ (x : entries.Entry). opened_triad x.kind) same ∙ told.kind) came told.reply told.came.read told.general
-              (is_large_kind p.kind) (map.get (applied config (state_before s) g.before).hops.held triad) success bytes bytes_are b.replied;
+              (map.get (applied config (state_before s) g.before).hops.held triad) success bytes bytes_are b.replied;
         }
     by_way g (Late n p effect_is at ups bytes_are) h =
         let told : PendingTimesOutAs (state_before s) s.taken.event n = subst (Tells config (state_before s) s.taken.event) effect_is g.tells in

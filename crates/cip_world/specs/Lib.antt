@@ -17,3 +17,4 @@ pub mod Trails
 pub mod StepsIn
 pub mod TrailTells
 pub mod RepliesTell
+pub mod ResetSteps

@@ -14,6 +14,7 @@ use Rattle.cip_message.specs.declared.failure.ConnectionFailure.{ConnectionFailu
 use Rattle.cip_message.specs.declared.fault.DataFault.{DataFault}
 use Rattle.cip_message.specs.declared.fault.RequestFault.{RequestFault}
 use Rattle.cip_open.specs.declared.kinds.TheConstants.{FORWARD_OPEN, LARGE_FORWARD_OPEN}
+use Rattle.cip_open.specs.Kinds.{open_reply_service}
 use Rattle.cip_open.specs.Open.{Open}
 use Rattle.cip_open.specs.OpenAt.{open_at, open_words_of}
 use Rattle.cip_pending.specs.declared.entry.Entry.{Entry as Pending}
@@ -172,12 +173,14 @@ pub record EndsThere (t : Plan) (j : Journal) (ks : List ℕ) (m : ℕ) (path : 
       ≡ Accepted link
   pub walks : walk t m path ≡ Some (record { at = step.at.0; path = o.path })
 
--- What the Done of an Open tells: it can be read as a reply, which is a failure that tells where,
--- or a success at the end of the path.
-pub record OpenDone (t : Plan) (j : Journal) (ks : List ℕ) (m : ℕ) (path bytes : Octets) : Type 0
+-- What the Done of an open, large or not, tells: it can be read as a reply of that service, which is
+-- a failure that tells where, or a success at the end of the path.
+pub record OpenDone (t : Plan) (j : Journal) (ks : List ℕ) (m : ℕ) (path : Octets) (large : Bool)
+    (bytes : Octets) : Type 0
   where
     pub reply : Reply
     pub read : reply_at bytes ≡ Ok reply
+    pub service_is : reply.service ≡ open_reply_service large
     pub fails : reply.general ≢ 0 → TellsWhere t j ks reply
     pub succeeds : reply.general ≡ 0 → EndsThere t j ks m path
 
@@ -222,8 +225,9 @@ pub record AnsweredThere (t : Plan) (j : Journal) (ks : List ℕ) (m : ℕ)
 -- what the Dones of an op tell of its trail
 pub record TrailTells (t : Plan) (j : Journal) (m : ℕ) (op : OpNumber) (ks : List ℕ) : Type 0 where
   pub falls : (k : ℕ) (path : Octets) → OpenedIn t j m op k path → WordsFall j ks
-  pub opens : (k : ℕ) (path : Octets) → OpenedIn t j m op k path
-      → (bytes : Octets) → Gave (part m j) (outputs.Done op bytes) → OpenDone t j ks m path bytes
+  pub opens : (k : ℕ) (path : Octets) → (opened : OpenedIn t j m op k path)
+      → (bytes : Octets) → Gave (part m j) (outputs.Done op bytes)
+      → OpenDone t j ks m path opened.request.fields.large bytes
   pub answers : (k : ℕ) (path request : Octets) → SentIn t j m op k path request
       → (bytes : Octets) → Gave (part m j) (outputs.Done op bytes)
       → slice_index bytes 0 ≢ 0xD2 → AnsweredThere t j ks m path request bytes

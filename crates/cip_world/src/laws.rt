@@ -8,6 +8,7 @@ ghost use Rattle.cip_base.specs.declared.triad.Triad.{Triad};
 ghost use Rattle.cip_hops.specs.declared.hop.Held.TheVariants.{Open};
 ghost use Rattle.cip_hops.specs.declared.hop.Hop.{Hop};
 ghost use Rattle.cip_hops.specs.declared.opening.HopDown.TheVariants.{Link as DownLink};
+ghost use Rattle.cip_hops.specs.Hops.{hop_by_up};
 ghost use Rattle.cip_open.specs.Open.{Open as OpenRequest};
 ghost use Rattle.cip_pending.specs.declared.entry.Entry.{Entry as Pending};
 ghost use Rattle.cip_pending.specs.declared.entry.UpSide.TheVariants.{Link};
@@ -20,8 +21,9 @@ ghost use Rattle.cip_event.specs.declared.event.Output.TheVariants.{Arrived, Con
 ghost use Rattle.cip_laws.specs.Histories.{IsHistory};
 ghost use Rattle.cip_laws.specs.Weights.{same_up, is_reply, is_asked_by, weight, came};
 ghost use Rattle.cip_topology.specs.Plan.{Plan, IsTopology};
-ghost use Rattle.cip_topology.specs.Nodes.{Way};
+ghost use Rattle.cip_topology.specs.Nodes.{Way, across};
 ghost use Rattle.cip_world.specs.declared.journal.FrameName.{FrameName as Name};
+ghost use Rattle.cip_world.specs.declared.journal.Entry.{Entry as Happened};
 ghost use Rattle.cip_world.specs.declared.journal.Entry.TheVariants.{Step, Lost};
 ghost use Rattle.cip_world.specs.declared.journal.Input.TheVariants as inputs;
 ghost use Rattle.cip_world.specs.Journals.{Journal, entry_at, same_name, part};
@@ -30,6 +32,7 @@ ghost use Rattle.cip_world.specs.Runs.{IsArrival, IsModule, IsRun, IsWaiting, st
 ghost use Rattle.cip_world.specs.Waiting.{waiting};
 ghost use Rattle.cip_world.specs.Answers.{Answered};
 ghost use Rattle.cip_world.specs.Mirrors.{IsOlder, IsMirrored};
+ghost use Rattle.cip_world.specs.ResetSteps.{IsResetBy};
 ghost use Rattle.cip_world.specs.Chains.{Member, IsChain, last_of, AreDeliveries, AreKept, IsTakenBy};
 ghost use Rattle.cip_world.specs.Entering.{HasOutput, before_entry, IsTaken, IsEntered, IsOpened, ConsumedOf, ArrivedOf};
 ghost use Rattle.cip_world.specs.Roots.{root_of};
@@ -90,6 +93,21 @@ pub fn hops_are_mirrored()
         → map.get (state_in config m k).hops.held q ≡ Some (Open h)
         → h.opening.down ≡ DownLink port address
         → IsMirrored t j (record { at = m; port = port; address = address }) h }
+{}
+
+/// A connection whose neighbour was reset since is mirrored by none there any more: at no later
+/// moment does the neighbour have a connection under the id that is named.
+pub fn a_reset_leaves_no_mirror()
+    ensures { (t : Plan) → IsTopology t → (j before k : Journal) (e : Happened) → IsRun t j
+        → IsOlder (e ∷ before) j → IsOlder k before → (m : ℕ) (config : Settings)
+        → IsModule t m config → (q : Triad) (h : Hop) (port : ℕ) (address : List ℕ)
+        → map.get (state_in config m k).hops.held q ≡ Some (Open h)
+        → h.opening.down ≡ DownLink port address
+        → (there : Way) → across t (record { at = m; port = port; address = address }) ≡ Some there
+        → (neighbour : Settings) → IsModule t there.at neighbour
+        → IsResetBy neighbour there.at e before
+        → (id up_port : ℕ) (from : List ℕ) → h.their_id ≡ Some id
+        → hop_by_up (state_in neighbour there.at j).hops id up_port from ≡ None }
 {}
 
 /// Each datum that an end takes is one that was entered, unchanged and at most once: its root is an

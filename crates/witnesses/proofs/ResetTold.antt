@@ -6,6 +6,7 @@ use Rattle.cip_pending.specs.declared.entry.UpSide.TheVariants.{Link, Local}
 use Rattle.cip_event.specs.declared.event.Body.TheVariants as bodies
 use Rattle.cip_event.specs.declared.event.Output.TheVariants as outputs
 use Rattle.cip_hops.specs.Hops.{hop_by_up, hop_by_down}
+use Rattle.cip_hops.specs.declared.hop.Held.TheVariants.{Open}
 use Rattle.cip_module.specs.State.{initial_state}
 use Rattle.cip_laws.specs.Births.{IsBirth}
 use Rattle.cip_laws.specs.Histories.{IsHistory}
@@ -16,11 +17,13 @@ use Rattle.cip_laws.proofs.Again.{reset_makes_again, numbers_from_reset, ids_dra
 use Rattle.cip_laws.proofs.Births.{birth_range}
 use Rattle.cip_world.specs.Journals.{part}
 use Rattle.cip_world.specs.Mirrors.{IsOlder}
+use Rattle.cip_world.specs.ResetSteps.{IsResetBy}
 use Rattle.cip_world.specs.Runs.{state_in}
 use Rattle.cip_world.proofs.Chassis.{chassis}
-use Rattle.cip_world.proofs.Moments.{run_older}
+use Rattle.cip_world.proofs.Moments.{run_older, itself}
 use Rattle.cip_world.proofs.Parts.{run_history}
 use Rattle.cip_world.proofs.RepliesTell.{replies_tell}
+use Rattle.cip_world.proofs.ResetMirrors.{none_mirrors}
 use Rattle.cip_message.specs.Counted.{counted_at, counted_path_at}
 use Rattle.cip_message.specs.Failure.{failure_at}
 use Rattle.cip_message.specs.ReplyAt.{reply_at}
@@ -42,11 +45,11 @@ use Rattle.cip_segment.specs.Scan.{bytes_at, double_at, logical_at, narrow_at, n
 use Rattle.cip_target.specs.Ends.{end_row}
 use Rattle.cip_target.specs.Rows.{target_row}
 use Rattle.cip_unconnected.specs.UnconnectedAt.{unconnected_at}
-use Rattle.witnesses.specs.Plans.{scanner, first_bridge, plant, row}
+use Rattle.witnesses.specs.Plans.{scanner, first_bridge, plant, row, triad}
 use Rattle.witnesses.specs.OpenedAgain as again
 use Rattle.witnesses.specs.ResetRun as resetting
 use Rattle.witnesses.specs.ResetBridge as under
-use Rattle.witnesses.specs.ChainedRun.{of_first}
+use Rattle.witnesses.specs.ChainedRun.{of_scanner, of_first}
 use Rattle.witnesses.specs.ResetTold.{is_reset, goes_on, after_it, begins, own, resets_under_it, finds_none, resets_itself, behind_it, ends_itself}
 use Rattle.witnesses.proofs.Maps.{none_waits as none_wait, none_held, held_first, held_none, held_get, held_entries, held_twice, entry_get, entry_gone, bytes_none}
 use Rattle.witnesses.proofs.OpenedAgain.{run_resets, run_at_first, run_up_at_first, run_ends}
@@ -181,6 +184,23 @@ none_waits_under_it = none_waits first_bridge (finds_none ∷ []) (part 1 under.
 pub none_goes_down : hop_by_down (state_in first_bridge 1 under.is_unknown).hops 33 1 (3 ∷ []) ≡ None
 none_goes_down = none_by_down first_bridge (finds_none ∷ []) (part 1 under.sends) resets_under_it behind_the_datum under_it 33 1 (3 ∷ [])
     (let next = next_there in omega (arith, next))
+
+-- ---- what the scanner's connection is mirrored by then
+
+pub scanner_had : map.get (state_in scanner 0 under.sends).hops.held triad ≡ Some (Open of_scanner)
+unfolding behind bytes_at close_at close_reply_at close_row counted_at counted_path_at data_row double_at end_row failure_at hop_of link_refusal logical_at
+    narrow_at number_at open_at open_reply_at open_row other_at padded_at path_at plain_port_at point_at port_at reply_at reply_row request_at request_row
+    segment_at segments_of segments_within send_row size_at target_row unconnected_at unconnected_row words_at
+scanner_had = simp (none_wait, none_held, held_first, held_none, held_get, held_entries, held_twice, entry_get, entry_gone) refl
+
+pub resets_in_run : IsResetBy first_bridge 1 under.resetting under.sends
+resets_in_run = record { turn = resets_under_it; newest = refl; reset = under_it }
+
+pub mirrored_no_more : hop_by_up (state_in first_bridge 1 under.is_unknown).hops 34 2 (1 ∷ []) ≡ None
+mirrored_no_more =
+    none_mirrors (chassis row row_is) under.is_unknown under.sends under.sends under.resetting run_is_unknown under_resets (itself under.sends)
+    0 scanner refl triad of_scanner 2 (5 ∷ []) scanner_had refl (record { at = 1; port = 2; address = 1 ∷ [] }) refl first_bridge refl resets_in_run
+    34 2 (1 ∷ []) refl
 
 -- ---- the scanner that resets itself
 

@@ -1,5 +1,5 @@
 -- What laws of runs tell, with the entries that they tell it of.
-use Rattle.std.specs.Prelude.{◌≡◌, ℕ, List}
+use Rattle.std.specs.Prelude.{◌≡◌, ℕ, Bool, List}
 use Rattle.cip_base.specs.Words.{InstanceNumber, LinkAddress, Octets, OpNumber, PortIdentifier, RequestNumber}
 use Rattle.cip_base.specs.declared.triad.Triad.{Triad}
 use Rattle.cip_event.specs.declared.event.Body.TheVariants as bodies
@@ -28,18 +28,18 @@ pub record ArrivedFrom (t : Plan) (j : Journal) (k m : ℕ) (op : OpNumber) (byt
   pub root_is : of_it.root ≡ root
   pub e_is : of_it.e ≡ e
 
--- the Done tells that the open failed in this entry, where its path had so many words
-pub record FailsAt (t : Plan) (j : Journal) (ks : List ℕ) (m : ℕ) (path bytes : Octets)
-    (place words : ℕ) : Type 0 where
-  pub done : OpenDone t j ks m path bytes
+-- the Done tells that the open, large or not, failed in this entry, where its path had so many words
+pub record FailsAt (t : Plan) (j : Journal) (ks : List ℕ) (m : ℕ) (path : Octets) (large : Bool)
+    (bytes : Octets) (place words : ℕ) : Type 0 where
+  pub done : OpenDone t j ks m path large bytes
   pub tells : TellsWhere t j ks done.reply
   pub place_is : tells.place ≡ place
   pub words_is : tells.words ≡ words
 
--- the Done tells that the open was accepted in this entry, at module e
-pub record SucceedsAt (t : Plan) (j : Journal) (ks : List ℕ) (m : ℕ) (path bytes : Octets)
-    (place e : ℕ) : Type 0 where
-  pub done : OpenDone t j ks m path bytes
+-- the Done tells that the open, large or not, was accepted in this entry, at module e
+pub record SucceedsAt (t : Plan) (j : Journal) (ks : List ℕ) (m : ℕ) (path : Octets) (large : Bool)
+    (bytes : Octets) (place e : ℕ) : Type 0 where
+  pub done : OpenDone t j ks m path large bytes
   pub ends : EndsThere t j ks m path
   pub place_is : ends.place ≡ place
   pub at_is : ends.step.at.0 ≡ e

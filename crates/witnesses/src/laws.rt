@@ -5,6 +5,7 @@ ghost use Rattle.cip_base.specs.Counts.{reborn};
 ghost use Rattle.cip_base.specs.Words.{Octets};
 ghost use Rattle.cip_pending.specs.declared.entry.UpSide.TheVariants.{Link, Local};
 ghost use Rattle.cip_hops.specs.Hops.{hop_by_up, hop_by_down};
+ghost use Rattle.cip_hops.specs.declared.hop.Held.TheVariants.{Open};
 ghost use Rattle.cip_target.specs.Identity.{is_product_name};
 ghost use Rattle.cip_config.specs.declared.config.LegalAddresses.{LegalAddresses};
 ghost use Rattle.cip_config.specs.declared.config.LegalAddresses.TheVariants.{Byte, Text};
@@ -25,6 +26,7 @@ ghost use Rattle.cip_world.specs.Chains.{HasHop, IsChain, AreDeliveries, AreKept
 ghost use Rattle.cip_world.specs.Entering.{HasOutput, before_entry, IsTaken, IsEntered};
 ghost use Rattle.cip_world.specs.Journals.{entry_at, part};
 ghost use Rattle.cip_world.specs.Mirrors.{IsOlder, Mirrors, IsMirrored};
+ghost use Rattle.cip_world.specs.ResetSteps.{IsResetBy};
 ghost use Rattle.cip_world.specs.Roots.{root_of};
 ghost use Rattle.cip_world.specs.Runs.{IsRun, IsWaiting, state_in};
 ghost use Rattle.cip_world.specs.Trails.{trail_of};
@@ -141,6 +143,17 @@ pub fn a_connection_is_forgotten()
         ≡ None }
     ensures none_down { hop_by_down (state_in first_bridge 1 reset_bridge.is_unknown).hops 33 1
         (3 ∷ []) ≡ None }
+{}
+
+/// So the scanner's connection, which was open before that reset, is mirrored by none there any
+/// more: the bridge has no connection under the id that it names.
+pub fn a_connection_is_mirrored_no_more()
+    ensures stood { map.get (state_in scanner 0 reset_bridge.sends).hops.held triad
+        ≡ Some (Open chained.of_scanner) }
+    ensures names { chained.of_scanner.their_id ≡ Some 34 }
+    ensures reset { IsResetBy first_bridge 1 reset_bridge.resetting reset_bridge.sends }
+    ensures gone { hop_by_up (state_in first_bridge 1 reset_bridge.is_unknown).hops 34 2 (1 ∷ [])
+        ≡ None }
 {}
 
 /// A module that resets itself by its own command is as it was made, in its next incarnation, with
@@ -290,7 +303,8 @@ pub fn a_failure_tells_where()
     ensures opened { OpenedIn plant failed.ends 0 1 0 failed.path }
     ensures done { Gave (part 0 failed.ends) (Done 1 failed.failure) }
     ensures trail { trail_of failed.ends 0 1 ≡ 0 ∷ 1 ∷ 2 ∷ [] }
-    ensures tells { FailsAt plant failed.ends (0 ∷ 1 ∷ 2 ∷ []) 0 failed.path failed.failure 2 3 }
+    ensures tells { FailsAt plant failed.ends (0 ∷ 1 ∷ 2 ∷ []) 0 failed.path false
+        failed.failure 2 3 }
 {}
 
 /// So does the Done of the open that times out there.
@@ -298,7 +312,7 @@ pub fn a_time_out_tells_where()
     ensures opened { OpenedIn plant timed_out.ends 0 1 0 timed_out.path }
     ensures done { Gave (part 0 timed_out.ends) (Done 1 timed_out.failure) }
     ensures trail { trail_of timed_out.ends 0 1 ≡ 0 ∷ 1 ∷ 2 ∷ [] }
-    ensures tells { FailsAt plant timed_out.ends (0 ∷ 1 ∷ 2 ∷ []) 0 timed_out.path
+    ensures tells { FailsAt plant timed_out.ends (0 ∷ 1 ∷ 2 ∷ []) 0 timed_out.path false
         timed_out.failure 2 3 }
 {}
 
@@ -308,8 +322,17 @@ pub fn a_success_tells_where()
     ensures opened { OpenedIn row chained.arrived 0 1 0 chained.path }
     ensures done { Gave (part 0 chained.arrived) (Done 1 chained.third_success) }
     ensures trail { trail_of chained.arrived 0 1 ≡ 0 ∷ 1 ∷ 2 ∷ 3 ∷ [] }
-    ensures tells { SucceedsAt row chained.arrived (0 ∷ 1 ∷ 2 ∷ 3 ∷ []) 0 chained.path
+    ensures tells { SucceedsAt row chained.arrived (0 ∷ 1 ∷ 2 ∷ 3 ∷ []) 0 chained.path false
         chained.third_success 3 3 }
+{}
+
+/// So does the large open, and its reply has the service of a large one.
+pub fn a_large_success_tells_where()
+    ensures opened { OpenedIn row large.stands 0 1 0 chained.path }
+    ensures done { Gave (part 0 large.stands) (Done 1 large.third_success) }
+    ensures trail { trail_of large.stands 0 1 ≡ 0 ∷ 1 ∷ 2 ∷ 3 ∷ [] }
+    ensures tells { SucceedsAt row large.stands (0 ∷ 1 ∷ 2 ∷ 3 ∷ []) 0 chained.path true
+        large.third_success 3 3 }
 {}
 
 /// The Done of the Send is what the second bridge answers, in entry 2, the last of its trail.
