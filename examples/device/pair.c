@@ -50,9 +50,11 @@ static void connections(const char *name, cip_device *device) {
     cip_connection_row row;
     uint64_t milliseconds;
     for (size_t at = 0; cip_connection(device, at, &row) == CIP_DONE; at++)
-        printf("%s serial %04X up %u %u down %u %u ids %u %u assemblies %u %u sizes %u %u\n", name,
-               row.serial, row.up.is_link, row.up.number, row.down.is_link, row.down.number,
-               row.up_id, row.down_id, row.consumed, row.produced, row.ot_size, row.to_size);
+        printf("%s serial %04X up %u %u down %u %u ids %u %u assemblies %u %u sizes %u %u "
+               "intervals %u %u class %u\n",
+               name, row.serial, row.up.is_link, row.up.number, row.down.is_link, row.down.number,
+               row.up_id, row.down_id, row.consumed, row.produced, row.ot_size, row.to_size,
+               row.ot_rpi, row.to_rpi, row.transport_class);
     if (cip_next_deadline(device, &milliseconds) == CIP_DONE)
         printf("%s: nothing for %u ms\n", name, (unsigned)milliseconds);
     else
