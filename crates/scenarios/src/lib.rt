@@ -1,13 +1,9 @@
-//! Tests that cross crates: scripts of single steps over the modules of the harness, and the
-//! console over scripts in memory.
+//! Tests that cross crates: the console over scripts in memory, also by threads and over boxes that
+//! are handed in, and in which room bytes go on.
 #![tactic(auto)]
 
 #[cfg(test)]
-mod asking_objects;
-#[cfg(test)]
 mod by_threads;
-#[cfg(test)]
-mod closing;
 #[cfg(test)]
 mod console_rows;
 mod console_streams;
@@ -16,30 +12,9 @@ mod console_transcripts;
 #[cfg(test)]
 mod explained_faults;
 #[cfg(test)]
-mod falling_silent;
-#[cfg(test)]
 mod keeping_room;
-#[cfg(test)]
-mod moving_data;
-#[cfg(test)]
-mod opening;
-#[cfg(test)]
-mod opening_at_the_adapter;
-mod opening_large;
 mod over_new;
 #[cfg(test)]
 mod progress_lines;
-#[cfg(test)]
-mod refused_commands;
-#[cfg(test)]
-mod refused_opens;
-#[cfg(test)]
-mod refused_requests;
-#[cfg(test)]
-mod resetting;
-#[cfg(test)]
-mod sending_unconnected;
-#[cfg(test)]
-mod taking_replies;
 #[cfg(test)]
 mod transcripts_of_each_kind;

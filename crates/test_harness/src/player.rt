@@ -1,8 +1,8 @@
 //! The harness with the modules of the chassis, and the scripts that are played on it.
 //!
 //! A script has a line for each event, `M EVENT ..` with the module's name first, and below it a
-//! line `> OUTPUT` for each output, in their order. Spaces before a line, empty lines and lines
-//! that begin with `#` mean nothing. Numbers are decimal, or hexadecimal after `0x`. Bytes are
+//! line `> OUTPUT` for each output, in their order. A line that ends with a backslash goes on in
+//! the next one. Spaces before a line, empty lines and lines that begin with `#` mean nothing. Numbers are decimal, or hexadecimal after `0x`. Bytes are
 //! pairs of hexadecimal digits, `-` for none; `_` between them means nothing, and a plus and a
 //! number after them stand for so many zeros.
 //!
@@ -29,20 +29,32 @@ use crate::harness::Harness;
 use crate::opened::OPENED;
 use std::alloc::Global;
 use std::fmt::Write;
-use std::test::Fail;
+use std::mem::replace;
 
-/// The kinds of modules for which each script is played.
-const KINDS: [Kinds; 3] = [Kinds::Plain, Kinds::Indexed, Kinds::OneIndexed];
+/// Why a script plays no further. Its lines are counted from 1.
+#[derive(Clone, Copy, Debug, PartialEq, Eq)]
+pub enum Unplayed {
+    /// The scanner did not open the connection to the adapter.
+    Opening,
+    /// A line cannot be read, or an allocation is refused.
+    Line(usize),
+    /// The event of a line gave other outputs than the script tells.
+    Differs(usize),
+}
 
 /// The modules with what the last event gave, and the lines that the script tells of it.
 #[derive(Drop)]
-struct Player {
+pub struct Player {
     alloc: Global,
-    kinds: Kinds,
     harness: Harness,
     told: String,
     /// How often the last event was played.
     turns: u16,
+    /// The front of a line that goes on in the next one.
+    front: String,
+    /// Where the line that is read begins, and where that of the last event began.
+    line: usize,
+    event_line: usize,
 }
 
 // The line at a turn: each number in parentheses, and the turns before, as two bytes.
@@ -62,14 +74,27 @@ fn line_at(alloc: Global, line: &str, turn: u16) -> Option<String> {
 }
 
 impl Player {
-    fn new(alloc: Global, kinds: Kinds) -> Option<Player> {
+    /// New modules of these kinds. None where an allocation is refused.
+    pub fn new(alloc: Global, kinds: Kinds) -> Option<Player> {
         Some(Player {
             alloc,
-            kinds,
             harness: Harness::new(alloc, kinds)?,
             told: String::new(alloc),
             turns: 0,
+            front: String::new(alloc),
+            line: 0,
+            event_line: 0,
         })
+    }
+
+    /// The lines that the script tells of the last event.
+    pub fn told(&self) -> &str {
+        self.told.as_str()
+    }
+
+    /// The lines that the last event gave.
+    pub fn given(&self) -> &str {
+        self.harness.given()
     }
 
     // `N M EVENT ..`: the event so many times.
@@ -114,66 +139,72 @@ impl Player {
     }
 
     // That the outputs are those that were told.
-    fn check(&mut self) -> Result<(), Fail> {
-        let given = self.harness.given();
-        if given != self.told.as_str() {
-            return Err(Fail::new(format_args!("{:?} gave {given}", self.kinds)));
+    fn check(&mut self) -> Result<(), Unplayed> {
+        if self.harness.given() != self.told.as_str() {
+            return Err(Unplayed::Differs(self.event_line));
         }
         self.harness.forget();
         self.told.clear();
         Ok(())
     }
 
+    // What a line asks for, once what came of the event before it is compared.
+    fn ask(&mut self, line: &str) -> Result<(), Unplayed> {
+        self.check()?;
+        self.event_line = self.line;
+        self.obey_all(line).ok_or(Unplayed::Line(self.line))
+    }
+
     // One line of a script.
-    fn play_line(&mut self, line: &str) -> Result<(), Fail> {
-        let done = if line.is_empty() || line.starts_with('#') {
+    fn play_line(&mut self, line: &str) -> Result<(), Unplayed> {
+        let told = if line.is_empty() || line.starts_with('#') {
             Some(())
         } else if let Some(line) = line.strip_prefix("> ") {
             self.tell(line)
         } else if let Some(line) = line.strip_prefix(">> ") {
             self.tell_each(line)
         } else {
-            self.check()?;
-            self.obey_all(line)
+            return self.ask(line);
         };
-        Ok(done.ok_or("cannot be played")?)
+        told.ok_or(Unplayed::Line(self.line))
     }
 
-    // A whole script.
-    fn play(&mut self, script: &str) -> Result<(), Fail> {
-        for line in script.lines() {
-            self.play_line(line.trim())?;
+    // A line of a script's text. One that ends with a backslash waits for the next one.
+    fn play_part(&mut self, part: &str) -> Result<(), Unplayed> {
+        match part.strip_suffix('\\') {
+            Some(front) => self
+                .front
+                .push_str(front)
+                .ok()
+                .ok_or(Unplayed::Line(self.line)),
+            None => {
+                let pushed = self.front.push_str(part).ok();
+                pushed.ok_or(Unplayed::Line(self.line))?;
+                let line = replace(&mut self.front, String::new(self.alloc));
+                self.play_line(line.as_str())
+            }
+        }
+    }
+
+    /// Plays a script.
+    pub fn play(&mut self, script: &str) -> Result<(), Unplayed> {
+        for (at, part) in script.lines().enumerate() {
+            if self.front.is_empty() {
+                self.line = at.saturating_add(1);
+            }
+            self.play_part(part.trim())?;
+        }
+        if !self.front.is_empty() {
+            return Err(Unplayed::Line(self.line));
         }
         self.check()
     }
-}
 
-/// Plays a script on fresh modules of each kind; the failure tells the outputs that differ.
-pub fn play(alloc: Global, script: &str) -> Result<(), Fail> {
-    for kinds in KINDS {
-        let mut player = Player::new(alloc, kinds).ok_or("no harness")?;
-        player.play(script)?;
+    /// The scanner opens a connection to the adapter.
+    pub fn open(&mut self) -> Result<(), Unplayed> {
+        match self.play(OPENED) {
+            Ok(()) => Ok(()),
+            Err(_) => Err(Unplayed::Opening),
+        }
     }
-    Ok(())
-}
-
-// On modules of this kind along which the scanner opened a connection to the adapter.
-fn play_opened(alloc: Global, kinds: Kinds, script: &str) -> Result<(), Fail> {
-    let mut player = Player::new(alloc, kinds).ok_or("no harness")?;
-    player.play(OPENED)?;
-    player.play(script)
-}
-
-/// Plays a script on modules of each kind along which the scanner opened a connection to the
-/// adapter.
-pub fn play_open(alloc: Global, script: &str) -> Result<(), Fail> {
-    for kinds in KINDS {
-        play_opened(alloc, kinds, script)?;
-    }
-    Ok(())
-}
-
-/// The same along plain modules alone, of a script that is long and that the adapter alone steps.
-pub fn play_adapter(alloc: Global, script: &str) -> Result<(), Fail> {
-    play_opened(alloc, Kinds::Plain, script)
 }

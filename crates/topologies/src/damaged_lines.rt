@@ -1,10 +1,9 @@
 //! Damaged copies of the chassis file: each line dropped, doubled, and its value replaced by
 //! others.
-use crate::edits::answer;
-use crate::spots::{NONE, Tables, key_of};
 use cip_topology::CHASSIS;
 use std::alloc::{AllocError, Global};
 use std::test::Fail;
+use test_harness::{NO_TABLES, Tables, answer, key_of};
 
 /// What the rules say of a key: a value just out of its range as the file would have it, how a
 /// fault tells that value, what is allowed, and whether the key has to be there.
@@ -291,7 +290,7 @@ fn name_of(tables: Tables) -> &'static str {
 #[test]
 fn each_key_dropped_doubled_and_changed(rt: HostRuntime) -> Result<(), Fail> {
     let alloc = rt.alloc();
-    let mut tables = NONE;
+    let mut tables = NO_TABLES;
     let mut played = 0usize;
     for (place, line) in CHASSIS.lines().enumerate() {
         tables = tables.at(line);

@@ -12,7 +12,7 @@ pub struct Tables {
 }
 
 /// Before the first line.
-pub const NONE: Tables = Tables {
+pub const NO_TABLES: Tables = Tables {
     link: 0,
     module: 0,
     port: 0,
@@ -25,11 +25,11 @@ impl Tables {
         match line {
             "[[link]]" => Tables {
                 link: self.link.saturating_add(1),
-                ..NONE
+                ..NO_TABLES
             },
             "[[module]]" => Tables {
                 module: self.module.saturating_add(1),
-                ..NONE
+                ..NO_TABLES
             },
             "[[module.port]]" => Tables {
                 port: self.port.saturating_add(1),
