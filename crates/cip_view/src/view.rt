@@ -49,8 +49,8 @@ fn take_line<V: View>(
     Ok(())
 }
 
-/// Takes a piece of a transcript: each line that it ends is read, and shown by the view. A line ends
-/// with 0A; one 0D directly before it is ignored.
+/// Takes a piece of a transcript: each line that it ends is read, and shown by the view. A line
+/// ends with 0A; one 0D directly before it is ignored.
 pub fn feed<V: View>(
     alloc: Global,
     reader: &mut Reader,

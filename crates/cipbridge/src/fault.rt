@@ -80,8 +80,8 @@ fn status_of(fault: &ConsoleFault) -> u8 {
 impl Fault {
     /// The exit status: 1 for the script, 2 for the options, 3 for the topology, 4 for reading and
     /// writing or where no thread can be made, 5 where memory ran out, 6 where a thread and the
-    /// journal differ, 141 where nobody reads any more, as a shell has it of a program that a broken
-    /// pipe ended; 0 for a text that was asked for.
+    /// journal differ, 141 where nobody reads any more, as a shell has it of a program that ended
+    /// by a broken pipe; 0 for a text that was asked for.
     pub fn status(&self) -> u8 {
         match self {
             Fault::Options(OptionsFault::Usage(Usage::Help)) => 0,

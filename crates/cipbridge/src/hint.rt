@@ -32,10 +32,10 @@ impl fmt::Display for Hint {
 }
 
 // The first words of lines that wide scripts alone have.
-static WIDE: [&str; 7] = ["cut", "pass", "tickall", "expect", "repeat", "down", "up"];
+const WIDE: &[&str] = &["cut", "pass", "tickall", "expect", "repeat", "down", "up"];
 
 fn is_wide(word: &[u8]) -> bool {
-    for wide in &WIDE {
+    for wide in WIDE {
         if wide.as_bytes() == word {
             return true;
         }
