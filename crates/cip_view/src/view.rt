@@ -43,13 +43,14 @@ fn take_line<V: View>(
     pieces: &mut Pieces,
     view: &mut V,
 ) -> Result<(), ReadFault> {
-    let line = reader.read(alloc, pieces.held())?;
-    view.line(alloc, pieces.held(), line)?;
+    let line = reader.read(alloc, pieces.line())?;
+    view.line(alloc, pieces.line(), line)?;
     pieces.clear();
     Ok(())
 }
 
-/// Takes a piece of a transcript: each line that it ends is read, and shown by the view.
+/// Takes a piece of a transcript: each line that it ends is read, and shown by the view. A line
+/// ends with 0A; one 0D directly before it is ignored.
 pub fn feed<V: View>(
     alloc: Global,
     reader: &mut Reader,

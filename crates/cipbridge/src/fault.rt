@@ -1,6 +1,7 @@
 //! Why the program ends with an exit status above 0.
+use crate::hint::Hint;
 use cip_base::NoMemory;
-use cip_check::{Escaped, NotUtf8};
+use cip_check::{Escaped, NotUtf8, Unread};
 use cip_console::{ConsoleFault, Explained, OptionsFault, Usage};
 use cip_script::Frames;
 use cip_threads::RunFault;
@@ -9,21 +10,6 @@ use thiserror::Error;
 
 // What stands behind a fault of the options.
 const WRONG: Usage = Usage::Wrong;
-
-/// Why a file gives no bytes.
-#[derive(Clone, Copy, Debug, PartialEq, Eq, Error)]
-pub enum Unread {
-    #[error("there is no such file")]
-    Missing,
-    #[error("is a directory")]
-    Directory,
-    #[error("no permission to read it")]
-    NoPermission,
-    #[error("has more than 1,048,576 bytes")]
-    TooLong,
-    #[error("can't be read")]
-    Failed,
-}
 
 /// Why the program ends before its work is done, with the file that it is about.
 #[derive(Debug, Drop, Error)]
@@ -36,18 +22,19 @@ pub enum Fault {
     /// A word of the command line, from 1, is no text.
     #[error("argument {0}: not UTF-8")]
     Argument(usize),
-    /// The topology file, or the chassis that stands where none is given, breaks a rule; which.
-    #[error("{}: {}", Escaped(.0.as_str()), .1)]
-    Topology(String, String),
+    /// The topology file, or the chassis that stands where none is given, breaks a rule: its name,
+    /// the line, and which.
+    #[error("{0}")]
+    Topology(String),
     /// The topology file is no text.
     #[error("{}: {}", Escaped(.0.as_str()), .1)]
     NotText(String, NotUtf8),
     /// A file can't be read, or is too long.
     #[error("{}: {}", Escaped(.0.as_str()), .1)]
     Read(String, Unread),
-    /// A line of the script, and what is wrong with it.
-    #[error("{}:{}: {}", Escaped(.0.as_str()), .1, .2)]
-    Script(String, usize, Explained),
+    /// A line of the script, what is wrong with it, and what else helps.
+    #[error("{}:{}: {}{}", Escaped(.0.as_str()), .1, .2, .3)]
+    Script(String, usize, Explained, Hint),
     /// A line of the script that names no module, and the modules that there are.
     #[error("{}:{}: {}; allowed: {}", Escaped(.0.as_str()), .1, .2, .3)]
     NoModule(String, usize, Explained, String),
@@ -57,6 +44,9 @@ pub enum Fault {
     /// A text that was asked for can't be written.
     #[error("standard output can't be written")]
     Say,
+    /// Nobody reads any more what is written.
+    #[error("nobody reads the standard output")]
+    Unwanted,
     /// The console, but for reading and for the script.
     #[error("{0}")]
     Console(ConsoleFault),
@@ -90,7 +80,8 @@ fn status_of(fault: &ConsoleFault) -> u8 {
 impl Fault {
     /// The exit status: 1 for the script, 2 for the options, 3 for the topology, 4 for reading and
     /// writing or where no thread can be made, 5 where memory ran out, 6 where a thread and the
-    /// journal differ; 0 for a text that was asked for.
+    /// journal differ, 141 where nobody reads any more, as a shell has it of a program that ended
+    /// by a broken pipe; 0 for a text that was asked for.
     pub fn status(&self) -> u8 {
         match self {
             Fault::Options(OptionsFault::Usage(Usage::Help)) => 0,
@@ -103,12 +94,18 @@ impl Fault {
             Fault::Usage(_) => 2,
             Fault::Read(..) => 4,
             Fault::Say => 4,
+            Fault::Unwanted => 141,
             Fault::Script(..) => 1,
             Fault::NoModule(..) => 1,
             Fault::NoFrame(..) => 1,
             Fault::Console(fault) => status_of(fault),
             Fault::NoMemory => 5,
         }
+    }
+
+    /// Whether something is said of it: nothing is where nobody reads any more.
+    pub fn is_told(&self) -> bool {
+        !matches!(self, Fault::Unwanted)
     }
 }
 

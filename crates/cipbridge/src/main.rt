@@ -2,6 +2,7 @@
 #![tactic(auto)]
 
 mod fault;
+mod hint;
 mod noted;
 mod program;
 mod terminal;
@@ -12,7 +13,9 @@ fn main(rt: HostRuntime) -> ExitCode {
     match program::run_program(&rt, &rt) {
         Ok(()) => ExitCode::SUCCESS,
         Err(fault) => {
-            let _ = eprintln!(rt; "cipbridge: {fault}");
+            if fault.is_told() {
+                let _ = eprintln!(rt; "cipbridge: {fault}");
+            }
             let status = fault.status();
             // (one place to give it up is one to prove)
             drop(fault);

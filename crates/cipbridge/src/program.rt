@@ -1,13 +1,14 @@
 //! What the program does: it reads its options, the topology file and the script, in this order,
 //! runs the script over new modules of the topology, and writes the transcript.
-use crate::fault::{Fault, Unread};
-use crate::noted::Noted;
+use crate::fault::Fault;
+use crate::hint::{hint_of, line_at};
+use crate::noted::{Noted, NotedOut};
 use crate::terminal::Terminal;
 use cip_base::NoMemory;
-use cip_check::{explain_load, text_of};
+use cip_check::{Unread, explain_file, module_names, text_of, unread_by};
 use cip_console::{
-    ConsoleFault, Options, OptionsFault, Out, ReadFault, Script, ScriptFault, Usage, Watched,
-    explain, explain_options, read_options, read_script, run, run_live,
+    ConsoleFault, Options, OptionsFault, ReadFault, Script, ScriptFault, Usage, Watched, explain,
+    explain_options, read_options, read_script, run, run_live,
 };
 use cip_indexed::{NewModule, new_modules};
 use cip_module::Module;
@@ -41,19 +42,6 @@ fn unread(alloc: Global, name: &str, why: Unread) -> Fault {
     }
 }
 
-// The names of the modules of a topology, with commas between them.
-fn names_of(alloc: Global, topology: &Topology) -> Result<String, NoMemory> {
-    let mut names = String::new(alloc);
-    for config in topology.configs() {
-        if !names.is_empty() {
-            names.push_str(", ")?;
-        }
-        let name = std::str::from_utf8(config.settings().name.as_slice());
-        names.push_str(name.unwrap_or(""))?;
-    }
-    Ok(names)
-}
-
 // A fault of a line of the script, with what is wrong there; of a run that has stopped, with the
 // frames that wait.
 fn script_fault(
@@ -75,7 +63,10 @@ fn script_fault(
             let waiting = waiting.ok_or(NoMemory)?;
             Ok(Fault::NoFrame(name, line, explained, waiting))
         }
-        _ => Ok(Fault::Script(name, line, explained)),
+        _ => {
+            let hint = hint_of(&explained, line_at(asked.script, line));
+            Ok(Fault::Script(name, line, explained, hint))
+        }
     }
 }
 
@@ -87,11 +78,13 @@ struct Asked<'a> {
     modules: &'a str,
 }
 
-// What the console says, and the frames that wait where a run has stopped.
+// What the console says, the frames that wait where a run has stopped, and whether nobody reads the
+// transcript any more.
 #[derive(Drop)]
 struct Stopped {
     fault: ConsoleFault,
     waiting: Option<Vec<FrameName>>,
+    is_unwanted: bool,
 }
 
 impl From<NoMemory> for Stopped {
@@ -99,6 +92,7 @@ impl From<NoMemory> for Stopped {
         Stopped {
             fault: ConsoleFault::NoMemory,
             waiting: None,
+            is_unwanted: false,
         }
     }
 }
@@ -106,6 +100,7 @@ impl From<NoMemory> for Stopped {
 // What the console says, with the name of the script, and of a line what is wrong there.
 fn fault_of(alloc: Global, asked: Asked<'_>, stopped: Stopped) -> Fault {
     let waiting = stopped.waiting;
+    let is_unwanted = stopped.is_unwanted;
     match stopped.fault {
         ConsoleFault::Script(line, fault) => {
             match script_fault(alloc, asked, line, fault, waiting) {
@@ -114,6 +109,7 @@ fn fault_of(alloc: Global, asked: Asked<'_>, stopped: Stopped) -> Fault {
             }
         }
         ConsoleFault::Read => unread(alloc, asked.name, Unread::Failed),
+        ConsoleFault::Write if is_unwanted => Fault::Unwanted,
         ConsoleFault::Write => Fault::Console(ConsoleFault::Write),
         ConsoleFault::NoMemory => Fault::NoMemory,
         ConsoleFault::New(fault) => Fault::Console(ConsoleFault::New(fault)),
@@ -162,19 +158,10 @@ fn options(rt: &HostRuntime, alloc: Global) -> Result<Options, Fault> {
     }
 }
 
-fn unread_by(error: &io::Error) -> Unread {
-    match error.kind() {
-        ErrorKind::NotFound => Unread::Missing,
-        ErrorKind::PermissionDenied => Unread::NoPermission,
-        ErrorKind::IsADirectory => Unread::Directory,
-        _ => Unread::Failed,
-    }
-}
-
 fn open(rt: &HostRuntime, alloc: Global, path: &str) -> Result<File, Fault> {
     match File::open(rt, path) {
         Ok(file) => Ok(file),
-        Err(error) => Err(unread(alloc, path, unread_by(&error))),
+        Err(error) => Err(unread(alloc, path, unread_by(path, &error))),
     }
 }
 
@@ -201,8 +188,7 @@ fn refused(alloc: Global, name: &str, text: &str, fault: &LoadFault) -> Result<T
     if let LoadFault::NoMemory = fault {
         return Err(Fault::NoMemory);
     }
-    let told = explain_load(alloc, text, fault)?;
-    Err(Fault::Topology(named(alloc, name)?, told))
+    Err(Fault::Topology(explain_file(alloc, name, text, fault)?))
 }
 
 // The topology of a text of this name.
@@ -234,17 +220,22 @@ fn topology(rt: &HostRuntime, alloc: Global, options: &Options) -> Result<Topolo
     }
 }
 
-// The name of the script, as faults have it.
-fn script_name(options: &Options) -> &str {
+// The file of the script; None where it is the standard input, which a dash names too.
+fn script_path(options: &Options) -> Option<&str> {
     match &options.script {
-        Some(path) => path.as_str(),
-        None => "<stdin>",
+        Some(path) if path.as_str() != "-" => Some(path.as_str()),
+        _ => None,
     }
 }
 
+// The name of the script, as faults have it.
+fn script_name(options: &Options) -> &str {
+    script_path(options).unwrap_or("<stdin>")
+}
+
 fn script(rt: &HostRuntime, alloc: Global, options: &Options) -> Result<Vec<u8>, Fault> {
-    match &options.script {
-        Some(path) => bytes_at(rt, alloc, path.as_str()),
+    match script_path(options) {
+        Some(path) => bytes_at(rt, alloc, path),
         None => {
             if rt.stdin().is_terminal() {
                 let _ = eprintln!(rt; "cipbridge: the script is read from the terminal, to Ctrl-D");
@@ -266,9 +257,7 @@ fn play_over<T: Threads + Wait + Sync>(
 ) -> Result<(), Stopped> {
     let alloc = rt.alloc();
     let mut reader = Script { rest: script };
-    let out = Out {
-        inner: io::writer(rt),
-    };
+    let out = NotedOut::of(io::writer(rt));
     let mut writer = Watched::of(out, Terminal::new(rt));
     let result = if options.threads {
         run_live(
@@ -290,6 +279,7 @@ fn play_over<T: Threads + Wait + Sync>(
         Err(fault) => Err(Stopped {
             fault,
             waiting: writer.take_waiting(),
+            is_unwanted: writer.inner.is_unwanted,
         }),
     }
 }
@@ -327,7 +317,7 @@ fn run_with<T: Threads + Wait + Sync>(
     let alloc = rt.alloc();
     let topology = topology(rt, alloc, options)?;
     let script = script(rt, alloc, options)?;
-    let modules = names_of(alloc, &topology)?;
+    let modules = module_names(alloc, &topology)?;
     match play(rt, workers, options, script.as_slice(), topology) {
         Ok(()) => Ok(()),
         Err(fault) => {
@@ -345,6 +335,7 @@ fn run_with<T: Threads + Wait + Sync>(
 fn say(rt: &HostRuntime, asked: Usage) -> Result<(), Fault> {
     match println!(rt; "{asked}") {
         Ok(()) => Ok(()),
+        Err(error) if error.kind() == ErrorKind::BrokenPipe => Err(Fault::Unwanted),
         Err(_) => Err(Fault::Say),
     }
 }

@@ -27,6 +27,11 @@ pub enum Unread {
     NoMemory,
 }
 
+// One fault, or several.
+fn fault_word(count: &usize) -> &'static str {
+    if *count == 1 { "fault" } else { "faults" }
+}
+
 /// Why the program ends before its work is done.
 #[derive(Debug, Drop, Error)]
 pub enum Fault {
@@ -46,7 +51,7 @@ pub enum Fault {
     #[error("{}: {}", Escaped(.0.as_str()), .1)]
     NotText(String, NotUtf8),
     /// A topology file has so many faults, or rooms too small for scripts, which were told.
-    #[error("{}: {} faults", Escaped(.0.as_str()), .1)]
+    #[error("{}: {} {}", Escaped(.0.as_str()), .1, fault_word(.1))]
     Faults(String, usize),
     /// A topology file breaks a rule; which.
     #[error("{}: {}", Escaped(.0.as_str()), .1)]

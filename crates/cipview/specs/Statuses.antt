@@ -29,13 +29,19 @@ of_read reads.NoMemory = 5
 of_read fault = 1
 
 -- 1 for the transcript, 2 for the options, 3 for the topology, 4 for reading and writing, 5 where
--- memory ran out
+-- memory ran out, 141 where nobody reads what is shown
 abbrev pub status_of : Fault → ℕ
 status_of (faults.Options fault) = of_options fault
-status_of (faults.Module name) = 2
-status_of (faults.Topology file fault) = of_load fault
-status_of (faults.NotText file) = 3
-status_of (faults.Read file) = 4
+status_of (faults.Usage why) = 2
+status_of (faults.Module name names) = 2
+status_of (faults.PastEnd k n) = 2
+status_of (faults.NoEntry k) = 2
+status_of (faults.Topology told) = 3
+status_of (faults.NotText file why) = 3
+status_of (faults.Read file why) = 4
 status_of (faults.Transcript fault) = of_read fault
+status_of (faults.Stranger fault names) = 1
+status_of faults.NoLine = 1
 status_of faults.Write = 4
+status_of faults.Unwanted = 141
 status_of faults.NoMemory = 5

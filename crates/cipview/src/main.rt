@@ -5,6 +5,7 @@ mod fault;
 mod files;
 mod options;
 mod program;
+mod ranged;
 mod terminal;
 
 use std::process::ExitCode;
@@ -13,7 +14,9 @@ fn main(rt: HostRuntime) -> ExitCode {
     match program::run_program(&rt) {
         Ok(()) => ExitCode::SUCCESS,
         Err(fault) => {
-            let _ = eprintln!(rt; "cipview: {fault}");
+            if fault.is_told() {
+                let _ = eprintln!(rt; "cipview: {fault}");
+            }
             let status = fault.status();
             // (one place to give it up is one to prove)
             drop(fault);

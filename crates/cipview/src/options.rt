@@ -1,4 +1,5 @@
 //! The options of the program.
+use cip_base::NoMemory;
 use clap::error::ErrorKind;
 use clap::{Arg, ArgAction, ArgMatches, Command, value_parser};
 use std::alloc::{AllocError, Global};
@@ -80,8 +81,14 @@ usage: cipview text|json|capture [--topology FILE]
   -h, --help        this text
   -V, --version     the version
 
-exit status: 0 done, 1 a faulty transcript, 2 wrong options, 3 a faulty topology, 4 reading or
-writing failed, 5 out of memory";
+exit status: 0 done, 1 a faulty transcript or none, 2 wrong options, 3 a faulty topology, 4
+reading or writing failed, 5 out of memory, 141 nobody reads what is shown";
+
+// The words that say how the transcript is shown.
+const SHAPES: &[&str] = &["text", "json", "capture", "chart"];
+
+// What is wrong where none of them is given.
+const NO_SHAPE: &str = "what is asked for? text, json, capture or chart";
 
 // An option with a value behind it.
 fn value_arg<'a>(alloc: Global, name: &'a str) -> Arg<'a> {
@@ -93,6 +100,7 @@ fn shape_arg<'a>(alloc: Global) -> Arg<'a> {
     Arg::new(alloc, "shape")
         .required(true)
         .action(ArgAction::Set)
+        .value_parser(SHAPES)
 }
 
 // A module, perhaps one of many.
@@ -166,22 +174,29 @@ fn modules_at(alloc: Global, matches: &ArgMatches<'_>) -> Result<Vec<String>, Al
     Ok(modules)
 }
 
-// Whether there is an option that is one of charts alone.
-fn has_chart_option(matches: &ArgMatches<'_>) -> bool {
-    matches.get_str("from").is_some()
-        || matches.get_str("to").is_some()
-        || matches.get_str("module").is_some()
-        || matches.get_flag("html")
+// An option that is one of charts alone.
+fn chart_option(matches: &ArgMatches<'_>) -> Option<&'static str> {
+    if matches.get_str("from").is_some() {
+        Some("--from")
+    } else if matches.get_str("to").is_some() {
+        Some("--to")
+    } else if matches.get_str("module").is_some() {
+        Some("--module")
+    } else if matches.get_flag("html") {
+        Some("--html")
+    } else {
+        None
+    }
 }
 
 fn options_of(alloc: Global, matches: &ArgMatches<'_>) -> Result<Options, OptionsFault> {
     let shape = shape_at(matches)?;
-    if shape != Shape::Chart && has_chart_option(matches) {
+    let from = number_at(matches, "from", 0)?;
+    let to = number_at(matches, "to", usize::MAX)?;
+    if from > to || (shape != Shape::Chart && chart_option(matches).is_some()) {
         return Err(OptionsFault::Usage(Usage::Wrong));
     }
     let topology = text_at(alloc, matches, "topology")?;
-    let from = number_at(matches, "from", 0)?;
-    let to = number_at(matches, "to", usize::MAX)?;
     let modules = modules_at(alloc, matches)?;
     Ok(Options {
         shape,
@@ -199,6 +214,80 @@ fn fault_of(error: &clap::Error) -> OptionsFault {
         ErrorKind::DisplayHelp => OptionsFault::Usage(Usage::Help),
         ErrorKind::DisplayVersion => OptionsFault::Usage(Usage::Version),
         _ => OptionsFault::Usage(Usage::Wrong),
+    }
+}
+
+// Of a tip of the parser the nearest word that there is; what else it says is of other programs.
+fn add_tip(text: &mut String, tip: &str) -> Result<(), AllocError> {
+    let Some(similar) = tip.strip_prefix("a similar ") else {
+        return Ok(());
+    };
+    match similar.split_once("exists: ") {
+        Some((_, nearest)) => write!(text, "; the nearest is {nearest}"),
+        None => Ok(()),
+    }
+}
+
+// A line of what the parser says, behind those before it.
+fn add_line(text: &mut String, line: &str) -> Result<(), AllocError> {
+    if let Some(tip) = line.strip_prefix("tip: ") {
+        return add_tip(text, tip);
+    }
+    if !text.is_empty() && !line.is_empty() {
+        text.push_str(" ")?;
+    }
+    text.push_str(line)
+}
+
+// Whether the parser says no more of what is wrong from this line on.
+fn is_usage(line: &str) -> bool {
+    line.starts_with("Usage:") || line.starts_with("For more information")
+}
+
+// What the parser says before its usage, in one line and without the word `error` in front.
+fn said(alloc: Global, error: &clap::Error) -> Result<String, AllocError> {
+    let mut whole = String::new(alloc);
+    write!(whole, "{error}")?;
+    let mut text = String::new(alloc);
+    for line in whole.as_str().lines() {
+        if is_usage(line) {
+            break;
+        }
+        add_line(&mut text, line.trim())?;
+    }
+    let said = text.as_str();
+    String::from_str(alloc, said.strip_prefix("error: ").unwrap_or(said))
+}
+
+// What is wrong with words that the parser takes: an option of charts in front of what is none, or
+// a first entry behind the last.
+fn refused(alloc: Global, matches: &ArgMatches<'_>) -> Result<String, AllocError> {
+    let mut text = String::new(alloc);
+    let shape = matches.get_str("shape").unwrap_or("");
+    match chart_option(matches) {
+        Some(option) if shape != "chart" => write!(
+            text,
+            "{option}: of a chart alone, not of {shape}"
+        )?,
+        _ => {
+            let from = matches.get_str("from").unwrap_or("");
+            let to = matches.get_str("to").unwrap_or("");
+            write!(text, "--from {from} is above --to {to}")?
+        }
+    }
+    Ok(text)
+}
+
+/// What is wrong with words that `read_options` refuses as Wrong: the word, why, and the nearest
+/// that there is, if one is near. NoMemory where an allocation is refused.
+pub fn explain_options(alloc: Global, words: &[String]) -> Result<String, NoMemory> {
+    match command(alloc)?.try_get_matches_from(words) {
+        Ok(matches) => Ok(refused(alloc, &matches)?),
+        Err(error) => match error.kind() {
+            ErrorKind::OutOfMemory => Err(NoMemory),
+            ErrorKind::MissingRequiredArgument => Ok(String::from_str(alloc, NO_SHAPE)?),
+            _ => Ok(said(alloc, &error)?),
+        },
     }
 }
 
