@@ -93,6 +93,13 @@ impl Names {
         }
     }
 
+    /// The ops that have names, the oldest first.
+    pub fn as_slice(&self) -> &[Op]
+        ensures { result.now ≡ self.now }
+    {
+        self.ops.as_slice()
+    }
+
     /// One more op; NoMemory where an allocation is refused, and then nothing is changed.
     pub fn push(&mut self, op: Op) -> Result<(), NoMemory>
         ensures ok { OnOk result (self.new ≡ self.old ++ op ∷ []) }

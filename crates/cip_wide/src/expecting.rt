@@ -1,129 +1,61 @@
 //! What a line expects of the run so far.
 
-use crate::fault::{LineError, LineFault, WordFault, wrong_count, wrong_word};
+use crate::answers::{Answer, answer_of};
+use crate::attributes::attribute_of;
+use crate::data::{differing, expect_arrived, expect_assembly, expect_consumed, expect_repeated};
+use crate::endings::{has_expired, newest_frame};
+use crate::fault::{LineError, WordFault, unmet, wrong_count, wrong_word};
 use crate::links::module_at;
-use crate::ops::{Ops, name_of};
-use crate::outcomes::{Code, Sought, newest, newest_refused};
-use crate::unmet::Unmet;
+use crate::naming::{OpName, excerpt, module_name};
+use crate::nearest::nearest;
+use crate::ops::Ops;
+use crate::outcomes::Code;
+use crate::reading::{Named, attribute_number, check_drop, check_reason, code_of, op_of};
+use crate::refusals::{newest_given, order_of};
+use crate::unmet::{DropReason, Unmet};
 use cip_base::{Bytes, ModuleId};
 use cip_ends::Ends;
-use cip_tool::{HexFault, hex_fault, number_u32};
-use cip_topology::{Excerpt, Topology};
-use cip_world::{Shown, World, WorldFault};
-use hex::FromHexError;
+use cip_message::read_reply;
+use cip_transcript::put_chain_of;
+use cip_world::{Shown, World};
 use std::alloc::Global;
 
-// An op, and the word that names it.
-#[derive(Clone, Copy)]
-struct Named<'a> {
-    word: &'a str,
-    at: ModuleId,
-    number: u32,
-}
-
-fn excerpt(word: &str) -> Excerpt {
-    Excerpt::of(word.as_bytes())
-}
-
-fn unmet(unmet: Unmet) -> LineError {
-    LineError::Fault(LineFault::Unmet(unmet))
-}
-
-// The op MODULE.NUMBER.
-fn numbered(topology: &Topology, word: &str) -> Option<(ModuleId, u32)> {
-    let (name, number) = word.split_once('.')?;
-    let at = topology.by_name(name.as_bytes())?;
-    Some((at, number_u32(number)?))
-}
-
-fn op_of<'a>(topology: &Topology, ops: &Ops, word: &'a str) -> Result<Named<'a>, LineError> {
-    let found = match name_of(word) {
-        Some(name) => ops.find(&name),
-        None => numbered(topology, word),
-    };
-    match found {
-        Some((at, number)) => Ok(Named { word, at, number }),
-        None => Err(wrong_word("expect", "OP", word, WordFault::NoOpWord)),
-    }
-}
-
-// Bytes of pairs of hexadecimal digits, a dash for none.
-fn bytes_of(alloc: Global, word: &str) -> Result<Bytes, LineError> {
-    if word == "-" {
-        return Ok(Bytes::of(Vec::new(alloc)));
-    }
-    if let Some(fault) = hex_fault(word) {
-        let why = WordFault::NoBytes(fault);
-        return Err(wrong_word("expect", "BYTES", word, why));
-    }
-    match hex::decode(alloc, word) {
-        Ok(bytes) => Ok(Bytes::of(bytes)),
-        Err(FromHexError::OutOfMemory) => Err(LineError::NoMemory),
-        Err(_) => {
-            let why = WordFault::NoBytes(HexFault::Odd(word.len()));
-            Err(wrong_word("expect", "BYTES", word, why))
-        }
-    }
-}
-
-// The number of hexadecimal digits, just so many.
-fn digits_of(digits: &str, count: usize) -> Option<u32> {
-    if digits.len() != count {
-        return None;
-    }
-    let mut number = 0u32;
-    for digit in digits.chars() {
-        number = number.checked_mul(16)?.checked_add(digit.to_digit(16)?)?;
-    }
-    Some(number)
-}
-
-fn code_of(word: &str) -> Option<Code> {
-    let (general, additional) = match word.split_once('/') {
-        Some((general, additional)) => (general, Some(digits_of(additional, 4)?)),
-        None => (word, None),
-    };
-    Some(Code {
-        general: u8::try_from(digits_of(general, 2)?).ok()?,
-        additional: match additional {
-            Some(additional) => u16::try_from(additional).ok(),
-            None => None,
-        },
-    })
+fn name_of(world: &World, op: Named<'_>) -> OpName {
+    OpName::of_word(world.topology(), op.word, op.at, op.number)
 }
 
 fn expect_done(world: &World, ends: &mut Ends, op: Named<'_>, word: &str) -> Result<(), LineError> {
     let Some(wanted) = code_of(word) else {
         return Err(wrong_word("expect", "STATUS", word, WordFault::NoStatus));
     };
+    let kind = "done";
     let Some(reply) = ends.done(world.journal(), op.at, op.number) else {
-        return Err(unmet(Unmet::NotDone(excerpt(op.word))));
+        let op = name_of(world, op);
+        return Err(unmet(Unmet::NotDone { kind, op }));
     };
     match Code::of(reply) {
         Some(found) if found == wanted => Ok(()),
         Some(found) => Err(unmet(Unmet::Done {
-            op: excerpt(op.word),
+            op: name_of(world, op),
             found,
             wanted,
+            answer: answer_of(world, op.at, op.number, found, false),
         })),
-        None => Err(unmet(Unmet::NoReply(excerpt(op.word)))),
+        None => {
+            let op = name_of(world, op);
+            Err(unmet(Unmet::NoReply { kind, op }))
+        }
     }
 }
 
-// The reasons for which a command is refused.
-fn is_reason(word: &str) -> bool {
-    match word {
-        "OpUsed" | "NotOpen" | "WrongSize" | "ReservedService" | "NoInstance" => true,
-        _ => false,
-    }
-}
-
-fn expect_refused(alloc: Global, world: &World, word: &str) -> Result<(), LineError> {
-    if !is_reason(word) {
-        return Err(wrong_word("expect", "REASON", word, WordFault::NoReason));
-    }
-    let Some(found) = newest_refused(world.journal()) else {
-        return Err(unmet(Unmet::NotRefused));
+fn expect_refused(alloc: Global, world: &World, ops: &Ops, word: &str) -> Result<(), LineError> {
+    check_reason(alloc, word)?;
+    let Some(last) = newest_given(world.journal()) else {
+        return Err(unmet(Unmet::NoCommand));
+    };
+    let Some(found) = last.refused else {
+        let order = order_of(world.topology(), ops, last);
+        return Err(unmet(Unmet::NotRefused(order)));
     };
     let mut text = String::new(alloc);
     write!(text, "{found:?}")?;
@@ -131,83 +63,221 @@ fn expect_refused(alloc: Global, world: &World, word: &str) -> Result<(), LineEr
         return Ok(());
     }
     Err(unmet(Unmet::Refused {
+        order: order_of(world.topology(), ops, last),
         found,
         wanted: excerpt(word),
     }))
 }
 
-fn copy_of(alloc: Global, bytes: &[u8]) -> Result<Bytes, LineError> {
-    Ok(Bytes::of(Vec::from_slice(alloc, bytes)?))
-}
-
-// The datum that is found at a place is the one that is expected.
-fn expect_datum(
-    alloc: Global,
-    kind: &str,
-    place: &str,
-    found: Option<&Bytes>,
-    word: &str,
-) -> Result<(), LineError> {
-    let wanted = bytes_of(alloc, word)?;
-    let Some(found) = found else {
-        return Err(unmet(Unmet::NoDatum {
-            kind: excerpt(kind),
-            place: excerpt(place),
-        }));
-    };
-    if *found == wanted {
-        return Ok(());
-    }
-    Err(unmet(Unmet::Datum {
-        kind: excerpt(kind),
-        place: excerpt(place),
-        found: copy_of(alloc, found.as_slice())?,
-        wanted,
-    }))
-}
-
-fn instance_of(word: &str) -> Result<u32, LineError> {
-    match number_u32(word) {
-        Some(instance) => Ok(instance),
-        None => {
-            let why = WordFault::NoNumber(0, u32::MAX);
-            Err(wrong_word("expect", "INSTANCE", word, why))
-        }
-    }
-}
-
-fn expect_assembly(
+// The bytes of an attribute of the reply to an op.
+fn expect_attribute(
     alloc: Global,
     world: &World,
-    at: ModuleId,
-    instance: &str,
+    ends: &mut Ends,
+    op: Named<'_>,
+    attribute: &str,
     word: &str,
-) -> Result<(), LineError>
-    requires stand { ⟦<World as Shown>⟧.stands world.now }
-{
-    let number = instance_of(instance)?;
-    let tables = match world.tables(at) {
-        Ok(tables) => tables,
-        Err(WorldFault::NoMemory) => return Err(LineError::NoMemory),
-        Err(_) => return Err(unmet(Unmet::NoAssembly(excerpt(instance)))),
+) -> Result<(), LineError> {
+    let number = attribute_number(attribute)?;
+    let kind = "attribute";
+    let Some(reply) = ends.done(world.journal(), op.at, op.number) else {
+        let op = name_of(world, op);
+        return Err(unmet(Unmet::NotDone { kind, op }));
     };
-    for row in tables.assemblies.as_slice() {
-        if u32::from(row.instance) == number {
-            return expect_datum(alloc, "assembly", instance, Some(&row.bytes), word);
-        }
+    expect_part(alloc, world, op, reply, number, word)
+}
+
+// The same of a reply that came.
+fn expect_part(
+    alloc: Global,
+    world: &World,
+    op: Named<'_>,
+    reply: &Bytes,
+    number: u16,
+    word: &str,
+) -> Result<(), LineError> {
+    let name = name_of(world, op);
+    let Ok(view) = read_reply(reply.as_slice()) else {
+        return Err(unmet(Unmet::NoReply {
+            kind: "attribute",
+            op: name,
+        }));
+    };
+    if let Some(found) = failure_of(reply) {
+        return Err(unmet(Unmet::Failed {
+            op: name,
+            found,
+            answer: answer_of(world, op.at, op.number, found, false),
+        }));
     }
-    Err(unmet(Unmet::NoAssembly(excerpt(instance))))
+    let Some(part) = attribute_of(world.journal(), op.at, op.number, view, number) else {
+        return Err(unmet(Unmet::NoAttribute { op: name, number }));
+    };
+    match differing(alloc, part, word)? {
+        Some(bytes) => Err(unmet(Unmet::Attribute {
+            op: name,
+            number,
+            bytes,
+        })),
+        None => Ok(()),
+    }
+}
+
+// The status of a reply that tells of a failure.
+fn failure_of(reply: &Bytes) -> Option<Code> {
+    match Code::of(reply) {
+        Some(code) if code.general != 0 => Some(code),
+        _ => None,
+    }
+}
+
+// Who answered an op, and with which status, where it is done.
+fn told_answer(world: &World, ends: &mut Ends, op: Named<'_>) -> Answer {
+    match ends.done(world.journal(), op.at, op.number) {
+        Some(reply) => match Code::of(reply) {
+            Some(code) => answer_of(world, op.at, op.number, code, true),
+            None => Answer::Missing,
+        },
+        None => Answer::Missing,
+    }
+}
+
+// Who refused an op, and with which status, where it failed.
+fn told_failure(world: &World, ends: &mut Ends, op: Named<'_>) -> Answer {
+    match ends.done(world.journal(), op.at, op.number) {
+        Some(reply) => match failure_of(reply) {
+            Some(code) => answer_of(world, op.at, op.number, code, true),
+            None => Answer::Missing,
+        },
+        None => Answer::Missing,
+    }
 }
 
 // The connection of an op is open, or it is not.
-fn expect_open(world: &World, op: Named<'_>, is_open: bool) -> Result<(), LineError>
+fn expect_open(
+    world: &World,
+    ends: &mut Ends,
+    op: Named<'_>,
+    is_open: bool,
+) -> Result<(), LineError>
     requires stand { ⟦<World as Shown>⟧.stands world.now }
 {
-    match (world.row_by_op(op.at, op.number)?, is_open) {
-        (None, true) => Err(unmet(Unmet::NotOpen(excerpt(op.word)))),
-        (Some(_), false) => Err(unmet(Unmet::Open(excerpt(op.word)))),
+    let found = world.row_by_op(op.at, op.number)?.is_some();
+    match (found, is_open) {
+        (false, true) => Err(unmet(Unmet::NotOpen {
+            op: name_of(world, op),
+            answer: told_answer(world, ends, op),
+        })),
+        (true, false) => Err(unmet(Unmet::Open(name_of(world, op)))),
         _ => Ok(()),
     }
+}
+
+// The connection of an op expired at a module.
+fn expect_expired(
+    world: &World,
+    ends: &mut Ends,
+    at: ModuleId,
+    op: Named<'_>,
+) -> Result<(), LineError> {
+    let topology = world.topology();
+    match has_expired(topology, world.journal(), (op.at, op.number), at) {
+        Some(true) => Ok(()),
+        Some(false) => Err(unmet(Unmet::NotExpired {
+            op: name_of(world, op),
+            module_: module_name(topology, at),
+            answer: told_failure(world, ends, op),
+        })),
+        None => Err(unmet(Unmet::NotAsked(name_of(world, op)))),
+    }
+}
+
+// The last frame that came to a module was dropped for a reason.
+fn expect_dropped(alloc: Global, world: &World, at: ModuleId, word: &str) -> Result<(), LineError> {
+    check_drop(alloc, word)?;
+    let module_ = module_name(world.topology(), at);
+    let Some((frame, dropped)) = newest_frame(world.journal(), at) else {
+        return Err(unmet(Unmet::NoFrame(module_)));
+    };
+    let mut text = String::new(alloc);
+    if let Some(dropped) = dropped {
+        write!(text, "{dropped:?}")?;
+    }
+    if text.as_str() == word {
+        return Ok(());
+    }
+    Err(unmet(Unmet::Dropped {
+        module_,
+        frame,
+        found: DropReason(dropped),
+        wanted: excerpt(word),
+    }))
+}
+
+// The words, as a script has them.
+fn joined(alloc: Global, words: &[&str]) -> Result<String, LineError> {
+    let mut text = String::new(alloc);
+    for word in words {
+        if !text.is_empty() {
+            text.push(' ')?;
+        }
+        text.push_str(word)?;
+    }
+    Ok(text)
+}
+
+// What `chain` writes of an op, without that word.
+fn chain_of(
+    alloc: Global,
+    world: &World,
+    names: &[Bytes],
+    op: Named<'_>,
+) -> Result<String, LineError>
+    requires stand { ⟦<World as Shown>⟧.stands world.now }
+{
+    let mut bytes = Vec::new(alloc);
+    put_chain_of(alloc, world, names, op.at, op.number, &mut bytes)?;
+    let line = std::str::from_utf8(bytes.as_slice()).unwrap_or("").trim();
+    let words = line.strip_prefix("chain ").unwrap_or(line);
+    Ok(String::from_str(alloc, words)?)
+}
+
+// The words that name modules do so.
+fn check_modules(alloc: Global, world: &World, words: &[&str]) -> Result<(), LineError> {
+    let modules = match words {
+        ["not", "open"] => return Ok(()),
+        ["broken", rest @ ..] => rest,
+        [modules @ .., _, _] => modules,
+        _ => words,
+    };
+    for name in modules {
+        module_at(alloc, world.topology(), "expect", name)?;
+    }
+    Ok(())
+}
+
+fn expect_chain(
+    alloc: Global,
+    world: &World,
+    names: &[Bytes],
+    ends: &mut Ends,
+    op: Named<'_>,
+    words: &[&str],
+) -> Result<(), LineError>
+    requires stand { ⟦<World as Shown>⟧.stands world.now }
+{
+    check_modules(alloc, world, words)?;
+    let wanted = joined(alloc, words)?;
+    let found = chain_of(alloc, world, names, op)?;
+    if found.as_str() == wanted.as_str() {
+        return Ok(());
+    }
+    Err(unmet(Unmet::Chain {
+        op: name_of(world, op),
+        found,
+        wanted,
+        answer: told_failure(world, ends, op),
+    }))
 }
 
 fn expect_quiet(world: &World) -> Result<(), LineError> {
@@ -218,17 +288,21 @@ fn expect_quiet(world: &World) -> Result<(), LineError> {
     Err(unmet(Unmet::Waiting(waiting)))
 }
 
-fn expect_consumed(
-    alloc: Global,
-    world: &World,
-    at: ModuleId,
-    instance: &str,
-    word: &str,
-) -> Result<(), LineError> {
-    let number = instance_of(instance)?;
-    let found = newest(world.journal(), at, Sought::Consumed(number));
-    expect_datum(alloc, "consumed", instance, found, word)
-}
+static KINDS: [&str; 13] = [
+    "done",
+    "refused",
+    "arrived",
+    "consumed",
+    "repeated",
+    "assembly",
+    "attribute",
+    "open",
+    "closed",
+    "expired",
+    "dropped",
+    "chain",
+    "quiet",
+];
 
 // What an expectation of this kind needs behind it.
 fn needed(kind: &str) -> Option<&'static str> {
@@ -237,29 +311,87 @@ fn needed(kind: &str) -> Option<&'static str> {
         "refused" => Some("2, refused REASON"),
         "arrived" => Some("3, arrived OP BYTES"),
         "consumed" => Some("4, consumed M INSTANCE BYTES"),
+        "repeated" => Some("4, repeated M INSTANCE BYTES"),
         "assembly" => Some("4, assembly M INSTANCE BYTES"),
+        "attribute" => Some("4, attribute OP ATTRIBUTE BYTES"),
         "open" => Some("2, open OP"),
         "closed" => Some("2, closed OP"),
+        "expired" => Some("3, expired M OP"),
+        "dropped" => Some("3, dropped M REASON"),
+        "chain" => Some("3 or more, chain OP WORDS"),
         "quiet" => Some("1, quiet"),
         _ => None,
     }
 }
 
 // The words stand for nothing that can be expected.
-fn wrong_words(args: &[&str]) -> LineError {
+fn wrong_words(alloc: Global, args: &[&str]) -> LineError {
     let Some(kind) = args.first() else {
-        return wrong_count("expect", 0, "1 to 4, what is expected");
+        return wrong_count("expect", 0, "1 or more, what is expected");
     };
     match needed(kind) {
         Some(needed) => wrong_count("expect", args.len(), needed),
-        None => wrong_word("expect", "WHAT", kind, WordFault::NoKind),
+        None => match nearest(alloc, kind, &KINDS) {
+            Ok(near) => wrong_word("expect", "WHAT", kind, WordFault::NoKind(near)),
+            Err(_) => LineError::NoMemory,
+        },
     }
 }
 
-/// Whether the run so far is as a line expects: `expect WHAT ..`.
+// What is expected of an op.
+fn expect_op(
+    alloc: Global,
+    world: &World,
+    names: &[Bytes],
+    ends: &mut Ends,
+    op: Named<'_>,
+    args: &[&str],
+) -> Result<(), LineError>
+    requires stand { ⟦<World as Shown>⟧.stands world.now }
+{
+    match args {
+        ["done", _, status] => expect_done(world, ends, op, status),
+        ["arrived", _, bytes] => expect_arrived(alloc, world, op, bytes),
+        ["attribute", _, number, bytes] => {
+            expect_attribute(alloc, world, ends, op, number, bytes)
+        }
+        ["open", _] => expect_open(world, ends, op, true),
+        ["closed", _] => expect_open(world, ends, op, false),
+        ["chain", _, words @ ..] => expect_chain(alloc, world, names, ends, op, words),
+        _ => Err(wrong_words(alloc, args)),
+    }
+}
+
+// What is expected of a module.
+fn expect_module(
+    alloc: Global,
+    world: &World,
+    ops: &Ops,
+    ends: &mut Ends,
+    at: ModuleId,
+    args: &[&str],
+) -> Result<(), LineError>
+    requires stand { ⟦<World as Shown>⟧.stands world.now }
+{
+    match args {
+        ["consumed", _, instance, bytes] => expect_consumed(alloc, world, at, instance, bytes),
+        ["repeated", _, instance, bytes] => expect_repeated(alloc, world, at, instance, bytes),
+        ["assembly", _, instance, bytes] => expect_assembly(alloc, world, at, instance, bytes),
+        ["expired", _, op] => {
+            let op = op_of(alloc, world.topology(), ops, op)?;
+            expect_expired(world, ends, at, op)
+        }
+        ["dropped", _, reason] => expect_dropped(alloc, world, at, reason),
+        _ => Err(wrong_words(alloc, args)),
+    }
+}
+
+/// Whether the run so far is as a line expects: `expect WHAT ..`. The names are those of the
+/// modules, in their order.
 pub(crate) fn expect(
     alloc: Global,
     world: &World,
+    names: &[Bytes],
     ops: &Ops,
     ends: &mut Ends,
     args: &[&str],
@@ -268,24 +400,19 @@ pub(crate) fn expect(
 {
     let topology = world.topology();
     match args {
-        ["done", op, status] => expect_done(world, ends, op_of(topology, ops, op)?, status),
-        ["refused", reason] => expect_refused(alloc, world, reason),
-        ["arrived", op, bytes] => {
-            let op = op_of(topology, ops, op)?;
-            let found = newest(world.journal(), op.at, Sought::Arrived(op.number));
-            expect_datum(alloc, "arrived", op.word, found, bytes)
-        }
-        ["consumed", name, instance, bytes] => {
-            let at = module_at(alloc, topology, "expect", name)?;
-            expect_consumed(alloc, world, at, instance, bytes)
-        }
-        ["assembly", name, instance, bytes] => {
-            let at = module_at(alloc, topology, "expect", name)?;
-            expect_assembly(alloc, world, at, instance, bytes)
-        }
-        ["open", op] => expect_open(world, op_of(topology, ops, op)?, true),
-        ["closed", op] => expect_open(world, op_of(topology, ops, op)?, false),
+        ["refused", reason] => expect_refused(alloc, world, ops, reason),
         ["quiet"] => expect_quiet(world),
-        _ => Err(wrong_words(args)),
+        ["done" | "arrived", op, _]
+        | ["attribute", op, _, _]
+        | ["open" | "closed", op]
+        | ["chain", op, _, ..] => {
+            let op = op_of(alloc, topology, ops, op)?;
+            expect_op(alloc, world, names, ends, op, args)
+        }
+        ["consumed" | "repeated" | "assembly", name, _, _] | ["expired" | "dropped", name, _] => {
+            let at = module_at(alloc, topology, "expect", name)?;
+            expect_module(alloc, world, ops, ends, at, args)
+        }
+        _ => Err(wrong_words(alloc, args)),
     }
 }

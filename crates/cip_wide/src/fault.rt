@@ -1,29 +1,38 @@
 //! Why a wide script is none, or does not come out as it expects.
 
+use crate::naming::excerpt;
+use crate::nearest::{Near, nearest};
+use crate::refusals::Refusal;
 use crate::unmet::Unmet;
 use cip_base::NoMemory;
 use cip_script::{Explained, Frames};
 use cip_tool::{AnswerFault, HexFault};
 use cip_topology::Excerpt;
 use cip_world::FrameName;
-use std::alloc::{AllocError, AllocFailed};
+use std::alloc::{AllocError, AllocFailed, Global};
 use thiserror::Error;
 
 /// Why a word is none that may stand there.
 #[derive(Debug, Drop, Error)]
 pub enum WordFault {
     /// The modules that there are.
-    #[error("no module of the topology; allowed: {0}")]
-    NoModule(String),
+    #[error("no module of the topology; allowed: {0}{1}")]
+    NoModule(String, Near),
     /// The links that there are.
-    #[error("no link of the topology; allowed: {0}")]
-    NoLink(String),
+    #[error("no link of the topology; allowed: {0}{1}")]
+    NoLink(String, Near),
     #[error("no module with a port on the link")]
     NotThere,
-    #[error("no op of the module that was named before")]
-    NoOp,
-    #[error("no op; allowed: the name of one, or MODULE.NUMBER")]
-    NoOpWord,
+    /// The line since which it is down.
+    #[error("down since line {0}")]
+    IsDown(usize),
+    /// What is down.
+    #[error("not down; down: {0}")]
+    NotDown(String),
+    #[error("no op of the module that was named before{0}")]
+    NoOp(Near),
+    #[error("no op; allowed: the name of one, or MODULE.NUMBER{0}")]
+    NoOpWord(Near),
     #[error("a name for which the module has no number left")]
     Spent,
     #[error("no number from {0} to {1}; allowed: decimal digits, or 0x and hexadecimal digits")]
@@ -32,11 +41,13 @@ pub enum WordFault {
     NoStatus,
     #[error("no bytes: {0}")]
     NoBytes(HexFault),
-    #[error("no reason; allowed: OpUsed, NotOpen, WrongSize, ReservedService, NoInstance")]
-    NoReason,
-    #[error("nothing to expect; allowed: done, refused, arrived, consumed, assembly, open, closed, \
-        quiet")]
-    NoKind,
+    #[error("no reason; allowed: OpUsed, NotOpen, WrongSize, ReservedService, NoInstance{0}")]
+    NoReason(Near),
+    #[error("no reason to drop a frame; allowed: Malformed, Late, UnknownId, WrongSize{0}")]
+    NoDrop(Near),
+    #[error("nothing to expect; allowed: done, refused, arrived, consumed, repeated, assembly, \
+        attribute, open, closed, expired, dropped, chain, quiet{0}")]
+    NoKind(Near),
 }
 
 /// What is wrong with a line of a wide script.
@@ -45,15 +56,15 @@ pub enum LineFault {
     /// A line of the script's own words is faulty.
     #[error("{0}")]
     Script(Explained),
-    /// It names no module; the modules that there are.
-    #[error("{0}; allowed: {1}")]
-    NoModule(Explained, String),
+    /// It names no module; the modules that there are, and the nearest.
+    #[error("{0}; allowed: {1}{2}")]
+    NoModule(Explained, String, Near),
     /// It names no frame that waits; the frames that wait.
     #[error("{}; waiting: {}", .0, Frames(.1.as_slice()))]
     NoFrame(Explained, Vec<FrameName>),
     #[error("unknown word: {0}; allowed: send, open, large, close, enter, set, produce, tick, \
-        deliver, lose, run, tables, trail, chain, cut, pass, tickall, repeat, expect")]
-    UnknownWord(Excerpt),
+        deliver, lose, run, tables, trail, chain, cut, pass, down, up, tickall, repeat, expect{1}")]
+    UnknownWord(Excerpt, Near),
     #[error("{word}: wrong number of words: {found} behind it; needed: {needed}")]
     Count {
         word: &'static str,
@@ -80,6 +91,9 @@ pub enum LineFault {
     TooMany,
     #[error("the script that comes out has more than 1,048,576 bytes")]
     TooLong,
+    /// A command was refused, and no line expects it.
+    #[error("{0}")]
+    Refused(Refusal),
     /// What was expected did not come.
     #[error("expect: {0}")]
     Unmet(Unmet),
@@ -139,13 +153,22 @@ impl LineError {
     }
 }
 
-fn excerpt(word: &str) -> Excerpt {
-    Excerpt::of(word.as_bytes())
-}
+static WORDS: [&str; 21] = [
+    "send", "open", "large", "close", "enter", "set", "produce", "tick", "deliver", "lose", "run",
+    "tables", "trail", "chain", "cut", "pass", "down", "up", "tickall", "repeat", "expect",
+];
 
 /// The first word of a line is none that there is.
-pub(crate) fn unknown_word(word: &str) -> LineError {
-    LineError::Fault(LineFault::UnknownWord(excerpt(word)))
+pub(crate) fn unknown_word(alloc: Global, word: &str) -> LineError {
+    match nearest(alloc, word, &WORDS) {
+        Ok(near) => LineError::Fault(LineFault::UnknownWord(excerpt(word), near)),
+        Err(_) => LineError::NoMemory,
+    }
+}
+
+/// What was expected did not come.
+pub(crate) fn unmet(unmet: Unmet) -> LineError {
+    LineError::Fault(LineFault::Unmet(unmet))
 }
 
 /// So many words stand behind the first one, where these are needed.

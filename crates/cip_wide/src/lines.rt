@@ -2,15 +2,19 @@
 
 use std::alloc::{AllocError, Global};
 
-/// A line that is neither blank nor a comment: its number, from 1, and its words.
+/// A line that is not blank: its number, from 1, its text, and its words. A comment has none.
 #[derive(Drop)]
 pub(crate) struct Line<'a> {
     pub(crate) number: usize,
+    pub(crate) text: &'a str,
     pub(crate) words: Vec<&'a str>,
 }
 
 fn words_of(alloc: Global, line: &str) -> Result<Vec<&str>, AllocError> {
     let mut words = Vec::new(alloc);
+    if line.starts_with('#') {
+        return Ok(words);
+    }
     for word in line.split(' ') {
         if !word.is_empty() {
             words.push(word)?;
@@ -19,17 +23,18 @@ fn words_of(alloc: Global, line: &str) -> Result<Vec<&str>, AllocError> {
     Ok(words)
 }
 
-/// The lines of a text that say something.
+/// The lines of a text that say something, and its comments.
 pub(crate) fn lines_of(alloc: Global, text: &str) -> Result<Vec<Line<'_>>, AllocError> {
     let mut lines = Vec::new(alloc);
-    for (i, line) in text.lines().enumerate() {
-        if line.starts_with('#') {
-            continue;
-        }
-        let words = words_of(alloc, line)?;
-        if !words.is_empty() {
+    for (i, text) in text.lines().enumerate() {
+        let words = words_of(alloc, text)?;
+        if !words.is_empty() || text.starts_with('#') {
             let number = i.saturating_add(1);
-            lines.push(Line { number, words })?;
+            lines.push(Line {
+                number,
+                text,
+                words,
+            })?;
         }
     }
     Ok(lines)

@@ -1,14 +1,22 @@
 //! What waits on a link.
 
 use crate::fault::{LineError, WordFault, wrong_count, wrong_word};
+use crate::nearest::nearest;
 use cip_base::{ModuleId, NoMemory, PortNumber};
 use cip_config::ModuleConfig;
 use cip_topology::Topology;
 use cip_world::{Flying, FrameName, World, frame_at};
 use std::alloc::{AllocError, Global};
 
-// The link of a module's port, by its place.
-fn link_of(topology: &Topology, at: ModuleId, port: PortNumber) -> Option<usize> {
+/// A link, by its place, or what a module sends there.
+#[derive(Clone, Copy, PartialEq, Eq)]
+pub(crate) struct Side {
+    pub(crate) link: usize,
+    pub(crate) module_: Option<ModuleId>,
+}
+
+/// The link of a module's port, by its place.
+pub(crate) fn link_of(topology: &Topology, at: ModuleId, port: PortNumber) -> Option<usize> {
     let config = topology.configs().get(at.0)?;
     for own in config.settings().ports.as_slice() {
         if own.number == port {
@@ -36,29 +44,55 @@ fn link_named(topology: &Topology, name: &str) -> Option<usize> {
         .position(|link| link.name.as_slice() == name.as_bytes())
 }
 
-// A name behind those before it.
-fn add_name(names: &mut String, name: &[u8]) -> Result<(), AllocError> {
-    if !names.is_empty() {
-        names.push_str(", ")?;
+/// The name of a link.
+pub(crate) fn link_word(topology: &Topology, link: usize) -> &str {
+    match topology.links().get(link) {
+        Some(link) => std::str::from_utf8(link.name.as_slice()).unwrap_or(""),
+        None => "",
     }
-    names.push_str(std::str::from_utf8(name).unwrap_or(""))
 }
 
-fn link_names(alloc: Global, topology: &Topology) -> Result<String, AllocError> {
-    let mut names = String::new(alloc);
+/// Names, with commas between them.
+pub(crate) fn listed(alloc: Global, names: &[&str]) -> Result<String, AllocError> {
+    let mut text = String::new(alloc);
+    for name in names {
+        if !text.is_empty() {
+            text.push_str(", ")?;
+        }
+        text.push_str(name)?;
+    }
+    Ok(text)
+}
+
+fn link_names(alloc: Global, topology: &Topology) -> Result<Vec<&str>, AllocError> {
+    let mut names = Vec::new(alloc);
     for link in topology.links() {
-        add_name(&mut names, link.name.as_slice())?;
+        names.push(std::str::from_utf8(link.name.as_slice()).unwrap_or(""))?;
     }
     Ok(names)
 }
 
-/// The names of the modules, with commas between them.
-pub(crate) fn module_names(alloc: Global, topology: &Topology) -> Result<String, AllocError> {
-    let mut names = String::new(alloc);
+/// The names of the modules.
+pub(crate) fn module_names(alloc: Global, topology: &Topology) -> Result<Vec<&str>, AllocError> {
+    let mut names = Vec::new(alloc);
     for config in topology.configs() {
-        add_name(&mut names, config.settings().name.as_slice())?;
+        names.push(std::str::from_utf8(config.settings().name.as_slice()).unwrap_or(""))?;
     }
     Ok(names)
+}
+
+// Why a word names no module.
+fn no_module(alloc: Global, topology: &Topology, name: &str) -> Result<WordFault, AllocError> {
+    let names = module_names(alloc, topology)?;
+    let near = nearest(alloc, name, names.as_slice())?;
+    Ok(WordFault::NoModule(listed(alloc, names.as_slice())?, near))
+}
+
+// Why a word names no link.
+fn no_link(alloc: Global, topology: &Topology, name: &str) -> Result<WordFault, AllocError> {
+    let names = link_names(alloc, topology)?;
+    let near = nearest(alloc, name, names.as_slice())?;
+    Ok(WordFault::NoLink(listed(alloc, names.as_slice())?, near))
 }
 
 /// The module that a word of a line names.
@@ -70,10 +104,7 @@ pub(crate) fn module_at(
 ) -> Result<ModuleId, LineError> {
     match topology.by_name(name.as_bytes()) {
         Some(at) => Ok(at),
-        None => {
-            let why = WordFault::NoModule(module_names(alloc, topology)?);
-            Err(wrong_word(word, "M", name, why))
-        }
+        None => Err(wrong_word(word, "M", name, no_module(alloc, topology, name)?)),
     }
 }
 
@@ -81,10 +112,7 @@ pub(crate) fn module_at(
 fn link_at(alloc: Global, topology: &Topology, word: &str, name: &str) -> Result<usize, LineError> {
     match link_named(topology, name) {
         Some(link) => Ok(link),
-        None => {
-            let why = WordFault::NoLink(link_names(alloc, topology)?);
-            Err(wrong_word(word, "LINK", name, why))
-        }
+        None => Err(wrong_word(word, "LINK", name, no_link(alloc, topology, name)?)),
     }
 }
 
@@ -133,6 +161,27 @@ fn frames_on(
     Ok(found)
 }
 
+/// The side that a line names: `WORD LINK`, or `WORD LINK M`.
+pub(crate) fn side_of(
+    alloc: Global,
+    topology: &Topology,
+    word: &'static str,
+    args: &[&str],
+) -> Result<Side, LineError> {
+    match args {
+        [link] => Ok(Side {
+            link: link_at(alloc, topology, word, link)?,
+            module_: None,
+        }),
+        [link, side] => {
+            let link = link_at(alloc, topology, word, link)?;
+            let module_ = Some(side_at(alloc, topology, word, link, side)?);
+            Ok(Side { link, module_ })
+        }
+        _ => Err(wrong_count(word, args.len(), "1 or 2, LINK [M]")),
+    }
+}
+
 /// The frames that wait where a line says: `WORD LINK`, or `WORD LINK M`.
 pub(crate) fn frames_at(
     alloc: Global,
@@ -140,17 +189,6 @@ pub(crate) fn frames_at(
     word: &'static str,
     args: &[&str],
 ) -> Result<Vec<FrameName>, LineError> {
-    let topology = world.topology();
-    match args {
-        [link] => {
-            let link = link_at(alloc, topology, word, link)?;
-            Ok(frames_on(alloc, world, link, None)?)
-        }
-        [link, side] => {
-            let link = link_at(alloc, topology, word, link)?;
-            let side = side_at(alloc, topology, word, link, side)?;
-            Ok(frames_on(alloc, world, link, Some(side))?)
-        }
-        _ => Err(wrong_count(word, args.len(), "1 or 2, LINK [M]")),
-    }
+    let side = side_of(alloc, world.topology(), word, args)?;
+    Ok(frames_on(alloc, world, side.link, side.module_)?)
 }

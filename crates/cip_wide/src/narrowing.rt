@@ -5,11 +5,17 @@ ghost use Rattle.std.specs.Str.{IsAscii};
 
 use crate::blocks::{Turn, after_end, check_blocks, count_of, is_end};
 use crate::expecting::expect;
-use crate::fault::{LineError, LineFault, WideFault, unknown_word, wrong_count};
+use crate::fault::{
+    LineError, LineFault, WideFault, WordFault, unknown_word, wrong_count, wrong_word,
+};
 use crate::lines::{Line, first_not_ascii, lines_of};
-use crate::links::{frames_at, module_names};
+use crate::links::{frames_at, listed, module_names, side_of};
+use crate::naming::module_text;
+use crate::nearest::nearest;
 use crate::ops::Ops;
+use crate::outages::{Loss, Outage, Outages, losses_since};
 use crate::plain::{NewOp, Plain, plain_line};
+use crate::refusals::{is_refused, refusal_of};
 use cip_base::{Bytes, NoMemory};
 use cip_ends::Ends;
 use cip_module::Module;
@@ -37,6 +43,10 @@ struct Kept {
     script: String,
     // where the ops ended, as far as that was read
     ends: Ends,
+    // the links that are down
+    outages: Outages,
+    // the line of the last command, where it was refused and no line expected that
+    refused: Option<usize>,
 }
 
 // What is wrong with a line that stands in no script, or stops there.
@@ -50,7 +60,10 @@ fn script_fault(
     match fault {
         ScriptFault::NoModule => {
             let names = module_names(alloc, world.topology())?;
-            Ok(LineFault::NoModule(explained, names))
+            let name = line.split(' ').nth(1).unwrap_or("");
+            let near = nearest(alloc, name, names.as_slice())?;
+            let names = listed(alloc, names.as_slice())?;
+            Ok(LineFault::NoModule(explained, names, near))
         }
         ScriptFault::NoFrame => Ok(LineFault::NoFrame(explained, world.waiting()?)),
         _ => Ok(LineFault::Script(explained)),
@@ -132,6 +145,56 @@ fn play_plain(
     }
 }
 
+// A frame is lost, behind a comment that says why.
+fn lose(alloc: Global, world: &mut World, narrow: &mut Kept, loss: Loss) -> Result<(), LineError>
+    requires stand { ⟦<World as Shown>⟧.stands world.old }
+    ensures stand { ⟦<World as Shown>⟧.stands world.new }
+    ensures short { string_len narrow.old.script ≤ 1_048_576
+        → IfOk result (λ _. string_len narrow.new.script ≤ 1_048_576) }
+{
+    let Loss { why, line } = loss;
+    put_line(narrow, why.as_str())?;
+    play_plain(alloc, world, narrow, Plain { line, new: None })
+}
+
+// Frames are lost.
+fn lose_all(
+    alloc: Global,
+    world: &mut World,
+    narrow: &mut Kept,
+    losses: Vec<Loss>,
+) -> Result<(), LineError>
+    requires stand { ⟦<World as Shown>⟧.stands world.old }
+    ensures stand { ⟦<World as Shown>⟧.stands world.new }
+    ensures short { string_len narrow.old.script ≤ 1_048_576
+        → IfOk result (λ _. string_len narrow.new.script ≤ 1_048_576) }
+{
+    let mut losses = losses;
+    losses.reverse();
+    'losses: while let Some(loss) = losses.pop() {
+        lose(alloc, world, narrow, loss)?;
+    }
+    Ok(())
+}
+
+// A line that stands in the script is played, and what it sends into an outage is lost.
+fn play_losing(
+    alloc: Global,
+    world: &mut World,
+    narrow: &mut Kept,
+    plain: Plain,
+) -> Result<(), LineError>
+    requires stand { ⟦<World as Shown>⟧.stands world.old }
+    ensures stand { ⟦<World as Shown>⟧.stands world.new }
+    ensures short { string_len narrow.old.script ≤ 1_048_576
+        → IfOk result (λ _. string_len narrow.new.script ≤ 1_048_576) }
+{
+    let before = world.journal().len();
+    play_plain(alloc, world, narrow, plain)?;
+    let losses = losses_since(alloc, world, &narrow.outages, before)?;
+    lose_all(alloc, world, narrow, losses)
+}
+
 // Lines that name no ops are played.
 fn play_lines(
     alloc: Global,
@@ -147,7 +210,42 @@ fn play_lines(
     let mut lines = lines;
     lines.reverse();
     'lines: while let Some(line) = lines.pop() {
-        play_plain(alloc, world, narrow, Plain { line, new: None })?;
+        play_losing(alloc, world, narrow, Plain { line, new: None })?;
+    }
+    Ok(())
+}
+
+// The line by which the waiting frame of least name arrives.
+fn least_line(alloc: Global, world: &World) -> Result<Option<String>, LineError> {
+    let waiting = world.waiting()?;
+    match waiting.first() {
+        Some(name) => {
+            let mut line = String::new(alloc);
+            write!(line, "deliver {}.{}", name.entry, name.output)?;
+            Ok(Some(line))
+        }
+        None => Ok(None),
+    }
+}
+
+// The waiting frame of least name arrives, so many times at most, and what is sent into an outage
+// is lost.
+fn run_losing(
+    alloc: Global,
+    world: &mut World,
+    narrow: &mut Kept,
+    limit: usize,
+) -> Result<(), LineError>
+    requires stand { ⟦<World as Shown>⟧.stands world.old }
+    ensures stand { ⟦<World as Shown>⟧.stands world.new }
+    ensures short { string_len narrow.old.script ≤ 1_048_576
+        → IfOk result (λ _. string_len narrow.new.script ≤ 1_048_576) }
+{
+    'frames: for _ in 0..limit {
+        let Some(line) = least_line(alloc, world)? else {
+            return Ok(());
+        };
+        play_losing(alloc, world, narrow, Plain { line, new: None })?;
     }
     Ok(())
 }
@@ -175,8 +273,13 @@ fn tick_lines(alloc: Global, topology: &Topology, ms: &str) -> Result<Vec<String
     Ok(lines)
 }
 
-// The line itself, as a comment of the script.
-fn put_comment(alloc: Global, narrow: &mut Kept, words: &[&str]) -> Result<(), LineError>
+// The line itself, as a comment of the script, with a remark behind it.
+fn put_comment(
+    alloc: Global,
+    narrow: &mut Kept,
+    words: &[&str],
+    remark: &str,
+) -> Result<(), LineError>
     ensures { IfOk result (λ _. string_len narrow.new.script ≤ 1_048_576) }
 {
     let mut line = String::from_str(alloc, "#")?;
@@ -184,7 +287,42 @@ fn put_comment(alloc: Global, narrow: &mut Kept, words: &[&str]) -> Result<(), L
         line.push(' ')?;
         line.push_str(word)?;
     }
+    line.push_str(remark)?;
     put_line(narrow, line.as_str())
+}
+
+// A comment that says which op of which module has the name, where a line gives it one.
+fn name_comment(
+    alloc: Global,
+    topology: &Topology,
+    plain: &Plain,
+) -> Result<Option<String>, AllocError> {
+    let Some(new) = &plain.new else {
+        return Ok(None);
+    };
+    let Some(name) = &new.name else {
+        return Ok(None);
+    };
+    let name = std::str::from_utf8(name.as_slice()).unwrap_or("");
+    let mut line = String::new(alloc);
+    let module_ = module_text(topology, new.at);
+    write!(line, "# {name} is {module_}.{}", new.number)?;
+    Ok(Some(line))
+}
+
+fn put_name(
+    alloc: Global,
+    topology: &Topology,
+    narrow: &mut Kept,
+    plain: &Plain,
+) -> Result<(), LineError>
+    ensures { string_len narrow.old.script ≤ 1_048_576
+        → IfOk result (λ _. string_len narrow.new.script ≤ 1_048_576) }
+{
+    match name_comment(alloc, topology, plain)? {
+        Some(line) => put_line(narrow, line.as_str()),
+        None => Ok(()),
+    }
 }
 
 // A line of the script's own words.
@@ -202,10 +340,11 @@ fn play_own(
 {
     match usage_of(word) {
         Some(usage) => {
-            let plain = plain_line(alloc, world.topology(), &narrow.ops, word, usage, args)?;
-            play_plain(alloc, world, narrow, plain)
+            let plain = plain_line(alloc, world, &narrow.ops, word, usage, args)?;
+            put_name(alloc, world.topology(), narrow, &plain)?;
+            play_losing(alloc, world, narrow, plain)
         }
-        None => Err(unknown_word(word)),
+        None => Err(unknown_word(alloc, word)),
     }
 }
 
@@ -226,11 +365,90 @@ fn lines_for(alloc: Global, world: &World, words: &[&str]) -> Result<Vec<String>
     }
 }
 
+// What there is to say of a line that stands for these.
+fn remark_of(words: &[&str], lines: &[String]) -> &'static str {
+    match words {
+        ["cut" | "pass", ..] if lines.is_empty() => ": nothing waits there",
+        _ => "",
+    }
+}
+
+// An outage begins at this line: `down LINK`, or `down LINK M`.
+fn begin_outage(
+    alloc: Global,
+    topology: &Topology,
+    outages: &mut Outages,
+    since: usize,
+    args: &[&str],
+) -> Result<(), LineError> {
+    let side = side_of(alloc, topology, "down", args)?;
+    if let Some(outage) = outages.over(side) {
+        let why = WordFault::IsDown(outage.since);
+        let link = args.first().unwrap_or(&"");
+        return Err(wrong_word("down", "LINK", link, why));
+    }
+    outages.begin(Outage { side, since })?;
+    Ok(())
+}
+
+// An outage is over: `up LINK`, or `up LINK M`.
+fn end_outage(
+    alloc: Global,
+    topology: &Topology,
+    outages: &mut Outages,
+    args: &[&str],
+) -> Result<(), LineError> {
+    let side = side_of(alloc, topology, "up", args)?;
+    if outages.end(side) {
+        return Ok(());
+    }
+    let why = WordFault::NotDown(outages.told(alloc, topology)?);
+    match args {
+        [_, side] => Err(wrong_word("up", "M", side, why)),
+        _ => Err(wrong_word("up", "LINK", args.first().unwrap_or(&""), why)),
+    }
+}
+
+// How many frames arrive at most by a line `run N`.
+fn limit_of(
+    alloc: Global,
+    world: &World,
+    names: &[Bytes],
+    limit: &str,
+) -> Result<usize, LineError> {
+    let mut line = String::from_str(alloc, "run ")?;
+    line.push_str(limit)?;
+    match step_of(alloc, world, names, line.as_str())? {
+        Some(Step::Run { limit }) => Ok(limit),
+        _ => Ok(0),
+    }
+}
+
+// A line `run N` while links are down. What it says in the end comes of `run 0`.
+fn play_run(
+    alloc: Global,
+    world: &mut World,
+    narrow: &mut Kept,
+    limit: &str,
+) -> Result<(), LineError>
+    requires stand { ⟦<World as Shown>⟧.stands world.old }
+    ensures stand { ⟦<World as Shown>⟧.stands world.new }
+    ensures short { string_len narrow.old.script ≤ 1_048_576
+        → IfOk result (λ _. string_len narrow.new.script ≤ 1_048_576) }
+{
+    let most = limit_of(alloc, world, narrow.names.as_slice(), limit)?;
+    put_comment(alloc, narrow, &["run", limit], "")?;
+    run_losing(alloc, world, narrow, most)?;
+    let line = String::from_str(alloc, "run 0")?;
+    play_plain(alloc, world, narrow, Plain { line, new: None })
+}
+
 // A line that begins or ends no block.
 fn play_words(
     alloc: Global,
     world: &mut World,
     narrow: &mut Kept,
+    number: usize,
     words: &[&str],
 ) -> Result<(), LineError>
     requires stand { ⟦<World as Shown>⟧.stands world.old }
@@ -241,15 +459,81 @@ fn play_words(
     match words {
         ["cut" | "pass" | "tickall", ..] => {
             let lines = lines_for(alloc, world, words)?;
-            put_comment(alloc, narrow, words)?;
+            put_comment(alloc, narrow, words, remark_of(words, lines.as_slice()))?;
             play_lines(alloc, world, narrow, lines)
         }
+        ["down", args @ ..] => {
+            begin_outage(alloc, world.topology(), &mut narrow.outages, number, args)?;
+            put_comment(alloc, narrow, words, "")
+        }
+        ["up", args @ ..] => {
+            end_outage(alloc, world.topology(), &mut narrow.outages, args)?;
+            put_comment(alloc, narrow, words, "")
+        }
+        ["run", limit] if !narrow.outages.is_empty() => play_run(alloc, world, narrow, limit),
         ["expect", args @ ..] => {
-            expect(alloc, world, &narrow.ops, &mut narrow.ends, args)?;
-            put_comment(alloc, narrow, words)
+            let names = narrow.names.as_slice();
+            expect(alloc, world, names, &narrow.ops, &mut narrow.ends, args)?;
+            put_comment(alloc, narrow, words, "")
         }
         [word, args @ ..] => play_own(alloc, world, narrow, word, args),
         [] => Ok(()),
+    }
+}
+
+// The command of a line was refused.
+fn refused_at(world: &World, ops: &Ops, number: usize) -> WideFault
+    requires stand { ⟦<World as Shown>⟧.stands world.now }
+{
+    match refusal_of(world, ops) {
+        Ok(Some(refusal)) => WideFault::Line(number, LineFault::Refused(refusal)),
+        _ => WideFault::NoMemory,
+    }
+}
+
+// A command that was refused is expected to be by these words. (No words are the end.)
+fn check_refused(world: &World, narrow: &Kept, words: &[&str]) -> Result<(), WideFault>
+    requires stand { ⟦<World as Shown>⟧.stands world.now }
+{
+    match (narrow.refused, words) {
+        (None, _) => Ok(()),
+        (Some(_), ["expect", "refused", ..]) => Ok(()),
+        (Some(number), _) => Err(refused_at(world, &narrow.ops, number)),
+    }
+}
+
+// A line that is no comment, and begins or ends no block.
+fn play_told(
+    alloc: Global,
+    world: &mut World,
+    narrow: &mut Kept,
+    line: &Line<'_>,
+) -> Result<(), WideFault>
+    requires stand { ⟦<World as Shown>⟧.stands world.old }
+    ensures stand { ⟦<World as Shown>⟧.stands world.new }
+    ensures short { string_len narrow.old.script ≤ 1_048_576
+        → IfOk result (λ _. string_len narrow.new.script ≤ 1_048_576) }
+{
+    let words = line.words.as_slice();
+    check_refused(world, narrow, words)?;
+    let before = world.journal().len();
+    match play_words(alloc, world, narrow, line.number, words) {
+        Ok(()) => {
+            let is_refused = is_refused(world.journal(), before);
+            narrow.refused = if is_refused { Some(line.number) } else { None };
+            Ok(())
+        }
+        Err(error) => Err(error.at(line.number)),
+    }
+}
+
+// A comment stands in the script too.
+fn copy_comment(narrow: &mut Kept, line: &Line<'_>) -> Result<(), WideFault>
+    ensures { IfOk result (λ _. string_len narrow.new.script ≤ 1_048_576) }
+{
+    match put_line(narrow, line.text) {
+        Ok(()) => Ok(()),
+        Err(error) => Err(error.at(line.number)),
     }
 }
 
@@ -275,10 +559,12 @@ fn play_line(
     if is_end(line)? {
         return Ok(after_end(turns, at));
     }
-    match play_words(alloc, world, narrow, line.words.as_slice()) {
-        Ok(()) => Ok(next),
-        Err(error) => Err(error.at(line.number)),
+    if line.words.is_empty() {
+        copy_comment(narrow, line)?;
+        return Ok(next);
     }
+    play_told(alloc, world, narrow, line)?;
+    Ok(next)
 }
 
 fn play_all(
@@ -297,7 +583,7 @@ fn play_all(
     let mut number = 1;
     'all: for _ in 0..MOST_LINES {
         let Some(line) = lines.get(at) else {
-            return Ok(());
+            return check_refused(world, narrow, &[]);
         };
         number = line.number;
         at = play_line(alloc, world, narrow, &mut turns, at, line)?;
@@ -349,6 +635,8 @@ pub fn narrow(
         ops,
         script: String::new(alloc),
         ends: Ends::new(alloc),
+        outages: Outages::new(alloc),
+        refused: None,
     };
     play_all(alloc, &mut world, &mut narrow, lines.as_slice())?;
     Ok(narrow.script)

@@ -52,6 +52,31 @@ impl Ops {
         self.named.push(Op { name, at, number })
     }
 
+    /// The name that an op of the module got last.
+    pub(crate) fn name_of(&self, at: ModuleId, number: u32) -> Option<&Name> {
+        for op in self.named.as_slice().iter().rev() {
+            if op.at == at && op.number == number {
+                return Some(&op.name);
+            }
+        }
+        None
+    }
+
+    /// The names of ops, of the module where one is given.
+    pub(crate) fn words(
+        &self,
+        alloc: Global,
+        at: Option<ModuleId>,
+    ) -> Result<Vec<&str>, AllocError> {
+        let mut words = Vec::new(alloc);
+        for op in self.named.as_slice() {
+            if at.is_none() || at == Some(op.at) {
+                words.push(std::str::from_utf8(op.name.as_slice()).unwrap_or(""))?;
+            }
+        }
+        Ok(words)
+    }
+
     /// The number of the module's op that got the name last.
     pub(crate) fn number(&self, name: &Name, at: ModuleId) -> Option<u32> {
         match self.named.newest(name, Some(at)) {

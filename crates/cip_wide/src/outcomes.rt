@@ -2,9 +2,9 @@
 
 use cip_base::{Bytes, ModuleId, Status};
 use cip_message::read_reply;
-use cip_module::{Output, Refused};
+use cip_module::Output;
 use cip_names::status_name;
-use cip_world::{Entry, Input};
+use cip_world::Entry;
 use std::fmt;
 
 /// A general status and an additional one, with their name.
@@ -59,78 +59,27 @@ impl fmt::Display for Pairs<'_> {
     }
 }
 
-/// What is sought among the outputs of a module.
-#[derive(Clone, Copy)]
-pub(crate) enum Sought {
-    /// A datum that came back to this op.
-    Arrived(u32),
-    /// A datum that was consumed to this assembly.
-    Consumed(u32),
-}
-
-impl Sought {
-    fn is(self, output: &Output) -> bool {
-        match (self, output) {
-            (Sought::Arrived(number), Output::Arrived { op, .. }) => *op == number,
-            (Sought::Consumed(number), Output::Consumed { instance, .. }) => *instance == number,
-            _ => false,
-        }
-    }
-}
-
-// The bytes that an output has.
-fn bytes_of(output: &Output) -> Option<&Bytes> {
-    match output {
-        Output::Arrived { bytes, .. } => Some(bytes),
-        Output::Consumed { bytes, .. } => Some(bytes),
-        _ => None,
-    }
-}
-
-// The last of the outputs that is sought.
-fn last_of(outputs: &[Output], sought: Sought) -> Option<&Bytes> {
+// The last datum of these outputs that came back to an op.
+fn arrived_in(outputs: &[Output], number: u32) -> Option<&Bytes> {
     for output in outputs.iter().rev() {
-        if sought.is(output) {
-            return bytes_of(output);
-        }
-    }
-    None
-}
-
-/// The bytes of the newest output of a module that is sought.
-pub(crate) fn newest(journal: &[Entry], module_: ModuleId, sought: Sought) -> Option<&Bytes> {
-    for entry in journal.iter().rev() {
-        if let Entry::Step { at, outputs, .. } = entry {
-            if *at == module_ {
-                if let Some(bytes) = last_of(outputs.as_slice(), sought) {
-                    return Some(bytes);
-                }
+        if let Output::Arrived { op, bytes } = output {
+            if *op == number {
+                return Some(bytes);
             }
         }
     }
     None
 }
 
-// Why a command was refused, where it was.
-fn refused_in(outputs: &[Output]) -> Option<Refused> {
-    for output in outputs {
-        if let Output::Refused(refused) = output {
-            return Some(*refused);
-        }
-    }
-    None
-}
-
-/// Why the newest command was refused, where it was.
-pub(crate) fn newest_refused(journal: &[Entry]) -> Option<Refused> {
+/// The newest datum that came back to an op of a module.
+pub(crate) fn newest_arrived(journal: &[Entry], module_: ModuleId, number: u32) -> Option<&Bytes> {
     for entry in journal.iter().rev() {
-        if let Entry::Step {
-            input: Input::Command(_),
-            outputs,
-            ..
-        } = entry
-        {
-            return refused_in(outputs.as_slice());
+        if let Entry::Step { at, outputs, .. } = entry {
+            if *at == module_ {
+                if let Some(bytes) = arrived_in(outputs.as_slice(), number) {
+                    return Some(bytes);
+                }
+            }
         }
     }
     None

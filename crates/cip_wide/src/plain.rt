@@ -1,10 +1,13 @@
 //! Lines of the script's own words, with their names and paths in words replaced.
 
+use crate::counts::next_count;
 use crate::fault::{LineError, WordFault, wrong_path, wrong_word};
+use crate::nearest::nearest;
 use crate::ops::{Ops, name_of};
 use cip_base::ModuleId;
-use cip_tool::{number_u32, path_answer};
+use cip_tool::{hex_fault, number_u32, path_answer};
 use cip_topology::{Name, Topology};
+use cip_world::{Entry, World};
 use std::alloc::Global;
 
 /// An op that a line asks for.
@@ -53,6 +56,7 @@ fn new_op(ops: &Ops, at: ModuleId, word: &str, found: &str) -> Result<Option<New
 
 // The op that was named before.
 fn put_old_op(
+    alloc: Global,
     ops: &Ops,
     at: ModuleId,
     word: &str,
@@ -69,8 +73,49 @@ fn put_old_op(
             write!(line, "{number}")?;
             Ok(())
         }
-        None => Err(wrong_word(word, field, found, WordFault::NoOp)),
+        None => {
+            let names = ops.words(alloc, Some(at))?;
+            let near = nearest(alloc, found, names.as_slice())?;
+            Err(wrong_word(word, field, found, WordFault::NoOp(near)))
+        }
     }
+}
+
+// The number of an op of a module that a word names.
+fn op_number(ops: &Ops, at: ModuleId, word: &str) -> Option<u32> {
+    match name_of(word) {
+        Some(name) => ops.number(&name, at),
+        None => number_u32(word),
+    }
+}
+
+// What stands behind the count of a datum, where its word begins with one.
+fn behind_count(word: &str) -> Option<&str> {
+    match word {
+        "+1" | "+1,-" => Some(""),
+        _ => word.strip_prefix("+1,"),
+    }
+}
+
+// A datum of this op, whose word stands there: with the next count in front where it says so.
+fn put_datum(
+    journal: &[Entry],
+    at: ModuleId,
+    of: Option<u32>,
+    found: &str,
+    line: &mut String,
+) -> Result<(), LineError> {
+    let (Some(bytes), Some(of)) = (behind_count(found), of) else {
+        line.push_str(found)?;
+        return Ok(());
+    };
+    if let Some(fault) = hex_fault(bytes) {
+        let why = WordFault::NoBytes(fault);
+        return Err(wrong_word("enter", "BYTES", found, why));
+    }
+    let [low, high] = next_count(journal, at, of).to_le_bytes();
+    write!(line, "{low:02X}{high:02X}{bytes}")?;
+    Ok(())
 }
 
 fn put_path(alloc: Global, word: &str, found: &str, line: &mut String) -> Result<(), LineError> {
@@ -95,10 +140,18 @@ fn module_of(topology: &Topology, args: &[&str]) -> Option<ModuleId> {
     }
 }
 
+// The number of the op that an Enter of a module names.
+fn entered_op(ops: &Ops, at: ModuleId, args: &[&str]) -> Option<u32> {
+    match args {
+        [_, of, ..] => op_number(ops, at, of),
+        _ => None,
+    }
+}
+
 /// The line of these words, of which the names of the words behind the first one are the usage.
 pub(crate) fn plain_line(
     alloc: Global,
-    topology: &Topology,
+    world: &World,
     ops: &Ops,
     word: &str,
     usage: &'static str,
@@ -107,7 +160,7 @@ pub(crate) fn plain_line(
     let mut line = String::from_str(alloc, word)?;
     let mut new = None;
     let mut fields = usage.split(' ');
-    let at = module_of(topology, args);
+    let at = module_of(world.topology(), args);
     for found in args {
         let field = fields.next().unwrap_or("");
         line.push(' ')?;
@@ -119,8 +172,12 @@ pub(crate) fn plain_line(
                     None => line.push_str(found)?,
                 }
             }
-            ("OP", Some(at)) => put_old_op(ops, at, word, "OP", found, &mut line)?,
-            ("OF", Some(at)) => put_old_op(ops, at, word, "OF", found, &mut line)?,
+            ("OP", Some(at)) => put_old_op(alloc, ops, at, word, "OP", found, &mut line)?,
+            ("OF", Some(at)) => put_old_op(alloc, ops, at, word, "OF", found, &mut line)?,
+            ("BYTES", Some(at)) if word == "enter" => {
+                let of = entered_op(ops, at, args);
+                put_datum(world.journal(), at, of, found, &mut line)?
+            }
             ("PATH", _) => put_path(alloc, word, found, &mut line)?,
             _ => line.push_str(found)?,
         }

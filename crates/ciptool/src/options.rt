@@ -102,8 +102,9 @@ usage: ciptool path PATH
   check    every fault of a topology file, keys that mean nothing, and modules that no path
            reaches; and rooms that are too small for the scripts
   script   a wide script, a FILE or the standard input, as a script for cipbridge: names for
-           ops, paths in words, cut and pass for what waits on a link, tickall, repeat, expect;
-           over the topology of a file, or the chassis that cipbridge has without one
+           ops, paths in words, counts that go on, cut and pass for what waits on a link, down
+           and up for outages, tickall, repeat, expect; over the topology of a file, or the
+           chassis that cipbridge has without one
   play     a wide script likewise, played: the transcript that cipbridge writes of the script
   -h, --help      this text
   -V, --version   the version

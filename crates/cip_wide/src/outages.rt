@@ -1,0 +1,176 @@
+//! Links that are down, and what is lost there.
+
+use crate::links::{Side, link_of, link_word};
+use crate::naming::module_text;
+use cip_base::NoMemory;
+use cip_module::Body;
+use cip_topology::Topology;
+use cip_world::{Flying, FrameName, World, frame_at};
+use std::alloc::{AllocError, Global};
+
+/// A link, or what a module sends there, is down since a line.
+#[derive(Clone, Copy)]
+pub(crate) struct Outage {
+    pub(crate) side: Side,
+    pub(crate) since: usize,
+}
+
+/// The outages that last, the oldest first.
+#[derive(Drop)]
+pub(crate) struct Outages {
+    outages: Vec<Outage>,
+}
+
+/// A frame that is lost: the line by which it is, and a comment that says why.
+#[derive(Drop)]
+pub(crate) struct Loss {
+    pub(crate) why: String,
+    pub(crate) line: String,
+}
+
+impl Outage {
+    // Whether what a side sends is lost.
+    fn has(self, side: Side) -> bool {
+        self.side.link == side.link
+            && (self.side.module_.is_none() || self.side.module_ == side.module_)
+    }
+}
+
+impl Outages {
+    /// None. It takes no memory.
+    pub(crate) fn new(alloc: Global) -> Outages {
+        Outages {
+            outages: Vec::new(alloc),
+        }
+    }
+
+    pub(crate) fn is_empty(&self) -> bool {
+        self.outages.is_empty()
+    }
+
+    /// The outage by which what a side sends is lost.
+    pub(crate) fn over(&self, side: Side) -> Option<Outage> {
+        for outage in self.outages.as_slice() {
+            if outage.has(side) {
+                return Some(*outage);
+            }
+        }
+        None
+    }
+
+    /// One more outage.
+    pub(crate) fn begin(&mut self, outage: Outage) -> Result<(), NoMemory> {
+        self.outages.push(outage)?;
+        Ok(())
+    }
+
+    /// The outage of this very side is over; false where there is none.
+    pub(crate) fn end(&mut self, side: Side) -> bool {
+        let count = self.outages.len();
+        self.outages.retain(|outage| outage.side != side);
+        self.outages.len() < count
+    }
+
+    /// The words of the lines by which the outages began, with commas between them.
+    pub(crate) fn told(&self, alloc: Global, topology: &Topology) -> Result<String, AllocError> {
+        let mut text = String::new(alloc);
+        for outage in self.outages.as_slice() {
+            if !text.is_empty() {
+                text.push_str(", ")?;
+            }
+            text.push_str(link_word(topology, outage.side.link))?;
+            if let Some(at) = outage.side.module_ {
+                write!(text, " {}", module_text(topology, at))?;
+            }
+        }
+        if text.is_empty() {
+            text.push_str("none")?;
+        }
+        Ok(text)
+    }
+}
+
+// The side from which a frame is sent.
+fn side_of(topology: &Topology, flying: Flying<'_>) -> Option<Side> {
+    let link = link_of(topology, flying.at, flying.port)?;
+    Some(Side {
+        link,
+        module_: Some(flying.at),
+    })
+}
+
+// What a frame is, from whom and to whom.
+fn put_frame(text: &mut String, topology: &Topology, flying: Flying<'_>) -> Result<(), AllocError> {
+    match flying.body {
+        Body::Request { number, .. } => write!(text, "request {number}")?,
+        Body::Reply { number, .. } => write!(text, "reply {number}")?,
+        Body::Data { id, .. } => write!(text, "data {id}")?,
+    }
+    write!(text, " from {}", module_text(topology, flying.at))?;
+    match topology.node_at(flying.at, flying.port, flying.to) {
+        Some(to) => write!(text, " to {}", module_text(topology, to)),
+        None => Ok(()),
+    }
+}
+
+// Why a frame is lost.
+fn why_lost(
+    alloc: Global,
+    topology: &Topology,
+    flying: Flying<'_>,
+    outage: Outage,
+) -> Result<String, AllocError> {
+    let mut text = String::from_str(alloc, "# lost: ")?;
+    put_frame(&mut text, topology, flying)?;
+    write!(text, "; {} is down", link_word(topology, outage.side.link))?;
+    if let Some(at) = outage.side.module_ {
+        write!(text, " for {}", module_text(topology, at))?;
+    }
+    write!(text, " since line {}", outage.since)?;
+    Ok(text)
+}
+
+// The loss of a frame that waits, where it was sent into an outage.
+fn loss_of(
+    alloc: Global,
+    world: &World,
+    outages: &Outages,
+    name: FrameName,
+) -> Result<Option<Loss>, AllocError> {
+    let topology = world.topology();
+    let Some(flying) = frame_at(world.journal(), name) else {
+        return Ok(None);
+    };
+    let Some(side) = side_of(topology, flying) else {
+        return Ok(None);
+    };
+    let Some(outage) = outages.over(side) else {
+        return Ok(None);
+    };
+    let why = why_lost(alloc, topology, flying, outage)?;
+    let mut line = String::new(alloc);
+    write!(line, "lose {}.{}", name.entry, name.output)?;
+    Ok(Some(Loss { why, line }))
+}
+
+/// What was sent into the outages since there were so many entries, in rising name.
+pub(crate) fn losses_since(
+    alloc: Global,
+    world: &World,
+    outages: &Outages,
+    before: usize,
+) -> Result<Vec<Loss>, NoMemory> {
+    let mut losses = Vec::new(alloc);
+    if outages.is_empty() {
+        return Ok(losses);
+    }
+    let waiting = world.waiting()?;
+    for name in waiting.iter() {
+        if name.entry >= before {
+            if let Some(loss) = loss_of(alloc, world, outages, *name)? {
+                losses.push(loss)?;
+            }
+        }
+    }
+    Ok(losses)
+}
