@@ -8,8 +8,8 @@
 //! - `fresh`: a script of events on fresh modules, in the language of `player.rt` of test_harness;
 //! - `opened`: such a script on modules along which the scanner opened a connection to the adapter;
 //! - `opened plain`: the same along plain modules alone, where a script is long and the adapter
-//!   alone steps. Each other script is played on plain modules, on indexed ones, and where one bridge
-//!   alone is indexed;
+//!   alone steps. Each other script is played on plain modules, on indexed ones, and where one
+//!   bridge alone is indexed;
 //! - `topology`: topology files, as rows in the language of `rows.rt`.
 #![tactic(auto)]
 

@@ -7,9 +7,9 @@
 //!
 //! - lines `SPOT := LINES`, which edit the chassis file (`edits.rt`);
 //! - `links N modules N ports N assemblies N`: a file of so many tables (`generated.rt`);
-//! - lines `| TEXT`: the text of the file, which has a line's end between two of them. `{N of TEXT}`
-//!   in it stands for a text so many times; there `NUL` is a byte of zero, `SPACE` a space. Behind a
-//!   file of so many tables they go on with it.
+//! - lines `| TEXT`: the text of the file, which has a line's end between two of them.
+//!   `{N of TEXT}` in it stands for a text so many times; there `NUL` is a byte of zero, `SPACE` a
+//!   space. Behind a file of so many tables they go on with it.
 use crate::edits::edited;
 use crate::fault::Fault;
 use crate::lines::count_lines;

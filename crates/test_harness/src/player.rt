@@ -2,9 +2,10 @@
 //!
 //! A script has a line for each event, `M EVENT ..` with the module's name first, and below it a
 //! line `> OUTPUT` for each output, in their order. A line that ends with a backslash goes on in
-//! the next one. Spaces before a line, empty lines and lines that begin with `#` mean nothing. Numbers are decimal, or hexadecimal after `0x`. Bytes are
-//! pairs of hexadecimal digits, `-` for none; `_` between them means nothing, and a plus and a
-//! number after them stand for so many zeros.
+//! the next one. Spaces before a line, empty lines and lines that begin with `#` mean nothing.
+//! Numbers are decimal, or hexadecimal after `0x`. Bytes are pairs of hexadecimal digits, `-` for
+//! none; `_` between them means nothing, and a plus and a number after them stand for so many
+//! zeros.
 //!
 //! - `M send OP TICK TICKS PATH REQUEST`, `M open OP TICK TICKS PATH SERIAL MULT TRANSPORT OT_RPI
 //! OT_PARAMS TO_RPI TO_PARAMS`, `M large ..` with the words of `open`, `M close OP OF TICK TICKS`,

@@ -223,8 +223,8 @@ pub failed_tells : FailsAt plant failed.ends (0 ∷ 1 ∷ 2 ∷ []) 0 failed.pat
 failed_tells =
     let done =
     done_of plant failed.ends 0 1 0 failed.path failed.failure (0 ∷ 1 ∷ 2 ∷ []) false plant_is failed_open failed_as failed_done failed_trail in
-    fails_at plant failed.ends 0 failed.path false failed.failure (0 ∷ 1 ∷ 2 ∷ []) done (refused 785) failed_read told 2 3 (λ e. omega (arith, e)) told_read refl
-    third failed_words
+    fails_at plant failed.ends 0 failed.path false failed.failure (0 ∷ 1 ∷ 2 ∷ []) done (refused 785) failed_read told 2 3 (λ e. omega (arith, e)) told_read
+    refl third failed_words
 
 timed_out_as : OpenedAs plant timed_out.ends 0 1 0 timed_out.path false
 timed_out_as = opened_at plant timed_out.ends 0 1 (record { 0 = 0 }) (record { tick = 0; ticks = 5 }) timed_out.path params _ timed_out_open refl refl

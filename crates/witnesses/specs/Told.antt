@@ -28,7 +28,8 @@ pub record ArrivedFrom (t : Plan) (j : Journal) (k m : ℕ) (op : OpNumber) (byt
   pub root_is : of_it.root ≡ root
   pub e_is : of_it.e ≡ e
 
--- the Done tells that the open, large or not, failed in this entry, where its path had so many words
+-- the Done tells that the open, large or not, failed in this entry, where its path had so many
+-- words
 pub record FailsAt (t : Plan) (j : Journal) (ks : List ℕ) (m : ℕ) (path : Octets) (large : Bool)
     (bytes : Octets) (place words : ℕ) : Type 0 where
   pub done : OpenDone t j ks m path large bytes
