@@ -112,7 +112,9 @@ fn sender_of(journal: &[Entry], place: usize) -> Option<usize> {
     else {
         return None;
     };
-    let flying = frame_at(journal, *name)?;
+    let Some(flying) = frame_at(journal, *name) else {
+        return None;
+    };
     match flying.body {
         Body::Reply { .. } => Some(name.entry),
         _ => None,
@@ -137,7 +139,9 @@ fn points_of(path: PathView<'_>) -> Option<(u32, u32)> {
     let mut seen = 0u8;
     let mut consume = None;
     for _ in 0..path.bytes.len() {
-        let (first, rest) = split_first(left)?;
+        let Some((first, rest)) = split_first(left) else {
+            return None;
+        };
         left = rest;
         let number = match first {
             SegmentView::Instance(number) => number,
@@ -173,7 +177,9 @@ fn sizes_in(world: &World, at: ModuleId, input: &Input) -> Option<OpenSizes> {
     let Input::Frame { name, .. } = input else {
         return None;
     };
-    let flying = frame_at(world.journal(), *name)?;
+    let Some(flying) = frame_at(world.journal(), *name) else {
+        return None;
+    };
     let Body::Request { bytes, .. } = flying.body else {
         return None;
     };

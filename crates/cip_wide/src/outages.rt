@@ -91,7 +91,7 @@ impl Outages {
 }
 
 // The side from which a frame is sent.
-fn side_of(topology: &Topology, flying: Flying<'_>) -> Option<Side> {
+fn side_of(topology: &Topology, flying: &Flying<'_>) -> Option<Side> {
     let link = link_of(topology, flying.at, flying.port)?;
     Some(Side {
         link,
@@ -100,7 +100,11 @@ fn side_of(topology: &Topology, flying: Flying<'_>) -> Option<Side> {
 }
 
 // What a frame is, from whom and to whom.
-fn put_frame(text: &mut String, topology: &Topology, flying: Flying<'_>) -> Result<(), AllocError> {
+fn put_frame(
+    text: &mut String,
+    topology: &Topology,
+    flying: &Flying<'_>,
+) -> Result<(), AllocError> {
     match flying.body {
         Body::Request { number, .. } => write!(text, "request {number}")?,
         Body::Reply { number, .. } => write!(text, "reply {number}")?,
@@ -117,7 +121,7 @@ fn put_frame(text: &mut String, topology: &Topology, flying: Flying<'_>) -> Resu
 fn why_lost(
     alloc: Global,
     topology: &Topology,
-    flying: Flying<'_>,
+    flying: &Flying<'_>,
     outage: Outage,
 ) -> Result<String, AllocError> {
     let mut text = String::from_str(alloc, "# lost: ")?;
@@ -141,13 +145,13 @@ fn loss_of(
     let Some(flying) = frame_at(world.journal(), name) else {
         return Ok(None);
     };
-    let Some(side) = side_of(topology, flying) else {
+    let Some(side) = side_of(topology, &flying) else {
         return Ok(None);
     };
     let Some(outage) = outages.over(side) else {
         return Ok(None);
     };
-    let why = why_lost(alloc, topology, flying, outage)?;
+    let why = why_lost(alloc, topology, &flying, outage)?;
     let mut line = String::new(alloc);
     write!(line, "lose {}.{}", name.entry, name.output)?;
     Ok(Some(Loss { why, line }))
