@@ -104,7 +104,7 @@ pub extern "C" fn cip_get(
 /// The version of what C sees: a program that was compiled with a header of another cannot use it.
 #[unsafe(no_mangle)]
 pub extern "C" fn cip_version() -> u32
-    ensures { result ≡ 1 }
+    ensures { result ≡ 2 }
 {
     VERSION
 }
