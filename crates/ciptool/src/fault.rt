@@ -6,7 +6,6 @@ use cip_check::{Escaped, NotUtf8};
 use cip_console::ConsoleFault;
 use cip_script::Explained;
 use cip_tool::AnswerFault;
-use cip_wide::LineFault;
 use std::alloc::AllocError;
 use thiserror::Error;
 
@@ -60,8 +59,8 @@ pub enum Fault {
     #[error("{}:{}: {}", Escaped(.0.as_str()), .1, .2)]
     Script(String, usize, Explained),
     /// A line of a wide script, and what is wrong with it.
-    #[error("{}:{}: {}", Escaped(.0.as_str()), .1, .2)]
-    Line(String, usize, LineFault),
+    #[error("{0}")]
+    Line(String),
     /// The console, which plays the script that a wide script is.
     #[error("{0}")]
     Console(ConsoleFault),

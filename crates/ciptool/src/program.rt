@@ -10,8 +10,8 @@ use cip_open::Params;
 use cip_script::explain;
 use cip_tool::{params_answer, params_of, path_answer, size_of, status_answer};
 use cip_topology::{CHASSIS, LoadFault, Topology, load};
-use cip_wide::{WideFault, narrow};
-use std::alloc::Global;
+use cip_wide::{LineFault, WideFault, narrow};
+use std::alloc::{AllocError, Global};
 use std::env::Env;
 use std::fs::File;
 use std::io::{ErrorKind, Read};
@@ -292,6 +292,37 @@ fn narrow_over(alloc: Global, topology: Topology, wide: &[u8]) -> Result<String,
     narrow(alloc, topology, modules, wide)
 }
 
+// The name of a wide script, borrowed.
+fn script_word(name: &Option<String>) -> &str {
+    match name {
+        Some(name) => name.as_str(),
+        None => "<stdin>",
+    }
+}
+
+// What is told of a line of a wide script.
+fn line_told(
+    alloc: Global,
+    name: &str,
+    line: usize,
+    fault: &LineFault,
+) -> Result<String, AllocError> {
+    let mut text = String::new(alloc);
+    write!(text, "{}:{line}: {fault}", Escaped(name))?;
+    Ok(text)
+}
+
+// What is told of a wide script of this name that has no script.
+fn told_of(alloc: Global, name: &str, fault: &WideFault) -> Fault {
+    match fault {
+        WideFault::NoMemory => Fault::NoMemory,
+        WideFault::Line(line, fault) => match line_told(alloc, name, *line, fault) {
+            Ok(text) => Fault::Line(text),
+            Err(_) => Fault::NoMemory,
+        },
+    }
+}
+
 // The script that a wide script of a file, or of the standard input, is.
 fn narrowed(
     rt: &HostRuntime,
@@ -305,10 +336,12 @@ fn narrowed(
     };
     match narrow_over(alloc, topology, bytes.as_slice()) {
         Ok(text) => Ok(text),
-        Err(WideFault::Line(line, fault)) => {
-            Err(Fault::Line(script_name(alloc, script)?, line, fault))
+        Err(fault) => {
+            let told = told_of(alloc, script_word(&script), &fault);
+            // (one place to give it up is one to prove)
+            drop(fault);
+            Err(told)
         }
-        Err(WideFault::NoMemory) => Err(Fault::NoMemory),
     }
 }
 
