@@ -110,7 +110,7 @@ pub fn line_at(script: &[u8], line: usize) -> &[u8] {
     let mut rest = script;
     for _ in 1..line {
         match line_end(rest) {
-            Some(end) => rest = &rest[end + 1..],
+            Some(end) => rest = rest.get(end.saturating_add(1)..).unwrap_or(&[]),
             None => rest = &[],
         }
     }
