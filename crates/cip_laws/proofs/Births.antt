@@ -210,8 +210,8 @@ birth_range config o ids turns turn id h b has =
     let low = range.0 in let high = range.1 in
     (low, omega (arith, high, drawn, next, same))
 
-pub past_range : (config : ModuleSettings) (o : Opening) (ids : OwnIds) (turns : List Turn) (id : ℕ) → IsHistory config turns → Past (IsBirth config o ids) turns
-    → HasId ids id → id < (state_after config turns).hops.next
+pub past_range : (config : ModuleSettings) (o : Opening) (ids : OwnIds) (turns : List Turn) (id : ℕ) → IsHistory config turns
+    → Past (IsBirth config o ids) turns → HasId ids id → id < (state_after config turns).hops.next
 past_range config o ids [] id h past has = absurd past
 past_range config o ids (turn ∷ turns) id h (inl now) has = (birth_range config o ids turns turn id h now has).1
 past_range config o ids (turn ∷ turns) id h (inr old) has =

@@ -1,4 +1,5 @@
--- An entry of a run in which a module is reset (Volume 1, chapter 5, Identity object, service Reset).
+-- An entry of a run in which a module is reset (Volume 1, chapter 5, Identity object, service
+-- Reset).
 use Rattle.std.specs.Prelude.{◌≡◌, ℕ, ◌∷◌}
 use Rattle.cip_config.specs.declared.config.ModuleSettings.{ModuleSettings}
 use Rattle.cip_laws.specs.Histories.{Turn}

@@ -173,10 +173,10 @@ pub record EndsThere (t : Plan) (j : Journal) (ks : List ℕ) (m : ℕ) (path : 
       ≡ Accepted link
   pub walks : walk t m path ≡ Some (record { at = step.at.0; path = o.path })
 
--- What the Done of an open, large or not, tells: it can be read as a reply of that service, which is
--- a failure that tells where, or a success at the end of the path.
-pub record OpenDone (t : Plan) (j : Journal) (ks : List ℕ) (m : ℕ) (path : Octets) (large : Bool)
-    (bytes : Octets) : Type 0
+-- What the Done of an open, large or not, tells: it can be read as a reply of that service, which
+-- is a failure that tells where, or a success at the end of the path.
+pub record OpenDone (t : Plan) (j : Journal) (ks : List ℕ) (m : ℕ) (path : Octets)
+    (large : Bool) (bytes : Octets) : Type 0
   where
     pub reply : Reply
     pub read : reply_at bytes ≡ Ok reply
