@@ -61,6 +61,9 @@ int main(void) {
     static const uint8_t opened[] = {0xD4, 0, 0, 0, 0x41, 0, 0, 0, 0x11, 0, 0, 0, 0x07, 0x00, 0x01,
                                      0x01, 0x0D, 0x0C, 0x0B, 0x0A, 0x20, 0x4E, 0, 0, 0x30, 0x75, 0,
                                      0, 0, 0};
+    static const uint8_t opened_large[] = {0xDB, 0, 0, 0, 0x42, 0, 0, 0, 0x12, 0, 0, 0, 0x08, 0x00,
+                                           0x01, 0x01, 0x0D, 0x0C, 0x0B, 0x0A, 0x40, 0x9C, 0, 0,
+                                           0x50, 0xC3, 0, 0, 0, 0};
     static const uint8_t bytes[] = {0xCA, 0xFE, 0xBA, 0xBE, 0x00};
     const cip_open_params params = {.ot_rpi = 20000,
                                     .to_rpi = 30000,
@@ -98,7 +101,9 @@ int main(void) {
     outputs("late reply", cip_reply(&device, 2, adapter, 1, 2, opened, sizeof opened));
     outputs("close", cip_close(&device, 5, 3, timing));
     waiting();
-    outputs("tick", cip_tick(&device, 960));
+    outputs("opened", cip_reply(&device, 2, adapter, 1, 3, opened_large, sizeof opened_large));
+    open_now();
+    outputs("tick", cip_tick(&device, 400));
     outputs("reset", cip_send(&device, 6, timing, path, 0, reset, sizeof reset));
     waiting();
     open_now();
