@@ -245,7 +245,7 @@ uint32_t cip_pending(cip_device *device, size_t at, cip_pending_row *pending);
  * than one cip_tick can take, and end past the last time of the clock, which no tick then reaches;
  * what comes in before may change it. DONE exactly where a request waits for its time, or a side of
  * a connection, NOTHING where none does: then no tick does anything. Nothing changes, and outputs
- * may wait. A call looks at all that is open and all that waits once, and takes no memory. */
+ * may wait. A call takes no memory, and mostly no longer the more is open. */
 uint32_t cip_next_deadline(cip_device *device, uint64_t *milliseconds);
 
 /* The incarnation in which the device draws its connection ids, and that in which it draws its

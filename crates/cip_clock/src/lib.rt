@@ -1,10 +1,13 @@
-//! A module's own time, and the deadlines that it sets by it.
+//! A module's own time, the deadlines that it sets by it, and the first of many deadlines.
 #![tactic(auto)]
 
 ghost use Rattle.std.specs.Prelude.{◌≡◌, ◌+◌, ◌*◌, ◌^◌, ◌<◌, ◌↔◌, OnOk, OnErr, IsOk};
 ghost use Rattle.cip_clock.specs.Times.{ticks_us, watchdog_us};
 
+mod deadlines;
+
 use cip_base::Ms;
+pub use deadlines::{Deadlines, LAST_BOUND, NEVER, bound_of};
 use std::marker::Model;
 use thiserror::Error;
 

@@ -85,13 +85,15 @@ fn module_number_incarnation(module_: &NewModule) -> u16
 }
 
 // The first time at which something is due at a module of any kind; None where nothing ever is.
-fn module_deadline(module_: &NewModule) -> Option<u64>
-    ensures { (time : ℕ) → is_past time result ≡ is_any_due time (state_of_new module_.now) }
+fn module_deadline(module_: &mut NewModule) -> Option<u64>
+    ensures value { (time : ℕ) → is_past time result ≡ is_any_due time (state_of_new module_.old) }
+    ensures after { state_of_new module_.new ≡ state_of_new module_.old }
+    ensures config { config_of_new module_.new ≡ config_of_new module_.old }
 {
     match module_ {
-        NewModule::Plain(inner) => inner.as_ref().first_deadline(),
-        NewModule::Adapter(inner) => inner.as_ref().first_deadline(),
-        NewModule::Indexed(inner) => inner.as_ref().first_deadline(),
+        NewModule::Plain(inner) => inner.as_mut().next_due(),
+        NewModule::Adapter(inner) => inner.as_mut().next_due(),
+        NewModule::Indexed(inner) => inner.as_mut().next_due(),
     }
 }
 
@@ -239,16 +241,18 @@ impl Held {
         DONE
     }
 
-    /// The shortest tick at which something happens: NOTHING where none does anything. It looks at
-    /// each request and each connection once, and takes no memory.
-    pub(crate) fn next_deadline(&self, milliseconds: &mut u64) -> u32
-        ensures done { result ≡ 0 → IsSoonest (shown_of self.now) milliseconds.new }
+    /// The shortest tick at which something happens: NOTHING where none does anything. It takes no
+    /// memory, and time that is logarithmic in the rooms, for each request that went and each
+    /// connection whose first deadline moved away or went since the last call.
+    pub(crate) fn next_deadline(&mut self, milliseconds: &mut u64) -> u32
+        ensures done { result ≡ 0 → IsSoonest (shown_of self.old) milliseconds.new }
+        ensures kept { shown_of self.new ≡ shown_of self.old }
         ensures known { result ≢ 1 }
-        ensures nothing { result ≡ 7 → IsAtRest (Some (shown_of self.now)) }
-        ensures waits { (result ≡ 0) ↔ Waits (shown_of self.now) }
+        ensures nothing { result ≡ 7 → IsAtRest (Some (shown_of self.old)) }
+        ensures waits { (result ≡ 0) ↔ Waits (shown_of self.old) }
         ensures among { IsDeadlineStatus result }
     {
-        let Some(deadline) = module_deadline(&self.module_) else {
+        let Some(deadline) = module_deadline(&mut self.module_) else {
             return NOTHING;
         };
         *milliseconds = milliseconds_until(module_now(&self.module_), deadline);

@@ -60,10 +60,10 @@ pub extern "C" fn cip_next_deadline(
     ensures kept { shown device.new.held ≡ shown device.old.held }
     ensures answer { IsDeadlineAnswer result (shown device.old.held) milliseconds.new }
 {
-    let Some(held) = replace(device, CipDevice::empty(alloc)).into_box() else {
+    let Some(mut held) = replace(device, CipDevice::empty(alloc)).into_box() else {
         return NO_DEVICE;
     };
-    let status = held.as_ref().next_deadline(milliseconds);
+    let status = held.as_mut().next_deadline(milliseconds);
     *device = CipDevice::of(held);
     status
 }

@@ -1,22 +1,23 @@
 -- Until when no side of a connection has been silent for too long.
-use Rattle.std.specs.Prelude.{◌≡◌, ℕ, ◌<◌, false, Some, Option, None, min}
+use Rattle.std.specs.Prelude.{◌≤◌, Some, Option, None, List, length, min}
 use Rattle.slab.specs.Slab.{Slab, get}
 use Rattle.cip_base.specs.Words.{Microseconds}
+use Rattle.cip_clock.specs.Bounds.{AreBounds}
 use Rattle.cip_hops.specs.declared.hop.Held.{Held}
 use Rattle.cip_hops.specs.declared.hop.Held.TheVariants.{Opening as IsOpening, Open}
-use Rattle.cip_hops.specs.Hops.{is_hop_due}
 
--- the last time of 64 bits where there is no deadline
-abbrev pub or_never : Option Microseconds → Microseconds
-or_never None = 18446744073709551615
-or_never (Some time) = time
+-- the earlier of two, where None is never
+abbrev pub earlier : Option Microseconds → Option Microseconds → Option Microseconds
+earlier None second = second
+earlier (Some first) None = Some first
+earlier (Some first) (Some second) = Some (min first second)
 
--- the earlier deadline of a hop
-abbrev pub first_deadline : Held → Microseconds
-first_deadline (IsOpening o ids) = or_never None
-first_deadline (Open hop) = min (or_never hop.up_deadline) (or_never hop.down_deadline)
+-- the first time at which either side has been silent for too long
+abbrev pub deadline_of : Held → Option Microseconds
+deadline_of (IsOpening o ids) = None
+deadline_of (Open hop) = earlier hop.up_deadline hop.down_deadline
 
--- no record is due before this time
-abbrev pub IsQuiet : Slab Held → Microseconds → Type 0
-IsQuiet records quiet = (key : ℕ) (x : Held) → get records key ≡ Some x
-    → (time : ℕ) → time < quiet → is_hop_due time x ≡ false
+-- there is a bound for each key, and no record has an earlier deadline
+pub record IsBounded (records : Slab Held) (bounds : List Microseconds) : Type 0 where
+  pub room : records.capacity ≤ length bounds
+  pub bounded : AreBounds deadline_of (get records) bounds

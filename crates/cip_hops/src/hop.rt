@@ -1,7 +1,7 @@
 //! A connection that is open.
 ghost use Rattle.std.specs.Prelude.{◌≡◌, ◌<◌, ◌^◌};
 ghost use Rattle.cip_hops.specs.Hops.{is_past, watched as watched_until};
-ghost use Rattle.cip_hops.specs.Quiet.{or_never, first_deadline};
+ghost use Rattle.cip_hops.specs.Quiet.{deadline_of};
 
 use crate::opening::{Opening, OwnIds};
 use cip_clock::Clock;
@@ -95,15 +95,19 @@ impl Held {
         }
     }
 
-    // The first time at which either side has been silent for too long; the last time where that
-    // never is.
+    // The first time at which either side has been silent for too long; None where neither is
+    // watched.
     #[inline(always)]
-    pub(crate) fn first_deadline(&self) -> u64
-        ensures { result ≡ first_deadline self.now }
+    pub(crate) fn deadline(&self) -> Option<u64>
+        ensures { result ≡ deadline_of self.now }
     {
         match self {
-            Held::Opening(_, _) => u64::MAX,
-            Held::Open(hop) => or_never(hop.up_deadline).min(or_never(hop.down_deadline)),
+            Held::Opening(_, _) => None,
+            Held::Open(hop) => match (hop.up_deadline, hop.down_deadline) {
+                (Some(up), Some(down)) => Some(up.min(down)),
+                (Some(up), None) => Some(up),
+                (None, down) => down,
+            },
         }
     }
 
@@ -142,12 +146,6 @@ impl Held {
             },
         }
     }
-}
-
-fn or_never(deadline: Option<u64>) -> u64
-    ensures { result ≡ or_never deadline }
-{
-    deadline.unwrap_or(u64::MAX)
 }
 
 fn is_past(deadline: Option<u64>, now: u64) -> bool

@@ -1,23 +1,26 @@
-//! The records of a table, with a time before which none of them is due.
+//! The records of a table, and the first of their deadlines.
 ghost use Rattle.std.specs.Prelude.{◌≡◌, ℕ, ◌+◌, ◌<◌, ◌≤◌, [], false, Some, None, IfOk, IsTrue, IsSomeAnd};
 ghost use Rattle.std.specs.Option.{option_copied};
 ghost use Rattle.slab.specs.Slab.{get, slab_len, with_value, ContainsKey, HasRoomFor, Updates};
 ghost use Rattle.cip_hops.specs.declared.hop.Held.{Held as Kept};
 ghost use Rattle.cip_hops.specs.Changes.{change_of, IsMeant};
-ghost use Rattle.cip_hops.specs.Hops.{is_past, is_hop_due};
+ghost use Rattle.cip_hops.specs.Hops.{is_hop_due};
+ghost use Rattle.cip_hops.specs.Quiet.{deadline_of, IsBounded};
+ghost use Rattle.cip_clock.specs.Bounds.{bound_under, IsFirstBound};
 
 use crate::hop::{Change, Held};
+use cip_clock::{Deadlines, bound_of};
 use slab::Slab;
 use std::alloc::{AllocError, Global};
 use std::marker::Model;
 
-/// What stands under triads, each under a key. A change keeps the time before which nothing is due,
-/// and a walk over all renews it: so most ticks look at no record.
+/// What stands under triads, each under a key, with a time for each key before which no side of its
+/// connection has been silent for too long. A deadline that moves away, or goes, leaves its time,
+/// until `first_bound` comes to it: so a datum changes no time but one that is too late.
 #[derive(Drop)]
 pub(crate) struct Records {
     pub(crate) kept: Slab<Held>,
-    // In microseconds: no side of a connection has been silent for too long before.
-    quiet: u64,
+    times: Deadlines,
 }
 
 impl Model for Records {
@@ -29,11 +32,11 @@ impl Model for Records {
 
     ghost coded = { slab_code entry.the_row.coded };
 
-    ghost use Rattle.cip_hops.specs.Quiet.{IsQuiet};
+    ghost use Rattle.cip_hops.specs.Quiet.{IsBounded};
 
     ghost view = { λ r. r.kept };
 
-    ghost invariant = { λ r. IsQuiet r.kept r.quiet };
+    ghost invariant = { λ r. IsBounded r.kept r.times };
 }
 
 impl Records {
@@ -41,10 +44,9 @@ impl Records {
         ensures empty { IfOk result (λ s. s.slots ≡ []) }
         ensures capacity { IfOk result (λ s. capacity ≤ s.capacity) }
     {
-        Ok(Records {
-            kept: Slab::with_capacity(alloc, capacity)?,
-            quiet: u64::MAX,
-        })
+        let kept = Slab::with_capacity(alloc, capacity)?;
+        let times = Deadlines::with_room(alloc, kept.capacity())?;
+        Ok(Records { kept, times })
     }
 
     /// The record of a key.
@@ -63,8 +65,10 @@ impl Records {
         ensures len { slab_len self.new ≡ slab_len self.old + 1 }
         ensures capacity { self.new.capacity ≡ self.old.capacity }
     {
-        self.quiet = self.quiet.min(held.first_deadline());
-        self.kept.insert_reserved(held)
+        let time = bound_of(held.deadline());
+        let key = self.kept.insert_reserved(held);
+        self.times.lower(key, time);
+        key
     }
 
     /// Changes the record of a key in its place.
@@ -78,8 +82,8 @@ impl Records {
             unreachable!()
         };
         held.change(change);
-        let deadline = held.first_deadline();
-        self.quiet = self.quiet.min(deadline);
+        let bound = bound_of(held.deadline());
+        self.times.lower(key, bound);
     }
 
     /// Takes out the record of a key.
@@ -99,7 +103,6 @@ impl Records {
         ensures capacity { self.new.capacity ≡ self.old.capacity }
     {
         self.kept.clear();
-        self.quiet = u64::MAX;
     }
 
     /// Whether it is known without a look at the records that none is due at `now`.
@@ -108,15 +111,41 @@ impl Records {
         ensures { IsTrue result → (key : ℕ) (x : Kept) → get self.now key ≡ Some x
             → is_hop_due now x ≡ false }
     {
-        now < self.quiet
+        now < self.times.least()
     }
 
-    /// Keeps the first time at which a record is due, None where none ever is.
-    pub(crate) fn look_ahead(&mut self, first: Option<u64>)
-        requires { (key : ℕ) (x : Kept) (time : ℕ) → get self.old key ≡ Some x
-            → is_past time first ≡ false → is_hop_due time x ≡ false }
-        ensures { self.new ≡ self.old }
+    /// The bound of the first deadline, `NEVER` where no side of a connection is watched. It looks
+    /// at the records whose first deadline moved away or went since the last call, and at one more.
+    pub(crate) fn first_bound(&mut self) -> u64
+        ensures kept { self.new ≡ self.old }
+        ensures first { IsFirstBound deadline_of (get self.old) result }
     {
-        self.quiet = first.unwrap_or(u64::MAX);
+        settled(&self.kept, &mut self.times)
+    }
+}
+
+// The bound of what stands under a key.
+fn bound_at(kept: &Slab<Held>, key: usize) -> u64
+    ensures { result ≡ bound_under deadline_of (get kept.now) key }
+{
+    match kept.get(key) {
+        Some(held) => bound_of(held.deadline()),
+        None => bound_of(None),
+    }
+}
+
+// The least bound, once it is that of what stands under its key.
+fn settled(kept: &Slab<Held>, times: &mut Deadlines) -> u64
+    requires { IsBounded kept.now times.old }
+    ensures bounded { IsBounded kept.now times.new }
+    ensures first { IsFirstBound deadline_of (get kept.now) result }
+{
+    'settle: loop {
+        let key = times.first();
+        let bound = bound_at(kept, key);
+        if times.bound(key) == bound {
+            return bound;
+        }
+        times.set(key, bound);
     }
 }

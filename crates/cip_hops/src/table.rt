@@ -24,6 +24,7 @@ use cip_base::{
     Address, LAST_COUNT, LAST_INCARNATION, NoMemory, NumberIndex, PortNumber, Triad, counts_given,
     incarnation, reborn,
 };
+use cip_clock::LAST_BOUND;
 use std::alloc::Global;
 use std::marker::Model;
 
@@ -340,7 +341,8 @@ impl HopTable {
     }
 
     /// The first time, in microseconds, at which either side of a connection has been silent for
-    /// too long; None where no side of a connection is watched. It looks at each connection once.
+    /// too long; None where no side of a connection is watched. It looks at each connection once;
+    /// `next_due` does not.
     pub fn first_deadline(&self) -> Option<u64>
         ensures { (time : ℕ) → is_past time result
             ≡ list_any (is_entry_due time) (map.entries self.now.held) }
@@ -348,9 +350,27 @@ impl HopTable {
         first_among(self.triads.pairs(), &self.records)
     }
 
+    /// The first deadline as `first_deadline` tells it, in time that is logarithmic in the room for
+    /// each connection whose first deadline moved away or went since the last call. Nothing changes
+    /// that a caller sees.
+    pub fn next_due(&mut self) -> Option<u64>
+        ensures value { (time : ℕ) → is_past time result
+            ≡ list_any (is_entry_due time) (map.entries self.old.held) }
+        ensures after { self.new ≡ self.old }
+    {
+        let first = self.records.first_bound();
+        if first < LAST_BOUND {
+            Some(first)
+        } else if first > LAST_BOUND {
+            None
+        } else {
+            self.first_deadline()
+        }
+    }
+
     /// Whether it is known, without a look at the connections, that no side of one has been silent
     /// for too long at `now`, in microseconds. It is known until the first deadline that there was
-    /// at the last `look_ahead`, where those that were set since are later.
+    /// at the last `look_ahead` or `next_due`, where those that were set since are later.
     #[inline(always)]
     pub fn is_quiet(&self, now: u64) -> bool
         ensures { IsTrue result → due now self.now ≡ [] }
@@ -358,13 +378,12 @@ impl HopTable {
         self.records.is_quiet(now)
     }
 
-    /// Looks at each connection for the first deadline, for `is_quiet`. Nothing changes that a
+    /// Looks for the first deadline, for `is_quiet`, as `next_due` does. Nothing changes that a
     /// caller sees otherwise.
     pub fn look_ahead(&mut self)
         ensures { self.new ≡ self.old }
     {
-        let first = self.first_deadline();
-        self.records.look_ahead(first);
+        self.records.first_bound();
     }
 
     /// The incarnation of the ids that come next: their high 16 bits, until the next reset.

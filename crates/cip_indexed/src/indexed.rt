@@ -56,6 +56,18 @@ impl IndexedModule {
         self.device.first_deadline()
     }
 
+    /// The same time in time that is logarithmic in the rooms, for each request that went and each
+    /// connection whose first deadline moved away or went since the last call. Nothing changes that
+    /// a caller sees, and it takes no memory.
+    pub fn next_due(&mut self) -> Option<u64>
+        ensures value { (time : ℕ) → is_past time result
+            ≡ is_any_due time (state_of_indexed self.old) }
+        ensures after { state_of_indexed self.new ≡ state_of_indexed self.old }
+        ensures config { config_of_indexed self.new ≡ config_of_indexed self.old }
+    {
+        self.device.next_due()
+    }
+
     /// The incarnation of the connection ids that it draws: their high 16 bits, until a Reset.
     pub fn id_incarnation(&self) -> u16
         ensures { result ≡ incarnation (state_of_indexed self.now).hops.next }

@@ -1,5 +1,5 @@
 //! What the modules of each kind share: their tables, which fit one another.
-ghost use Rattle.std.specs.Prelude.{◌≡◌, ℕ, IfOk};
+ghost use Rattle.std.specs.Prelude.{◌≡◌, ◌||◌, ℕ, IfOk};
 ghost use Rattle.std.specs.Option.{option_map};
 ghost use Rattle.cip_base.specs.Counts.{incarnation};
 ghost use Rattle.cip_hops.specs.Hops.{hop_by_op, hop_by_up, is_past};
@@ -40,6 +40,17 @@ fn target_of(alloc: Global, config: &ModuleConfig) -> Result<Target, NoMemory>
     let settings = config.settings();
     let identity = settings.identity.copy(alloc)?;
     Target::new(alloc, identity, settings.assemblies.as_slice())
+}
+
+// The earlier of two times, where None is never.
+fn earlier(first: Option<u64>, second: Option<u64>) -> Option<u64>
+    ensures { (time : ℕ) → is_past time result ≡ (is_past time first || is_past time second) }
+{
+    match (first, second) {
+        (Some(one), Some(other)) => Some(one.min(other)),
+        (Some(one), None) => Some(one),
+        (None, other) => other,
+    }
 }
 
 impl Device {
@@ -83,16 +94,24 @@ impl Device {
     }
 
     /// The first time, in microseconds, at which a request is given up or a side of a connection
-    /// has been silent for too long; None where nothing waits. It looks at each once, and takes no
-    /// memory.
+    /// has been silent for too long; None where nothing waits. It looks at each once, where
+    /// `next_due` does not, and takes no memory.
     pub fn first_deadline(&self) -> Option<u64>
         ensures { (time : ℕ) → is_past time result ≡ is_any_due time (state_of_device self.now) }
     {
-        match (self.pendings.first_deadline(), self.hops.first_deadline()) {
-            (Some(one), Some(other)) => Some(one.min(other)),
-            (Some(one), None) => Some(one),
-            (None, other) => other,
-        }
+        earlier(self.pendings.first_deadline(), self.hops.first_deadline())
+    }
+
+    /// The same time in time that is logarithmic in the rooms, for each request that went and each
+    /// connection whose first deadline moved away or went since the last call. Nothing changes that
+    /// a caller sees, and it takes no memory.
+    pub fn next_due(&mut self) -> Option<u64>
+        ensures value { (time : ℕ) → is_past time result
+            ≡ is_any_due time (state_of_device self.old) }
+        ensures after { state_of_device self.new ≡ state_of_device self.old }
+        ensures config { config_of_device self.new ≡ config_of_device self.old }
+    {
+        earlier(self.pendings.next_due(), self.hops.next_due())
     }
 
     /// The incarnation of the connection ids that it draws: their high 16 bits, until a Reset.

@@ -1,7 +1,7 @@
 -- Before the time that is kept no request is due.
-use Rattle.std.proofs.Common.{◌≡◌, ℕ, ◌<◌, ◌≤◌, Bool, true, false, cond, List, [], ◌∷◌, refl, sym, ap, subst, ◌∙◌, arith, Option, Some, None, nat_le, ◌||◌}
+use Rattle.std.proofs.Common.{◌≡◌, ℕ, ◌<◌, ◌≤◌, Bool, true, false, cond, List, [], ◌∷◌, refl, sym, ap, ◌∙◌, arith, Option, Some, None, nat_le, ◌||◌}
 use Rattle.std.specs.List.{list_any}
-use Rattle.std.specs.Option.{option_and_then, option_map_or, IsSomeAnd}
+use Rattle.std.specs.Option.{option_and_then, option_map_or}
 use Rattle.std.specs.Ordering.{nat_cmp, eq_by_cmp}
 use Rattle.std.specs.Cmp.{nat_cmp_total}
 use Rattle.std.specs.FinMap as map
@@ -15,7 +15,9 @@ use Rattle.cip_pending.specs.declared.entry.Entry.{Entry}
 use Rattle.cip_pending.specs.declared.table.PendingTable.TheInside.{Inside}
 use Rattle.cip_pending.specs.Pendings.{is_due, due}
 use Rattle.cip_pending.specs.Kept.{IsKept, pendings}
-use Rattle.cip_pending.specs.Quiet.{is_reached}
+use Rattle.cip_clock.specs.Bounds.{bound_of, IsFirstBound}
+use Rattle.cip_clock.specs.declared.deadlines.TheConstants.{LAST_BOUND}
+use Rattle.cip_pending.specs.Quiet.{deadline_of}
 use Rattle.cip_pending.proofs.Steps.{found_is}
 use Rattle.cip_pending.proofs.Ticks.{none_due}
 
@@ -66,19 +68,61 @@ any_one p q x (e ∷ es) found pass =
       | false ↦ λ t s. either_one (p e) (list_any p es) (any_one p q x es s pass)
     ] refl found
 
-at_its_own : (n : ℕ) → nat_le n n ≡ true
-at_its_own n = grind (arith, nat_tests)
+due_then : (deadline first time : ℕ) → deadline ≡ first → first ≤ time → nat_le deadline time ≡ true
+due_then deadline first time same reached = grind (arith, nat_tests)
 
-reached_by : (first : Option ℕ) (time : ℕ) → is_reached time first ≡ true → IsSomeAnd first (λ t. t ≤ time)
-reached_by None time e = absurd (cc)
-reached_by (Some t) time e = grind (arith, nat_tests)
+reached : (first time : ℕ) → nat_le first time ≡ true → first ≤ time
+reached first time e = grind (arith, nat_tests)
 
--- no record is due before the first deadline
-pub not_before : (t : Inside) → IsKept t → (first : Option ℕ)
-    → ((time : ℕ) → is_reached time first ≡ list_any (is_due time) (map.entries (pendings t).entries))
-    → (key : ℕ) (x : Entry) → get t.records key ≡ Some x → IsSomeAnd first (λ time. time ≤ x.deadline)
-not_before t h first is key x found =
-    let n = h.numbered key x found in
-    let stands = found_is t h n.0 ∙ ap (option_and_then (get t.records)) n.1 ∙ found in
-    reached_by first x.deadline (is x.deadline ∙ any_one (is_due x.deadline) n.0 x (map.entries (pendings t).entries)
-    (sym (map.get-entries (pendings t).entries n.0) ∙ stands) (at_its_own x.deadline))
+unreached : (first time : ℕ) → nat_le first time ≡ false → time < first
+unreached first time e = grind (arith, nat_tests)
+
+none_joined : (p : ℕ × Entry → Bool) (found : ℕ → Option Entry) (ps : List (ℕ × ℕ)) → ((q : ℕ × ℕ) → passes p found q ≡ false)
+    → list_any (passes p found) ps ≡ false
+none_joined p found [] none = refl
+none_joined p found (q ∷ ps) none = ap (λ b. b || list_any (passes p found) ps) (none q) ∙ none_joined p found ps none
+
+-- ---- the first bound, where it is less than the last
+
+module _ (t : Inside) (h : IsKept t) (first : ℕ) (is : IsFirstBound deadline_of (get t.records) first) where
+  -- the request whose bound it is
+  its_own : first < LAST_BOUND → (x : Entry) × (get t.records is.key ≡ Some x) × (x.deadline ≡ first)
+  its_own some =
+      elim (get t.records is.key) as (λ (o : Option Entry). get t.records is.key ≡ o → bound_of (option_and_then deadline_of o) ≡ first
+      → (x : Entry) × (get t.records is.key ≡ Some x) × (x.deadline ≡ first)) [
+        | None ↦ λ at reached. absurd (omega arith)
+        | Some x ↦ λ at reached. (x, at, omega arith)
+      ] refl is.reached
+
+  none_before : (time : ℕ) → time < first → time < LAST_BOUND → list_any (is_due time) (map.entries (pendings t).entries) ≡ false
+  none_before time early low =
+      sym (any_waiting t (is_due time))
+      ∙ none_joined (is_due time) (get t.records) (map.entries t.order.keys) (λ q.
+      elim (get t.records q.1) as (λ (o : Option Entry). get t.records q.1 ≡ o → option_map_or (λ x. is_due time (q.0, x)) o false ≡ false) [
+        | None ↦ λ at. refl
+        | Some x ↦ λ at. let least = is.least q.1 x at in later x.deadline time (omega (arith, least))
+      ] refl)
+
+  one_due : first < LAST_BOUND → (time : ℕ) → first ≤ time → list_any (is_due time) (map.entries (pendings t).entries) ≡ true
+  one_due some time reached =
+      let own = its_own some in
+      let n = h.numbered is.key own.0 own.1 in
+      let stands = found_is t h n.0 ∙ ap (option_and_then (get t.records)) n.1 ∙ own.1 in
+      any_one (is_due time) n.0 own.0 (map.entries (pendings t).entries)
+      (sym (map.get-entries (pendings t).entries n.0) ∙ stands) (due_then own.0.deadline first time own.2 reached)
+
+  pub first_is : first < LAST_BOUND → (time : ℕ) → nat_le first time ≡ list_any (is_due time) (map.entries (pendings t).entries)
+  first_is some time =
+      elim (nat_le first time) as (λ b. nat_le first time ≡ b → b ≡ list_any (is_due time) (map.entries (pendings t).entries)) [
+        | true ↦ λ e. sym (one_due some time (reached first time e))
+        | false ↦ λ e. sym (none_before time (unreached first time e) (omega (arith, unreached first time e)))
+      ] refl
+
+  pub none_is : LAST_BOUND < first → (time : ℕ) → false ≡ list_any (is_due time) (map.entries (pendings t).entries)
+  none_is never time =
+      sym (sym (any_waiting t (is_due time))
+      ∙ none_joined (is_due time) (get t.records) (map.entries t.order.keys) (λ q.
+      elim (get t.records q.1) as (λ (o : Option Entry). get t.records q.1 ≡ o → option_map_or (λ x. is_due time (q.0, x)) o false ≡ false) [
+        | None ↦ λ at. refl
+        | Some x ↦ λ at. let least = is.least q.1 x at in absurd (omega (arith, least))
+      ] refl))

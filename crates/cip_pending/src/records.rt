@@ -1,21 +1,23 @@
-//! The records of a table, with a time before which none of them is due.
-ghost use Rattle.std.specs.Prelude.{◌≡◌, ℕ, ◌+◌, ◌<◌, ◌≤◌, [], Some, None, IfOk, IsTrue, IsSomeAnd};
+//! The records of a table, and the first of their deadlines.
+ghost use Rattle.std.specs.Prelude.{◌≡◌, ℕ, ◌+◌, ◌<◌, ◌≤◌, [], Some, None, IfOk, IsTrue};
 ghost use Rattle.std.specs.Option.{option_copied};
 ghost use Rattle.slab.specs.Slab.{get, slab_len, ContainsKey, HasRoomFor, Updates};
 ghost use Rattle.cip_pending.specs.declared.entry.Entry.{Entry as Waiting};
+ghost use Rattle.cip_clock.specs.Bounds.{bound_under, IsFirstBound};
+ghost use Rattle.cip_pending.specs.Quiet.{deadline_of, IsBounded};
 
 use crate::entry::Entry;
+use cip_clock::{Deadlines, bound_of};
 use slab::Slab;
 use std::alloc::{AllocError, Global};
 use std::marker::Model;
 
-/// The requests that wait, each under a key. A new one keeps the time before which none is due, and
-/// a walk over all renews it: so most ticks look at no record.
+/// The requests that wait, each under a key, with a time for each key before which its request is
+/// not due. A request that goes leaves its time, until `first_bound` comes to it.
 #[derive(Drop)]
 pub(crate) struct Records {
     kept: Slab<Entry>,
-    // In microseconds: no deadline is earlier.
-    quiet: u64,
+    times: Deadlines,
 }
 
 impl Model for Records {
@@ -27,11 +29,11 @@ impl Model for Records {
 
     ghost coded = { slab_code entry.the_row.coded };
 
-    ghost use Rattle.cip_pending.specs.Quiet.{IsQuiet};
+    ghost use Rattle.cip_pending.specs.Quiet.{IsBounded};
 
     ghost view = { λ r. r.kept };
 
-    ghost invariant = { λ r. IsQuiet r.kept r.quiet };
+    ghost invariant = { λ r. IsBounded r.kept r.times };
 }
 
 impl Records {
@@ -39,10 +41,9 @@ impl Records {
         ensures empty { IfOk result (λ s. s.slots ≡ []) }
         ensures capacity { IfOk result (λ s. capacity ≤ s.capacity) }
     {
-        Ok(Records {
-            kept: Slab::with_capacity(alloc, capacity)?,
-            quiet: u64::MAX,
-        })
+        let kept = Slab::with_capacity(alloc, capacity)?;
+        let times = Deadlines::with_room(alloc, kept.capacity())?;
+        Ok(Records { kept, times })
     }
 
     /// The record of a key.
@@ -62,8 +63,10 @@ impl Records {
         ensures len { slab_len self.new ≡ slab_len self.old + 1 }
         ensures capacity { self.new.capacity ≡ self.old.capacity }
     {
-        self.quiet = self.quiet.min(entry.deadline);
-        self.kept.insert_reserved(entry)
+        let deadline = entry.deadline;
+        let key = self.kept.insert_reserved(entry);
+        self.times.lower(key, bound_of(Some(deadline)));
+        key
     }
 
     /// Takes out the record of a key.
@@ -84,7 +87,6 @@ impl Records {
         ensures capacity { self.new.capacity ≡ self.old.capacity }
     {
         self.kept.clear();
-        self.quiet = u64::MAX;
     }
 
     /// Whether it is known without a look at the records that none is due at `now`.
@@ -93,18 +95,41 @@ impl Records {
         ensures { IsTrue result → (key : ℕ) (x : Waiting) → get self.now key ≡ Some x
             → now < x.deadline }
     {
-        now < self.quiet
+        now < self.times.least()
     }
 
-    /// Keeps the first deadline, None where there is no record.
-    pub(crate) fn look_ahead(&mut self, first: Option<u64>)
-        requires { (key : ℕ) (x : Waiting) → get self.old key ≡ Some x
-            → IsSomeAnd first (λ time. time ≤ x.deadline) }
-        ensures { self.new ≡ self.old }
+    /// The bound of the first deadline, `NEVER` where there is no record. It looks at the records
+    /// that went since the last call, and at one more.
+    pub(crate) fn first_bound(&mut self) -> u64
+        ensures kept { self.new ≡ self.old }
+        ensures first { IsFirstBound deadline_of (get self.old) result }
     {
-        self.quiet = match first {
-            Some(time) => time,
-            None => u64::MAX,
-        };
+        settled(&self.kept, &mut self.times)
+    }
+}
+
+// The bound of what stands under a key.
+fn bound_at(kept: &Slab<Entry>, key: usize) -> u64
+    ensures { result ≡ bound_under deadline_of (get kept.now) key }
+{
+    match kept.get(key) {
+        Some(entry) => bound_of(Some(entry.deadline)),
+        None => bound_of(None),
+    }
+}
+
+// The least bound, once it is that of what stands under its key.
+fn settled(kept: &Slab<Entry>, times: &mut Deadlines) -> u64
+    requires { IsBounded kept.now times.old }
+    ensures bounded { IsBounded kept.now times.new }
+    ensures first { IsFirstBound deadline_of (get kept.now) result }
+{
+    'settle: loop {
+        let key = times.first();
+        let bound = bound_at(kept, key);
+        if times.bound(key) == bound {
+            return bound;
+        }
+        times.set(key, bound);
     }
 }

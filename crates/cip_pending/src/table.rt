@@ -18,6 +18,7 @@ use cip_base::{
     Address, LAST_COUNT, LAST_INCARNATION, NoMemory, NumberIndex, PortNumber, counts_given,
     incarnation, reborn,
 };
+use cip_clock::LAST_BOUND;
 use std::alloc::Global;
 use std::marker::Model;
 
@@ -157,7 +158,7 @@ impl PendingTable {
     }
 
     /// The first deadline, in microseconds; None where nothing waits. It looks at each request
-    /// once.
+    /// once; `next_due` does not.
     pub fn first_deadline(&self) -> Option<u64>
         ensures { (time : ℕ) → is_reached time result
             ≡ list_any (is_due time) (map.entries self.now.entries) }
@@ -165,9 +166,26 @@ impl PendingTable {
         first_among(self.order.pairs(), &self.records)
     }
 
+    /// The first deadline as `first_deadline` tells it, in time that is logarithmic in the room for
+    /// each request that went since the last call. Nothing changes that a caller sees.
+    pub fn next_due(&mut self) -> Option<u64>
+        ensures value { (time : ℕ) → is_reached time result
+            ≡ list_any (is_due time) (map.entries self.old.entries) }
+        ensures after { self.new ≡ self.old }
+    {
+        let first = self.records.first_bound();
+        if first < LAST_BOUND {
+            Some(first)
+        } else if first > LAST_BOUND {
+            None
+        } else {
+            self.first_deadline()
+        }
+    }
+
     /// Whether it is known, without a look at the requests, that none is due at `now`, in
-    /// microseconds. It is known until the first deadline that there was at the last `look_ahead`,
-    /// where those that were added since are later.
+    /// microseconds. It is known until the first deadline that there was at the last `look_ahead`
+    /// or `next_due`, where those that were added since are later.
     #[inline(always)]
     pub fn is_quiet(&self, now: u64) -> bool
         ensures { IsTrue result → due now self.now ≡ [] }
@@ -175,13 +193,12 @@ impl PendingTable {
         self.records.is_quiet(now)
     }
 
-    /// Looks at each request for the first deadline, for `is_quiet`. Nothing changes that a caller
-    /// sees otherwise.
+    /// Looks for the first deadline, for `is_quiet`, as `next_due` does. Nothing changes that a
+    /// caller sees otherwise.
     pub fn look_ahead(&mut self)
         ensures { self.new ≡ self.old }
     {
-        let first = self.first_deadline();
-        self.records.look_ahead(first);
+        self.records.first_bound();
     }
 
     /// The incarnation of the numbers that come next: their high 16 bits, until the next reset.

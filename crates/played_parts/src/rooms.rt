@@ -3,6 +3,7 @@ use crate::fault::Fault;
 use crate::guarded::{Part, Refusal, guarded};
 use crate::out::Out;
 use cip_base::{NumberIndex, Row};
+use cip_clock::{Deadlines, NEVER};
 use cip_hops::HopTable;
 use cip_pending::PendingTable;
 use std::alloc::Global;
@@ -13,13 +14,15 @@ const ROOM: usize = 3;
 enum Call {
     Row,
     Index,
+    Deadlines,
     Pendings,
     Hops,
 }
 
-const CALLS: [(&str, Call); 4] = [
+const CALLS: [(&str, Call); 5] = [
     ("Row::with_room", Call::Row),
     ("NumberIndex::with_room", Call::Index),
+    ("Deadlines::with_room", Call::Deadlines),
     ("PendingTable::with_room", Call::Pendings),
     ("HopTable::with_room", Call::Hops),
 ];
@@ -29,6 +32,7 @@ enum Given {
     Nothing,
     Row(Row<u8>),
     Index(NumberIndex),
+    Deadlines(Deadlines),
     Pendings(PendingTable),
     Hops(HopTable),
 }
@@ -44,6 +48,7 @@ impl Part for Rooms {
         self.given = match self.call {
             Call::Row => Given::Row(Row::with_room(alloc, ROOM)?),
             Call::Index => Given::Index(NumberIndex::with_room(alloc, ROOM)?),
+            Call::Deadlines => Given::Deadlines(Deadlines::with_room(alloc, ROOM)?),
             Call::Pendings => Given::Pendings(PendingTable::with_room(alloc, ROOM, 7)?),
             Call::Hops => Given::Hops(HopTable::with_room(alloc, ROOM, 7)?),
         };
@@ -55,6 +60,9 @@ impl Part for Rooms {
             Given::Nothing => return Err(Fault::Unexpected),
             Given::Row(row) => format!(in alloc; "holds {}", row.as_slice().len())?,
             Given::Index(index) => format!(in alloc; "holds {}", index.len())?,
+            Given::Deadlines(deadlines) => {
+                format!(in alloc; "never {}", deadlines.least() == NEVER)?
+            }
             Given::Pendings(table) => format!(in alloc; "last {}", table.last())?,
             Given::Hops(table) => format!(in alloc; "last {}", table.last())?,
         })

@@ -1,0 +1,3 @@
+pub mod Tree
+pub mod Stale
+pub mod Bounded

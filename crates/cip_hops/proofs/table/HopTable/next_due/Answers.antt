@@ -1,0 +1,16 @@
+use Rattle.std.proofs.Common.{ap, ◌∙◌}
+use Rattle.std.specs.List.{list_any}
+use Rattle.std.specs.FinMap as map
+use Rattle.cip_hops.specs.Hops.{Hops, is_entry_due}
+use Rattle.cip_hops.proofs.Quiet.{first_is, none_is}
+use Rattle.cip_hops.proofs.table.HopTable.next_due.Goals as goal
+
+pub returns-then-first-lt-LAST_BOUND-clause-value : goal.returns-then-first-lt-LAST_BOUND-clause-value
+returns-then-first-lt-LAST_BOUND-clause-value c = λ time.
+    first_is c.self.inside c.self.invariant c.first_bound-first.result c.first_bound-first.ensures.first c.if-first-lt-LAST_BOUND.true time
+    ∙ ap (λ (p : Hops). list_any (is_entry_due time) (map.entries p.held)) c.self.view_is
+
+pub returns-then-first-gt-LAST_BOUND-clause-value : goal.returns-then-first-gt-LAST_BOUND-clause-value
+returns-then-first-gt-LAST_BOUND-clause-value c = λ time.
+    none_is c.self.inside c.self.invariant c.first_bound-first.result c.first_bound-first.ensures.first c.if-first-gt-LAST_BOUND.true time
+    ∙ ap (λ (p : Hops). list_any (is_entry_due time) (map.entries p.held)) c.self.view_is
