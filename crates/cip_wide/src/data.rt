@@ -1,12 +1,12 @@
 //! What a line expects of data: of those that came, and of those that assemblies hold.
 
-use crate::counts::{Counted, Datum, newest_consumed, standing_of};
 use crate::fault::{LineError, unmet};
-use crate::naming::{OpName, Place, module_name};
-use crate::outcomes::newest_arrived;
 use crate::reading::{Named, bytes_of, instance_of};
-use crate::unmet::{Differing, Unmet};
 use cip_base::{Bytes, ModuleId};
+use cip_outcomes::{
+    Counted, Datum, Differing, OpName, Place, Unmet, module_name, newest_arrived, newest_consumed,
+    standing_of,
+};
 use cip_topology::Topology;
 use cip_world::{Shown, World, WorldFault};
 use std::alloc::Global;

@@ -1,21 +1,16 @@
 //! What a line expects of the run so far.
 
-use crate::answers::{Answer, answer_of};
-use crate::attributes::attribute_of;
 use crate::data::{differing, expect_arrived, expect_assembly, expect_consumed, expect_repeated};
-use crate::endings::{has_expired, newest_frame};
 use crate::fault::{LineError, WordFault, unmet, wrong_count, wrong_word};
 use crate::links::module_at;
-use crate::naming::{OpName, excerpt, module_name};
-use crate::nearest::nearest;
-use crate::ops::Ops;
-use crate::outcomes::Code;
 use crate::reading::{Named, attribute_number, check_drop, check_reason, code_of, op_of};
-use crate::refusals::{newest_given, order_of};
-use crate::unmet::{DropReason, Unmet};
 use cip_base::{Bytes, ModuleId};
 use cip_ends::Ends;
 use cip_message::read_reply;
+use cip_outcomes::{
+    Answer, Code, DropReason, OpName, Ops, Unmet, answer_of, attribute_of, excerpt, has_expired,
+    module_name, nearest, newest_frame, newest_given, order_of,
+};
 use cip_transcript::put_chain_of;
 use cip_world::{Shown, World};
 use std::alloc::Global;

@@ -1,10 +1,7 @@
 //! Why a wide script is none, or does not come out as it expects.
 
-use crate::naming::excerpt;
-use crate::nearest::{Near, nearest};
-use crate::refusals::Refusal;
-use crate::unmet::Unmet;
 use cip_base::NoMemory;
+use cip_outcomes::{Near, Refusal, Unmet, excerpt, nearest};
 use cip_script::{Explained, Frames};
 use cip_tool::{AnswerFault, HexFault};
 use cip_topology::Excerpt;

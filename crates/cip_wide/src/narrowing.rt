@@ -10,15 +10,12 @@ use crate::fault::{
 };
 use crate::lines::{Line, first_not_ascii, lines_of};
 use crate::links::{frames_at, listed, module_names, side_of};
-use crate::naming::module_text;
-use crate::nearest::nearest;
-use crate::ops::Ops;
 use crate::outages::{Loss, Outage, Outages, losses_since};
 use crate::plain::{NewOp, Plain, plain_line};
-use crate::refusals::{is_refused, refusal_of};
 use cip_base::{Bytes, NoMemory};
 use cip_ends::Ends;
 use cip_module::Module;
+use cip_outcomes::{Ops, is_refused, module_text, nearest, refusal_of};
 use cip_script::{
     Mode, PlayFault, ScriptFault, Step, StepsFault, explain, play_step, read_steps, usage_of,
 };

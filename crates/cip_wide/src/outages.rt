@@ -1,9 +1,9 @@
 //! Links that are down, and what is lost there.
 
 use crate::links::{Side, link_of, link_word};
-use crate::naming::module_text;
 use cip_base::NoMemory;
 use cip_module::Body;
+use cip_outcomes::module_text;
 use cip_topology::Topology;
 use cip_world::{Flying, FrameName, World, frame_at};
 use std::alloc::{AllocError, Global};

@@ -1,10 +1,8 @@
 //! Lines of the script's own words, with their names and paths in words replaced.
 
-use crate::counts::next_count;
 use crate::fault::{LineError, WordFault, wrong_path, wrong_word};
-use crate::nearest::nearest;
-use crate::ops::{Ops, name_of};
 use cip_base::ModuleId;
+use cip_outcomes::{Ops, name_of, nearest, next_count};
 use cip_tool::{hex_fault, number_u32, path_answer};
 use cip_topology::{Name, Topology};
 use cip_world::{Entry, World};

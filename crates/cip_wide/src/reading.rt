@@ -1,10 +1,8 @@
 //! The words of an expectation.
 
 use crate::fault::{LineError, WordFault, wrong_word};
-use crate::nearest::nearest;
-use crate::ops::{Ops, name_of};
-use crate::outcomes::Code;
 use cip_base::{Bytes, ModuleId};
+use cip_outcomes::{Code, Ops, name_of, nearest};
 use cip_tool::{HexFault, hex_fault, number_u16, number_u32};
 use cip_topology::Topology;
 use hex::FromHexError;

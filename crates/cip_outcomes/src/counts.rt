@@ -36,7 +36,7 @@ fn entered_in(entry: &Entry, at: ModuleId, number: u32) -> Option<u16> {
 }
 
 /// The count behind the one that was last entered on the connection of an op; 1 where none was.
-pub(crate) fn next_count(journal: &[Entry], at: ModuleId, number: u32) -> u16 {
+pub fn next_count(journal: &[Entry], at: ModuleId, number: u32) -> u16 {
     for entry in journal.iter().rev() {
         if let Some(count) = entered_in(entry, at, number) {
             return count.wrapping_add(1);
@@ -47,10 +47,10 @@ pub(crate) fn next_count(journal: &[Entry], at: ModuleId, number: u32) -> u16 {
 
 /// A datum that came to its end, and in which entry.
 #[derive(Clone, Copy)]
-pub(crate) struct Datum<'a> {
-    pub(crate) place: usize,
-    pub(crate) triad: Triad,
-    pub(crate) bytes: &'a Bytes,
+pub struct Datum<'a> {
+    pub place: usize,
+    pub triad: Triad,
+    pub bytes: &'a Bytes,
 }
 
 // The last datum of these outputs that came to an assembly.
@@ -71,7 +71,7 @@ fn consumed_in(outputs: &[Output], number: u32) -> Option<(Triad, &Bytes)> {
 }
 
 /// The newest datum that came to an assembly of a module.
-pub(crate) fn newest_consumed(journal: &[Entry], at: ModuleId, number: u32) -> Option<Datum<'_>> {
+pub fn newest_consumed(journal: &[Entry], at: ModuleId, number: u32) -> Option<Datum<'_>> {
     for (place, entry) in journal.iter().enumerate().rev() {
         if let Entry::Step {
             at: own,
@@ -188,7 +188,7 @@ fn count_before(journal: &[Entry], at: ModuleId, datum: Datum<'_>) -> Option<u16
 }
 
 /// How the count of a datum at a module stands to the one before it.
-pub(crate) fn standing_of(
+pub fn standing_of(
     topology: &Topology,
     journal: &[Entry],
     at: ModuleId,

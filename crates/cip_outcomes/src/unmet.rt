@@ -31,8 +31,8 @@ impl fmt::Display for Lengths {
 /// Bytes that came, and those that were wanted.
 #[derive(Debug, Drop)]
 pub struct Differing {
-    pub(crate) found: Bytes,
-    pub(crate) wanted: Bytes,
+    pub found: Bytes,
+    pub wanted: Bytes,
 }
 
 impl fmt::Display for Differing {
@@ -49,7 +49,7 @@ impl fmt::Display for Differing {
 
 /// A reason for which a frame was dropped, or none.
 #[derive(Clone, Copy, Debug, PartialEq, Eq)]
-pub struct DropReason(pub(crate) Option<Dropped>);
+pub struct DropReason(pub Option<Dropped>);
 
 impl fmt::Display for DropReason {
     fn fmt<W: fmt::Write>(&self, f: &mut fmt::Formatter<W>) -> fmt::Result {

@@ -30,7 +30,7 @@ fn is_near(edits: usize, word: &str) -> bool {
 }
 
 /// The first of the names that takes the fewest edits.
-pub(crate) fn nearest(alloc: Global, word: &str, names: &[&str]) -> Result<Near, AllocError> {
+pub fn nearest(alloc: Global, word: &str, names: &[&str]) -> Result<Near, AllocError> {
     if word.len() > LONGEST {
         return Ok(Near(None));
     }

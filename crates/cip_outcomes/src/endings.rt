@@ -89,7 +89,7 @@ fn triad_of(topology: &Topology, at: ModuleId, serial: u16) -> Option<Triad> {
 
 /// Whether the connection for which an op of a module asked expired at another module, before one
 /// of its serial number was asked for again. None where the op asked for no connection.
-pub(crate) fn has_expired(
+pub fn has_expired(
     topology: &Topology,
     journal: &[Entry],
     op: (ModuleId, u32),
@@ -112,10 +112,7 @@ fn dropped_in(outputs: &[Output]) -> Option<Dropped> {
 }
 
 /// The last frame that came to a module, and why it was dropped, where it was.
-pub(crate) fn newest_frame(
-    journal: &[Entry],
-    at: ModuleId,
-) -> Option<(FrameName, Option<Dropped>)> {
+pub fn newest_frame(journal: &[Entry], at: ModuleId) -> Option<(FrameName, Option<Dropped>)> {
     for entry in journal.iter().rev() {
         if let Entry::Step {
             at: own,

@@ -206,13 +206,7 @@ fn how_of(input: &Input, code: Code) -> How {
 
 /// Who answered an op of a module, which is done with this status. The status is told too, where
 /// that is asked for.
-pub(crate) fn answer_of(
-    world: &World,
-    at: ModuleId,
-    number: u32,
-    code: Code,
-    is_told: bool,
-) -> Answer {
+pub fn answer_of(world: &World, at: ModuleId, number: u32, code: Code, is_told: bool) -> Answer {
     let journal = world.journal();
     let Some(done) = done_place(journal, at, number) else {
         return Answer::Missing;

@@ -29,7 +29,7 @@ impl fmt::Display for Code {
 
 impl Code {
     /// The status of a reply; None where the bytes are no reply.
-    pub(crate) fn of(reply: &Bytes) -> Option<Code> {
+    pub fn of(reply: &Bytes) -> Option<Code> {
         match read_reply(reply.as_slice()) {
             Ok(view) => {
                 let Status { general, extra } = view.status();
@@ -72,7 +72,7 @@ fn arrived_in(outputs: &[Output], number: u32) -> Option<&Bytes> {
 }
 
 /// The newest datum that came back to an op of a module.
-pub(crate) fn newest_arrived(journal: &[Entry], module_: ModuleId, number: u32) -> Option<&Bytes> {
+pub fn newest_arrived(journal: &[Entry], module_: ModuleId, number: u32) -> Option<&Bytes> {
     for entry in journal.iter().rev() {
         if let Entry::Step { at, outputs, .. } = entry {
             if *at == module_ {

@@ -7,13 +7,13 @@ use std::alloc::{AllocError, Global};
 
 /// The ops that were named, and the greatest number of an op that each module was given.
 #[derive(Drop)]
-pub(crate) struct Ops {
+pub struct Ops {
     named: Names,
     greatest: Vec<u32>,
 }
 
 /// The name that a word is: one of a topology file that begins with a letter.
-pub(crate) fn name_of(word: &str) -> Option<Name> {
+pub fn name_of(word: &str) -> Option<Name> {
     match word.as_bytes() {
         [first, ..] if first.is_ascii_alphabetic() => Name::read(word.as_bytes()),
         _ => None,
@@ -22,7 +22,7 @@ pub(crate) fn name_of(word: &str) -> Option<Name> {
 
 impl Ops {
     /// None, for so many modules.
-    pub(crate) fn new(alloc: Global, modules: usize) -> Result<Ops, AllocError> {
+    pub fn new(alloc: Global, modules: usize) -> Result<Ops, AllocError> {
         Ok(Ops {
             named: Names::new(alloc),
             greatest: Vec::from_elem(alloc, 0u32, modules)?,
@@ -30,7 +30,7 @@ impl Ops {
     }
 
     /// A number above those that the module was given.
-    pub(crate) fn fresh(&self, at: ModuleId) -> Option<u32> {
+    pub fn fresh(&self, at: ModuleId) -> Option<u32> {
         match self.greatest.get(at.0) {
             Some(greatest) => greatest.checked_add(1),
             None => None,
@@ -38,7 +38,7 @@ impl Ops {
     }
 
     /// The module was given an op of this number.
-    pub(crate) fn note(&mut self, at: ModuleId, number: u32) {
+    pub fn note(&mut self, at: ModuleId, number: u32) {
         if let Some(greatest) = self.greatest.get_mut(at.0) {
             if *greatest < number {
                 *greatest = number;
@@ -47,13 +47,13 @@ impl Ops {
     }
 
     /// The op of this number of the module has this name from now on.
-    pub(crate) fn name(&mut self, name: Name, at: ModuleId, number: u32) -> Result<(), NoMemory> {
+    pub fn name(&mut self, name: Name, at: ModuleId, number: u32) -> Result<(), NoMemory> {
         self.note(at, number);
         self.named.push(Op { name, at, number })
     }
 
     /// The name that an op of the module got last.
-    pub(crate) fn name_of(&self, at: ModuleId, number: u32) -> Option<&Name> {
+    pub fn name_of(&self, at: ModuleId, number: u32) -> Option<&Name> {
         for op in self.named.as_slice().iter().rev() {
             if op.at == at && op.number == number {
                 return Some(&op.name);
@@ -63,11 +63,7 @@ impl Ops {
     }
 
     /// The names of ops, of the module where one is given.
-    pub(crate) fn words(
-        &self,
-        alloc: Global,
-        at: Option<ModuleId>,
-    ) -> Result<Vec<&str>, AllocError> {
+    pub fn words(&self, alloc: Global, at: Option<ModuleId>) -> Result<Vec<&str>, AllocError> {
         let mut words = Vec::new(alloc);
         for op in self.named.as_slice() {
             if at.is_none() || at == Some(op.at) {
@@ -78,7 +74,7 @@ impl Ops {
     }
 
     /// The number of the module's op that got the name last.
-    pub(crate) fn number(&self, name: &Name, at: ModuleId) -> Option<u32> {
+    pub fn number(&self, name: &Name, at: ModuleId) -> Option<u32> {
         match self.named.newest(name, Some(at)) {
             Some(op) => Some(op.number),
             None => None,
@@ -86,7 +82,7 @@ impl Ops {
     }
 
     /// The module and the number of the op that got the name last.
-    pub(crate) fn find(&self, name: &Name) -> Option<(ModuleId, u32)> {
+    pub fn find(&self, name: &Name) -> Option<(ModuleId, u32)> {
         match self.named.newest(name, None) {
             Some(op) => Some((op.at, op.number)),
             None => None,

@@ -6,17 +6,17 @@ use cip_topology::{Excerpt, Topology};
 use std::fmt;
 
 /// A word of a line.
-pub(crate) fn excerpt(word: &str) -> Excerpt {
+pub fn excerpt(word: &str) -> Excerpt {
     Excerpt::of(word.as_bytes())
 }
 
 /// The name of a module.
-pub(crate) fn module_name(topology: &Topology, at: ModuleId) -> Excerpt {
+pub fn module_name(topology: &Topology, at: ModuleId) -> Excerpt {
     Excerpt::of(topology.name_of(at).unwrap_or(&[]))
 }
 
 /// The same as a text.
-pub(crate) fn module_text(topology: &Topology, at: ModuleId) -> &str {
+pub fn module_text(topology: &Topology, at: ModuleId) -> &str {
     std::str::from_utf8(topology.name_of(at).unwrap_or(&[])).unwrap_or("")
 }
 
@@ -39,7 +39,7 @@ impl fmt::Display for OpName {
 
 impl OpName {
     /// An op that a word of a line names: by its name, or as MODULE.NUMBER.
-    pub(crate) fn of_word(topology: &Topology, word: &str, at: ModuleId, number: u32) -> OpName {
+    pub fn of_word(topology: &Topology, word: &str, at: ModuleId, number: u32) -> OpName {
         let name = if word.contains('.') {
             None
         } else {
@@ -53,7 +53,7 @@ impl OpName {
     }
 
     /// An op of a module.
-    pub(crate) fn of(topology: &Topology, ops: &Ops, at: ModuleId, number: u32) -> OpName {
+    pub fn of(topology: &Topology, ops: &Ops, at: ModuleId, number: u32) -> OpName {
         OpName {
             name: ops
                 .name_of(at, number)
@@ -99,9 +99,9 @@ impl fmt::Display for Subject {
 /// A command that was given to a module: its word, and what it is about.
 #[derive(Debug, Drop)]
 pub struct Order {
-    pub(crate) word: &'static str,
-    pub(crate) module_: Excerpt,
-    pub(crate) subject: Subject,
+    pub word: &'static str,
+    pub module_: Excerpt,
+    pub subject: Subject,
 }
 
 impl fmt::Display for Order {

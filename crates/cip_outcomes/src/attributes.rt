@@ -72,7 +72,7 @@ fn object_of(journal: &[Entry], at: ModuleId, number: u32) -> Option<ObjectPath>
 
 /// The bytes of an attribute in the successful reply to an op of a module: of one attribute alone,
 /// or of all those of the Identity object.
-pub(crate) fn attribute_of<'a>(
+pub fn attribute_of<'a>(
     journal: &[Entry],
     at: ModuleId,
     number: u32,

@@ -58,7 +58,7 @@ impl fmt::Display for Refusal {
 }
 
 /// Why a command was refused by these outputs, where it was.
-pub(crate) fn refused_in(outputs: &[Output]) -> Option<Refused> {
+pub fn refused_in(outputs: &[Output]) -> Option<Refused> {
     for output in outputs {
         if let Output::Refused(refused) = output {
             return Some(*refused);
@@ -69,14 +69,14 @@ pub(crate) fn refused_in(outputs: &[Output]) -> Option<Refused> {
 
 /// A command in a journal, with its module, and why it was refused, where it was.
 #[derive(Clone, Copy)]
-pub(crate) struct Given<'a> {
-    pub(crate) at: ModuleId,
-    pub(crate) command: &'a Command,
-    pub(crate) refused: Option<Refused>,
+pub struct Given<'a> {
+    pub at: ModuleId,
+    pub command: &'a Command,
+    pub refused: Option<Refused>,
 }
 
 /// The command of an entry.
-pub(crate) fn command_in(entry: &Entry) -> Option<Given<'_>> {
+pub fn command_in(entry: &Entry) -> Option<Given<'_>> {
     match entry {
         Entry::Step {
             at,
@@ -92,7 +92,7 @@ pub(crate) fn command_in(entry: &Entry) -> Option<Given<'_>> {
 }
 
 /// The newest command.
-pub(crate) fn newest_given(journal: &[Entry]) -> Option<Given<'_>> {
+pub fn newest_given(journal: &[Entry]) -> Option<Given<'_>> {
     for entry in journal.iter().rev() {
         if let Some(found) = command_in(entry) {
             return Some(found);
@@ -102,7 +102,7 @@ pub(crate) fn newest_given(journal: &[Entry]) -> Option<Given<'_>> {
 }
 
 /// Whether the entry of this number is a command that was refused.
-pub(crate) fn is_refused(journal: &[Entry], entry: usize) -> bool {
+pub fn is_refused(journal: &[Entry], entry: usize) -> bool {
     match journal.get(entry) {
         Some(entry) => match command_in(entry) {
             Some(found) => found.refused.is_some(),
@@ -141,7 +141,7 @@ fn subject_of(topology: &Topology, ops: &Ops, found: Given<'_>) -> Subject {
 }
 
 /// How a fault names a command.
-pub(crate) fn order_of(topology: &Topology, ops: &Ops, found: Given<'_>) -> Order {
+pub fn order_of(topology: &Topology, ops: &Ops, found: Given<'_>) -> Order {
     Order {
         word: word_of(found.command),
         module_: module_name(topology, found.at),
@@ -160,7 +160,7 @@ fn size_in(settings: &ModuleSettings, instance: u32) -> Option<usize> {
 }
 
 /// The bytes that an assembly of a module has.
-pub(crate) fn assembly_size(topology: &Topology, at: ModuleId, instance: u32) -> Option<usize> {
+pub fn assembly_size(topology: &Topology, at: ModuleId, instance: u32) -> Option<usize> {
     match topology.configs().get(at.0) {
         Some(config) => size_in(config.settings(), instance),
         None => None,
@@ -199,7 +199,7 @@ fn sizes_of(world: &World, found: Given<'_>) -> Result<Option<Sizes>, NoMemory>
 }
 
 /// Why the newest command was refused, where it was.
-pub(crate) fn refusal_of(world: &World, ops: &Ops) -> Result<Option<Refusal>, NoMemory>
+pub fn refusal_of(world: &World, ops: &Ops) -> Result<Option<Refusal>, NoMemory>
     requires stand { ⟦<World as Shown>⟧.stands world.now }
 {
     let Some(found) = newest_given(world.journal()) else {
