@@ -1,5 +1,5 @@
 //! The blocks of a pcapng file. Numbers have the lowest byte first.
-use crate::addresses::ip_of;
+use crate::addresses::Hosts;
 use cip_base::{ModuleId, NoMemory, put_double, put_word};
 use cip_topology::Topology;
 use std::alloc::Global;
@@ -10,6 +10,8 @@ const SECTION: u32 = 0x0A0D_0D0A;
 const INTERFACE: u32 = 1;
 
 const NAMES: u32 = 4;
+
+const STATISTICS: u32 = 5;
 
 const PACKET: u32 = 6;
 
@@ -65,11 +67,11 @@ pub(crate) fn put_interface(alloc: Global, out: &mut Vec<u8>) -> Result<(), NoMe
 }
 
 // The name of a module, and a zero behind it.
-fn put_name(body: &mut Vec<u8>, id: ModuleId, name: &[u8]) -> Result<(), NoMemory> {
+fn put_name(body: &mut Vec<u8>, ip: [u8; 4], name: &[u8]) -> Result<(), NoMemory> {
     let count = name.len().saturating_add(5);
     put_word(body, 1)?;
     put_word(body, u16::try_from(count).unwrap_or(u16::MAX))?;
-    body.extend_from_slice(&ip_of(Some(id)))?;
+    body.extend_from_slice(&ip)?;
     body.extend_from_slice(name)?;
     body.push(0)?;
     put_pad(body, count)
@@ -79,13 +81,14 @@ fn put_name(body: &mut Vec<u8>, id: ModuleId, name: &[u8]) -> Result<(), NoMemor
 pub(crate) fn put_names(
     alloc: Global,
     topology: &Topology,
+    hosts: &Hosts,
     out: &mut Vec<u8>,
 ) -> Result<(), NoMemory> {
     let mut body = Vec::new(alloc);
     for (place, config) in topology.configs().iter().enumerate() {
         put_name(
             &mut body,
-            ModuleId(place),
+            hosts.ip_of(Some(ModuleId(place))),
             config.settings().name.as_slice(),
         )?;
     }
@@ -112,6 +115,35 @@ fn put_comment(body: &mut Vec<u8>, text: &[u8]) -> Result<(), NoMemory> {
     Ok(())
 }
 
+// The interface, and a time in microseconds, its high half first.
+fn put_time(body: &mut Vec<u8>, time: u64) -> Result<(), NoMemory> {
+    put_double(body, 0)?;
+    put_double(
+        body,
+        u32::try_from(time / 4_294_967_296).unwrap_or(u32::MAX),
+    )?;
+    put_double(
+        body,
+        u32::try_from(time % 4_294_967_296).unwrap_or(u32::MAX),
+    )?;
+    Ok(())
+}
+
+/// What is told at a time in microseconds, of a packet that stands before: the front of a comment,
+/// of a block of interface statistics that has no others.
+pub(crate) fn put_remark(
+    alloc: Global,
+    out: &mut Vec<u8>,
+    time: u64,
+    comment: &[u8],
+) -> Result<(), NoMemory> {
+    let text = front(comment);
+    let mut body = Vec::with_capacity(alloc, text.len().saturating_add(24))?;
+    put_time(&mut body, time)?;
+    put_comment(&mut body, text)?;
+    put_block(out, STATISTICS, body.as_slice())
+}
+
 /// A packet at a time in microseconds, with the front of a comment.
 pub(crate) fn put_packet(
     alloc: Global,
@@ -123,15 +155,7 @@ pub(crate) fn put_packet(
     let text = front(comment);
     let count = packet.len().saturating_add(text.len());
     let mut body = Vec::with_capacity(alloc, count.saturating_add(40))?;
-    put_double(&mut body, 0)?;
-    put_double(
-        &mut body,
-        u32::try_from(time / 4_294_967_296).unwrap_or(u32::MAX),
-    )?;
-    put_double(
-        &mut body,
-        u32::try_from(time % 4_294_967_296).unwrap_or(u32::MAX),
-    )?;
+    put_time(&mut body, time)?;
     put_double(&mut body, length_of(packet.len()))?;
     put_double(&mut body, length_of(packet.len()))?;
     body.extend_from_slice(packet)?;

@@ -1,11 +1,12 @@
 //! The capture of a transcript, packet by packet.
 ghost use Rattle.std.specs.Prelude.{◌≡◌, [], IfOk};
 
-use crate::blocks::{put_interface, put_names, put_packet, put_section};
+use crate::addresses::Hosts;
+use crate::blocks::{put_interface, put_names, put_packet, put_remark, put_section};
 use crate::packets::{CLIENT, MOST, SERVER, Segment, Way, datum, message, tcp_packet, udp_packet};
-use cip_base::{ModuleId, NoMemory};
+use cip_base::{ModuleId, NoMemory, Triad};
 use cip_event::{Body, Output};
-use cip_read::{Given, Line};
+use cip_read::{FrameName, Given, Line};
 use cip_topology::Topology;
 use cip_view::{Book, Ending, Kind, Sent, View};
 use std::alloc::Global;
@@ -22,8 +23,10 @@ struct Flow {
 #[derive(Drop)]
 pub struct CaptureView<'a> {
     book: Book<'a>,
+    hosts: Hosts,
     out: Vec<u8>,
-    // the line of the entry under way
+    // the number of the entry under way, and its line
+    entry: usize,
     head: Vec<u8>,
     // the time in microseconds, and that of each module that ticked
     now: u64,
@@ -32,6 +35,11 @@ pub struct CaptureView<'a> {
     flows: BTreeMap<(usize, usize), Flow>,
     // how many data a module sent under an id
     counts: BTreeMap<(usize, u32), u32>,
+    // how many packets were put, and those of the frames on their way
+    packets: u64,
+    waiting: BTreeMap<FrameName, u64>,
+    // the packet of the frame that the step under way was given
+    given: Option<u64>,
 }
 
 // The front of bytes, as many as a packet carries.
@@ -60,25 +68,33 @@ fn place_of(id: Option<ModuleId>) -> usize {
 impl<'a> CaptureView<'a> {
     /// The capture of a run over this topology; NoMemory where an allocation is refused.
     pub fn new(alloc: Global, topology: &'a Topology) -> Result<CaptureView<'a>, NoMemory>
-        ensures { IfOk result (λ made. (made.now ≡ 0) × (made.head.items ≡ [])) }
+        ensures { IfOk result
+            (λ made. (made.now ≡ 0) × (made.head.items ≡ []) × (made.packets ≡ 0)) }
     {
         let mut out = Vec::new(alloc);
         put_section(alloc, &mut out)?;
         put_interface(alloc, &mut out)?;
-        put_names(alloc, topology, &mut out)?;
+        let hosts = Hosts::new(alloc, topology)?;
+        put_names(alloc, topology, &hosts, &mut out)?;
         Ok(CaptureView {
             book: Book::new(alloc, topology),
+            hosts,
             out,
+            entry: 0,
             head: Vec::new(alloc),
             now: 0,
             times: BTreeMap::new(alloc),
             flows: BTreeMap::new(alloc),
             counts: BTreeMap::new(alloc),
+            packets: 0,
+            waiting: BTreeMap::new(alloc),
+            given: None,
         })
     }
 
     // The line of the entry that begins, a microsecond behind the one before.
-    fn begin(&mut self, text: &[u8]) -> Result<(), NoMemory> {
+    fn begin(&mut self, entry: usize, text: &[u8]) -> Result<(), NoMemory> {
+        self.entry = entry;
         self.head.clear();
         self.head.extend_from_slice(text)?;
         self.now = self.now.saturating_add(1);
@@ -95,10 +111,60 @@ impl<'a> CaptureView<'a> {
     }
 
     fn take_step(&mut self, entry: usize, at: ModuleId, given: Given) -> Result<(), NoMemory> {
-        if let Given::Tick(ms) = given {
-            self.tick(at, ms)?;
+        self.given = None;
+        match given {
+            Given::Tick(ms) => self.tick(at, ms)?,
+            Given::Frame(name) => self.given = self.waiting.remove(&name),
+            Given::Command(..) => {}
         }
         self.book.begin(entry, at, given)
+    }
+
+    // What became of a packet, behind its number, and the line that tells of it.
+    fn remark(
+        &mut self,
+        alloc: Global,
+        packet: u64,
+        what: &str,
+        line: &[u8],
+    ) -> Result<(), NoMemory> {
+        let front = format!(in alloc; "packet {packet} {what}")?;
+        let mut comment = Vec::from_slice(alloc, front.as_bytes())?;
+        comment.push(b'\n')?;
+        comment.extend_from_slice(line)?;
+        put_remark(alloc, &mut self.out, self.now, comment.as_slice())
+    }
+
+    // A frame is lost whose packet stands before.
+    fn take_lost(&mut self, alloc: Global, frame: FrameName, line: &[u8]) -> Result<(), NoMemory> {
+        self.given = None;
+        let _ = self.book.lose(frame);
+        match self.waiting.remove(&frame) {
+            Some(packet) => self.remark(alloc, packet, "is lost", line),
+            None => Ok(()),
+        }
+    }
+
+    // A datum came to its end, in a packet that stands before.
+    fn take_consumed(
+        &mut self,
+        alloc: Global,
+        triad: Triad,
+        bytes: &[u8],
+        line: &[u8],
+    ) -> Result<(), NoMemory> {
+        let is_repeated = self.book.consume(triad, bytes)?;
+        match self.given {
+            Some(packet) if is_repeated => {
+                self.remark(
+                    alloc,
+                    packet,
+                    "repeats its sequence count: not written",
+                    line,
+                )
+            }
+            _ => Ok(()),
+        }
     }
 
     // The packet of a frame, with the lines of its entry and its own as comment.
@@ -108,7 +174,9 @@ impl<'a> CaptureView<'a> {
         comment.extend_from_slice(self.head.as_slice())?;
         comment.push(b'\n')?;
         comment.extend_from_slice(text)?;
-        put_packet(alloc, &mut self.out, self.now, packet, comment.as_slice())
+        put_packet(alloc, &mut self.out, self.now, packet, comment.as_slice())?;
+        self.packets = self.packets.saturating_add(1);
+        Ok(())
     }
 
     // The segment of a message of so many bytes, which moves its conversation on.
@@ -161,8 +229,8 @@ impl<'a> CaptureView<'a> {
         let (session, segment) = self.segment(sent, count)?;
         let payload = message(alloc, session, sent.label.number, bytes)?;
         let way = Way {
-            from: Some(sent.from),
-            to: sent.to,
+            from: self.hosts.of(Some(sent.from)),
+            to: self.hosts.of(sent.to),
         };
         let packet = tcp_packet(alloc, way, segment, payload.as_slice())?;
         self.put(alloc, packet.as_slice(), text)
@@ -181,11 +249,37 @@ impl<'a> CaptureView<'a> {
         self.counts.insert((sent.from.0, id), count)?;
         let payload = datum(alloc, id, count, front(bytes))?;
         let way = Way {
-            from: Some(sent.from),
-            to: sent.to,
+            from: self.hosts.of(Some(sent.from)),
+            to: self.hosts.of(sent.to),
         };
         let packet = udp_packet(alloc, way, payload.as_slice())?;
         self.put(alloc, packet.as_slice(), text)
+    }
+
+    // The packet of a frame that goes out, which stands last, is on its way.
+    fn keep(&mut self, index: usize, sent: &Sent) -> Result<(), NoMemory> {
+        if sent.to.is_some() {
+            let name = FrameName {
+                entry: self.entry,
+                output: index,
+            };
+            self.waiting.insert(name, self.packets)?;
+        }
+        Ok(())
+    }
+
+    fn take_send(
+        &mut self,
+        alloc: Global,
+        sent: &Sent,
+        body: &Body,
+        text: &[u8],
+    ) -> Result<(), NoMemory> {
+        match body {
+            Body::Request { bytes, .. } => self.put_message(alloc, sent, bytes.as_slice(), text),
+            Body::Reply { bytes, .. } => self.put_message(alloc, sent, bytes.as_slice(), text),
+            Body::Data { bytes, .. } => self.put_datum(alloc, sent, bytes.as_slice(), text),
+        }
     }
 
     fn take_output(
@@ -195,16 +289,20 @@ impl<'a> CaptureView<'a> {
         output: &Output,
         text: &[u8],
     ) -> Result<(), NoMemory> {
-        let Output::Send { port, to, body } = output else {
-            return Ok(());
-        };
-        let Some(sent) = self.book.send(index, *port, to, body)? else {
-            return Ok(());
-        };
-        match body {
-            Body::Request { bytes, .. } => self.put_message(alloc, &sent, bytes.as_slice(), text),
-            Body::Reply { bytes, .. } => self.put_message(alloc, &sent, bytes.as_slice(), text),
-            Body::Data { bytes, .. } => self.put_datum(alloc, &sent, bytes.as_slice(), text),
+        match output {
+            Output::Send { port, to, body } => {
+                match self.book.send(index, *port, to, body)? {
+                    Some(sent) => {
+                        self.take_send(alloc, &sent, body, text)?;
+                        self.keep(index, &sent)
+                    }
+                    None => Ok(()),
+                }
+            }
+            Output::Consumed { triad, bytes, .. } => {
+                self.take_consumed(alloc, *triad, bytes.as_slice(), text)
+            }
+            _ => Ok(()),
         }
     }
 }
@@ -215,13 +313,12 @@ impl View for CaptureView<'_> {
     fn line(&mut self, alloc: Global, text: &[u8], line: Line) -> Result<(), NoMemory> {
         match line {
             Line::Step { entry, at, given } => {
-                self.begin(text)?;
+                self.begin(entry, text)?;
                 self.take_step(entry, at, given)
             }
-            Line::Lost { frame, .. } => {
-                self.begin(text)?;
-                let _ = self.book.lose(frame);
-                Ok(())
+            Line::Lost { entry, frame } => {
+                self.begin(entry, text)?;
+                self.take_lost(alloc, frame, text)
             }
             Line::Output { index, output } => self.take_output(alloc, index, &output, text),
             Line::Note(_) => Ok(()),

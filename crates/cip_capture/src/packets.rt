@@ -1,7 +1,7 @@
 //! The packets of a capture: Ethernet, IPv4, and TCP with EtherNet/IP or UDP with a sequenced
 //! datum.
-use crate::addresses::{ip_of, mac_of};
-use cip_base::{ModuleId, NoMemory, put_double, put_word};
+use crate::addresses::Host;
+use cip_base::{NoMemory, put_double, put_word};
 use std::alloc::Global;
 
 /// The port of EtherNet/IP messages, that of the asker, and the port of data.
@@ -50,18 +50,18 @@ fn checksum(sum: u64) -> u16 {
 /// Who sends a packet, and to whom.
 #[derive(Clone, Copy)]
 pub(crate) struct Way {
-    pub from: Option<ModuleId>,
-    pub to: Option<ModuleId>,
+    pub from: Host,
+    pub to: Host,
 }
 
 // The Ethernet and IPv4 headers before so many bytes.
 fn put_headers(out: &mut Vec<u8>, way: Way, protocol: u8, count: usize) -> Result<(), NoMemory> {
-    out.extend_from_slice(&mac_of(way.to))?;
-    out.extend_from_slice(&mac_of(way.from))?;
+    out.extend_from_slice(&way.to.mac)?;
+    out.extend_from_slice(&way.from.mac)?;
     out.extend_from_slice(&[0x08, 0x00])?;
     let [high, low] = short(count.saturating_add(20)).to_be_bytes();
-    let [s0, s1, s2, s3] = ip_of(way.from);
-    let [d0, d1, d2, d3] = ip_of(way.to);
+    let [s0, s1, s2, s3] = way.from.ip;
+    let [d0, d1, d2, d3] = way.to.ip;
     let front = [0x45, 0, high, low, 0, 0, 0x40, 0, 64, protocol];
     let back = [s0, s1, s2, s3, d0, d1, d2, d3];
     let sum = checksum(sum_of(&back, sum_of(&front, 0)));
@@ -73,8 +73,8 @@ fn put_headers(out: &mut Vec<u8>, way: Way, protocol: u8, count: usize) -> Resul
 
 // The sum of the pseudo header that TCP's checksum counts.
 fn pseudo_sum(way: Way, protocol: u8, count: usize) -> u64 {
-    let from = ip_of(way.from);
-    let to = ip_of(way.to);
+    let from = way.from.ip;
+    let to = way.to.ip;
     let rest = u64::from(protocol).saturating_add(count as u64);
     sum_of(&to, sum_of(&from, rest))
 }

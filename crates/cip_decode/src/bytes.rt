@@ -34,8 +34,8 @@ impl fmt::Display for Pairs<'_> {
 /// The most bytes of data that a decoded message tells.
 const MOST: usize = 64;
 
-// The first bytes, or all of them.
-fn front(bytes: &[u8]) -> &[u8] {
+/// The first bytes, or all of them.
+pub(crate) fn front(bytes: &[u8]) -> &[u8] {
     if bytes.len() <= MOST {
         return bytes;
     }

@@ -10,7 +10,7 @@ use cip_names::{service_name, status_name};
 use cip_open::{OpenFields, OpenReply, OpenView, open_params};
 use cip_segment::{PathView, SegmentView, split_first};
 use cip_unconnected::{UnconnectedView, inner};
-use serde_json::{Value, json};
+use serde_json::{Map, Value, json, put};
 use std::alloc::{AllocError, Global};
 use std::fmt;
 
@@ -21,6 +21,24 @@ fn told<T: fmt::Display + Drop>(alloc: Global, shown: T) -> Result<Value, AllocE
 
 fn pairs(alloc: Global, bytes: &[u8]) -> Result<Value, AllocError> {
     told(alloc, Pairs(bytes))
+}
+
+// One more member of an object that is made. So no value waits for the members before it, each of
+// which may be refused.
+fn member(
+    object: &mut Map<String, Value>,
+    alloc: Global,
+    key: &str,
+    value: Result<Value, AllocError>,
+) -> Result<(), AllocError> {
+    put(object, alloc, key, value?)
+}
+
+// An object of one member.
+fn alone(alloc: Global, key: &str, value: Result<Value, AllocError>) -> Result<Value, AllocError> {
+    let mut object = Map::new(alloc);
+    member(&mut object, alloc, key, value)?;
+    Ok(Value::Object(object))
 }
 
 // A name, or null.
@@ -103,28 +121,38 @@ fn timing_json(alloc: Global, timing: Timing) -> Result<Value, AllocError> {
 
 // A request's service, path and data.
 fn plain_json(alloc: Global, view: RequestView<'_>) -> Result<Value, AllocError> {
-    let service = name(alloc, service_name(view.service))?;
-    let path = path_json(alloc, view.path)?;
-    let data = pairs(alloc, view.data_)?;
-    json!(in alloc; {"code": view.service, "service": service, "path": path, "data": data})
+    let mut request = Map::new(alloc);
+    member(&mut request, alloc, "code", Ok(Value::from(view.service)))?;
+    member(
+        &mut request,
+        alloc,
+        "service",
+        name(alloc, service_name(view.service)),
+    )?;
+    member(&mut request, alloc, "path", path_json(alloc, view.path))?;
+    member(&mut request, alloc, "data", pairs(alloc, view.data_))?;
+    Ok(Value::Object(request))
 }
 
 // The request that an Unconnected_Send carries.
 fn embedded_json(alloc: Global, bytes: &[u8]) -> Result<Value, AllocError> {
     match read_request(bytes) {
         Ok(view) => plain_json(alloc, view),
-        Err(fault) => {
-            let fault = told(alloc, fault)?;
-            json!(in alloc; {"unreadable": fault})
-        }
+        Err(fault) => alone(alloc, "unreadable", told(alloc, fault)),
     }
 }
 
 fn unconnected_json(alloc: Global, view: &UnconnectedView<'_>) -> Result<Value, AllocError> {
-    let timing = timing_json(alloc, view.timing)?;
-    let route = path_json(alloc, view.route)?;
-    let carries = embedded_json(alloc, inner(view))?;
-    json!(in alloc; {"timing": timing, "route": route, "carries": carries})
+    let mut sent = Map::new(alloc);
+    member(&mut sent, alloc, "timing", timing_json(alloc, view.timing))?;
+    member(&mut sent, alloc, "route", path_json(alloc, view.route))?;
+    member(
+        &mut sent,
+        alloc,
+        "carries",
+        embedded_json(alloc, inner(view)),
+    )?;
+    Ok(Value::Object(sent))
 }
 
 // One direction of an open.
@@ -168,54 +196,62 @@ fn multiplier_json(alloc: Global, multiplier: u8) -> Result<Value, AllocError> {
 fn open_json(alloc: Global, view: &OpenView<'_>) -> Result<Value, AllocError> {
     let fields: &OpenFields = &view.fields;
     let large = fields.large;
-    let ot = direction_json(alloc, large, fields.ot_id, fields.ot_rpi, fields.ot_params)?;
-    let to = direction_json(alloc, large, fields.to_id, fields.to_rpi, fields.to_params)?;
-    let timing = timing_json(alloc, fields.timing)?;
-    let triad = triad_json(alloc, fields.triad)?;
-    let path = path_json(alloc, view.path)?;
-    let transport = transport_json(alloc, fields.transport)?;
-    let multiplier = multiplier_json(alloc, fields.multiplier)?;
-    json!(in alloc; {
-        "large": large,
-        "timing": timing,
-        "triad": triad,
-        "path": path,
-        "ot": ot,
-        "to": to,
-        "transport": transport,
-        "multiplier": multiplier
-    })
+    let ot = direction_json(alloc, large, fields.ot_id, fields.ot_rpi, fields.ot_params);
+    let mut open = Map::new(alloc);
+    member(&mut open, alloc, "ot", ot)?;
+    let to = direction_json(alloc, large, fields.to_id, fields.to_rpi, fields.to_params);
+    member(&mut open, alloc, "to", to)?;
+    member(&mut open, alloc, "large", Ok(Value::Bool(large)))?;
+    member(
+        &mut open,
+        alloc,
+        "timing",
+        timing_json(alloc, fields.timing),
+    )?;
+    member(&mut open, alloc, "triad", triad_json(alloc, fields.triad))?;
+    member(&mut open, alloc, "path", path_json(alloc, view.path))?;
+    member(
+        &mut open,
+        alloc,
+        "transport",
+        transport_json(alloc, fields.transport),
+    )?;
+    member(
+        &mut open,
+        alloc,
+        "multiplier",
+        multiplier_json(alloc, fields.multiplier),
+    )?;
+    Ok(Value::Object(open))
 }
 
 fn close_json(alloc: Global, view: &CloseView<'_>) -> Result<Value, AllocError> {
-    let timing = timing_json(alloc, view.fields.timing)?;
-    let triad = triad_json(alloc, view.fields.triad)?;
-    let path = path_json(alloc, view.path)?;
-    json!(in alloc; {"timing": timing, "triad": triad, "path": path})
+    let mut close = Map::new(alloc);
+    member(
+        &mut close,
+        alloc,
+        "timing",
+        timing_json(alloc, view.fields.timing),
+    )?;
+    member(
+        &mut close,
+        alloc,
+        "triad",
+        triad_json(alloc, view.fields.triad),
+    )?;
+    member(&mut close, alloc, "path", path_json(alloc, view.path))?;
+    Ok(Value::Object(close))
 }
 
 fn meaning_json(alloc: Global, meaning: &Meaning<'_>) -> Result<Value, AllocError> {
     match meaning {
         Meaning::Unconnected(view) => {
-            let sent = unconnected_json(alloc, view)?;
-            json!(in alloc; {"unconnected_send": sent})
+            alone(alloc, "unconnected_send", unconnected_json(alloc, view))
         }
-        Meaning::Open(view) => {
-            let opened = open_json(alloc, view)?;
-            json!(in alloc; {"open": opened})
-        }
-        Meaning::Close(view) => {
-            let closed = close_json(alloc, view)?;
-            json!(in alloc; {"close": closed})
-        }
-        Meaning::UnreadUnconnected(fault) => {
-            let fault = told(alloc, *fault)?;
-            json!(in alloc; {"unreadable": fault})
-        }
-        Meaning::Unread(fault) => {
-            let fault = told(alloc, *fault)?;
-            json!(in alloc; {"unreadable": fault})
-        }
+        Meaning::Open(view) => alone(alloc, "open", open_json(alloc, view)),
+        Meaning::Close(view) => alone(alloc, "close", close_json(alloc, view)),
+        Meaning::UnreadUnconnected(fault) => alone(alloc, "unreadable", told(alloc, *fault)),
+        Meaning::Unread(fault) => alone(alloc, "unreadable", told(alloc, *fault)),
         Meaning::Data => Ok(Value::Null),
     }
 }
@@ -224,90 +260,111 @@ fn meaning_json(alloc: Global, meaning: &Meaning<'_>) -> Result<Value, AllocErro
 /// with `unconnected_send`, `open` or `close`, one with the fault in `unreadable`, or null.
 pub fn request_json(alloc: Global, request: &Request<'_>) -> Result<Value, AllocError> {
     let view = request.view;
-    let service = name(alloc, service_name(view.service))?;
-    let path = path_json(alloc, view.path)?;
-    let data = pairs(alloc, view.data_)?;
-    let means = meaning_json(alloc, &request.meaning)?;
-    json!(in alloc; {
-        "code": view.service,
-        "service": service,
-        "path": path,
-        "data": data,
-        "means": means
-    })
+    let mut shown = Map::new(alloc);
+    member(&mut shown, alloc, "code", Ok(Value::from(view.service)))?;
+    member(
+        &mut shown,
+        alloc,
+        "service",
+        name(alloc, service_name(view.service)),
+    )?;
+    member(&mut shown, alloc, "path", path_json(alloc, view.path))?;
+    member(&mut shown, alloc, "data", pairs(alloc, view.data_))?;
+    member(
+        &mut shown,
+        alloc,
+        "means",
+        meaning_json(alloc, &request.meaning),
+    )?;
+    Ok(Value::Object(shown))
 }
 
 fn opened_json(alloc: Global, reply: &OpenReply<'_>) -> Result<Value, AllocError> {
-    let triad = triad_json(alloc, reply.triad)?;
-    let application = pairs(alloc, reply.reply)?;
-    let ot = json!(in alloc; {"id": reply.ot_id, "api_us": reply.ot_api})?;
-    let to = json!(in alloc; {"id": reply.to_id, "api_us": reply.to_api})?;
-    json!(in alloc; {"triad": triad, "ot": ot, "to": to, "reply": application})
+    let mut opened = Map::new(alloc);
+    let ot = json!(in alloc; {"id": reply.ot_id, "api_us": reply.ot_api});
+    member(&mut opened, alloc, "ot", ot)?;
+    let to = json!(in alloc; {"id": reply.to_id, "api_us": reply.to_api});
+    member(&mut opened, alloc, "to", to)?;
+    member(&mut opened, alloc, "triad", triad_json(alloc, reply.triad))?;
+    member(&mut opened, alloc, "reply", pairs(alloc, reply.reply))?;
+    Ok(Value::Object(opened))
 }
 
 fn closed_json(alloc: Global, reply: &CloseReply<'_>) -> Result<Value, AllocError> {
-    let triad = triad_json(alloc, reply.triad)?;
-    let application = pairs(alloc, reply.reply)?;
-    json!(in alloc; {"triad": triad, "reply": application})
+    let mut closed = Map::new(alloc);
+    member(&mut closed, alloc, "triad", triad_json(alloc, reply.triad))?;
+    member(&mut closed, alloc, "reply", pairs(alloc, reply.reply))?;
+    Ok(Value::Object(closed))
 }
 
 fn failure_json(alloc: Global, failure: ConnectionFailure) -> Result<Value, AllocError> {
     let triad = match failure.triad {
-        Some(triad) => triad_json(alloc, triad)?,
-        None => Value::Null,
+        Some(triad) => triad_json(alloc, triad),
+        None => Ok(Value::Null),
     };
+    let mut failed = Map::new(alloc);
+    member(&mut failed, alloc, "triad", triad)?;
     let words = match failure.words {
         Some(words) => Value::from(words),
         None => Value::Null,
     };
-    json!(in alloc; {"triad": triad, "words_left": words})
+    member(&mut failed, alloc, "words_left", Ok(words))?;
+    Ok(Value::Object(failed))
 }
 
 fn answer_json(alloc: Global, answer: &Answer<'_>) -> Result<Value, AllocError> {
     match answer {
-        Answer::Opened(reply) => {
-            let opened = opened_json(alloc, reply)?;
-            json!(in alloc; {"opened": opened})
-        }
-        Answer::Closed(reply) => {
-            let closed = closed_json(alloc, reply)?;
-            json!(in alloc; {"closed": closed})
-        }
-        Answer::Failed(failure) => {
-            let failed = failure_json(alloc, *failure)?;
-            json!(in alloc; {"failed": failed})
-        }
+        Answer::Opened(reply) => alone(alloc, "opened", opened_json(alloc, reply)),
+        Answer::Closed(reply) => alone(alloc, "closed", closed_json(alloc, reply)),
+        Answer::Failed(failure) => alone(alloc, "failed", failure_json(alloc, *failure)),
         Answer::RouteLeft(words) => json!(in alloc; {"failed": {"words_left": *words}}),
-        Answer::Unread(fault) => {
-            let fault = told(alloc, *fault)?;
-            json!(in alloc; {"unreadable": fault})
-        }
+        Answer::Unread(fault) => alone(alloc, "unreadable", told(alloc, *fault)),
         Answer::Data => Ok(Value::Null),
     }
 }
 
 fn status_json(alloc: Global, status: Status) -> Result<Value, AllocError> {
-    let named = name(alloc, status_name(status.general, status.extra))?;
+    let mut shown = Map::new(alloc);
+    member(
+        &mut shown,
+        alloc,
+        "general",
+        Ok(Value::from(status.general)),
+    )?;
     let extra = match status.extra {
         Some(word) => Value::from(word),
         None => Value::Null,
     };
-    json!(in alloc; {"general": status.general, "extra": extra, "name": named})
+    member(&mut shown, alloc, "extra", Ok(extra))?;
+    let named = name(alloc, status_name(status.general, status.extra));
+    member(&mut shown, alloc, "name", named)?;
+    Ok(Value::Object(shown))
 }
 
 /// A reply: `code` and `service`, `status`, `data`, and in `means` what its data says: an object
 /// with `opened`, `closed` or `failed`, one with the fault in `unreadable`, or null.
 pub fn reply_json(alloc: Global, reply: &Reply<'_>) -> Result<Value, AllocError> {
     let view = reply.view;
-    let service = name(alloc, service_name(view.service))?;
-    let status = status_json(alloc, view.status())?;
-    let data = pairs(alloc, view.data_)?;
-    let means = answer_json(alloc, &reply.answer)?;
-    json!(in alloc; {
-        "code": view.service,
-        "service": service,
-        "status": status,
-        "data": data,
-        "means": means
-    })
+    let mut shown = Map::new(alloc);
+    member(&mut shown, alloc, "code", Ok(Value::from(view.service)))?;
+    member(
+        &mut shown,
+        alloc,
+        "service",
+        name(alloc, service_name(view.service)),
+    )?;
+    member(
+        &mut shown,
+        alloc,
+        "status",
+        status_json(alloc, view.status()),
+    )?;
+    member(&mut shown, alloc, "data", pairs(alloc, view.data_))?;
+    member(
+        &mut shown,
+        alloc,
+        "means",
+        answer_json(alloc, &reply.answer),
+    )?;
+    Ok(Value::Object(shown))
 }

@@ -3,6 +3,8 @@
 //! record.
 #![tactic(auto)]
 
+mod attributes;
+mod attributes_text;
 mod bytes;
 mod fields;
 mod json;
@@ -13,6 +15,11 @@ mod request;
 mod request_text;
 mod segments;
 
+pub use attributes::{
+    AttributeView, Attributes, AttributesView, IdentityView, answered_attributes, asked_attributes,
+    read_attribute, read_identity, set_instance,
+};
+pub use attributes_text::put_attributes_json;
 pub use bytes::Pairs;
 pub use json::{path_json, reply_json, request_json, triad_json};
 pub use put_json::{put_path_json, put_reply_json, put_request_json, put_triad_json};

@@ -2,7 +2,9 @@
 use Rattle.std.specs.Prelude.{◌≡◌, ℕ, ◌==◌, Bool, false, if◌then◌else◌, List, [], ◌∷◌, Option, Some, None, option_map}
 use Rattle.cip_message.specs.Numbers.{word_in}
 use Rattle.cip_base.specs.declared.numbers.ModuleId.{ModuleId}
+use Rattle.cip_decode.specs.declared.attributes.Attributes.{Attributes}
 use Rattle.cip_event.specs.declared.event.Body.{Body}
+use Rattle.cip_event.specs.declared.event.Body.TheVariants.{Request, Reply, Data}
 use Rattle.cip_read.specs.declared.line.Given.{Given}
 use Rattle.cip_read.specs.declared.line.Given.TheVariants.{Command, Tick, Frame}
 use Rattle.cip_topology.specs.Plan.{Plan}
@@ -37,6 +39,33 @@ abbrev pub made_at : Option Step → Option ModuleId
 made_at None = None
 made_at (Some step) = maker_of step.at step.given step.arrived
 
+-- the attributes that were asked for by the request which a reply under this number answers: the
+-- request that was given under it, or that of the reply that was given
+abbrev pub answered_as : ℕ → Sent → Kind → Option Attributes
+answered_as number sent kinds.Reply = sent.asked
+answered_as number sent kinds.Request =
+    if sent.label.number == number then sent.asked else None
+answered_as number sent kinds.Data = None
+
+abbrev pub answered_under : ℕ → Option Sent → Option Attributes
+answered_under number None = None
+answered_under number (Some sent) = answered_as number sent sent.label.kind
+
+abbrev pub if_reply : Sent → Kind → Option Attributes
+if_reply sent kinds.Reply = sent.asked
+if_reply sent kind = None
+
+-- those of the reply that was given
+abbrev pub answered : Option Sent → Option Attributes
+answered None = None
+answered (Some sent) = if_reply sent sent.label.kind
+
+-- the attributes that a frame asks for or has, where a frame was given
+abbrev pub AsksBy : Option Sent → Body → Option Attributes → Type 0
+AsksBy given (Request number bytes) asked = Unit {0}
+AsksBy given (Reply number bytes) asked = asked ≡ answered_under number given
+AsksBy given (Data id bytes) asked = asked ≡ None
+
 -- what is known of a frame that goes out of the step under way: its sender, the module at the
 -- address, what it is in short, and of a failure who made it
 abbrev pub IsSent : Plan → Step → ℕ → List ℕ → Body → Sent → Type 0
@@ -45,6 +74,7 @@ IsSent t step port to body sent =
     × (option_map (λ m. m.0) sent.to ≡ node t step.at.0 port to)
     × (sent.label ≡ label_of body)
     × (sent.made_at ≡ (if is_failure (label_of body) then made_at (Some step) else None))
+    × AsksBy step.arrived body sent.asked
 
 -- nothing is known where no step is
 abbrev pub Knows : Plan → Option Step → ℕ → List ℕ → Body → Option Sent → Type 0

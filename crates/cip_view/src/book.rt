@@ -2,10 +2,11 @@
 //! that were opened, and the ops that have not ended.
 ghost use Rattle.std.specs.Prelude.{◌≡◌, Some, None, IfOk, option_map, unwrap_or, slice_get, codes};
 ghost use Rattle.cip_view.specs.Books.{at_of, arrived_of, made_at, count_of, is_repeated, Knows};
+ghost use Rattle.cip_view.specs.Books.{answered_under, answered, AsksBy};
 
 use crate::label::{Kind, Label, label_of};
 use cip_base::{Address, ModuleId, NoMemory, PortNumber, Triad};
-use cip_decode::{Answer, Meaning, decode_reply, decode_request};
+use cip_decode::{Answer, Attributes, Meaning, asked_attributes, decode_reply, decode_request};
 use cip_event::Body;
 use cip_read::{CommandWord, FrameName, Given};
 use cip_topology::Topology;
@@ -22,6 +23,9 @@ pub struct Sent {
     pub label: Label,
     /// Of a reply that tells of a failure, the module that made it, where that is known.
     pub made_at: Option<ModuleId>,
+    /// The attributes that a request asks for, or that were asked for by the one which a reply
+    /// answers, where that is known.
+    pub asked: Option<Attributes>,
 }
 
 /// What is known of the datum of a connection.
@@ -193,18 +197,21 @@ impl<'a> Book<'a> {
         Ok(())
     }
 
-    // What a request that goes out tells of connections.
-    fn learn_request(&mut self, at: ModuleId, bytes: &[u8]) -> Result<(), NoMemory>
+    // What a request that goes out tells of connections, and which attributes it asks for.
+    fn learn_request(&mut self, at: ModuleId, bytes: &[u8]) -> Result<Option<Attributes>, NoMemory>
         ensures over { self.new.topology ≡ self.old.topology }
         ensures step { self.new.step ≡ self.old.step }
     {
-        if let Ok(request) = decode_request(bytes) {
-            if let Meaning::Open(view) = request.meaning {
-                let fields = view.fields;
-                self.open(at, fields.triad, fields.to_id, fields.transport % 16)?;
+        match decode_request(bytes) {
+            Ok(request) => {
+                if let Meaning::Open(view) = request.meaning {
+                    let fields = view.fields;
+                    self.open(at, fields.triad, fields.to_id, fields.transport % 16)?;
+                }
+                Ok(asked_attributes(&request))
             }
+            Err(_) => Ok(None),
         }
-        Ok(())
     }
 
     // What a reply that goes out tells of connections.
@@ -221,14 +228,43 @@ impl<'a> Book<'a> {
         Ok(())
     }
 
-    fn learn(&mut self, at: ModuleId, body: &Body) -> Result<(), NoMemory>
+    // The attributes that were asked for by the request which a reply under this number answers:
+    // the request that the step under way was given under it, or that of the reply it was given.
+    fn answered_under(&self, number: u32) -> Option<Attributes>
+        ensures { result ≡ answered_under number (arrived_of self.now.step) }
+    {
+        let sent = self.arrived()?;
+        match sent.label.kind {
+            Kind::Reply => sent.asked,
+            Kind::Request if sent.label.number == number => sent.asked,
+            _ => None,
+        }
+    }
+
+    /// The attributes that were asked for by the request which the reply answers that the step
+    /// under way was given, where that is known.
+    pub fn answered(&self) -> Option<Attributes>
+        ensures { result ≡ answered (arrived_of self.now.step) }
+    {
+        match self.arrived() {
+            Some(sent) if sent.label.kind == Kind::Reply => sent.asked,
+            _ => None,
+        }
+    }
+
+    // What a frame that goes out tells of connections, and which attributes it asks for or has.
+    fn learn(&mut self, at: ModuleId, body: &Body) -> Result<Option<Attributes>, NoMemory>
         ensures over { self.new.topology ≡ self.old.topology }
         ensures step { self.new.step ≡ self.old.step }
+        ensures asked { IfOk result (AsksBy (arrived_of self.old.step) body.now) }
     {
         match body {
             Body::Request { bytes, .. } => self.learn_request(at, bytes.as_slice()),
-            Body::Reply { bytes, .. } => self.learn_reply(at, bytes.as_slice()),
-            Body::Data { .. } => Ok(()),
+            Body::Reply { number, bytes } => {
+                self.learn_reply(at, bytes.as_slice())?;
+                Ok(self.answered_under(*number))
+            }
+            Body::Data { .. } => Ok(None),
         }
     }
 
@@ -265,7 +301,7 @@ impl<'a> Book<'a> {
         let Some(step) = self.step else {
             return Ok(None);
         };
-        self.learn(step.at, body)?;
+        let asked = self.learn(step.at, body)?;
         let label = label_of(body);
         let made_at = if label.is_failure() {
             self.made_at()
@@ -277,6 +313,7 @@ impl<'a> Book<'a> {
             to: self.topology.node_at(step.at, port, to),
             label,
             made_at,
+            asked,
         };
         if sent.to.is_some() {
             let name = FrameName {

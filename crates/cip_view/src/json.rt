@@ -4,12 +4,17 @@ ghost use Rattle.std.specs.Prelude.{◌≡◌, [], string_bytes};
 
 use crate::book::{Book, Known, Sent};
 use crate::label::{NameText, put_label};
+use crate::note_json::put_note;
+use crate::past::Past;
 use crate::reasons::{drop_word, refusal_word};
 use crate::view::{Ending, View};
 use cip_base::{Address, ModuleId, NoMemory, PortNumber, Triad};
-use cip_decode::{decode_reply, decode_request, put_reply_json, put_request_json, put_triad_json};
+use cip_decode::{
+    Attributes, AttributesView, answered_attributes, decode_reply, decode_request,
+    put_attributes_json, put_reply_json, put_request_json, put_triad_json, set_instance,
+};
 use cip_event::{Body, Output};
-use cip_read::{CommandWord, FrameName, Given, Line};
+use cip_read::{CommandWord, FrameName, Given, Line, Note};
 use cip_text::Draft;
 use cip_topology::Topology;
 use std::alloc::Global;
@@ -56,6 +61,50 @@ fn put_reply(text: &mut Draft, bytes: &[u8]) -> Result<(), NoMemory> {
     match decode_reply(bytes) {
         Ok(reply) => put_reply_json(text, &reply),
         Err(fault) => put_fault(text, fault),
+    }
+}
+
+// What attributes say, as a member.
+fn put_attributes(text: &mut Draft, view: &AttributesView<'_>) -> Result<(), NoMemory> {
+    text.put("\"attributes\":")?;
+    put_attributes_json(text, view)?;
+    text.put(",")
+}
+
+// What a reply says of the attributes that were asked for.
+fn put_answered(text: &mut Draft, asked: Option<Attributes>, bytes: &[u8]) -> Result<(), NoMemory> {
+    let Some(asked) = asked else {
+        return Ok(());
+    };
+    if let Ok(reply) = decode_reply(bytes) {
+        if let Some(view) = answered_attributes(asked, &reply) {
+            put_attributes(text, &view)?;
+        }
+    }
+    Ok(())
+}
+
+// The data that a request sets an assembly to likewise.
+fn put_set(text: &mut Draft, bytes: &[u8]) -> Result<(), NoMemory> {
+    if let Ok(request) = decode_request(bytes) {
+        if let Some(instance) = set_instance(&request) {
+            let view = AttributesView::Assembly(instance, request.view.data_);
+            put_attributes(text, &view)?;
+        }
+    }
+    Ok(())
+}
+
+// The attributes that what a frame holds has.
+fn put_held_attributes(
+    text: &mut Draft,
+    asked: Option<Attributes>,
+    body: &Body,
+) -> Result<(), NoMemory> {
+    match body {
+        Body::Request { bytes, .. } => put_set(text, bytes.as_slice()),
+        Body::Reply { bytes, .. } => put_answered(text, asked, bytes.as_slice()),
+        Body::Data { .. } => Ok(()),
     }
 }
 
@@ -186,7 +235,7 @@ fn put_lost(
 
 // The bytes of what a frame holds, and its number or id.
 fn put_held(text: &mut Draft, bytes: &[u8], behind: &str, number: u32) -> Result<(), NoMemory> {
-    put_bytes(text, ",\"holds\":{\"bytes\":\"", bytes, behind)?;
+    put_bytes(text, "\"holds\":{\"bytes\":\"", bytes, behind)?;
     text.put_number(u64::from(number))?;
     text.put(",\"says\":")
 }
@@ -257,8 +306,10 @@ fn put_done(text: &mut Draft, book: &Book<'_>, op: u32, reply: &[u8]) -> Result<
         Ok(reply) if reply.view.general != 0 => book.made_at(),
         _ => None,
     };
-    put_bytes(text, "{\"done\":{\"bytes\":\"", reply, "\",\"op\":")?;
-    text.put_number(u64::from(op))?;
+    text.put("{\"done\":{")?;
+    put_answered(text, book.answered(), reply)?;
+    put_bytes(text, "\"bytes\":\"", reply, "\"")?;
+    text.put_count(",\"op\":", u64::from(op))?;
     put_module(text, ",\"refused_at\":", book, made_at)?;
     text.put(",\"says\":")?;
     put_reply(text, reply)?;
@@ -274,15 +325,6 @@ fn put_named(text: &mut Draft, before: &str, word: &str) -> Result<(), NoMemory>
 fn put_expired(text: &mut Draft, triad: Triad) -> Result<(), NoMemory> {
     text.put("{\"expired\":")?;
     put_triad_json(text, triad)?;
-    text.put("}")
-}
-
-// A line that shows no part of an entry.
-fn put_note(text: &mut Draft, line: &[u8]) -> Result<(), NoMemory> {
-    match std::str::from_utf8(line) {
-        Ok(line) => put_word(text, "{\"note\":", line)?,
-        Err(_) => text.put("{\"note\":null")?,
-    }
     text.put("}")
 }
 
@@ -329,6 +371,7 @@ fn put_line(out: &mut String, object: &Draft, behind: &str) -> Result<(), NoMemo
 #[derive(Drop)]
 pub struct JsonView<'a> {
     book: Book<'a>,
+    past: Past<'a>,
     out: String,
     // the entry under way, without its end: nothing where none is
     entry: Draft,
@@ -345,6 +388,7 @@ impl<'a> JsonView<'a> {
     {
         JsonView {
             book: Book::new(alloc, topology),
+            past: Past::new(alloc, topology),
             out: String::new(alloc),
             entry: Draft::new(alloc),
             has_output: false,
@@ -366,6 +410,7 @@ impl<'a> JsonView<'a> {
 
     fn take_step(&mut self, entry: usize, at: ModuleId, given: Given) -> Result<(), NoMemory> {
         self.put_entry()?;
+        self.past.step(entry, at, given)?;
         self.book.begin(entry, at, given)?;
         self.part.clear();
         put_step(&mut self.part, &self.book, entry, at, given)?;
@@ -374,6 +419,7 @@ impl<'a> JsonView<'a> {
 
     fn take_lost(&mut self, entry: usize, frame: FrameName) -> Result<(), NoMemory> {
         self.put_entry()?;
+        self.past.loss(entry)?;
         let sent = self.book.lose(frame);
         self.part.clear();
         put_lost(&mut self.part, &self.book, sent, entry, frame)?;
@@ -389,12 +435,13 @@ impl<'a> JsonView<'a> {
         body: &Body,
     ) -> Result<(), NoMemory> {
         let sent = self.book.send(index, port, to, body)?;
-        let (node, made_at) = match sent {
-            Some(sent) => (sent.to, sent.made_at),
-            None => (None, None),
+        let (node, made_at, asked) = match sent {
+            Some(sent) => (sent.to, sent.made_at, sent.asked),
+            None => (None, None, None),
         };
         let (text, book) = (&mut self.part, &self.book);
-        put_bytes(text, "{\"send\":{\"address\":\"", to.as_slice(), "\"")?;
+        put_bytes(text, "{\"send\":{\"address\":\"", to.as_slice(), "\",")?;
+        put_held_attributes(text, asked, body)?;
         put_body(text, book, node, body)?;
         text.put_count(",\"port\":", u64::from(port.get()))?;
         put_module(text, ",\"refused_at\":", book, made_at)?;
@@ -460,10 +507,10 @@ impl<'a> JsonView<'a> {
         Ok(())
     }
 
-    fn take_note(&mut self, text: &[u8]) -> Result<(), NoMemory> {
+    fn take_note(&mut self, alloc: Global, text: &[u8], note: Note) -> Result<(), NoMemory> {
         self.put_entry()?;
         self.part.clear();
-        put_note(&mut self.part, text)?;
+        put_note(alloc, &mut self.part, &self.book, &self.past, text, note)?;
         put_line(&mut self.out, &self.part, "")
     }
 
@@ -479,13 +526,11 @@ impl View for JsonView<'_> {
     ghost gathered = { λ s. string_bytes s.out };
 
     fn line(&mut self, alloc: Global, text: &[u8], line: Line) -> Result<(), NoMemory> {
-        // its texts have an allocator of their own
-        let _ = alloc;
         match line {
             Line::Step { entry, at, given } => self.take_step(entry, at, given),
             Line::Lost { entry, frame } => self.take_lost(entry, frame),
             Line::Output { index, output } => self.take_output(index, &output),
-            Line::Note(_) => self.take_note(text),
+            Line::Note(note) => self.take_note(alloc, text, note),
         }
     }
 

@@ -4,6 +4,10 @@
 mod book;
 mod json;
 mod label;
+mod note_json;
+mod note_text;
+mod notes;
+mod past;
 mod pieces;
 mod reasons;
 mod says;

@@ -3,11 +3,16 @@ ghost use Rattle.std.specs.Prelude.{◌≡◌, [], string_bytes};
 
 use crate::book::{Book, Known, Sent};
 use crate::label::NameText;
+use crate::note_text::put_meaning;
+use crate::past::Past;
 use crate::reasons::{command_word, drop_reason, refusal_reason};
 use crate::says::{BodyText, DatumText, OfText, ReplyText};
 use crate::view::{Ending, View};
 use cip_base::{Address, ModuleId, NoMemory, PortNumber, Triad};
-use cip_decode::{Pairs, decode_reply};
+use cip_decode::{
+    Attributes, AttributesView, Pairs, Reply, answered_attributes, decode_reply, decode_request,
+    set_instance,
+};
 use cip_event::{Body, Output};
 use cip_read::{FrameName, Given, Line};
 use cip_topology::Topology;
@@ -17,6 +22,7 @@ use std::alloc::Global;
 #[derive(Drop)]
 pub struct TextView<'a> {
     book: Book<'a>,
+    past: Past<'a>,
     out: String,
 }
 
@@ -27,6 +33,7 @@ impl<'a> TextView<'a> {
     {
         TextView {
             book: Book::new(alloc, topology),
+            past: Past::new(alloc, topology),
             out: String::new(alloc),
         }
     }
@@ -64,6 +71,47 @@ impl<'a> TextView<'a> {
         Ok(())
     }
 
+    // What a reply says of the attributes that were asked for, on a line of its own.
+    fn put_attributes(
+        &mut self,
+        asked: Option<Attributes>,
+        reply: &Reply<'_>,
+    ) -> Result<(), NoMemory> {
+        if let Some(asked) = asked {
+            if let Some(view) = answered_attributes(asked, reply) {
+                writeln!(self.out, "    {view}")?;
+            }
+        }
+        Ok(())
+    }
+
+    // The data that a request sets an assembly to likewise.
+    fn put_set(&mut self, bytes: &[u8]) -> Result<(), NoMemory> {
+        if let Ok(request) = decode_request(bytes) {
+            if let Some(instance) = set_instance(&request) {
+                let view = AttributesView::Assembly(instance, request.view.data_);
+                writeln!(self.out, "    {view}")?;
+            }
+        }
+        Ok(())
+    }
+
+    // The attributes that what a frame holds has.
+    fn put_held_attributes(
+        &mut self,
+        asked: Option<Attributes>,
+        body: &Body,
+    ) -> Result<(), NoMemory> {
+        match body {
+            Body::Request { bytes, .. } => self.put_set(bytes.as_slice()),
+            Body::Reply { bytes, .. } => match decode_reply(bytes.as_slice()) {
+                Ok(reply) => self.put_attributes(asked, &reply),
+                Err(_) => Ok(()),
+            },
+            Body::Data { .. } => Ok(()),
+        }
+    }
+
     // What a frame holds that goes out.
     fn put_send(
         &mut self,
@@ -85,21 +133,32 @@ impl<'a> TextView<'a> {
             None => self.put_body(body, None)?,
         }
         self.out.push_str("\n")?;
-        Ok(())
+        let asked = match sent {
+            Some(sent) => sent.asked,
+            None => None,
+        };
+        self.put_held_attributes(asked, body)
     }
 
     // The reply with which an op came to its end.
     fn put_done(&mut self, op: u32, reply: &[u8]) -> Result<(), NoMemory> {
         self.book.done(op);
         write!(self.out, "    {}", ReplyText(reply))?;
-        if let Ok(reply) = decode_reply(reply) {
-            if reply.view.general != 0 {
-                let made_at = self.book.made_at();
-                self.put_maker(made_at)?;
+        match decode_reply(reply) {
+            Ok(reply) => {
+                if reply.view.general != 0 {
+                    let made_at = self.book.made_at();
+                    self.put_maker(made_at)?;
+                }
+                self.out.push_str("\n")?;
+                let asked = self.book.answered();
+                self.put_attributes(asked, &reply)
+            }
+            Err(_) => {
+                self.out.push_str("\n")?;
+                Ok(())
             }
         }
-        self.out.push_str("\n")?;
-        Ok(())
     }
 
     fn put_datum(&mut self, known: Known, bytes: &[u8], behind: &str) -> Result<(), NoMemory> {
@@ -161,12 +220,14 @@ impl<'a> TextView<'a> {
     }
 
     fn put_step(&mut self, entry: usize, at: ModuleId, given: Given) -> Result<(), NoMemory> {
+        self.past.step(entry, at, given)?;
         self.book.begin(entry, at, given)?;
         let arrived = self.book.arrived();
         self.put_sent(arrived)
     }
 
-    fn put_lost(&mut self, frame: FrameName) -> Result<(), NoMemory> {
+    fn put_lost(&mut self, entry: usize, frame: FrameName) -> Result<(), NoMemory> {
+        self.past.loss(entry)?;
         let sent = self.book.lose(frame);
         self.put_sent(sent)
     }
@@ -185,13 +246,15 @@ impl<'a> TextView<'a> {
 impl View for TextView<'_> {
     ghost gathered = { λ s. string_bytes s.out };
 
-    fn line(&mut self, _alloc: Global, text: &[u8], line: Line) -> Result<(), NoMemory> {
+    fn line(&mut self, alloc: Global, text: &[u8], line: Line) -> Result<(), NoMemory> {
         self.copy(text)?;
         match line {
             Line::Step { entry, at, given } => self.put_step(entry, at, given),
-            Line::Lost { frame, .. } => self.put_lost(frame),
+            Line::Lost { entry, frame } => self.put_lost(entry, frame),
             Line::Output { index, output } => self.put_output(index, &output),
-            Line::Note(_) => Ok(()),
+            Line::Note(note) => {
+                put_meaning(alloc, &mut self.out, &self.book, &self.past, text, note)
+            }
         }
     }
 

@@ -1,0 +1,77 @@
+//! The lines that show no part of an entry: the words that they have, and what trails and chains
+//! are of.
+use crate::past::Past;
+use cip_base::{ModuleId, NoMemory};
+use cip_read::CommandWord;
+use cip_words::{number, words};
+use std::alloc::Global;
+
+/// The words of a line; the reader has seen that they are those of its kind.
+#[derive(Drop)]
+pub(crate) struct NoteWords<'a> {
+    words: Vec<&'a str>,
+}
+
+impl<'a> NoteWords<'a> {
+    /// The words of a text. NoMemory where an allocation is refused.
+    pub fn of(alloc: Global, text: &'a [u8]) -> Result<NoteWords<'a>, NoMemory> {
+        let text = match std::str::from_utf8(text) {
+            Ok(text) => text,
+            Err(_) => "",
+        };
+        Ok(NoteWords {
+            words: words(alloc, text)?,
+        })
+    }
+
+    /// How many they are.
+    pub fn len(&self) -> usize {
+        self.words.len()
+    }
+
+    /// The word at a place; none has no letters.
+    pub fn at(&self, k: usize) -> &'a str {
+        match self.words.get(k) {
+            Some(word) => *word,
+            None => "",
+        }
+    }
+
+    /// The number at a place, where one stands.
+    pub fn number(&self, k: usize) -> Option<u64> {
+        number(self.at(k))
+    }
+}
+
+/// The request whose way a trail is: its module, command and op.
+#[derive(Clone, Copy)]
+pub(crate) struct Asked {
+    pub at: ModuleId,
+    pub command: CommandWord,
+    pub op: u32,
+}
+
+/// The request whose way a trail is, where its first entry is kept.
+pub(crate) fn trail_of(past: &Past<'_>, words: &NoteWords<'_>) -> Option<Asked> {
+    let entry = words.number(1)?;
+    let taken = past.of(entry as usize)?;
+    let at = taken.at?;
+    let (command, op) = taken.command?;
+    match command {
+        CommandWord::Send | CommandWord::Open | CommandWord::Large => {
+            Some(Asked { at, command, op })
+        }
+        _ => None,
+    }
+}
+
+/// The module that took the last entry of a trail, where it is kept.
+pub(crate) fn last_of(past: &Past<'_>, words: &NoteWords<'_>) -> Option<ModuleId> {
+    let entry = words.number(words.len().saturating_sub(1))?;
+    past.of(entry as usize)?.at
+}
+
+/// The op that opened the connection of a chain, where no other open began at its module.
+pub(crate) fn chain_op(past: &Past<'_>, words: &NoteWords<'_>) -> Option<u32> {
+    past.only_open(words.at(1).as_bytes())
+}
