@@ -1,2 +1,4 @@
 pub mod Bands
 pub mod Cuts
+pub mod Passed
+pub mod Rounds

@@ -1,6 +1,7 @@
 //! The arrows of a chart, with their labels.
 use crate::areas::{Anchor, Areas, Spot, width_of};
 use crate::collect::ChartView;
+use crate::hops::{Dots, is_passing, put_bows};
 use crate::labels::spot_of;
 use crate::layout::Heights;
 use crate::line::{Line, line_of};
@@ -91,10 +92,14 @@ fn put_point(before: &str, x: u64, y: u64, out: &mut Draft) -> Result<(), NoMemo
     out.put_count(" ", y)
 }
 
-// The way of a line: straight, or a loop where a module sends to itself.
-fn put_way(line: Line, way: &mut Draft) -> Result<(), NoMemory> {
+// The way of a line: straight, or a loop where a module sends to itself; with dots it passes other
+// lifelines in bows.
+fn put_way(line: Line, dots: Option<&Dots>, way: &mut Draft) -> Result<(), NoMemory> {
     let Line { x1, y1, x2, y2 } = line;
     put_point(" d=\"M", x1, y1, way)?;
+    if let Some(dots) = dots {
+        put_bows(line, dots, way)?;
+    }
     if line.is_loop() {
         let far = x1.saturating_add(70);
         put_point("C", far, y1, way)?;
@@ -147,13 +152,19 @@ fn style_of(label: &Label) -> (&'static str, &'static str) {
 // What one points at, which is wider than what one sees.
 const HIT: &str = "class=\"hit\" stroke=\"none\" stroke-width=\"9\" pointer-events=\"stroke\"";
 
-// The line of a frame with its head, or with a cross.
-fn put_line(arrow: &Arrow, line: Line, way: &str, out: &mut Draft) -> Result<(), NoMemory> {
+// The line of a frame with its head, or with a cross, and the straight way that one points at.
+fn put_line(
+    arrow: &Arrow,
+    line: Line,
+    straight: &str,
+    way: &str,
+    out: &mut Draft,
+) -> Result<(), NoMemory> {
     let (words, head) = style_of(&arrow.label);
     out.put("<g ")?;
     out.put(words)?;
     out.put(">")?;
-    put_path(HIT, way, out)?;
+    put_path(HIT, straight, out)?;
     match arrow.fate {
         Fate::Lost(_) | Fate::Nobody => {
             put_path("class=\"line\"", way, out)?;
@@ -194,20 +205,45 @@ fn put_title(arrow: &Arrow, is_link: bool, out: &mut Draft) -> Result<(), NoMemo
     out.put(" ")
 }
 
-// An arrow with its label and what its message says, in a text for the way of its line.
+/// Texts for the ways of a line: straight, and in bows.
+#[derive(Drop)]
+struct Ways {
+    straight: Draft,
+    bowed: Draft,
+}
+
+// The line of a frame, in bows where it passes other lifelines.
+fn put_ways(
+    arrow: &Arrow,
+    line: Line,
+    dots: &Dots,
+    ways: &mut Ways,
+    out: &mut Draft,
+) -> Result<(), NoMemory> {
+    ways.straight.clear();
+    put_way(line, None, &mut ways.straight)?;
+    let straight = ways.straight.as_str();
+    if !is_passing(line) {
+        return put_line(arrow, line, straight, straight, out);
+    }
+    ways.bowed.clear();
+    put_way(line, Some(dots), &mut ways.bowed)?;
+    put_line(arrow, line, straight, ways.bowed.as_str(), out)
+}
+
+// An arrow with its label and what its message says.
 fn put_arrow(
     arrow: &Arrow,
     shown: &Shown,
     is_link: bool,
-    way: &mut Draft,
+    dots: &Dots,
+    ways: &mut Ways,
     out: &mut Draft,
 ) -> Result<(), NoMemory> {
     put_title(arrow, is_link, out)?;
     out.put_escaped(arrow.says.as_str())?;
     out.put("</title>")?;
-    way.clear();
-    put_way(shown.line, way)?;
-    put_line(arrow, shown.line, way.as_str(), out)?;
+    put_ways(arrow, shown.line, dots, ways, out)?;
     put_label(shown, out)?;
     out.put(if is_link { "</a>\n" } else { "</g>\n" })
 }
@@ -215,14 +251,20 @@ fn put_arrow(
 /// The arrows, as links to what their messages say where that stands on a page.
 pub(crate) fn put_arrows(
     chart: &ChartView<'_>,
+    heights: &Heights,
     arrows: &[Shown],
     is_link: bool,
     out: &mut Draft,
 ) -> Result<(), NoMemory> {
-    let mut way = Draft::new(out.allocator());
+    let alloc = out.allocator();
+    let dots = Dots::of(alloc, chart, heights)?;
+    let mut ways = Ways {
+        straight: Draft::new(alloc),
+        bowed: Draft::new(alloc),
+    };
     for shown in arrows {
         if let Some(arrow) = chart.arrows.get(shown.place) {
-            put_arrow(arrow, shown, is_link, &mut way, out)?;
+            put_arrow(arrow, shown, is_link, &dots, &mut ways, out)?;
         }
     }
     Ok(())

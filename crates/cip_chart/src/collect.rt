@@ -5,8 +5,10 @@ use crate::cut::Cut;
 use crate::draw::put_svg;
 use crate::fold::fold;
 use crate::marks::mark_of;
-use crate::model::{Arrow, Fate, Look, Mark, Row};
+use crate::model::{Arrow, Cause, Fate, Look, Mark, Row};
 use crate::page::put_page;
+use crate::resets::{ends_in_reset, is_reset};
+use crate::ticks::{Round, Together, join};
 use cip_base::{ModuleId, NoMemory};
 use cip_event::{Body, Output};
 use cip_read::{CommandWord, FrameName, Given, Line};
@@ -32,6 +34,9 @@ pub struct ChartView<'a> {
     flying: BTreeMap<FrameName, usize>,
     // the time of each module that ticked, in milliseconds
     times: BTreeMap<usize, u64>,
+    // the ticks of all modules that are under way, and the rows of those that came
+    round: Round,
+    together: Vec<Together>,
     // the entry under way, and its row where it is shown
     entry: usize,
     row: Option<usize>,
@@ -63,6 +68,8 @@ impl<'a> ChartView<'a> {
             is_page,
             flying: BTreeMap::new(alloc),
             times: BTreeMap::new(alloc),
+            round: Round::none(),
+            together: Vec::new(alloc),
             entry: 0,
             row: None,
             room: Draft::new(alloc),
@@ -91,23 +98,40 @@ impl<'a> ChartView<'a> {
         Ok(now)
     }
 
-    // How the row of an entry looks that may move data.
+    // The ticks of all modules go on with this step, begin anew or end with it.
+    fn join_tick(&mut self, at: ModuleId, given: Given) -> Result<(), NoMemory> {
+        self.round = match given {
+            Given::Tick(ms) => self.round.ticked(at.0, ms, self.row.is_some()),
+            _ => Round::none(),
+        };
+        let Round { modules, rows, .. } = self.round;
+        if modules == self.topology.configs().len() && 2 <= rows {
+            self.together.push(Together {
+                first: self.rows.len().saturating_sub(rows),
+                count: rows,
+            })?;
+        }
+        Ok(())
+    }
+
+    // How the row of an entry looks that may move data, or of a tick.
     fn look_of(&self, entry: usize, column: usize, given: Given) -> Option<Look> {
-        let (is_frame, number) = match given {
+        let (cause, number) = match given {
             Given::Command(CommandWord::Enter | CommandWord::Produce, number) => {
-                (false, u64::from(number))
+                (Cause::Command, u64::from(number))
             }
             Given::Frame(name) => match self.book.arrived() {
                 Some(sent) if sent.label.kind == Kind::Data => {
-                    (true, entry.saturating_sub(name.entry) as u64)
+                    (Cause::Frame, entry.saturating_sub(name.entry) as u64)
                 }
                 _ => return None,
             },
+            Given::Tick(ms) => (Cause::Tick, u64::from(ms)),
             _ => return None,
         };
         Some(Look {
             column,
-            is_frame,
+            cause,
             number,
             id: 0,
             outputs: 0,
@@ -172,17 +196,13 @@ impl<'a> ChartView<'a> {
             if self.cut.has_entry(entry) {
                 let look = self.look_of(entry, column, given);
                 self.put_row(Row {
-                    entry,
-                    column: Some(column),
-                    given: Some(given),
-                    marks: 0,
                     time,
                     look,
-                    is_folded: false,
-                    repeats: 0,
+                    ..Row::new(entry, Some(column), Some(given))
                 })?;
             }
         }
+        self.join_tick(at, given)?;
         match given {
             Given::Frame(name) => self.land(name, self.row),
             _ => Ok(()),
@@ -193,20 +213,12 @@ impl<'a> ChartView<'a> {
         let _ = self.book.lose(frame);
         self.entry = entry;
         self.row = None;
+        self.round = Round::none();
         let Some(place) = self.flying.remove(&frame) else {
             return Ok(());
         };
         if self.cut.has_entry(entry) {
-            self.put_row(Row {
-                entry,
-                column: None,
-                given: None,
-                marks: 0,
-                time: None,
-                look: None,
-                is_folded: false,
-                repeats: 0,
-            })?;
+            self.put_row(Row::new(entry, None, None))?;
         }
         if let Some(arrow) = self.arrows.get_mut(place) {
             arrow.fate = Fate::Lost(self.row);
@@ -244,6 +256,9 @@ impl<'a> ChartView<'a> {
             return Ok(());
         };
         self.change_look(Some(body));
+        if is_reset(&sent.label) && self.is_asked() {
+            self.put_reset()?;
+        }
         if self.row.is_none() && !self.is_seen(&sent) {
             return Ok(());
         }
@@ -267,6 +282,29 @@ impl<'a> ChartView<'a> {
         Ok(())
     }
 
+    // Whether the entry under way was given a request, so that a reply is the module's own.
+    fn is_asked(&self) -> bool {
+        match self.book.arrived() {
+            Some(sent) => sent.label.kind == Kind::Request,
+            None => false,
+        }
+    }
+
+    // Whether the entry under way was given a command, so that its end is the module's own.
+    fn is_told(&self) -> bool {
+        match self.row.and_then(|place| self.rows.get(place)) {
+            Some(row) => matches!(row.given, Some(Given::Command(..))),
+            None => false,
+        }
+    }
+
+    // The module of the entry under way was reset.
+    fn put_reset(&mut self) -> Result<(), NoMemory> {
+        let alloc = *self.marks.allocator();
+        let text = String::from_str(alloc, "reset")?;
+        self.put_mark(text, true, true)
+    }
+
     // Whether a frame of an entry that is not shown may come to a module that is.
     fn is_seen(&self, sent: &Sent) -> bool {
         match sent.to {
@@ -275,7 +313,7 @@ impl<'a> ChartView<'a> {
         }
     }
 
-    fn put_mark(&mut self, text: String, is_bad: bool) -> Result<(), NoMemory> {
+    fn put_mark(&mut self, text: String, is_bad: bool, is_reset: bool) -> Result<(), NoMemory> {
         let Some(place) = self.row else {
             return Ok(());
         };
@@ -283,6 +321,7 @@ impl<'a> ChartView<'a> {
             row: place,
             text,
             is_bad,
+            is_reset,
         })?;
         if let Some(row) = self.rows.get_mut(place) {
             row.marks = row.marks.saturating_add(1);
@@ -323,9 +362,14 @@ impl<'a> ChartView<'a> {
                 }
             }
         }
-        match mark_of(alloc, output, is_repeated)? {
-            Some((text, is_bad)) => self.put_mark(text, is_bad),
-            None => Ok(()),
+        if let Some((text, is_bad)) = mark_of(alloc, output, is_repeated)? {
+            self.put_mark(text, is_bad, false)?;
+        }
+        match output {
+            Output::Done { reply, .. } if self.is_told() && ends_in_reset(reply.as_slice()) => {
+                self.put_reset()
+            }
+            _ => Ok(()),
         }
     }
 
@@ -361,6 +405,7 @@ impl View for ChartView<'_> {
     fn end(&mut self, alloc: Global, _rest: &[u8], ending: Ending) -> Result<(), NoMemory> {
         self.put_notes(alloc, ending)?;
         fold(&mut self.rows);
+        join(&mut self.rows, self.together.as_slice());
         let mut out = Draft::new(alloc);
         if self.is_page {
             put_page(alloc, self, &mut out)?;

@@ -76,7 +76,7 @@ pub(crate) fn put_svg(
     put_head(width, height, out)?;
     put_lives(chart, &heights, body, out)?;
     put_rows(chart, &heights, width, out)?;
-    put_arrows(chart, arrows.as_slice(), is_link, out)?;
+    put_arrows(chart, &heights, arrows.as_slice(), is_link, out)?;
     put_marks(alloc, chart, &heights, out)?;
     put_notes(chart.notes.as_slice(), end, out)?;
     out.put("</svg>\n")

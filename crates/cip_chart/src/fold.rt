@@ -1,5 +1,5 @@
-//! Repeats of cyclic data, folded.
-use crate::model::{Look, Row};
+//! Repeats of cyclic data and of ticks, folded.
+use crate::model::{Cause, Fold, Look, Row};
 
 // The most rows of a cycle that is folded.
 const LONGEST: usize = 48;
@@ -58,15 +58,27 @@ fn hide(rows: &mut Vec<Row>, start: usize, end: usize) {
     }
 }
 
-// The cycle before a row stands so many times more.
-fn tell(rows: &mut Vec<Row>, last: usize, repeats: usize) {
+// Whether a tick is among the rows from one place up to another.
+fn has_ticks(rows: &[Row], start: usize, end: usize) -> bool {
+    for i in start..end {
+        if let Some(look) = look_at(rows, i) {
+            if look.cause == Cause::Tick {
+                return true;
+            }
+        }
+    }
+    false
+}
+
+// The cycle that ends with a row stands there more often.
+fn tell(rows: &mut Vec<Row>, last: usize, fold: Fold) {
     if let Some(row) = rows.get_mut(last) {
-        row.repeats = repeats;
+        row.fold = Some(fold);
     }
 }
 
-/// Folds each cycle of rows of cyclic data that stands there three times or more into its first
-/// standing.
+/// Folds each cycle of rows of cyclic data and of ticks that stands there three times or more into
+/// its first standing.
 pub(crate) fn fold(rows: &mut Vec<Row>) {
     let mut next = 0;
     for i in 0..rows.len() {
@@ -76,8 +88,13 @@ pub(crate) fn fold(rows: &mut Vec<Row>) {
         if let Some((count, repeats)) = cycle_at(rows.as_slice(), i) {
             let shown = i.saturating_add(count);
             let end = i.saturating_add(count.saturating_mul(repeats));
+            let fold = Fold {
+                rows: count,
+                times: repeats.saturating_sub(1),
+                has_ticks: has_ticks(rows.as_slice(), i, shown),
+            };
             hide(rows, shown, end);
-            tell(rows, shown.saturating_sub(1), repeats.saturating_sub(1));
+            tell(rows, shown.saturating_sub(1), fold);
             next = end;
         }
     }

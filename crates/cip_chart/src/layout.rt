@@ -27,15 +27,17 @@ pub(crate) fn x_of(column: usize) -> u64 {
     LEFT.saturating_add(SPACING.saturating_mul(column as u64))
 }
 
-/// How much of a row is below its dot, with its marks.
+/// How much of a row is below its dot, with its marks, or with its number where it is the last of
+/// those that stand at one height.
 pub(crate) fn below_dot(row: &Row) -> u64 {
-    MARK.saturating_mul(row.marks as u64)
+    let lines = if row.is_joined { 1 } else { 0 };
+    MARK.saturating_mul((row.marks as u64).max(lines))
 }
 
 /// How high a row is that is shown.
 fn height_of(row: &Row) -> u64 {
     let marks = MARK.saturating_mul((row.marks as u64).saturating_sub(1));
-    let fold = if row.repeats > 0 { ROW } else { 0 };
+    let fold = if row.fold.is_some() { ROW } else { 0 };
     ROW.saturating_add(marks).saturating_add(fold)
 }
 
@@ -55,23 +57,27 @@ impl Heights {
             rows: Vec::new(alloc),
             names: Vec::new(alloc),
         };
-        let mut y = top;
+        // where the row under way stands, and where the next one does
+        let (mut y, mut next) = (top, top);
         let mut shown: u64 = 0;
         for row in rows {
-            if !row.is_folded {
+            if row.is_folded {
+                heights.rows.push(next)?;
+                continue;
+            }
+            if !row.is_joined {
                 if shown == NAMED {
-                    heights.names.push(y)?;
-                    y = y.saturating_add(NAMES);
+                    heights.names.push(next)?;
+                    next = next.saturating_add(NAMES);
                     shown = 0;
                 }
                 shown = shown.saturating_add(1);
+                y = next;
             }
             heights.rows.push(y)?;
-            if !row.is_folded {
-                y = y.saturating_add(height_of(row));
-            }
+            next = next.max(y.saturating_add(height_of(row)));
         }
-        heights.rows.push(y)?;
+        heights.rows.push(next)?;
         Ok(heights)
     }
 

@@ -7,6 +7,7 @@ mod collect;
 mod cut;
 mod draw;
 mod fold;
+mod hops;
 mod labels;
 mod layout;
 mod line;
@@ -14,8 +15,10 @@ mod lives;
 mod marks;
 mod model;
 mod page;
+mod resets;
 mod rows;
 mod style;
+mod ticks;
 
 pub use collect::ChartView;
 pub use cut::Cut;

@@ -2,18 +2,37 @@
 use cip_read::{FrameName, Given};
 use cip_view::Label;
 
-/// How the row of cyclic data looks, but for its bytes: rows of one look may be folded.
+/// What the module of a row was given that may be folded.
+#[derive(Clone, Copy, Debug, PartialEq, Eq)]
+pub(crate) enum Cause {
+    Command,
+    Frame,
+    Tick,
+}
+
+/// How the row of a tick or of cyclic data looks, but for its bytes: rows of one look may be
+/// folded.
 #[derive(Clone, Copy, Debug, PartialEq, Eq)]
 pub(crate) struct Look {
     pub column: usize,
-    /// 0 for a command, 1 for a frame.
-    pub is_frame: bool,
-    /// The number of the command; of a frame how many entries before this one sent it.
+    pub cause: Cause,
+    /// The number of the command; of a frame how many entries before this one sent it; of a tick
+    /// its milliseconds.
     pub number: u64,
     /// The connection id of the datum that goes out, or 0.
     pub id: u32,
     /// How many outputs there are.
     pub outputs: usize,
+}
+
+/// A cycle of rows that stands there more often than it is shown.
+#[derive(Clone, Copy, Debug)]
+pub(crate) struct Fold {
+    /// How many rows it has.
+    pub rows: usize,
+    /// How often it stands there more.
+    pub times: usize,
+    pub has_ticks: bool,
 }
 
 /// An entry.
@@ -27,13 +46,34 @@ pub(crate) struct Row {
     pub marks: usize,
     /// The time of the module after a tick, in milliseconds.
     pub time: Option<u64>,
-    /// Of an entry that moves data and does nothing else.
+    /// Of an entry that moves data, or of a tick, where nothing else comes of it.
     pub look: Option<Look>,
     /// The row stands in one that is shown in its place.
     pub is_folded: bool,
-    /// How many rows behind this one are folded into it and those before it, and how often they
-    /// stand there.
-    pub repeats: usize,
+    /// The cycle of rows that ends here and is shown once.
+    pub fold: Option<Fold>,
+    /// How many rows behind this one stand at its height.
+    pub joined: usize,
+    /// The row stands at the height of one before it.
+    pub is_joined: bool,
+}
+
+impl Row {
+    /// The row of an entry, so far.
+    pub(crate) fn new(entry: usize, column: Option<usize>, given: Option<Given>) -> Row {
+        Row {
+            entry,
+            column,
+            given,
+            marks: 0,
+            time: None,
+            look: None,
+            is_folded: false,
+            fold: None,
+            joined: 0,
+            is_joined: false,
+        }
+    }
 }
 
 /// How a frame ended.
@@ -69,4 +109,6 @@ pub(crate) struct Mark {
     pub row: usize,
     pub text: String,
     pub is_bad: bool,
+    /// The module was reset: bars stand across its lifeline.
+    pub is_reset: bool,
 }

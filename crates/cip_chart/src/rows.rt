@@ -3,7 +3,7 @@ use crate::areas::{Anchor, Areas, Spot, width_of};
 use crate::collect::ChartView;
 use crate::layout::{Heights, MARK, below_dot, x_of};
 use crate::line::y_of;
-use crate::model::{Mark, Row};
+use crate::model::{Fold, Mark, Row};
 use crate::style;
 use cip_base::NoMemory;
 use cip_read::Given;
@@ -48,12 +48,20 @@ fn given_of(row: &Row, y: u64, text: &mut Draft) -> Result<Option<Spot>, NoMemor
     Ok(Some(beside(column, y.saturating_sub(6))))
 }
 
+// How far the bars of a reset stand out behind where another mark begins.
+const BARS: u64 = 6;
+
 // Where a mark stands, so much below the first of its row; None where its row is not shown.
 fn mark_spot(chart: &ChartView<'_>, heights: &Heights, mark: &Mark, below: u64) -> Option<Spot> {
     let y = y_of(chart, heights, Some(mark.row))?;
     let column = chart.rows.get(mark.row)?.column?;
     let base = y.saturating_add(12).saturating_add(below);
-    Some(beside(column, base))
+    let spot = beside(column, base);
+    if mark.is_reset {
+        let x = spot.x.saturating_add(BARS);
+        return Some(Spot { x, ..spot });
+    }
+    Some(spot)
 }
 
 // How far below the first mark of its row a mark stands that comes behind this one.
@@ -95,7 +103,7 @@ pub(crate) fn take_rows(
 }
 
 // That the rows above stand there so many times more.
-fn put_fold(row: &Row, y: u64, width: u64, out: &mut Draft) -> Result<(), NoMemory> {
+fn put_fold(row: &Row, fold: Fold, y: u64, width: u64, out: &mut Draft) -> Result<(), NoMemory> {
     let top = y.saturating_add(below_dot(row)).saturating_add(8);
     let text = top.saturating_add(13);
     let across = width.saturating_sub(40);
@@ -106,22 +114,72 @@ fn put_fold(row: &Row, y: u64, width: u64, out: &mut Draft) -> Result<(), NoMemo
     out.put("\" height=\"18\" rx=\"4\"/><text ")?;
     out.put(style::PALE)?;
     out.put_count(" font-style=\"italic\" x=\"60\" y=\"", text)?;
-    out.put_count("\">the data above moves ", row.repeats as u64)?;
+    out.put(if fold.has_ticks {
+        "\">the entries above come "
+    } else {
+        "\">the data above moves "
+    })?;
+    out.put_number(fold.times as u64)?;
     out.put(" times more</text>\n")
 }
 
-// The number of a row, and its time.
-fn put_number(row: &Row, y: u64, out: &mut Draft) -> Result<(), NoMemory> {
-    let base = y.saturating_add(4);
-    out.put_count("<text x=\"40\" y=\"", base)?;
-    out.put_count("\">", row.entry as u64)?;
-    out.put("</text>\n")?;
-    if let Some(time) = row.time {
-        out.put_count("<text x=\"100\" y=\"", base)?;
-        out.put_count("\">", time)?;
-        out.put(" ms</text>\n")?;
+// A number of an entry, with these words in front.
+fn put_entry(entry: usize, y: u64, words: &str, out: &mut Draft) -> Result<(), NoMemory> {
+    out.put_count("<text x=\"40\" y=\"", y)?;
+    out.put("\">")?;
+    out.put_count(words, entry as u64)?;
+    out.put("</text>\n")
+}
+
+// A time, with these words in front.
+fn put_time(time: u64, y: u64, words: &str, out: &mut Draft) -> Result<(), NoMemory> {
+    out.put_count("<text x=\"100\" y=\"", y)?;
+    out.put("\">")?;
+    out.put_count(words, time)?;
+    out.put(" ms</text>\n")
+}
+
+// The least and the greatest time of rows, as far as they have one.
+fn times_of(rows: &[Row]) -> (u64, u64) {
+    let (mut least, mut greatest) = (u64::MAX, 0);
+    for row in rows {
+        if let Some(time) = row.time {
+            least = least.min(time);
+            greatest = greatest.max(time);
+        }
+    }
+    (least, greatest)
+}
+
+// The numbers of rows at one height, and their time; where it is not the same of all, from the
+// least to the greatest.
+fn put_joined(rows: &[Row], y: u64, out: &mut Draft) -> Result<(), NoMemory> {
+    let (Some(first), Some(last)) = (rows.first(), rows.last()) else {
+        return Ok(());
+    };
+    let (base, below) = (y.saturating_add(4), y.saturating_add(4 + MARK));
+    let (least, greatest) = times_of(rows);
+    put_entry(first.entry, base, "", out)?;
+    put_entry(last.entry, below, "to ", out)?;
+    put_time(least, base, "", out)?;
+    if least < greatest {
+        put_time(greatest, below, "to ", out)?;
     }
     Ok(())
+}
+
+// The number of a row, and its time, with those of the rows that stand at its height.
+fn put_number(rows: &[Row], row: &Row, y: u64, out: &mut Draft) -> Result<(), NoMemory> {
+    if 0 < row.joined {
+        let joined = rows.get(..row.joined.saturating_add(1)).unwrap_or(rows);
+        return put_joined(joined, y, out);
+    }
+    let base = y.saturating_add(4);
+    put_entry(row.entry, base, "", out)?;
+    match row.time {
+        Some(time) => put_time(time, base, "", out),
+        None => Ok(()),
+    }
 }
 
 /// The numbers, the folds and the dots of the rows.
@@ -132,15 +190,16 @@ pub(crate) fn put_rows(
     out: &mut Draft,
 ) -> Result<(), NoMemory> {
     write!(out, "<g {} text-anchor=\"end\">\n", style::PALE)?;
-    for (row, y) in chart.rows.iter().zip(heights.rows.iter()) {
-        if !row.is_folded {
-            put_number(row, *y, out)?;
+    for (place, (row, y)) in chart.rows.iter().zip(heights.rows.iter()).enumerate() {
+        if !row.is_folded && !row.is_joined {
+            let rows = chart.rows.get(place..).unwrap_or(&[]);
+            put_number(rows, row, *y, out)?;
         }
     }
     out.put("</g>\n")?;
     for (row, y) in chart.rows.iter().zip(heights.rows.iter()) {
-        if !row.is_folded && row.repeats > 0 {
-            put_fold(row, *y, width, out)?;
+        if let (false, Some(fold)) = (row.is_folded, row.fold) {
+            put_fold(row, fold, *y, width, out)?;
         }
     }
     for (row, y) in chart.rows.iter().zip(heights.rows.iter()) {
@@ -164,6 +223,21 @@ fn put_text(spot: Spot, words: &str, text: &str, out: &mut Draft) -> Result<(), 
     out.put("\">")?;
     out.put_escaped(text)?;
     out.put("</text>\n")
+}
+
+// The bars of a reset, across the lifeline, left of its word.
+fn put_bars(spot: Spot, out: &mut Draft) -> Result<(), NoMemory> {
+    let left = spot.x.saturating_sub(BARS + 13);
+    let right = spot.x.saturating_sub(BARS - 1);
+    out.put("<path ")?;
+    out.put(style::CROSS)?;
+    out.put_count(" d=\"M", left)?;
+    out.put_count(" ", spot.y.saturating_sub(6))?;
+    out.put_count("H", right)?;
+    out.put_count("M", left)?;
+    out.put_count(" ", spot.y.saturating_sub(2))?;
+    out.put_count("H", right)?;
+    out.put("\"/>\n")
 }
 
 // What the modules were given.
@@ -206,6 +280,9 @@ pub(crate) fn put_marks(
         if let Some(spot) = mark_spot(chart, heights, mark, below) {
             let words = if mark.is_bad { style::BAD } else { "" };
             put_text(spot, words, mark.text.as_str(), out)?;
+            if mark.is_reset {
+                put_bars(spot, out)?;
+            }
         }
     }
     out.put("</g>\n")
