@@ -2,29 +2,12 @@
 
 use crate::options::USAGE;
 use cip_base::NoMemory;
-use cip_check::{Escaped, NotUtf8};
+use cip_check::{Escaped, NotUtf8, Unread};
 use cip_console::ConsoleFault;
 use cip_script::Explained;
 use cip_tool::AnswerFault;
 use std::alloc::AllocError;
 use thiserror::Error;
-
-/// Why a file gives no bytes.
-#[derive(Clone, Copy, Debug, PartialEq, Eq, Error)]
-pub enum Unread {
-    #[error("there is no such file")]
-    Missing,
-    #[error("is a directory")]
-    Directory,
-    #[error("no permission to read it")]
-    NoPermission,
-    #[error("has more than 1,048,576 bytes")]
-    TooLong,
-    #[error("can't be read")]
-    Failed,
-    #[error("out of memory")]
-    NoMemory,
-}
 
 // One fault, or several.
 fn fault_word(count: &usize) -> &'static str {
@@ -66,6 +49,9 @@ pub enum Fault {
     Console(ConsoleFault),
     #[error("standard output can't be written")]
     Write,
+    /// Nobody reads any more what is written.
+    #[error("nobody reads the standard output")]
+    Unwanted,
     #[error("out of memory")]
     NoMemory,
 }
@@ -84,7 +70,8 @@ fn status_of(fault: &ConsoleFault) -> u8 {
 
 impl Fault {
     /// The exit status: 1 where what was asked for has no answer or a line of a script is faulty, 2
-    /// for the options, 3 for a topology file, 4 for reading and writing, 5 where memory ran out.
+    /// for the options, 3 for a topology file, 4 for reading and writing, 5 where memory ran out,
+    /// 141 where nobody reads any more, as a shell has it of a program that a broken pipe ended.
     pub fn status(&self) -> u8 {
         match self {
             Fault::Answer(AnswerFault::NoMemory) => 5,
@@ -97,11 +84,16 @@ impl Fault {
             Fault::Script(..) => 1,
             Fault::Line(..) => 1,
             Fault::Console(fault) => status_of(fault),
-            Fault::Read(_, Unread::NoMemory) => 5,
             Fault::Read(..) => 4,
             Fault::Write => 4,
+            Fault::Unwanted => 141,
             Fault::NoMemory => 5,
         }
+    }
+
+    /// Whether something is said of it: nothing is where nobody reads any more.
+    pub fn is_told(&self) -> bool {
+        !matches!(self, Fault::Unwanted)
     }
 }
 

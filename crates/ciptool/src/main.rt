@@ -2,6 +2,8 @@
 #![tactic(auto)]
 
 mod fault;
+mod files;
+mod noted;
 mod options;
 mod program;
 
@@ -11,7 +13,9 @@ fn main(rt: HostRuntime) -> ExitCode {
     match program::run_program(&rt) {
         Ok(()) => ExitCode::SUCCESS,
         Err(fault) => {
-            let _ = eprintln!(rt; "ciptool: {fault}");
+            if fault.is_told() {
+                let _ = eprintln!(rt; "ciptool: {fault}");
+            }
             let status = fault.status();
             // (one place to give it up is one to prove)
             drop(fault);

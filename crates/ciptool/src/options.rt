@@ -1,5 +1,6 @@
 //! The options of the program.
 
+use crate::files::is_input;
 use cip_open::{ConnectionKind, Priority};
 use cip_tool::priority_named;
 use clap::error::ErrorKind;
@@ -109,11 +110,12 @@ usage: ciptool path PATH
   -h, --help      this text
   -V, --version   the version
 
-A number is decimal, or hexadecimal behind 0x.
+A number is decimal, or hexadecimal behind 0x. In place of a FILE or a SCRIPT a - stands for
+the standard input.
 
 exit status: 0 done, 1 there is no answer or a line is faulty or not as expected, 2 wrong
 options, 3 a faulty topology, 4 a file that can't be read or output that can't be written, 5 no
-memory";
+memory, 141 nobody reads the output";
 
 fn flag<'a>(alloc: Global, name: &'a str) -> Arg<'a> {
     Arg::new(alloc, name).long(name).action(ArgAction::SetTrue)
@@ -280,22 +282,58 @@ fn params_task(alloc: Global, matches: &ArgMatches<'_>) -> Result<Task, OptionsF
     }
 }
 
+// The standard input is named for two files.
+fn named_twice(alloc: Global) -> OptionsFault {
+    wrong(
+        alloc,
+        "two files are the standard input, which is read once; - stands for one of them alone",
+    )
+}
+
+fn check_task(alloc: Global, matches: &ArgMatches<'_>) -> Result<Task, OptionsFault> {
+    let topology = needed_at(alloc, matches, "FILE")?;
+    let scripts = texts_at(alloc, matches, "SCRIPT")?;
+    let mut is_read = is_input(topology.as_str());
+    for script in &scripts {
+        if is_input(script.as_str()) {
+            if is_read {
+                return Err(named_twice(alloc));
+            }
+            is_read = true;
+        }
+    }
+    Ok(Task::Check { topology, scripts })
+}
+
+// The topology and the file of a wide script.
+fn wide_files(
+    alloc: Global,
+    matches: &ArgMatches<'_>,
+) -> Result<(Option<String>, Option<String>), OptionsFault> {
+    let topology = matches.get_str("topology");
+    let script = matches.get_str("FILE");
+    if topology.is_some_and(is_input) && script.is_none_or(is_input) {
+        return Err(named_twice(alloc));
+    }
+    Ok((
+        text_at(alloc, matches, "topology")?,
+        text_at(alloc, matches, "FILE")?,
+    ))
+}
+
 fn task_of(alloc: Global, name: &str, matches: &ArgMatches<'_>) -> Result<Task, OptionsFault> {
     match name {
         "path" => Ok(Task::Path(needed_at(alloc, matches, "PATH")?)),
         "params" => params_task(alloc, matches),
-        "check" => Ok(Task::Check {
-            topology: needed_at(alloc, matches, "FILE")?,
-            scripts: texts_at(alloc, matches, "SCRIPT")?,
-        }),
-        "script" => Ok(Task::Script {
-            topology: text_at(alloc, matches, "topology")?,
-            script: text_at(alloc, matches, "FILE")?,
-        }),
-        "play" => Ok(Task::Play {
-            topology: text_at(alloc, matches, "topology")?,
-            script: text_at(alloc, matches, "FILE")?,
-        }),
+        "check" => check_task(alloc, matches),
+        "script" => {
+            let (topology, script) = wide_files(alloc, matches)?;
+            Ok(Task::Script { topology, script })
+        }
+        "play" => {
+            let (topology, script) = wide_files(alloc, matches)?;
+            Ok(Task::Play { topology, script })
+        }
         _ => Ok(Task::Status(
             needed_at(alloc, matches, "GENERAL")?,
             text_at(alloc, matches, "ADDITIONAL")?,

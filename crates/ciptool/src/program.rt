@@ -1,9 +1,12 @@
 //! What the program does: it reads its options, and writes the answer.
 
-use crate::fault::{Fault, Unread};
+use crate::fault::Fault;
+use crate::files::{bytes_at, told_name};
+use crate::noted::NotedOut;
 use crate::options::{HELP, OptionsFault, Task, VERSION, read_task};
+use cip_base::NoMemory;
 use cip_check::{Escaped, Report, RoomsFault, check, explain_load, small_rooms, text_of};
-use cip_console::{ConsoleFault, Out, Script, run};
+use cip_console::{ConsoleFault, Script, run};
 use cip_indexed::{NewModule, new_modules};
 use cip_module::Module;
 use cip_open::Params;
@@ -13,8 +16,7 @@ use cip_topology::{CHASSIS, LoadFault, Topology, load};
 use cip_wide::{LineFault, WideFault, narrow};
 use std::alloc::{AllocError, Global};
 use std::env::Env;
-use std::fs::File;
-use std::io::{ErrorKind, Read};
+use std::io::ErrorKind;
 use std::{env, io};
 
 // The most bytes of one word of the command line, as Linux has it.
@@ -54,64 +56,25 @@ fn task(rt: &HostRuntime, alloc: Global) -> Result<Task, Fault> {
     }
 }
 
+// The standard output can't be written.
+fn unwritten(error: &io::Error) -> Fault {
+    match error.kind() {
+        ErrorKind::BrokenPipe => Fault::Unwanted,
+        _ => Fault::Write,
+    }
+}
+
 fn say(rt: &HostRuntime, text: &str) -> Result<(), Fault> {
     match println!(rt; "{text}") {
         Ok(()) => Ok(()),
-        Err(_) => Err(Fault::Write),
+        Err(error) => Err(unwritten(&error)),
     }
 }
 
 fn say_version(rt: &HostRuntime) -> Result<(), Fault> {
     match println!(rt; "ciptool {VERSION}") {
         Ok(()) => Ok(()),
-        Err(_) => Err(Fault::Write),
-    }
-}
-
-// The most bytes of a topology file.
-const FILE_LIMIT: usize = 1_048_576;
-
-// How often a file is read at most: once for each byte, and once for the end.
-const ASKS: usize = 1_048_577;
-
-fn unread_by(error: &io::Error) -> Unread {
-    match error.kind() {
-        ErrorKind::NotFound => Unread::Missing,
-        ErrorKind::PermissionDenied => Unread::NoPermission,
-        ErrorKind::IsADirectory => Unread::Directory,
-        _ => Unread::Failed,
-    }
-}
-
-// All that a reader gives, at most as many bytes as a file may have.
-fn bytes_of<R: Read>(alloc: Global, reader: &mut R) -> Result<Vec<u8>, Unread> {
-    let mut bytes = Vec::new(alloc);
-    let mut piece = [0u8; 4096];
-    for _ in 0..ASKS {
-        let count = match reader.read(&mut piece) {
-            Ok(count) => count,
-            Err(error) => return Err(unread_by(&error)),
-        };
-        if count == 0 {
-            return Ok(bytes);
-        }
-        if bytes.len().saturating_add(count) > FILE_LIMIT {
-            return Err(Unread::TooLong);
-        }
-        if bytes.extend_from_slice(&piece[..count]).is_err() {
-            return Err(Unread::NoMemory);
-        }
-    }
-    Err(Unread::TooLong)
-}
-
-fn bytes_at(rt: &HostRuntime, alloc: Global, name: &str) -> Result<Vec<u8>, Unread> {
-    match File::open(rt, name) {
-        Ok(file) => {
-            let mut file = file;
-            bytes_of(alloc, &mut file)
-        }
-        Err(error) => Err(unread_by(&error)),
+        Err(error) => Err(unwritten(&error)),
     }
 }
 
@@ -119,8 +82,8 @@ fn bytes_at(rt: &HostRuntime, alloc: Global, name: &str) -> Result<Vec<u8>, Unre
 fn say_lines(rt: &HostRuntime, name: &str, between: &str, report: &Report) -> Result<(), Fault> {
     let name = Escaped(name);
     for line in report.lines() {
-        if println!(rt; "{name}:{between}{line}").is_err() {
-            return Err(Fault::Write);
+        if let Err(error) = println!(rt; "{name}:{between}{line}") {
+            return Err(unwritten(&error));
         }
     }
     Ok(())
@@ -155,24 +118,16 @@ fn rooms_of(alloc: Global, text: &str, script: &[u8]) -> Result<Report, RoomsFau
 }
 
 // Tells of the rooms that are too small for a script, and how many they are.
-fn check_script(
-    rt: &HostRuntime,
-    alloc: Global,
-    text: &str,
-    name: &String,
-) -> Result<usize, Fault> {
-    let script = match bytes_at(rt, alloc, name.as_str()) {
-        Ok(script) => script,
-        Err(why) => return Err(Fault::Read(String::from_str(alloc, name.as_str())?, why)),
-    };
+fn check_script(rt: &HostRuntime, alloc: Global, text: &str, name: &str) -> Result<usize, Fault> {
+    let script = bytes_at(rt, alloc, name)?;
     match rooms_of(alloc, text, script.as_slice()) {
         Ok(report) => {
-            say_lines(rt, name.as_str(), "", &report)?;
+            say_lines(rt, told_name(name), "", &report)?;
             Ok(report.faults())
         }
         Err(RoomsFault::Script(line, fault)) => {
             let explained = explain(alloc, script.as_slice(), line, fault)?;
-            let name = String::from_str(alloc, name.as_str())?;
+            let name = String::from_str(alloc, told_name(name))?;
             Err(Fault::Script(name, line, explained))
         }
         Err(RoomsFault::NoMemory) => Err(Fault::NoMemory),
@@ -188,30 +143,31 @@ fn check_scripts(
 ) -> Result<usize, Fault> {
     let mut count = 0usize;
     for name in scripts {
-        count = count.saturating_add(check_script(rt, alloc, text, name)?);
+        count = count.saturating_add(check_script(rt, alloc, text, name.as_str())?);
     }
     Ok(count)
 }
 
-// Tells what is wrong with a topology file, and, where nothing is, what with its rooms.
+// Tells what is wrong with a topology file of this name, and, where nothing is, what with its
+// rooms.
 fn check_text(
     rt: &HostRuntime,
     alloc: Global,
-    name: String,
+    name: &str,
     text: &str,
     scripts: &[String],
 ) -> Result<(), Fault> {
     let Ok(report) = check(alloc, text) else {
         return Err(Fault::NoMemory);
     };
-    say_lines(rt, name.as_str(), " ", &report)?;
+    say_lines(rt, name, " ", &report)?;
     let count = match report.faults() {
         0 => check_scripts(rt, alloc, text, scripts)?,
         count => count,
     };
     match count {
         0 => Ok(()),
-        count => Err(Fault::Faults(name, count)),
+        count => Err(Fault::Faults(String::from_str(alloc, name)?, count)),
     }
 }
 
@@ -219,16 +175,14 @@ fn check_text(
 fn check_file(
     rt: &HostRuntime,
     alloc: Global,
-    name: String,
+    name: &str,
     scripts: &[String],
 ) -> Result<(), Fault> {
-    let bytes = match bytes_at(rt, alloc, name.as_str()) {
-        Ok(bytes) => bytes,
-        Err(why) => return Err(Fault::Read(name, why)),
-    };
+    let bytes = bytes_at(rt, alloc, name)?;
+    let name = told_name(name);
     match text_of(bytes.as_slice()) {
         Ok(text) => check_text(rt, alloc, name, text, scripts),
-        Err(fault) => Err(Fault::NotText(name, fault)),
+        Err(fault) => Err(Fault::NotText(String::from_str(alloc, name)?, fault)),
     }
 }
 
@@ -254,34 +208,21 @@ fn loaded(alloc: Global, name: &str, text: &str) -> Result<Topology, Fault> {
     }
 }
 
-// The topology of a file, or the chassis where none is named.
-fn topology_of(rt: &HostRuntime, alloc: Global, name: Option<String>) -> Result<Topology, Fault> {
-    let Some(name) = name else {
-        return loaded(alloc, "the chassis", CHASSIS);
-    };
-    let bytes = match bytes_at(rt, alloc, name.as_str()) {
-        Ok(bytes) => bytes,
-        Err(why) => return Err(Fault::Read(name, why)),
-    };
+// The topology of a file.
+fn topology_at(rt: &HostRuntime, alloc: Global, name: &str) -> Result<Topology, Fault> {
+    let bytes = bytes_at(rt, alloc, name)?;
+    let name = told_name(name);
     match text_of(bytes.as_slice()) {
-        Ok(text) => loaded(alloc, name.as_str(), text),
-        Err(fault) => Err(Fault::NotText(name, fault)),
+        Ok(text) => loaded(alloc, name, text),
+        Err(fault) => Err(Fault::NotText(String::from_str(alloc, name)?, fault)),
     }
 }
 
-// The bytes of a wide script.
-fn script_of(rt: &HostRuntime, alloc: Global, name: &Option<String>) -> Result<Vec<u8>, Unread> {
+// The same, or the chassis where none is named.
+fn topology_of(rt: &HostRuntime, alloc: Global, name: Option<String>) -> Result<Topology, Fault> {
     match name {
-        Some(name) => bytes_at(rt, alloc, name.as_str()),
-        None => bytes_of(alloc, &mut rt.reader()),
-    }
-}
-
-// The name of a wide script, as faults have it.
-fn script_name(alloc: Global, name: Option<String>) -> Result<String, Fault> {
-    match name {
-        Some(name) => Ok(name),
-        None => Ok(String::from_str(alloc, "<stdin>")?),
+        Some(name) => topology_at(rt, alloc, name.as_str()),
+        None => loaded(alloc, "the chassis", CHASSIS),
     }
 }
 
@@ -292,11 +233,11 @@ fn narrow_over(alloc: Global, topology: Topology, wide: &[u8]) -> Result<String,
     narrow(alloc, topology, modules, wide)
 }
 
-// The name of a wide script, borrowed.
-fn script_word(name: &Option<String>) -> &str {
+// The file of a wide script: the standard input where none is named.
+fn script_file(name: &Option<String>) -> &str {
     match name {
         Some(name) => name.as_str(),
-        None => "<stdin>",
+        None => "-",
     }
 }
 
@@ -330,14 +271,12 @@ fn narrowed(
     topology: Topology,
     script: Option<String>,
 ) -> Result<String, Fault> {
-    let bytes = match script_of(rt, alloc, &script) {
-        Ok(bytes) => bytes,
-        Err(why) => return Err(Fault::Read(script_name(alloc, script)?, why)),
-    };
+    let name = script_file(&script);
+    let bytes = bytes_at(rt, alloc, name)?;
     match narrow_over(alloc, topology, bytes.as_slice()) {
         Ok(text) => Ok(text),
         Err(fault) => {
-            let told = told_of(alloc, script_word(&script), &fault);
+            let told = told_of(alloc, told_name(name), &fault);
             // (one place to give it up is one to prove)
             drop(fault);
             Err(told)
@@ -356,7 +295,23 @@ fn narrow_file(
     let text = narrowed(rt, alloc, topology, script)?;
     match print!(rt; "{text}") {
         Ok(()) => Ok(()),
-        Err(_) => Err(Fault::Write),
+        Err(error) => Err(unwritten(&error)),
+    }
+}
+
+// What the console says, and whether nobody reads the transcript any more.
+#[derive(Drop)]
+struct Stopped {
+    fault: ConsoleFault,
+    is_unwanted: bool,
+}
+
+impl From<NoMemory> for Stopped {
+    fn from(_refused: NoMemory) -> Stopped {
+        Stopped {
+            fault: ConsoleFault::NoMemory,
+            is_unwanted: false,
+        }
     }
 }
 
@@ -366,16 +321,30 @@ fn run_over(
     alloc: Global,
     topology: Topology,
     script: &str,
-) -> Result<(), ConsoleFault> {
+) -> Result<(), Stopped> {
     let made = new_modules(alloc, topology.configs())?;
-    let modules = boxes!(alloc, made, ConsoleFault::NoMemory);
+    let modules = boxes!(alloc, made, Stopped::from(NoMemory));
     let mut reader = Script {
         rest: script.as_bytes(),
     };
-    let mut writer = Out {
-        inner: io::writer(rt),
-    };
-    run(alloc, &mut reader, &mut writer, topology, modules)
+    let mut writer = NotedOut::of(io::writer(rt));
+    match run(alloc, &mut reader, &mut writer, topology, modules) {
+        Ok(()) => Ok(()),
+        Err(fault) => Err(Stopped {
+            fault,
+            is_unwanted: writer.is_unwanted,
+        }),
+    }
+}
+
+// What is told of a run that has stopped.
+fn stopped_by(stopped: Stopped) -> Fault {
+    let is_unwanted = stopped.is_unwanted;
+    match stopped.fault {
+        ConsoleFault::NoMemory => Fault::NoMemory,
+        ConsoleFault::Write if is_unwanted => Fault::Unwanted,
+        fault => Fault::Console(fault),
+    }
 }
 
 // Writes the transcript of the script that a wide script is.
@@ -390,8 +359,7 @@ fn play_file(
     let text = narrowed(rt, alloc, topology, script)?;
     match run_over(rt, alloc, again, text.as_str()) {
         Ok(()) => Ok(()),
-        Err(ConsoleFault::NoMemory) => Err(Fault::NoMemory),
-        Err(fault) => Err(Fault::Console(fault)),
+        Err(stopped) => Err(stopped_by(stopped)),
     }
 }
 
@@ -399,7 +367,9 @@ fn answer(rt: &HostRuntime, alloc: Global, task: Task) -> Result<(), Fault> {
     match task {
         Task::Help => say(rt, HELP),
         Task::Version => say_version(rt),
-        Task::Check { topology, scripts } => check_file(rt, alloc, topology, scripts.as_slice()),
+        Task::Check { topology, scripts } => {
+            check_file(rt, alloc, topology.as_str(), scripts.as_slice())
+        }
         Task::Script { topology, script } => narrow_file(rt, alloc, topology, script),
         Task::Play { topology, script } => play_file(rt, alloc, topology, script),
         Task::Path(text) => {

@@ -46,10 +46,12 @@ fn tell(rt: &HostRuntime, ended: Result<(), ConsoleFault>, kept: &Kept) -> Resul
 fn run_one<R: Source>(rt: &HostRuntime, reader: &mut R) -> Result<(), Fault> {
     let alloc = rt.alloc();
     let topology = load(alloc, CHASSIS)?;
-    let modules = boxes!(alloc, topology);
     let mut writer = Kept::new(alloc)?;
-    print!(rt; ">")?;
+    let modules = boxes!(alloc, topology);
+    // (what the marks say is looked at when no box is left to be given up)
+    let begun = print!(rt; ">");
     let ended = run(alloc, reader, &mut writer, topology, modules);
+    begun?;
     print!(rt; "<")?;
     tell(rt, ended, &writer)
 }
@@ -61,9 +63,10 @@ fn run_one_live<T: Threads + Wait + Sync, R: Source>(
 ) -> Result<(), Fault> {
     let alloc = rt.alloc();
     let topology = load(alloc, CHASSIS)?;
-    let modules = boxes!(alloc, topology);
     let mut writer = Kept::new(alloc)?;
-    print!(rt; ">")?;
+    let modules = boxes!(alloc, topology);
+    // (what the marks say is looked at when no box is left to be given up)
+    let begun = print!(rt; ">");
     let ended = run_live(
         workers,
         alloc,
@@ -74,6 +77,7 @@ fn run_one_live<T: Threads + Wait + Sync, R: Source>(
         TURNS,
         &OpenGate,
     );
+    begun?;
     print!(rt; "<")?;
     tell(rt, ended, &writer)
 }

@@ -58,14 +58,17 @@ fn ran<T: Threads + Wait + Sync>(
 ) -> Result<Result<Report, RunFault>, Fault> {
     let alloc = out.alloc();
     let topology = plant.topology(alloc)?;
-    let modules = boxes!(alloc, asked.chosen.modules(alloc, &topology)?);
     let feeds = copied(alloc, asked.feeds.as_slice())?;
     if !feeds_fit(&topology, feeds.as_slice()) {
         return Err(Fault::Line);
     }
-    out.begin(guard)?;
+    let made = asked.chosen.modules(alloc, &topology)?;
+    let modules = boxes!(alloc, made);
+    // (what the marks say is looked at when no box is left to be given up)
+    let begun = out.begin(guard);
     let turns = asked.turns;
     let report = run_threads(workers, alloc, topology, modules, feeds, turns, &OpenGate);
+    begun?;
     out.end(guard)?;
     Ok(report)
 }

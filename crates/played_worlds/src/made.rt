@@ -109,12 +109,15 @@ fn said(
 ) -> Result<Option<NewFault>, Fault> {
     let alloc = out.alloc();
     let topology = plant.topology(alloc)?;
-    let modules = boxes!(alloc, chosen.modules(alloc, &topology)?);
-    out.begin(guard)?;
+    let made = chosen.modules(alloc, &topology)?;
+    let modules = boxes!(alloc, made);
+    // (what the marks say is looked at when no box is left to be given up)
+    let begun = out.begin(guard);
     let fault = match trial {
         Trial::New => World::new(alloc, topology, modules).err(),
         Trial::Check => check_fresh(alloc, &topology, modules.as_slice()).err(),
     };
+    begun?;
     out.end(guard)?;
     Ok(fault)
 }

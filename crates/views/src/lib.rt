@@ -2,6 +2,8 @@
 #![tactic(auto)]
 
 #[cfg(test)]
+mod before;
+#[cfg(test)]
 mod charts;
 #[cfg(test)]
 mod dice;
@@ -17,3 +19,5 @@ mod old_chart;
 mod plants;
 #[cfg(test)]
 mod shown;
+#[cfg(test)]
+mod straight;

@@ -45,9 +45,12 @@ const FIRSTS: &[u64] = &[
     18_446_744_073_709_550_000,
 ];
 
-const TICKS: &[&str] = &[
-    "1", "9", "10", "99", "100", "1000", "9999", "10000", "65535",
-];
+// The milliseconds of the tick of an entry, of one to five digits: of another entry of a run they
+// are others, so that no ticks stand in one row and none are folded, which a chart did not do
+// before.
+fn tick_of(number: u64) -> u64 {
+    number % 65_535 * 7_919 % 65_535 + 1
+}
 
 const NUMBERS: &[&str] = &["0", "9", "10", "99", "100", "9999", "10000", "4294967295"];
 
@@ -149,7 +152,7 @@ fn put_head(
         }
     }
     if dice.is_rare(3) {
-        writeln!(text, "{number} M{at} tick {}", dice.one_of(TICKS))?;
+        writeln!(text, "{number} M{at} tick {}", tick_of(number))?;
     } else {
         let word = dice.one_of(&["send", "open", "large", "close", "enter", "set", "produce"]);
         writeln!(text, "{number} M{at} {word} {}", dice.one_of(NUMBERS))?;
@@ -255,7 +258,7 @@ fn put_rounds(
         put_round(text, dice, number, length)?;
         number = number.saturating_add(length as u64);
         if dice.is_rare(6) {
-            writeln!(text, "{number} M2 tick 10")?;
+            writeln!(text, "{number} M2 tick {}", tick_of(number))?;
             number = number.saturating_add(1);
         }
     }

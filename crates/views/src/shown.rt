@@ -1,4 +1,5 @@
 //! What a view shows, piece by piece, beside what its form from before shows.
+use crate::before::as_before;
 use crate::dice::Dice;
 use crate::made::transcript;
 use cip_read::{Line, Note, ReadFault, Reader};
@@ -95,20 +96,48 @@ fn end<V: View>(alloc: Global, shown: &Shown<'_>, view: &mut V) -> Result<(), Al
     Ok(())
 }
 
-// Both have shown the same, and a line under way is the same.
+/// What two views are compared by.
+#[derive(Clone, Copy)]
+enum By {
+    /// All that they show.
+    Whole,
+    /// JSON, and of the first what its form from before shows too.
+    Before,
+}
+
+// Both have shown the same.
+fn shows_same<V: View, W: View>(
+    alloc: Global,
+    by: By,
+    view: &V,
+    other: &W,
+) -> Result<bool, AllocError> {
+    match by {
+        By::Whole => Ok(view.written() == other.written()),
+        By::Before => {
+            let before = as_before(alloc, view.written())?;
+            Ok(before.as_slice() == other.written())
+        }
+    }
+}
+
+// The same, and a line under way is the same.
 fn same<V: View, W: View>(
     rt: &impl Abort,
+    alloc: Global,
+    by: By,
     both: &Both<'_>,
     view: &V,
     other: &W,
-    place: &str,
     text: &str,
-) {
-    assert!(rt; view.written() == other.written(), "{place} of:\n{text}");
+) -> Result<(), AllocError> {
+    let is_same = shows_same(alloc, by, view, other)?;
+    assert!(rt; is_same, "{text}");
     assert!(rt;
         both.first.pieces.held() == both.second.pieces.held(),
-        "{place} of:\n{text}"
+        "{text}"
     );
+    Ok(())
 }
 
 // Each piece goes through both, and their end.
@@ -116,6 +145,7 @@ fn compare_pieces<V: View, W: View>(
     rt: &impl Abort,
     alloc: Global,
     dice: &mut Dice,
+    by: By,
     text: &str,
     both: &mut Both<'_>,
     view: &mut V,
@@ -126,20 +156,38 @@ fn compare_pieces<V: View, W: View>(
     for piece in bytes.chunks(size) {
         show(alloc, &mut both.first, true, view, piece)?;
         show(alloc, &mut both.second, false, other, piece)?;
-        same(rt, both, view, other, "a piece", text);
-        if dice.is_rare(2) {
+        same(rt, alloc, by, both, view, other, text)?;
+        // (JSON is compared once, since what stood there before it is made anew each time)
+        if dice.is_rare(2) || matches!(by, By::Before) {
             view.clear();
             other.clear();
         }
     }
     end(alloc, &both.first, view)?;
     end(alloc, &both.second, other)?;
-    same(rt, both, view, other, "the end", text);
+    same(rt, alloc, by, both, view, other, text)?;
     assert!(rt;
         both.first.fault.as_str() == both.second.fault.as_str(),
         "the fault of:\n{text}"
     );
     Ok(())
+}
+
+fn compare_by<V: View, W: View>(
+    rt: &impl Abort,
+    alloc: Global,
+    dice: &mut Dice,
+    by: By,
+    topology: &Topology,
+    text: &str,
+    view: &mut V,
+    other: &mut W,
+) -> Result<(), AllocError> {
+    let mut both = Both {
+        first: shown_over(alloc, topology),
+        second: shown_over(alloc, topology),
+    };
+    compare_pieces(rt, alloc, dice, by, text, &mut both, view, other)
 }
 
 /// Both views show the same of a transcript, and say the same of its fault.
@@ -152,11 +200,7 @@ pub fn compare<V: View, W: View>(
     view: &mut V,
     other: &mut W,
 ) -> Result<(), AllocError> {
-    let mut both = Both {
-        first: shown_over(alloc, topology),
-        second: shown_over(alloc, topology),
-    };
-    compare_pieces(rt, alloc, dice, text, &mut both, view, other)
+    compare_by(rt, alloc, dice, By::Whole, topology, text, view, other)
 }
 
 /// The topology of a text that has one.
@@ -164,7 +208,7 @@ pub fn topology_of(alloc: Global, text: &str) -> Option<Topology> {
     load(alloc, text).ok()
 }
 
-// The JSON of a transcript is that of the tree of values.
+// The JSON of a transcript is that of the tree of values, but for what this does not have.
 fn compare_json(
     rt: &impl Abort,
     alloc: Global,
@@ -174,7 +218,16 @@ fn compare_json(
 ) -> Result<(), AllocError> {
     let mut view = JsonView::new(alloc, topology);
     let mut tree = TreeView::new(alloc, topology);
-    compare(rt, alloc, dice, topology, text, &mut view, &mut tree)
+    compare_by(
+        rt,
+        alloc,
+        dice,
+        By::Before,
+        topology,
+        text,
+        &mut view,
+        &mut tree,
+    )
 }
 
 fn compare_made_json(
@@ -232,25 +285,28 @@ fn compare_line<V: View, W: View>(
     line: &[u8],
     view: &mut V,
     other: &mut W,
-) {
+) -> Result<(), AllocError> {
     let is_shown = view.line(alloc, line, Line::Note(Note::Quiet)).is_ok();
     let is_also = other.line(alloc, line, Line::Note(Note::Quiet)).is_ok();
     assert!(rt; is_shown && is_also, "{line:?}");
-    assert!(rt; view.written() == other.written(), "{line:?}");
+    let is_same = shows_same(alloc, By::Before, view, other)?;
+    assert!(rt; is_same, "{line:?}");
+    Ok(())
 }
 
-fn compare_lines(rt: &impl Abort, alloc: Global, topology: &Topology) {
+fn compare_lines(rt: &impl Abort, alloc: Global, topology: &Topology) -> Result<(), AllocError> {
     let mut view = JsonView::new(alloc, topology);
     let mut tree = TreeView::new(alloc, topology);
     for line in LINES {
-        compare_line(rt, alloc, line, &mut view, &mut tree);
+        compare_line(rt, alloc, line, &mut view, &mut tree)?;
     }
+    Ok(())
 }
 
 #[test]
 fn lines_of_any_bytes_are_strings(rt: HostRuntime) -> Result<(), Fail> {
     let alloc = rt.alloc();
     let topology = topology_of(alloc, CHASSIS).ok_or("no chassis")?;
-    compare_lines(&rt, alloc, &topology);
+    compare_lines(&rt, alloc, &topology)?;
     Ok(())
 }
