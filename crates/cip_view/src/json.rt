@@ -497,7 +497,13 @@ impl<'a> JsonView<'a> {
         if self.has_output { "," } else { "" }
     }
 
-    fn take_output(&mut self, index: usize, output: &Output) -> Result<(), NoMemory> {
+    fn take_output(
+        &mut self,
+        alloc: Global,
+        index: usize,
+        output: &Output,
+    ) -> Result<(), NoMemory> {
+        self.past.output(alloc, output)?;
         self.part.clear();
         let front = self.front();
         self.part.put(front)?;
@@ -529,7 +535,7 @@ impl View for JsonView<'_> {
         match line {
             Line::Step { entry, at, given } => self.take_step(entry, at, given),
             Line::Lost { entry, frame } => self.take_lost(entry, frame),
-            Line::Output { index, output } => self.take_output(index, &output),
+            Line::Output { index, output } => self.take_output(alloc, index, &output),
             Line::Note(note) => self.take_note(alloc, text, note),
         }
     }

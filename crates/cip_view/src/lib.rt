@@ -7,6 +7,7 @@ mod label;
 mod note_json;
 mod note_text;
 mod notes;
+mod opens;
 mod past;
 mod pieces;
 mod reasons;

@@ -2,7 +2,8 @@
 //! members beside it.
 use crate::book::Book;
 use crate::label::NameText;
-use crate::notes::{NoteWords, chain_op, trail_of};
+use crate::notes::{NoteWords, chain_ops, trail_of};
+use crate::opens::only;
 use crate::past::Past;
 use crate::reasons::command_word;
 use cip_base::NoMemory;
@@ -92,11 +93,11 @@ fn put_trail(
 }
 
 // The modules of a connection, the op that opened it, and the instances at its end.
-fn put_modules(text: &mut Draft, past: &Past<'_>, words: &NoteWords<'_>) -> Result<(), NoMemory> {
+fn put_modules(text: &mut Draft, words: &NoteWords<'_>, op: Option<u32>) -> Result<(), NoMemory> {
     let end = words.len().saturating_sub(2);
     text.put("{\"modules\":")?;
     put_words(text, words, 1, end)?;
-    put_number(text, ",\"op\":", chain_op(past, words).map(u64::from))?;
+    put_number(text, ",\"op\":", op.map(u64::from))?;
     put_number(text, ",\"ot_instance\":", words.number(end))?;
     put_number(
         text,
@@ -108,7 +109,10 @@ fn put_modules(text: &mut Draft, past: &Past<'_>, words: &NoteWords<'_>) -> Resu
 
 fn put_chain(text: &mut Draft, past: &Past<'_>, words: &NoteWords<'_>) -> Result<(), NoMemory> {
     match words.at(0) {
-        "chain" => put_modules(text, past, words),
+        "chain" => {
+            let ops = chain_ops(text.allocator(), past, words)?;
+            put_modules(text, words, only(ops.as_slice()))
+        }
         "not" => text.put("\"not open\""),
         _ => {
             put_word(text, "{\"broken\":", words.at(1))?;

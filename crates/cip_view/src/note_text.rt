@@ -1,7 +1,8 @@
 //! The lines that show no part of an entry: what trails and chains mean, in words.
 use crate::book::Book;
 use crate::label::NameText;
-use crate::notes::{NoteWords, chain_op, last_of, trail_of};
+use crate::notes::{NoteWords, chain_ops, last_of, trail_of};
+use crate::opens::TOLD;
 use crate::past::Past;
 use cip_base::NoMemory;
 use cip_read::{CommandWord, Note};
@@ -46,18 +47,47 @@ fn put_trail(
     Ok(())
 }
 
-// The modules of a connection, the op that opened it where that is known, and the instances at its
-// end.
-fn put_modules(out: &mut String, past: &Past<'_>, words: &NoteWords<'_>) -> Result<(), NoMemory> {
-    let end = words.len().saturating_sub(2);
-    let (first, last) = (words.at(1), words.at(end.saturating_sub(1)));
-    match chain_op(past, words) {
-        Some(op) => write!(
-            *out,
-            "    the connection of {first}'s op {op}, from {first}"
-        )?,
-        None => write!(*out, "    a connection from {first}")?,
+// What stands before an op of several.
+fn before_op(k: usize, count: usize) -> &'static str {
+    if k == 0 {
+        ""
+    } else if k.saturating_add(1) < count {
+        ", "
+    } else {
+        " or "
     }
+}
+
+// The ops of which a connection may be, as `1`, `1 or 2`, `1, 2 or 3`.
+fn put_ops(out: &mut String, ops: &[u32]) -> Result<(), NoMemory> {
+    for (k, op) in ops.iter().enumerate() {
+        out.push_str(before_op(k, ops.len()))?;
+        if k < TOLD {
+            write!(*out, "{op}")?;
+        } else {
+            out.push_str("a later one")?;
+        }
+    }
+    Ok(())
+}
+
+// Where a connection begins, and the op that opened it where that is known.
+fn put_origin(out: &mut String, first: &str, ops: &[u32]) -> Result<(), NoMemory> {
+    if ops.is_empty() {
+        write!(*out, "    a connection from {first}")?;
+        return Ok(());
+    }
+    write!(*out, "    the connection of {first}'s op ")?;
+    put_ops(out, ops)?;
+    write!(*out, ", from {first}")?;
+    Ok(())
+}
+
+// The modules of a connection that one of these ops opened, and the instances at its end.
+fn put_modules(out: &mut String, words: &NoteWords<'_>, ops: &[u32]) -> Result<(), NoMemory> {
+    let end = words.len().saturating_sub(2);
+    let last = words.at(end.saturating_sub(1));
+    put_origin(out, words.at(1), ops)?;
     let mut before = " by ";
     for k in 2..end.saturating_sub(1) {
         write!(*out, "{before}{}", words.at(k))?;
@@ -71,9 +101,17 @@ fn put_modules(out: &mut String, past: &Past<'_>, words: &NoteWords<'_>) -> Resu
     Ok(())
 }
 
-fn put_chain(out: &mut String, past: &Past<'_>, words: &NoteWords<'_>) -> Result<(), NoMemory> {
+fn put_chain(
+    alloc: Global,
+    out: &mut String,
+    past: &Past<'_>,
+    words: &NoteWords<'_>,
+) -> Result<(), NoMemory> {
     match words.at(0) {
-        "chain" => put_modules(out, past, words),
+        "chain" => {
+            let ops = chain_ops(alloc, past, words)?;
+            put_modules(out, words, ops.as_slice())
+        }
         "not" => {
             out.push_str("    the module has no connection that the op opened\n")?;
             Ok(())
@@ -102,7 +140,7 @@ pub(crate) fn put_meaning(
 ) -> Result<(), NoMemory> {
     match note {
         Note::Trail => put_trail(out, book, past, &NoteWords::of(alloc, line)?),
-        Note::Chain => put_chain(out, past, &NoteWords::of(alloc, line)?),
+        Note::Chain => put_chain(alloc, out, past, &NoteWords::of(alloc, line)?),
         _ => Ok(()),
     }
 }

@@ -3,7 +3,7 @@
 use crate::past::Past;
 use cip_base::{ModuleId, NoMemory};
 use cip_read::CommandWord;
-use cip_words::{number, words};
+use cip_words::{number, number_u32, words};
 use std::alloc::Global;
 
 /// The words of a line; the reader has seen that they are those of its kind.
@@ -41,6 +41,11 @@ impl<'a> NoteWords<'a> {
     pub fn number(&self, k: usize) -> Option<u64> {
         number(self.at(k))
     }
+
+    /// The instance at a place.
+    pub fn instance(&self, k: usize) -> u32 {
+        number_u32(self.at(k)).unwrap_or(0)
+    }
 }
 
 /// The request whose way a trail is: its module, command and op.
@@ -71,7 +76,35 @@ pub(crate) fn last_of(past: &Past<'_>, words: &NoteWords<'_>) -> Option<ModuleId
     past.of(entry as usize)?.at
 }
 
-/// The op that opened the connection of a chain, where no other open began at its module.
-pub(crate) fn chain_op(past: &Past<'_>, words: &NoteWords<'_>) -> Option<u32> {
-    past.only_open(words.at(1).as_bytes())
+// The places of the modules of a chain, whose instances stand at a place and behind it.
+fn chain_modules(
+    alloc: Global,
+    past: &Past<'_>,
+    words: &NoteWords<'_>,
+    end: usize,
+) -> Result<Vec<usize>, NoMemory> {
+    let mut modules = Vec::new(alloc);
+    for k in 1..end {
+        if let Some(place) = past.place_of(words.at(k).as_bytes()) {
+            modules.push(place)?;
+        }
+    }
+    Ok(modules)
+}
+
+/// The ops of which the connection of a chain may be, in rising order, one more at most than are
+/// told: those that are open where it begins, with the same modules and instances. None where the
+/// run was not read from its first entry on. NoMemory where an allocation is refused.
+pub(crate) fn chain_ops(
+    alloc: Global,
+    past: &Past<'_>,
+    words: &NoteWords<'_>,
+) -> Result<Vec<u32>, NoMemory> {
+    let Some(opens) = past.opens() else {
+        return Ok(Vec::new(alloc));
+    };
+    let end = words.len().saturating_sub(2);
+    let (ot, to) = (words.instance(end), words.instance(end.saturating_add(1)));
+    let modules = chain_modules(alloc, past, words, end)?;
+    opens.by(alloc, modules.as_slice(), ot, to)
 }

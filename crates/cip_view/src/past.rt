@@ -1,9 +1,10 @@
 //! What is kept of the entries that were read, to tell what trails and chains are of.
+use crate::opens::Opens;
 use cip_base::{ModuleId, NoMemory};
+use cip_event::Output;
 use cip_read::{CommandWord, Given};
 use cip_topology::Topology;
 use std::alloc::Global;
-use std::collections::BTreeMap;
 
 /// How many entries are kept: the last ones.
 const KEPT: usize = 16_384;
@@ -18,22 +19,14 @@ pub(crate) struct Taken {
     pub command: Option<(CommandWord, u32)>,
 }
 
-/// The opens that a module was given.
-#[derive(Clone, Copy)]
-enum Opens {
-    /// One, with its op.
-    One(u32),
-    Several,
-}
-
-/// The last entries, and the opens of each module.
+/// The last entries, and the connections that ops of modules open.
 #[derive(Drop)]
 pub(crate) struct Past<'a> {
     topology: &'a Topology,
     // an entry at its number behind the first, modulo the most that are kept
     taken: Vec<Taken>,
     first: Option<usize>,
-    opens: BTreeMap<usize, Opens>,
+    opens: Opens<'a>,
 }
 
 // The command of what a module was given.
@@ -51,7 +44,7 @@ impl<'a> Past<'a> {
             topology,
             taken: Vec::new(alloc),
             first: None,
-            opens: BTreeMap::new(alloc),
+            opens: Opens::new(alloc, topology),
         }
     }
 
@@ -72,32 +65,19 @@ impl<'a> Past<'a> {
         Ok(())
     }
 
-    // An open that a module was given.
-    fn open(&mut self, at: ModuleId, op: u32) -> Result<(), NoMemory> {
-        let opens = match self.opens.get(&at.0) {
-            None => Opens::One(op),
-            Some(Opens::One(other)) if *other == op => Opens::One(op),
-            Some(_) => Opens::Several,
-        };
-        self.opens.insert(at.0, opens)?;
-        Ok(())
-    }
-
     /// A module took a step. NoMemory where an allocation is refused.
     pub fn step(&mut self, entry: usize, at: ModuleId, given: Given) -> Result<(), NoMemory> {
-        let command = command_of(given);
-        if let Some((CommandWord::Open | CommandWord::Large, op)) = command {
-            self.open(at, op)?;
-        }
+        self.opens.begin(at, given);
         self.keep(Taken {
             entry,
             at: Some(at),
-            command,
+            command: command_of(given),
         })
     }
 
     /// A frame was lost. NoMemory where an allocation is refused.
     pub fn loss(&mut self, entry: usize) -> Result<(), NoMemory> {
+        self.opens.lose();
         self.keep(Taken {
             entry,
             at: None,
@@ -113,12 +93,23 @@ impl<'a> Past<'a> {
         }
     }
 
-    /// The op of the only open that the module of a name was given, where the run was read from its
-    /// first entry on.
-    pub fn only_open(&self, name: &[u8]) -> Option<u32> {
-        let at = self.topology.by_name(name)?;
-        match (self.first, self.opens.get(&at.0)) {
-            (Some(0), Some(Opens::One(op))) => Some(*op),
+    /// An output of the step under way. NoMemory where an allocation is refused.
+    pub fn output(&mut self, alloc: Global, output: &Output) -> Result<(), NoMemory> {
+        self.opens.output(alloc, output)
+    }
+
+    /// The place of the module of a name.
+    pub fn place_of(&self, name: &[u8]) -> Option<usize> {
+        match self.topology.by_name(name) {
+            Some(id) => Some(id.0),
+            None => None,
+        }
+    }
+
+    /// The connections that ops of modules open, where the run was read from its first entry on.
+    pub fn opens(&self) -> Option<&Opens<'a>> {
+        match self.first {
+            Some(0) => Some(&self.opens),
             _ => None,
         }
     }

@@ -210,6 +210,16 @@ impl<'a> TextView<'a> {
         }
     }
 
+    fn take_output(
+        &mut self,
+        alloc: Global,
+        index: usize,
+        output: &Output,
+    ) -> Result<(), NoMemory> {
+        self.past.output(alloc, output)?;
+        self.put_output(index, output)
+    }
+
     // Which frame arrives or is lost.
     fn put_sent(&mut self, sent: Option<Sent>) -> Result<(), NoMemory> {
         if let Some(sent) = sent {
@@ -251,7 +261,7 @@ impl View for TextView<'_> {
         match line {
             Line::Step { entry, at, given } => self.put_step(entry, at, given),
             Line::Lost { entry, frame } => self.put_lost(entry, frame),
-            Line::Output { index, output } => self.put_output(index, &output),
+            Line::Output { index, output } => self.take_output(alloc, index, &output),
             Line::Note(note) => {
                 put_meaning(alloc, &mut self.out, &self.book, &self.past, text, note)
             }
