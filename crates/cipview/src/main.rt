@@ -3,6 +3,7 @@
 
 mod fault;
 mod files;
+mod length;
 mod options;
 mod program;
 mod ranged;

@@ -4,6 +4,7 @@ ghost use Rattle.std.specs.Io.{ReadsAtMost};
 
 use crate::fault::Fault;
 use crate::files::{topology, unread};
+use crate::length::tell_length;
 use crate::options::{Options, OptionsFault, Shape, Usage, explain_options, read_options};
 use crate::ranged::Ranged;
 use crate::terminal::Terminal;
@@ -237,7 +238,7 @@ fn cut_of(alloc: Global, topology: &Topology, options: &Options) -> Result<Cut, 
     Ok(cut)
 }
 
-// Shows the entries from one on, of which there is one.
+// Shows the entries of a chart from one on, of which there is one, and tells where it is long.
 fn show_ranged<V: View>(
     rt: &HostRuntime,
     alloc: Global,
@@ -245,7 +246,9 @@ fn show_ranged<V: View>(
     view: &mut Ranged<V>,
 ) -> Result<(), Fault> {
     show(rt, alloc, topology, view)?;
-    view.check()
+    view.check()?;
+    tell_length(rt, view.bytes());
+    Ok(())
 }
 
 fn show_chart(

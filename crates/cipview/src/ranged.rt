@@ -5,13 +5,14 @@ use cip_read::Line;
 use cip_view::{Ending, View};
 use std::alloc::Global;
 
-/// A view of the entries from one on, and the last entry that was read. Where that stands before
-/// the first one to be shown, nothing is shown.
+/// A view of the entries from one on, the last entry that was read, and how many bytes went out.
+/// Where the last entry stands before the first one to be shown, nothing is shown.
 #[derive(Drop)]
 pub struct Ranged<V> {
     inner: V,
     from: usize,
     last: Option<usize>,
+    bytes: u64,
 }
 
 // The number of the entry of which a line is the first.
@@ -31,7 +32,13 @@ impl<V: View> Ranged<V> {
             inner,
             from,
             last: None,
+            bytes: 0,
         }
+    }
+
+    /// How many bytes went out.
+    pub fn bytes(&self) -> u64 {
+        self.bytes
     }
 
     fn is_past_end(&self) -> bool {
@@ -75,6 +82,8 @@ impl<V: View> View for Ranged<V> {
     }
 
     fn clear(&mut self) {
+        let count = self.inner.written().len();
+        self.bytes = self.bytes.saturating_add(count as u64);
         self.inner.clear()
     }
 }
