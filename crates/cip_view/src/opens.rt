@@ -123,26 +123,29 @@ impl Way {
         self.to_instance = number;
     }
 
-    // A segment of the path. (No other segment leads on or is a point where the open succeeds.)
-    fn take(&mut self, topology: &Topology, segment: SegmentView<'_>) -> Result<(), NoMemory> {
-        match segment {
-            SegmentView::Port(port, address) => {
-                if let Ok(to) = Address::read(address) {
-                    self.go_on(topology, port, &to)?;
-                }
-            }
-            SegmentView::Instance(number) => self.point(number),
-            SegmentView::Point(number) => self.point(number),
-            _ => {}
+    // It goes on by a port to an address, as a path spells it.
+    fn go_to(
+        &mut self,
+        topology: &Topology,
+        port: PortNumber,
+        address: &[u8],
+    ) -> Result<(), NoMemory> {
+        match Address::read(address) {
+            Ok(to) => self.go_on(topology, port, &to),
+            Err(_) => Ok(()),
         }
-        Ok(())
     }
 
-    // It goes along a path.
+    // It goes along a path. (No other segment leads on or is a point where the open succeeds.)
     fn follow(&mut self, topology: &Topology, path: PathView<'_>) -> Result<(), NoMemory> {
         let mut left = path;
         while let Some((first, rest)) = split_first(left) {
-            self.take(topology, first)?;
+            match first {
+                SegmentView::Port(port, address) => self.go_to(topology, port, address)?,
+                SegmentView::Instance(number) => self.point(number),
+                SegmentView::Point(number) => self.point(number),
+                _ => {}
+            }
             left = rest;
         }
         Ok(())
