@@ -1,5 +1,5 @@
 -- What is at a limit stays there.
-use Rattle.std.proofs.Common.{◌≡◌, ℕ, Bool, ◌+◌, ◌/◌, ◌<◌, ◌≤◌, ◌^◌, ◌==◌, true, false, List, [], ◌∷◌, take, drop, slice_get, fold, Option, Some, None, sym, ap, ◌∙◌, inl, inr, arith, if◌then◌else◌, take-append-drop}
+use Rattle.std.proofs.Common.{◌≡◌, ℕ, Bool, ◌+◌, ◌-◌, ◌/◌, ◌<◌, ◌≤◌, ◌^◌, ◌==◌, true, false, List, [], ◌∷◌, take, drop, slice_get, fold, Option, Some, None, nat_lt, refl, sym, ap, ◌∙◌, inl, inr, arith, if◌then◌else◌, take-append-drop}
 use Rattle.std.proofs.lemmas.Bool.{cases_lt}
 use Rattle.std.proofs.lemmas.Bool.Decides.{nat_tests}
 use Rattle.std.proofs.lemmas.List.Sums.{fold-append}
@@ -56,3 +56,52 @@ told_twice lines bands area before limit cost result h other first last =
           ((λ k. absurd (omega (arith, k, stays))), (λ k. last.1 at_cost))
     ] in
     rw differ told
+
+one_fits : (is : Bool) (cost n : ℕ) → cost < 2 ^ 64 → (if is then most (cost + n) else cost) < 2 ^ 64
+one_fits true cost n h = grind arith
+one_fits false cost n h = h
+
+texts_fit : (area : Area) (texts : List Area) (cost : ℕ) → cost < 2 ^ 64 → texts_cost area texts cost < 2 ^ 64
+texts_fit area [] cost h = h
+texts_fit area (text ∷ texts) cost h = texts_fit area texts (with_text area cost text) (one_fits (meets area text) cost 20 h)
+
+lines_fit : (lines : List Line) (area : Area) (ps : List Passing) (cost : ℕ) → cost < 2 ^ 64 → lines_cost lines area ps cost < 2 ^ 64
+lines_fit lines area [] cost h = h
+lines_fit lines area (p ∷ ps) cost h =
+    lines_fit lines area ps (with_line lines area cost p) (one_fits (crosses area p (slice_get lines p.line)) cost 3 h)
+
+band_fits : (lines : List Line) (area : Area) (band : Option Band) (cost : ℕ) → cost < 2 ^ 64 → band_cost lines area band cost < 2 ^ 64
+band_fits lines area None cost h = h
+band_fits lines area (Some band) cost h =
+    lines_fit lines area band.lines.items (texts_cost area band.texts.items cost) (texts_fit area band.texts.items cost h)
+
+one_or_both : (is : Bool) (m n : ℕ) → m < 2 ^ 64 → n < 2 ^ 64 → (if is then m else n) < 2 ^ 64
+one_or_both true m n h k = h
+one_or_both false m n h k = k
+
+whole_fits : (lines : List Line) (bands : List Band) (area : Area) (cost : ℕ) → cost < 2 ^ 64 → whole_cost lines bands area cost < 2 ^ 64
+whole_fits lines bands area cost h =
+    let first = band_fits lines area (slice_get bands (area.top / 34)) cost h in
+    let one : ℕ = band_cost lines area (slice_get bands (area.top / 34)) cost in
+    one_or_both (area.top / 34 == area.bottom / 34) one (band_cost lines area (slice_get bands (area.bottom / 34)) one)
+    first (band_fits lines area (slice_get bands (area.bottom / 34)) one first)
+
+-- what is told of one number without a limit, and of another below that, says which is less
+less_told : (m n told_m told_n : ℕ) → m < 2 ^ 64 → told_m < 2 ^ 64 → IsTold (2 ^ 64 - 1) told_m m → IsTold told_m told_n n
+    → nat_lt told_n told_m ≡ nat_lt n m
+less_told m n told_m told_n h k all below =
+    let same : told_m ≡ m = elim (cases_lt m (2 ^ 64 - 1)) [
+      | inl less ↦ all.0 less
+      | inr over ↦ let most_m = all.1 over in grind arith
+    ] in
+    elim (cases_lt n told_m) [
+      | inl less ↦ rw (below.0 less, same) refl
+      | inr over ↦ let stays = below.1 over in grind (arith, nat_tests)
+    ]
+
+pub left_told : (lines : List Line) (bands : List Band) (right left : Area) (told_right told_left : ℕ) → told_right < 2 ^ 64
+    → IsTold (2 ^ 64 - 1) told_right (whole_cost lines bands right 0) → IsTold told_right told_left (whole_cost lines bands left 0)
+    → nat_lt told_left told_right ≡ nat_lt (whole_cost lines bands left 0) (whole_cost lines bands right 0)
+left_told lines bands right left told_right told_left k all below =
+    less_told (whole_cost lines bands right 0) (whole_cost lines bands left 0) told_right told_left
+    (whole_fits lines bands right 0 (grind arith)) k all below

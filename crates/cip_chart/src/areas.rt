@@ -2,8 +2,9 @@
 ghost use Rattle.std.specs.Prelude.{◌≡◌, ◌&&◌, ◌||◌, nat_le, nat_lt, slice_get};
 ghost use Rattle.cip_chart.specs.Bands.{meets, is_crossed, crosses, texts_cost, lines_cost};
 ghost use Rattle.cip_chart.specs.Bands.{band_cost, whole_cost, IsTold};
+ghost use Rattle.cip_chart.specs.Sides.{stands_left};
 
-use crate::layout::ROW;
+use crate::layout::{NUMBERS, ROW};
 use crate::line::Line;
 use cip_base::NoMemory;
 use std::alloc::Global;
@@ -23,6 +24,17 @@ pub(crate) enum Anchor {
     Start,
     Middle,
     End,
+}
+
+impl Anchor {
+    /// What stands behind the height of a text that is placed so, up to its words.
+    pub(crate) fn closing(self) -> &'static str {
+        match self {
+            Anchor::Start => "\">",
+            Anchor::Middle => "\" text-anchor=\"middle\">",
+            Anchor::End => "\" text-anchor=\"end\">",
+        }
+    }
 }
 
 /// The place of a text: a point on its base line.
@@ -268,5 +280,14 @@ impl Areas {
             return cost;
         }
         self.cost_in(area, last, cost, limit)
+    }
+
+    /// Whether a text beside a lifeline stands at its left: where it comes to no number there, and
+    /// that is not as bad as at the right.
+    pub(crate) fn is_left(&self, right: Area, left: Area) -> bool
+        ensures { result ≡ stands_left self.now.lines.items self.now.bands.items right left }
+    {
+        let cost = self.cost(right, 0, u64::MAX);
+        0 < cost && NUMBERS < left.left && self.cost(left, 0, cost) < cost
     }
 }

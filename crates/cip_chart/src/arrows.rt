@@ -62,9 +62,8 @@ fn shown_of(
     }))
 }
 
-/// The arrows that are shown, each label where nothing else stands: the lines take their places,
-/// and then the labels, one by one.
-pub(crate) fn take_arrows(
+/// The arrows that are shown: their lines take their places.
+pub(crate) fn take_lines(
     alloc: Global,
     chart: &ChartView<'_>,
     heights: &Heights,
@@ -78,12 +77,17 @@ pub(crate) fn take_arrows(
             arrows.push(arrow)?;
         }
     }
+    Ok(arrows)
+}
+
+/// The labels of the arrows take their places, one by one, each where nothing else stands.
+pub(crate) fn take_labels(arrows: &mut Vec<Shown>, areas: &mut Areas) -> Result<(), NoMemory> {
     for arrow in arrows.iter_mut() {
         let characters = arrow.label.len();
         arrow.spot = spot_of(areas, arrow.line, arrow.is_whole, characters);
         areas.put_text(arrow.spot.area(width_of(characters)))?;
     }
-    Ok(arrows)
+    Ok(())
 }
 
 // A point, behind what stands before it.
@@ -178,14 +182,9 @@ fn put_line(
 // A label at its place.
 fn put_label(arrow: &Shown, out: &mut Draft) -> Result<(), NoMemory> {
     let Spot { x, y, anchor } = arrow.spot;
-    let anchor = match anchor {
-        Anchor::Start => "\">",
-        Anchor::Middle => "\" text-anchor=\"middle\">",
-        Anchor::End => "\" text-anchor=\"end\">",
-    };
     out.put_count("<text class=\"halo\" x=\"", x)?;
     out.put_count("\" y=\"", y)?;
-    out.put(anchor)?;
+    out.put(anchor.closing())?;
     out.put_escaped(arrow.label.as_str())?;
     out.put("</text>")
 }

@@ -1,6 +1,6 @@
 //! The chart as SVG.
 use crate::areas::{Areas, width_of};
-use crate::arrows::{put_arrows, take_arrows};
+use crate::arrows::{put_arrows, take_labels, take_lines};
 use crate::collect::ChartView;
 use crate::layout::{Heights, LEFT, MARK, SPACING};
 use crate::lives::{body_of, put_lives, take_names};
@@ -68,8 +68,9 @@ pub(crate) fn put_svg(
     let end = heights.end();
     let mut areas = Areas::new(alloc, end)?;
     take_names(chart, &heights, &mut areas)?;
-    take_rows(alloc, chart, &heights, &mut areas)?;
-    let arrows = take_arrows(alloc, chart, &heights, &mut areas)?;
+    let mut arrows = take_lines(alloc, chart, &heights, &mut areas)?;
+    let beside = take_rows(alloc, chart, &heights, &mut areas)?;
+    take_labels(&mut arrows, &mut areas)?;
     let width = width_with(chart, areas.right);
     let notes = MARK.saturating_mul(chart.notes.len() as u64);
     let height = end.saturating_add(20).saturating_add(notes);
@@ -77,7 +78,7 @@ pub(crate) fn put_svg(
     put_lives(chart, &heights, body, out)?;
     put_rows(chart, &heights, width, out)?;
     put_arrows(chart, &heights, arrows.as_slice(), is_link, out)?;
-    put_marks(alloc, chart, &heights, out)?;
+    put_marks(alloc, chart, &beside, out)?;
     put_notes(chart.notes.as_slice(), end, out)?;
     out.put("</svg>\n")
 }

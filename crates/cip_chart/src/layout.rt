@@ -16,6 +16,9 @@ pub(crate) const ROW: u64 = 34;
 /// The height of each mark behind the first, and of a line of text.
 pub(crate) const MARK: u64 = 14;
 
+/// The numbers and times at the left end before this.
+pub(crate) const NUMBERS: u64 = 104;
+
 // So many rows are shown between two lines with the names of the modules.
 const NAMED: u64 = 24;
 

@@ -26,18 +26,55 @@ fn put_words(text: &mut Draft, given: Given) -> Result<(), NoMemory> {
     }
 }
 
-// The place of a text beside a lifeline, so much above or below a dot.
-fn beside(column: usize, y: u64) -> Spot {
+// How far from a lifeline a text stands beside it.
+const GAP: u64 = 6;
+
+// The place of a text at the right of a lifeline, so much above or below a dot.
+fn right_of(column: usize, y: u64) -> Spot {
     Spot {
-        x: x_of(column).saturating_add(6),
+        x: x_of(column).saturating_add(GAP),
         y,
         anchor: Anchor::Start,
     }
 }
 
-// What the module of a row was given, as this text, and its place; None where there is nothing.
-fn given_of(row: &Row, y: u64, text: &mut Draft) -> Result<Option<Spot>, NoMemory> {
-    let (Some(column), Some(given)) = (row.column, row.given) else {
+// The place at the left of it.
+fn left_of(column: usize, y: u64) -> Spot {
+    Spot {
+        x: x_of(column).saturating_sub(GAP),
+        y,
+        anchor: Anchor::End,
+    }
+}
+
+/// Where the texts beside the lifelines stand; None where there is none.
+#[derive(Drop)]
+pub(crate) struct Beside {
+    /// Of each row what its module was given.
+    given: Vec<Option<Spot>>,
+    marks: Vec<Option<Spot>>,
+}
+
+// A text of this width takes its place beside a lifeline: at the right, unless the left is better.
+fn take_beside(column: usize, y: u64, width: u64, areas: &mut Areas) -> Result<Spot, NoMemory> {
+    let (right, left) = (right_of(column, y), left_of(column, y));
+    let spot = if areas.is_left(right.area(width), left.area(width)) {
+        left
+    } else {
+        right
+    };
+    areas.put_text(spot.area(width))?;
+    Ok(spot)
+}
+
+// What the module of a row was given, as this text, takes its place; None where there is nothing.
+fn take_given(
+    row: &Row,
+    y: u64,
+    text: &mut Draft,
+    areas: &mut Areas,
+) -> Result<Option<Spot>, NoMemory> {
+    let (false, Some(column), Some(given)) = (row.is_folded, row.column, row.given) else {
         return Ok(None);
     };
     text.clear();
@@ -45,23 +82,54 @@ fn given_of(row: &Row, y: u64, text: &mut Draft) -> Result<Option<Spot>, NoMemor
     if text.is_empty() {
         return Ok(None);
     }
-    Ok(Some(beside(column, y.saturating_sub(6))))
+    let width = width_of(text.len().saturating_add(1));
+    let spot = take_beside(column, y.saturating_sub(6), width, areas)?;
+    Ok(Some(spot))
 }
 
 // How far the bars of a reset stand out behind where another mark begins.
 const BARS: u64 = 6;
 
-// Where a mark stands, so much below the first of its row; None where its row is not shown.
-fn mark_spot(chart: &ChartView<'_>, heights: &Heights, mark: &Mark, below: u64) -> Option<Spot> {
+// A reset takes its place, which is at the right, behind its bars.
+fn take_reset(column: usize, y: u64, width: u64, areas: &mut Areas) -> Result<Spot, NoMemory> {
+    let spot = right_of(column, y);
+    let x = spot.x.saturating_add(BARS);
+    let spot = Spot { x, ..spot };
+    areas.put_text(spot.area(width))?;
+    Ok(spot)
+}
+
+// The column and the height of a mark, so much below the first of its row; None where its row is
+// not shown.
+fn mark_point(
+    chart: &ChartView<'_>,
+    heights: &Heights,
+    mark: &Mark,
+    below: u64,
+) -> Option<(usize, u64)> {
     let y = y_of(chart, heights, Some(mark.row))?;
     let column = chart.rows.get(mark.row)?.column?;
-    let base = y.saturating_add(12).saturating_add(below);
-    let spot = beside(column, base);
-    if mark.is_reset {
-        let x = spot.x.saturating_add(BARS);
-        return Some(Spot { x, ..spot });
-    }
-    Some(spot)
+    Some((column, y.saturating_add(12).saturating_add(below)))
+}
+
+// A mark takes its place, so much below the first of its row; None where its row is not shown.
+fn take_mark(
+    chart: &ChartView<'_>,
+    heights: &Heights,
+    mark: &Mark,
+    below: u64,
+    areas: &mut Areas,
+) -> Result<Option<Spot>, NoMemory> {
+    let Some((column, y)) = mark_point(chart, heights, mark, below) else {
+        return Ok(None);
+    };
+    let width = width_of(mark.text.len());
+    let spot = if mark.is_reset {
+        take_reset(column, y, width, areas)?
+    } else {
+        take_beside(column, y, width, areas)?
+    };
+    Ok(Some(spot))
 }
 
 // How far below the first mark of its row a mark stands that comes behind this one.
@@ -73,33 +141,30 @@ fn next_below(last: usize, below: u64, mark: &Mark) -> u64 {
     }
 }
 
-/// The texts at the lifelines take their places.
+/// The texts at the lifelines take their places, one by one, behind the lines of arrows.
 pub(crate) fn take_rows(
     alloc: Global,
     chart: &ChartView<'_>,
     heights: &Heights,
     areas: &mut Areas,
-) -> Result<(), NoMemory> {
+) -> Result<Beside, NoMemory> {
+    let mut beside = Beside {
+        given: Vec::new(alloc),
+        marks: Vec::new(alloc),
+    };
     let mut text = Draft::new(alloc);
     for (row, y) in chart.rows.iter().zip(heights.rows.iter()) {
-        if row.is_folded {
-            continue;
-        }
-        if let Some(spot) = given_of(row, *y, &mut text)? {
-            let width = width_of(text.len().saturating_add(1));
-            areas.put_text(spot.area(width))?;
-        }
+        beside.given.push(take_given(row, *y, &mut text, areas)?)?;
     }
     let mut last = usize::MAX;
     let mut below: u64 = 0;
     for mark in &chart.marks {
         below = next_below(last, below, mark);
         last = mark.row;
-        if let Some(spot) = mark_spot(chart, heights, mark, below) {
-            areas.put_text(spot.area(width_of(mark.text.len())))?;
-        }
+        let spot = take_mark(chart, heights, mark, below, areas)?;
+        beside.marks.push(spot)?;
     }
-    Ok(())
+    Ok(beside)
 }
 
 // That the rows above stand there so many times more.
@@ -220,7 +285,7 @@ fn put_text(spot: Spot, words: &str, text: &str, out: &mut Draft) -> Result<(), 
     out.put(words)?;
     out.put_count(" x=\"", spot.x)?;
     out.put_count("\" y=\"", spot.y)?;
-    out.put("\">")?;
+    out.put(spot.anchor.closing())?;
     out.put_escaped(text)?;
     out.put("</text>\n")
 }
@@ -244,17 +309,16 @@ fn put_bars(spot: Spot, out: &mut Draft) -> Result<(), NoMemory> {
 fn put_given(
     alloc: Global,
     chart: &ChartView<'_>,
-    heights: &Heights,
+    beside: &Beside,
     out: &mut Draft,
 ) -> Result<(), NoMemory> {
     let mut text = Draft::new(alloc);
-    for (row, y) in chart.rows.iter().zip(heights.rows.iter()) {
-        if row.is_folded {
-            continue;
-        }
-        if let Some(spot) = given_of(row, *y, &mut text)? {
-            let words = match row.given {
-                Some(Given::Command(..)) => " font-weight=\"700\"",
+    for (row, spot) in chart.rows.iter().zip(beside.given.iter()) {
+        if let (Some(spot), Some(given)) = (*spot, row.given) {
+            text.clear();
+            put_words(&mut text, given)?;
+            let words = match given {
+                Given::Command(..) => " font-weight=\"700\"",
                 _ => "",
             };
             put_text(spot, words, text.as_str(), out)?;
@@ -267,17 +331,13 @@ fn put_given(
 pub(crate) fn put_marks(
     alloc: Global,
     chart: &ChartView<'_>,
-    heights: &Heights,
+    beside: &Beside,
     out: &mut Draft,
 ) -> Result<(), NoMemory> {
     out.put("<g class=\"halo\">\n")?;
-    put_given(alloc, chart, heights, out)?;
-    let mut last = usize::MAX;
-    let mut below: u64 = 0;
-    for mark in &chart.marks {
-        below = next_below(last, below, mark);
-        last = mark.row;
-        if let Some(spot) = mark_spot(chart, heights, mark, below) {
+    put_given(alloc, chart, beside, out)?;
+    for (mark, spot) in chart.marks.iter().zip(beside.marks.iter()) {
+        if let Some(spot) = *spot {
             let words = if mark.is_bad { style::BAD } else { "" };
             put_text(spot, words, mark.text.as_str(), out)?;
             if mark.is_reset {

@@ -1,9 +1,11 @@
 //! A chart beside the chart as it was when its texts were formatted and each place of a label was
 //! weighed. What it draws otherwise now is no part of that: the bows in which an arrow passes
 //! lifelines are left out (`Straight`), no module is reset (`without_resets`), and no two ticks are
-//! alike (`tick_of` of plants), which could stand in one row or be folded. So all else is compared,
-//! byte by byte, as before: where each row, text and label stands, and which cycles are folded.
-//! What is drawn of bows, resets and ticks that are alike is compared with the rule in `.ci/views`.
+//! alike (`tick_of` of plants), which could stand in one row or be folded. On which side of its
+//! lifeline a text stands the old form has from a rule of its own (`old_chart::sides`). So all else
+//! is compared, byte by byte, as before: where each row, text and label stands, and which cycles
+//! are folded. What is drawn of bows, resets and ticks that are alike is compared with the rule in
+//! `.ci/views`.
 use crate::dice::Dice;
 use crate::made::transcript;
 use crate::old_chart::ChartView as OldChart;

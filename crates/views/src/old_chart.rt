@@ -1,4 +1,5 @@
-//! The chart as it was when its texts were formatted, kept to compare with.
+//! The chart as it was when its texts were formatted, kept to compare with. New is the
+//! file `sides`, and that `draw` and `rows` ask it.
 mod areas;
 mod arrows;
 mod collect;
@@ -13,6 +14,7 @@ mod marks;
 mod model;
 mod page;
 mod rows;
+mod sides;
 mod style;
 
 pub use collect::ChartView;

@@ -6,6 +6,7 @@ use crate::old_chart::escape::put_escaped;
 use crate::old_chart::layout::{Heights, LEFT, MARK, SPACING};
 use crate::old_chart::lives::{body_of, put_lives, take_names};
 use crate::old_chart::rows::{put_marks, put_rows, take_rows};
+use crate::old_chart::sides::Sides;
 use crate::old_chart::style::{self, HEADS, STYLE};
 use cip_base::NoMemory;
 use std::alloc::Global;
@@ -68,7 +69,8 @@ pub(crate) fn put_svg(
     let end = heights.end();
     let mut areas = Areas::new(alloc, end)?;
     take_names(chart, &heights, &mut areas)?;
-    take_rows(alloc, chart, &heights, &mut areas)?;
+    let mut sides = Sides::of(alloc, chart, &heights)?;
+    take_rows(alloc, chart, &heights, &mut sides, &mut areas)?;
     let arrows = take_arrows(alloc, chart, &heights, &mut areas)?;
     let width = width_with(chart, areas.right);
     let notes = MARK.saturating_mul(chart.notes.len() as u64);
@@ -77,7 +79,7 @@ pub(crate) fn put_svg(
     put_lives(chart, &heights, body, out)?;
     put_rows(chart, &heights, width, out)?;
     put_arrows(chart, arrows.as_slice(), is_link, out)?;
-    put_marks(alloc, chart, &heights, out)?;
+    put_marks(alloc, chart, &heights, &sides, out)?;
     put_notes(chart.notes.as_slice(), end, out)?;
     out.push_str("</svg>\n")?;
     Ok(())

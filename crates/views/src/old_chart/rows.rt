@@ -5,6 +5,7 @@ use crate::old_chart::escape::put_escaped;
 use crate::old_chart::layout::{Heights, MARK, below_dot, x_of};
 use crate::old_chart::line::y_of;
 use crate::old_chart::model::{Mark, Row};
+use crate::old_chart::sides::Sides;
 use crate::old_chart::style;
 use cip_base::NoMemory;
 use cip_read::Given;
@@ -75,6 +76,7 @@ pub(crate) fn take_rows(
     alloc: Global,
     chart: &ChartView<'_>,
     heights: &Heights,
+    sides: &mut Sides,
     areas: &mut Areas,
 ) -> Result<(), NoMemory> {
     for (row, y) in chart.rows.iter().zip(heights.rows.iter()) {
@@ -83,7 +85,7 @@ pub(crate) fn take_rows(
         }
         if let Some(given) = given_of(alloc, row, *y)? {
             let width = width_of(given.text.len().saturating_add(1));
-            areas.put_text(given.spot.area(width))?;
+            areas.put_text(sides.take(given.spot, width)?.area(width))?;
         }
     }
     let mut last = usize::MAX;
@@ -92,7 +94,8 @@ pub(crate) fn take_rows(
         below = next_below(last, below, mark);
         last = mark.row;
         if let Some(spot) = mark_spot(chart, heights, mark, below) {
-            areas.put_text(spot.area(width_of(mark.text.len())))?;
+            let width = width_of(mark.text.len());
+            areas.put_text(sides.take(spot, width)?.area(width))?;
         }
     }
     Ok(())
@@ -161,8 +164,13 @@ pub(crate) fn put_rows(
 
 // A text at its place, with these attributes.
 fn put_text(spot: Spot, words: &str, text: &str, out: &mut String) -> Result<(), NoMemory> {
-    let Spot { x, y, .. } = spot;
-    write!(out, "<text{words} x=\"{x}\" y=\"{y}\">")?;
+    let Spot { x, y, anchor } = spot;
+    let anchor = if anchor == Anchor::End {
+        " text-anchor=\"end\""
+    } else {
+        ""
+    };
+    write!(out, "<text{words} x=\"{x}\" y=\"{y}\"{anchor}>")?;
     put_escaped(out, text)?;
     out.push_str("</text>\n")?;
     Ok(())
@@ -173,6 +181,7 @@ fn put_given(
     alloc: Global,
     chart: &ChartView<'_>,
     heights: &Heights,
+    sides: &Sides,
     out: &mut String,
 ) -> Result<(), NoMemory> {
     for (row, y) in chart.rows.iter().zip(heights.rows.iter()) {
@@ -184,7 +193,8 @@ fn put_given(
                 Some(Given::Command(..)) => " font-weight=\"700\"",
                 _ => "",
             };
-            put_text(given.spot, words, given.text.as_str(), out)?;
+            let spot = sides.place_of(given.spot);
+            put_text(spot, words, given.text.as_str(), out)?;
         }
     }
     Ok(())
@@ -195,10 +205,11 @@ pub(crate) fn put_marks(
     alloc: Global,
     chart: &ChartView<'_>,
     heights: &Heights,
+    sides: &Sides,
     out: &mut String,
 ) -> Result<(), NoMemory> {
     out.push_str("<g class=\"halo\">\n")?;
-    put_given(alloc, chart, heights, out)?;
+    put_given(alloc, chart, heights, sides, out)?;
     let mut last = usize::MAX;
     let mut below: u64 = 0;
     for mark in &chart.marks {
@@ -206,7 +217,7 @@ pub(crate) fn put_marks(
         last = mark.row;
         if let Some(spot) = mark_spot(chart, heights, mark, below) {
             let words = if mark.is_bad { style::BAD } else { "" };
-            put_text(spot, words, mark.text.as_str(), out)?;
+            put_text(sides.place_of(spot), words, mark.text.as_str(), out)?;
         }
     }
     out.push_str("</g>\n")?;
