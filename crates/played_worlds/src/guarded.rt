@@ -6,7 +6,6 @@ use crate::noted::noted;
 use crate::out::{Guard, Out};
 use cip_base::Bytes;
 use cip_world::{Shown, World};
-use std::alloc::Global;
 
 // Whether two worlds show the same.
 fn are_same(out: &Out, names: &[Bytes], world: &World, twin: &World) -> Result<bool, Fault>
@@ -99,75 +98,6 @@ fn made(
     Ok(MadeCall { answer, arrived })
 }
 
-// What a world was answered, as text.
-fn told(alloc: Global, names: &[Bytes], world: &World, answer: &Answer) -> Result<Vec<u8>, Fault> {
-    let mut text = Vec::new(alloc);
-    put_answer(alloc, &mut text, names, world, answer)?;
-    Ok(text)
-}
-
-// What a call was answered here, which goes out, and how many frames arrived before memory was
-// refused.
-#[derive(Drop)]
-struct ToldCall {
-    text: Vec<u8>,
-    arrived: usize,
-}
-
-fn told_here(
-    out: &mut Out,
-    names: &[Bytes],
-    world: &mut World,
-    twin: &mut World,
-    line: &str,
-) -> Result<ToldCall, Fault>
-    requires stand { ⟦<World as Shown>⟧.stands world.old }
-    requires twin_stand { ⟦<World as Shown>⟧.stands twin.old }
-    ensures stand { ⟦<World as Shown>⟧.stands world.new }
-    ensures twin_stand { ⟦<World as Shown>⟧.stands twin.new }
-{
-    let made = made(out, names, world, twin, line)?;
-    let arrived = made.arrived;
-    let text = told(out.alloc(), names, world, &made.answer)?;
-    Ok(ToldCall { text, arrived })
-}
-
-// What the twin is answered to the call, less what arrived before memory was refused.
-fn told_there(
-    alloc: Global,
-    names: &[Bytes],
-    twin: &mut World,
-    line: &str,
-    arrived: usize,
-) -> Result<Vec<u8>, Fault>
-    requires stand { ⟦<World as Shown>⟧.stands twin.old }
-    ensures stand { ⟦<World as Shown>⟧.stands twin.new }
-{
-    let call = call_of(alloc, names, line)?;
-    let answer = ask(alloc, twin, call.less(arrived));
-    told(alloc, names, twin, &answer)
-}
-
-// Whether both worlds were told the same, and show the same.
-fn agree(
-    out: &Out,
-    names: &[Bytes],
-    world: &World,
-    twin: &mut World,
-    line: &str,
-    here: &ToldCall,
-) -> Result<bool, Fault>
-    requires stand { ⟦<World as Shown>⟧.stands world.now }
-    requires twin_stand { ⟦<World as Shown>⟧.stands twin.old }
-    ensures twin_stand { ⟦<World as Shown>⟧.stands twin.new }
-{
-    let there = told_there(out.alloc(), names, twin, line, here.arrived)?;
-    if here.text != there {
-        return Ok(false);
-    }
-    are_same(out, names, world, twin)
-}
-
 /// Makes a call of a world between the marks `>` and `<`, and then of its twin, which is never
 /// refused memory. Where memory is refused, the lines tell so, and whether the world shows the
 /// `same` as the twin; then the call is made again, without marks. A line `apart` tells that the
@@ -184,9 +114,15 @@ pub fn guarded(
     ensures stand { ⟦<World as Shown>⟧.stands world.new }
     ensures twin_stand { ⟦<World as Shown>⟧.stands twin.new }
 {
-    let here = told_here(out, names, world, twin, line)?;
-    out.put_bytes(here.text.as_slice())?;
-    if !agree(out, names, world, twin, line, &here)? {
+    let alloc = out.alloc();
+    let made = made(out, names, world, twin, line)?;
+    let mut told_here = Vec::new(alloc);
+    put_answer(alloc, &mut told_here, names, world, &made.answer)?;
+    out.put_bytes(told_here.as_slice())?;
+    let answer = ask(alloc, twin, call_of(alloc, names, line)?.less(made.arrived));
+    let mut told_there = Vec::new(alloc);
+    put_answer(alloc, &mut told_there, names, twin, &answer)?;
+    if told_here != told_there || !are_same(out, names, world, twin)? {
         out.put("apart\n")?;
     }
     Ok(())

@@ -14,11 +14,11 @@
 use crate::fault::Fault;
 use crate::guarded::guarded;
 use crate::live::{LiveRun, feed_of, run_live};
-use crate::made::{Chosen, Ready, Trial, boxes, tried};
+use crate::made::{Chosen, Trial, boxes, tried};
 use crate::out::Out;
 use crate::plants::Plant;
 use cip_base::{Bytes, ModuleId};
-use cip_indexed::NewModule;
+use cip_indexed::{NewModule, new_modules};
 use cip_module::Module;
 use cip_threads::Feed;
 use cip_transcript::names_of;
@@ -154,24 +154,6 @@ fn play_over<T: Threads + Wait + Sync>(
     Ok(())
 }
 
-// Plays the lines over a world, and another one of the same chassis.
-fn play_beside<T: Threads + Wait + Sync>(
-    rt: &HostRuntime,
-    workers: &T,
-    plant: Plant,
-    world: &mut World,
-) -> Result<(), Fault>
-    requires stand { ⟦<World as Shown>⟧.stands world.old }
-{
-    let alloc = rt.alloc();
-    let Ready { topology, made } = Ready::whole(alloc, plant)?;
-    let modules = boxes!(alloc, made);
-    match World::new(alloc, topology, modules) {
-        Ok(mut twin) => play_over(rt, workers, plant, world, &mut twin),
-        Err(_) => Err(Fault::Chassis),
-    }
-}
-
 /// Plays the lines of the standard input over a chassis.
 pub fn play<T: Threads + Wait + Sync>(
     rt: &HostRuntime,
@@ -179,10 +161,14 @@ pub fn play<T: Threads + Wait + Sync>(
     plant: Plant,
 ) -> Result<(), Fault> {
     let alloc = rt.alloc();
-    let Ready { topology, made } = Ready::whole(alloc, plant)?;
-    let modules = boxes!(alloc, made);
-    match World::new(alloc, topology, modules) {
-        Ok(mut world) => play_beside(rt, workers, plant, &mut world),
-        Err(_) => Err(Fault::Chassis),
-    }
+    let topology = plant.topology(alloc)?;
+    let modules = boxes!(alloc, new_modules(alloc, topology.configs())?);
+    let twins = boxes!(alloc, new_modules(alloc, topology.configs())?);
+    let Ok(mut here) = World::new(alloc, plant.topology(alloc)?, modules) else {
+        return Err(Fault::Chassis);
+    };
+    let Ok(mut twin) = World::new(alloc, topology, twins) else {
+        return Err(Fault::Chassis);
+    };
+    play_over(rt, workers, plant, &mut here, &mut twin)
 }

@@ -2,7 +2,7 @@
 use crate::answers::put_end;
 use crate::calls::step_of;
 use crate::fault::Fault;
-use crate::made::{Chosen, Ready, boxes};
+use crate::made::{Chosen, boxes};
 use crate::noted::{put_frames, put_journal};
 use crate::out::{Guard, Out};
 use crate::plants::Plant;
@@ -48,18 +48,6 @@ pub struct LiveRun {
     pub feeds: Vec<(ModuleId, Feed)>,
 }
 
-impl LiveRun {
-    // What it is given, and its modules. Line where a feed goes to none.
-    fn ready(&self, alloc: Global, plant: Plant) -> Result<(Ready, Vec<(ModuleId, Feed)>), Fault> {
-        let ready = self.chosen.ready(alloc, plant)?;
-        if !feeds_fit(&ready.topology, self.feeds.as_slice()) {
-            return Err(Fault::Line);
-        }
-        let feeds = copied(alloc, self.feeds.as_slice())?;
-        Ok((ready, feeds))
-    }
-}
-
 // The run, with what stands about it.
 fn ran<T: Threads + Wait + Sync>(
     out: &mut Out,
@@ -69,13 +57,19 @@ fn ran<T: Threads + Wait + Sync>(
     guard: Guard,
 ) -> Result<Result<Report, RunFault>, Fault> {
     let alloc = out.alloc();
-    let (Ready { topology, made }, feeds) = asked.ready(alloc, plant)?;
+    let topology = plant.topology(alloc)?;
+    let feeds = copied(alloc, asked.feeds.as_slice())?;
+    if !feeds_fit(&topology, feeds.as_slice()) {
+        return Err(Fault::Line);
+    }
+    let made = asked.chosen.modules(alloc, &topology)?;
     let modules = boxes!(alloc, made);
     // (what the marks say is looked at when no box is left to be given up)
     let begun = out.begin(guard);
     let turns = asked.turns;
     let report = run_threads(workers, alloc, topology, modules, feeds, turns, &OpenGate);
-    out.end_of(guard, begun)?;
+    begun?;
+    out.end(guard)?;
     Ok(report)
 }
 

@@ -4,14 +4,13 @@ use crate::fault::Fault;
 use crate::out::{Guard, Out};
 use crate::plants::Plant;
 use cip_base::Ms;
-use cip_indexed::{NewModule, new_modules};
+use cip_indexed::NewModule;
 use cip_module::{Event, Module, ModuleConfig};
 use cip_topology::Topology;
 use cip_world::{NewFault, World, check_fresh};
 use std::alloc::Global;
 
-// New modules, each as a box of any module: a function can't hand such boxes out. (Little else is to
-// be owned where this stands: each way out gives up all that is.)
+// New modules, each as a box of any module: a function can't hand such boxes out.
 macro_rules! boxes {
     ($alloc:expr, $made:expr) => {{
         let mut modules: Vec<Box<dyn Module + Send>> = Vec::new($alloc);
@@ -30,22 +29,6 @@ macro_rules! boxes {
 }
 
 pub(crate) use boxes;
-
-/// A topology, and new modules that are made for it.
-#[derive(Drop)]
-pub struct Ready {
-    pub topology: Topology,
-    pub made: Vec<NewModule>,
-}
-
-impl Ready {
-    /// A chassis, and each of its modules.
-    pub fn whole(alloc: Global, plant: Plant) -> Result<Ready, Fault> {
-        let topology = plant.topology(alloc)?;
-        let made = new_modules(alloc, topology.configs())?;
-        Ok(Ready { topology, made })
-    }
-}
 
 /// Which modules of a chassis are made, in which order, and at which of them a millisecond passes.
 #[derive(Drop)]
@@ -84,26 +67,13 @@ impl Chosen {
         Ok(Chosen { places, ticked })
     }
 
-    // The module at which a millisecond passes.
-    fn tick(&self, made: &mut [NewModule]) -> Result<(), Fault> {
-        match self.ticked {
-            Some(place) => tick(made.get_mut(place).ok_or(Fault::Line)?),
-            None => Ok(()),
-        }
-    }
-
-    // These modules, new but for the millisecond.
-    fn modules(&self, alloc: Global, topology: &Topology) -> Result<Vec<NewModule>, Fault> {
+    /// These modules, new but for the millisecond.
+    pub fn modules(&self, alloc: Global, topology: &Topology) -> Result<Vec<NewModule>, Fault> {
         let mut made = modules_at(alloc, topology.configs(), self.places.as_slice())?;
-        self.tick(made.as_mut_slice())?;
+        if let Some(place) = self.ticked {
+            tick(made.get_mut(place).ok_or(Fault::Line)?)?;
+        }
         Ok(made)
-    }
-
-    /// A chassis, and these modules of it.
-    pub fn ready(&self, alloc: Global, plant: Plant) -> Result<Ready, Fault> {
-        let topology = plant.topology(alloc)?;
-        let made = self.modules(alloc, &topology)?;
-        Ok(Ready { topology, made })
     }
 }
 
@@ -138,7 +108,8 @@ fn said(
     guard: Guard,
 ) -> Result<Option<NewFault>, Fault> {
     let alloc = out.alloc();
-    let Ready { topology, made } = chosen.ready(alloc, plant)?;
+    let topology = plant.topology(alloc)?;
+    let made = chosen.modules(alloc, &topology)?;
     let modules = boxes!(alloc, made);
     // (what the marks say is looked at when no box is left to be given up)
     let begun = out.begin(guard);
@@ -146,7 +117,8 @@ fn said(
         Trial::New => World::new(alloc, topology, modules).err(),
         Trial::Check => check_fresh(alloc, &topology, modules.as_slice()).err(),
     };
-    out.end_of(guard, begun)?;
+    begun?;
+    out.end(guard)?;
     Ok(fault)
 }
 

@@ -63,12 +63,6 @@ impl Out<'_> {
         }
     }
 
-    /// The same as `end`, where what `begin` came to was to be looked at later.
-    pub fn end_of(&mut self, guard: Guard, begun: Result<(), Fault>) -> Result<(), Fault> {
-        begun?;
-        self.end(guard)
-    }
-
     /// Where there are marks, `<` goes out by itself, and ends a line on which they stand alone.
     pub fn end(&mut self, guard: Guard) -> Result<(), Fault> {
         match guard {
