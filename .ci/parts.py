@@ -46,6 +46,8 @@ KEPT = {
 PLAIN = {
     "Row::with_room": "holds 0",
     "NumberIndex::with_room": "holds 0",
+    # without a deadline the least bound is none
+    "Deadlines::with_room": "never true",
     "PendingTable::with_room": "last 6",
     "HopTable::with_room": "last 6",
     "write_request": "10" "03" "200424643003" "AA",
