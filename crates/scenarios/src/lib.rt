@@ -6,6 +6,7 @@
 mod by_threads;
 #[cfg(test)]
 mod console_rows;
+#[cfg(test)]
 mod console_streams;
 #[cfg(test)]
 mod console_transcripts;
@@ -13,6 +14,7 @@ mod console_transcripts;
 mod explained_faults;
 #[cfg(test)]
 mod keeping_room;
+#[cfg(test)]
 mod over_new;
 #[cfg(test)]
 mod progress_lines;

@@ -72,14 +72,12 @@ pub fn run_chassis_live<T: Threads + Wait + Sync>(
 }
 
 /// What is done to new modules of the chassis before they are handed in, and the answer.
-#[cfg(test)]
 struct Row {
     change: Change,
     fault: NewFault,
 }
 
 #[derive(Clone, Copy)]
-#[cfg(test)]
 enum Change {
     /// The last one is not handed in.
     OneLess,
@@ -89,7 +87,6 @@ enum Change {
     Ticked,
 }
 
-#[cfg(test)]
 const ROWS: [Row; 3] = [
     Row {
         change: Change::OneLess,
@@ -105,12 +102,10 @@ const ROWS: [Row; 3] = [
     },
 ];
 
-#[cfg(test)]
 fn chassis(alloc: Global) -> Result<Topology, Fail> {
     Ok(load(alloc, CHASSIS).ok().ok_or("no chassis")?)
 }
 
-#[cfg(test)]
 fn changed(
     alloc: Global,
     topology: &Topology,
@@ -138,7 +133,6 @@ fn changed(
 }
 
 // What is answered in turn, and how much is written.
-#[cfg(test)]
 fn in_turn(alloc: Global, script: &[u8], change: Change) -> Result<Result<(), ConsoleFault>, Fail> {
     let topology = chassis(alloc)?;
     let modules = changed(alloc, &topology, change)?;
@@ -154,7 +148,6 @@ fn in_turn(alloc: Global, script: &[u8], change: Change) -> Result<Result<(), Co
 }
 
 // What is answered on threads.
-#[cfg(test)]
 fn on_threads<T: Threads + Wait + Sync>(
     rt: &T,
     alloc: Global,
