@@ -1,8 +1,8 @@
 //! The book by itself, call by call.
-use crate::boxes::chassis;
-use crate::threads::given::{A, B, S, sends};
+use crate::boxes::{boxed, chassis};
+use crate::given::{A, B, S, sends};
 use cip_base::ModuleId;
-use cip_module::{Event, Module, Output, PlainModule};
+use cip_module::{Event, Module, Output};
 use cip_threads::{BookState, CommitFault, Handed, feeds_fit};
 use std::alloc::Global;
 use std::process::Abort;
@@ -28,7 +28,7 @@ fn answer(state: &mut BookState, m: ModuleId) -> Option<Given> {
 
 // A book of the chassis in which the scanner is to send one request.
 fn book(alloc: Global, turns: usize) -> Result<BookState, Fail> {
-    let topology = chassis(alloc).ok_or("no chassis")?;
+    let topology = chassis(alloc)?;
     let feeds = sends(alloc, &[S])?;
     if !feeds_fit(&topology, feeds.as_slice()) {
         return Err("no such module".into());
@@ -38,9 +38,9 @@ fn book(alloc: Global, turns: usize) -> Result<BookState, Fail> {
 
 // What the scanner of the chassis puts out for its first event.
 fn outputs_of(alloc: Global, event: Event) -> Result<Vec<Output>, Fail> {
-    let topology = chassis(alloc).ok_or("no chassis")?;
+    let topology = chassis(alloc)?;
     let config = topology.configs().first().ok_or("no scanner")?;
-    let mut scanner = PlainModule::new(alloc, config.copy(alloc)?)?;
+    let mut scanner = boxed(alloc, config).ok_or("no memory")?;
     Ok(scanner.step(event)?)
 }
 

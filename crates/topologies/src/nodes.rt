@@ -1,9 +1,16 @@
 //! What a loaded chassis says: its links and modules, and where addresses lead.
-use crate::boxes::chassis;
 use cip_base::{Address, ModuleId, PortNumber};
 use cip_module::{LegalAddresses, ModuleKind};
-use cip_topology::Topology;
+use cip_topology::{CHASSIS, Topology, load};
+use std::alloc::Global;
 use std::test::Fail;
+
+fn chassis(alloc: Global) -> Result<Topology, Fail> {
+    match load(alloc, CHASSIS) {
+        Ok(topology) => Ok(topology),
+        Err(fault) => Err(Fail::new(format_args!("{fault}"))),
+    }
+}
 
 // The module that a port of a module reaches by an address of one byte.
 fn node(topology: &Topology, from: usize, port: u16, address: u8) -> Option<usize> {
@@ -36,7 +43,7 @@ const NODES: &[(usize, u16, u8, Option<usize>)] = &[
 
 #[test]
 fn addresses_lead_to_modules(rt: HostRuntime) -> Result<(), Fail> {
-    let topology = chassis(rt.alloc()).ok_or("no chassis")?;
+    let topology = chassis(rt.alloc())?;
     for (from, port, address, want) in NODES {
         let given = node(&topology, *from, *port, *address);
         assert_eq!(&rt; given, *want, "from {from} by port {port} to {address}");
@@ -65,7 +72,7 @@ fn there_and_back(
 
 #[test]
 fn the_way_there_and_the_way_back(rt: HostRuntime) -> Result<(), Fail> {
-    let topology = chassis(rt.alloc()).ok_or("no chassis")?;
+    let topology = chassis(rt.alloc())?;
     let there = there_and_back(&topology, 0, 2, 0x05);
     assert_eq!(&rt; there, Some((1, 2, true)));
     let there = there_and_back(&topology, 2, 1, 0x00);
@@ -88,7 +95,7 @@ fn is_named(topology: &Topology, place: usize, name: &str) -> bool {
 
 #[test]
 fn modules_by_name(rt: HostRuntime) -> Result<(), Fail> {
-    let topology = chassis(rt.alloc()).ok_or("no chassis")?;
+    let topology = chassis(rt.alloc())?;
     for (place, name) in NAMES.iter().enumerate() {
         let found = topology.by_name(name.as_bytes());
         assert_eq!(&rt; found, Some(ModuleId(place)), "{name}");
@@ -113,7 +120,7 @@ fn is_link(topology: &Topology, place: usize, name: &str, last: u8) -> bool {
 
 #[test]
 fn links_in_the_order_of_the_file(rt: HostRuntime) -> Result<(), Fail> {
-    let topology = chassis(rt.alloc()).ok_or("no chassis")?;
+    let topology = chassis(rt.alloc())?;
     assert_eq!(&rt; topology.links().len(), 3);
     for (place, (name, last)) in LINKS.iter().enumerate() {
         assert!(&rt; is_link(&topology, place, name, *last), "{name}");
@@ -123,7 +130,7 @@ fn links_in_the_order_of_the_file(rt: HostRuntime) -> Result<(), Fail> {
 
 #[test]
 fn the_adapter_as_the_file_says_it(rt: HostRuntime) -> Result<(), Fail> {
-    let topology = chassis(rt.alloc()).ok_or("no chassis")?;
+    let topology = chassis(rt.alloc())?;
     assert_eq!(&rt; topology.configs().len(), 4);
     let settings = topology.configs()[3].settings();
     assert_eq!(&rt; settings.kind, ModuleKind::Adapter);

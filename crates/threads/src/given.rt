@@ -1,6 +1,5 @@
 //! Chassis, and what their modules are given.
 use crate::boxes::topology;
-use crate::given::{ASKED, THROUGH_A_TO_B};
 use cip_base::{Bytes, ModuleId, Ms, Timing};
 use cip_module::Command;
 use cip_segment::read_path;
@@ -19,6 +18,12 @@ pub const B: ModuleId = ModuleId(2);
 pub const E: ModuleId = ModuleId(3);
 
 pub const S2: ModuleId = ModuleId(4);
+
+/// Asks for the attribute 1 of the identity.
+pub const ASKED: [u8; 6] = [0x01, 0x02, 0x20, 0x01, 0x24, 0x01];
+
+/// From a scanner through the first bridge to the second.
+pub const THROUGH_A_TO_B: [u8; 4] = [0x02, 0x05, 0x01, 0x03];
 
 /// The identity of the second bridge.
 pub const REPLY: [u8; 21] = [
@@ -49,12 +54,12 @@ address = "02"
 /// The chassis with a second scanner.
 pub fn two_scanners(alloc: Global) -> Result<Topology, Fail> {
     let text = format!(in alloc; "{CHASSIS}{SECOND_SCANNER}")?;
-    Ok(topology(alloc, text.as_str()).ok_or("a faulty topology")?)
+    topology(alloc, text.as_str())
 }
 
 /// Sends the request ASKED unconnected through the first bridge to the second.
 pub fn send(alloc: Global) -> Result<Feed, Fail> {
-    let path = read_path(alloc, THROUGH_A_TO_B)?;
+    let path = read_path(alloc, &THROUGH_A_TO_B)?;
     let request = Bytes::of(Vec::from_slice(alloc, &ASKED)?);
     Ok(Feed::Command(Command::Send {
         op: 1,
