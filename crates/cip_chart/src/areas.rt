@@ -10,7 +10,7 @@ use cip_base::NoMemory;
 use std::alloc::Global;
 
 /// Where a text stands.
-#[derive(Clone, Copy, Debug)]
+#[derive(Clone, Copy)]
 pub(crate) struct Area {
     pub left: u64,
     pub top: u64,
@@ -19,7 +19,7 @@ pub(crate) struct Area {
 }
 
 /// By which of its points a text is placed.
-#[derive(Clone, Copy, Debug, PartialEq, Eq)]
+#[derive(Clone, Copy, PartialEq, Eq)]
 pub(crate) enum Anchor {
     Start,
     Middle,
@@ -38,7 +38,7 @@ impl Anchor {
 }
 
 /// The place of a text: a point on its base line.
-#[derive(Clone, Copy, Debug)]
+#[derive(Clone, Copy)]
 pub(crate) struct Spot {
     pub x: u64,
     pub y: u64,
@@ -116,7 +116,7 @@ const ON_LINE: u64 = 3;
 const LONGEST: u64 = 40;
 
 /// A line in a band.
-#[derive(Clone, Copy, Debug)]
+#[derive(Clone, Copy)]
 struct Passing {
     /// How far the line goes to the left and to the right at most, where a text stands that begins
     /// or ends in the band.

@@ -3,7 +3,7 @@ use cip_read::{FrameName, Given};
 use cip_view::Label;
 
 /// What the module of a row was given that may be folded.
-#[derive(Clone, Copy, Debug, PartialEq, Eq)]
+#[derive(Clone, Copy, PartialEq, Eq)]
 pub(crate) enum Cause {
     Command,
     Frame,
@@ -12,7 +12,7 @@ pub(crate) enum Cause {
 
 /// How the row of a tick or of cyclic data looks, but for its bytes: rows of one look may be
 /// folded.
-#[derive(Clone, Copy, Debug, PartialEq, Eq)]
+#[derive(Clone, Copy, PartialEq, Eq)]
 pub(crate) struct Look {
     pub column: usize,
     pub cause: Cause,
@@ -26,7 +26,7 @@ pub(crate) struct Look {
 }
 
 /// A cycle of rows that stands there more often than it is shown.
-#[derive(Clone, Copy, Debug)]
+#[derive(Clone, Copy)]
 pub(crate) struct Fold {
     /// How many rows it has.
     pub rows: usize,
@@ -36,7 +36,7 @@ pub(crate) struct Fold {
 }
 
 /// An entry.
-#[derive(Clone, Copy, Debug)]
+#[derive(Clone, Copy)]
 pub(crate) struct Row {
     pub entry: usize,
     /// None where a frame was lost.
@@ -77,7 +77,7 @@ impl Row {
 }
 
 /// How a frame ended.
-#[derive(Clone, Copy, Debug, PartialEq, Eq)]
+#[derive(Clone, Copy, PartialEq, Eq)]
 pub(crate) enum Fate {
     /// It is on its way.
     Waits,

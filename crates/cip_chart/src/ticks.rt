@@ -6,7 +6,7 @@ use crate::model::Row;
 
 /// The ticks of the modules from the first on, as far as they came one behind the other and by the
 /// same milliseconds.
-#[derive(Clone, Copy, Debug)]
+#[derive(Clone, Copy)]
 pub(crate) struct Round {
     ms: u16,
     /// How many modules ticked.
@@ -52,7 +52,7 @@ impl Round {
 }
 
 /// Rows of the ticks of all modules.
-#[derive(Clone, Copy, Debug)]
+#[derive(Clone, Copy)]
 pub(crate) struct Together {
     pub first: usize,
     pub count: usize,

@@ -103,7 +103,7 @@ fn read_feeds(
 }
 
 // Why the text of a run was not written to its end.
-#[derive(Clone, Copy, Debug, PartialEq, Eq)]
+#[derive(Clone, Copy, PartialEq, Eq)]
 enum WritingFault {
     Write,
     NoMemory,

@@ -7,7 +7,7 @@ use Rattle.std.specs.Str.{bytes_eq}
 use Rattle.cip_base.specs.declared.numbers.ModuleId.{ModuleId}
 use Rattle.cip_read.specs.declared.line.FrameName.{FrameName}
 use Rattle.cip_topology.specs.Plan.{Plan}
-use Rattle.cip_words.specs.Shown.{below, number_of, bytes_of, is_dot}
+use Rattle.cip_words.specs.Shown.{below, number_of, bytes_of, is_dot, two_of}
 use Rattle.cip_read.specs.declared.fault.LineFault.{LineFault}
 use Rattle.cip_read.specs.declared.fault.LineFault.TheVariants.{Word, NotText, NoMemory}
 
@@ -60,8 +60,7 @@ name_by e k = below (2 ^ 64) (number_of e) >>= λ entry. (below (2 ^ 64) (number
     Some (record { entry = entry; output = output }))
 
 abbrev pub frame_by : List (List ℕ) → Option FrameName
-frame_by (e ∷ k ∷ []) = name_by e k
-frame_by parts = None
+frame_by parts = two_of parts >>= λ halves. name_by halves.0 halves.1
 
 -- `E.K`
 abbrev pub frame_of : List ℕ → Option FrameName

@@ -1,6 +1,5 @@
 //! The words of a line, one by one.
-ghost use Rattle.std.specs.Prelude.{◌≡◌, ◌<◌, ◌^◌, length, map, IfOk, None, MatchOption};
-ghost use Rattle.std.specs.Prelude.{IfErr};
+ghost use Rattle.std.specs.Prelude.{◌≡◌, ◌<◌, ◌^◌, length, IfErr};
 ghost use Rattle.cip_words.specs.Shown.{below, number_of, bytes_of};
 ghost use Rattle.cip_read.specs.Fields.{Gives, nth, texts, port_of, ms_of, address_of, frame_of};
 ghost use Rattle.cip_read.specs.Fields.{module_of, name_by, if_address};
@@ -11,7 +10,7 @@ use crate::fault::{Expected, LineFault};
 use crate::line::FrameName;
 use cip_base::{Address, Bytes, ModuleId, Ms, PortNumber};
 use cip_topology::Topology;
-use cip_words::{bytes, number, number_u16, number_u32};
+use cip_words::{bytes, halves, number, number_u16, number_u32};
 use std::alloc::Global;
 
 /// The word at this place.
@@ -118,20 +117,6 @@ pub(crate) fn address_at(alloc: Global, words: &[&str], k: usize) -> Result<Addr
 {
     let bytes = bytes_at(alloc, words, k)?;
     address_in(bytes.as_slice(), k)
-}
-
-// The two parts of a word around its only dot.
-fn halves(word: &str) -> Option<(&str, &str)>
-    ensures { MatchOption result (frame_of word.now ≡ None)
-        (λ parts. frame_of word.now ≡ name_by parts.0.now parts.1.now) }
-{
-    let Some((first, rest)) = word.split_once('.') else {
-        return None;
-    };
-    match rest.split_once('.') {
-        Some(_) => None,
-        None => Some((first, rest)),
-    }
 }
 
 // `E` and `K`.

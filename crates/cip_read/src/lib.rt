@@ -7,7 +7,6 @@ mod heads;
 mod line;
 mod notes;
 mod outputs;
-mod parts;
 mod reader;
 
 pub use fault::{Expected, LineFault, ReadFault};

@@ -13,9 +13,8 @@ use crate::heads::head_at;
 use crate::line::Line;
 use crate::notes::{note_at, row_at};
 use crate::outputs::output_at;
-use crate::parts::parts_of;
 use cip_topology::{Excerpt, Topology};
-use cip_words::{ascii, number, words};
+use cip_words::{ascii, ascii_words, number, words};
 use std::alloc::Global;
 
 // `  K` and the words of an output.
@@ -71,7 +70,7 @@ pub fn read_line(alloc: Global, topology: &Topology, line: &[u8]) -> Result<Line
     let Some(text) = ascii(line) else {
         return Err(LineFault::NotText);
     };
-    let words = parts_of(alloc, text)?;
+    let words = ascii_words(alloc, text)?;
     words_line(alloc, topology, words.as_slice())
 }
 

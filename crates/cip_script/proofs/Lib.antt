@@ -1,4 +1,3 @@
 pub mod BytesLaws
 pub mod WordsLaws
-pub mod LinesLaws
 pub mod StepsLaws

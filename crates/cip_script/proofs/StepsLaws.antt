@@ -14,7 +14,7 @@ use Rattle.cip_script.specs.declared.steps.Step.{Step}
 use Rattle.cip_script.specs.declared.steps.Numbered.{Numbered}
 use Rattle.cip_script.specs.Steps.{texts, line_step, words_step, with_step, steps_from}
 use Rattle.cip_script.specs.Text.{words_of}
-use Rattle.cip_script.proofs.LinesLaws.{unread}
+use Rattle.cip_words.proofs.LinesLaws.{unread}
 
 low : (b : ℕ) → b < 128 → nat_lt b 128 ≡ true
 low b h = grind (arith, nat_tests)

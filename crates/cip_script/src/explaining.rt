@@ -6,6 +6,7 @@ use cip_base::NoMemory;
 use cip_segment::{PathFault, view_path};
 use cip_tool::{HexFault, fault_place, hex_fault, number};
 use cip_topology::Excerpt;
+use cip_words::{ascii, lines};
 use std::alloc::Global;
 use thiserror::Error;
 
@@ -299,7 +300,7 @@ fn return_in(line: &[u8]) -> Option<usize> {
 
 // What is wrong with a line that has this fault.
 fn explain_line(alloc: Global, line: &[u8], fault: ScriptFault) -> Result<Explained, NoMemory> {
-    let Some(line) = text::ascii(line) else {
+    let Some(line) = ascii(line) else {
         return Ok(explain_byte(line));
     };
     if let Some(place) = return_in(line.as_bytes()) {
@@ -321,7 +322,7 @@ pub fn explain(
     line: usize,
     fault: ScriptFault,
 ) -> Result<Explained, NoMemory> {
-    let lines = text::lines_of(alloc, script)?;
+    let lines = lines(alloc, script)?;
     match lines.get(line.saturating_sub(1)) {
         Some(line) => explain_line(alloc, line, fault),
         None => Ok(Explained::Fault(fault)),

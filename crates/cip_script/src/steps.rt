@@ -18,6 +18,7 @@ use crate::words::{
 };
 use cip_base::{Bytes, ModuleId, Ms};
 use cip_module::{Command, LargeParams, OpenParams};
+use cip_words::{ascii, first_line, lines};
 use cip_world::FrameName;
 use std::alloc::{AllocError, Global};
 use thiserror::Error;
@@ -94,7 +95,7 @@ pub enum ScriptFault {
 }
 
 /// Why a line gave no step.
-#[derive(Clone, Copy, Debug, PartialEq, Eq)]
+#[derive(Clone, Copy, PartialEq, Eq)]
 pub(crate) enum StepFault {
     Fault(ScriptFault),
     NoMemory,
@@ -479,7 +480,7 @@ fn line_step<'a>(
 ) -> Result<Option<Step>, StepFault>
     ensures { Gives result (line_step mode names.now line.now) }
 {
-    match text::ascii(line) {
+    match ascii(line) {
         Some(line) => text_step(alloc, mode, names, line, words),
         None => Err(StepFault::Fault(ScriptFault::NotText)),
     }
@@ -509,7 +510,7 @@ fn read_text(
     let mut rest = script;
     let mut line = 0;
     'lines: while !rest.is_empty() {
-        let (first, more) = text::first_line(rest);
+        let (first, more) = first_line(rest);
         rest = more;
         line += 1;
         match text_step(alloc, mode, names, first, &mut words) {
@@ -531,7 +532,7 @@ fn read_lines(
 ) -> Result<Vec<Numbered>, StepsFault>
     ensures { Reads (λ v. v.items) result (steps mode names.now script.now) }
 {
-    let lines = text::lines_of(alloc, script)?;
+    let lines = lines(alloc, script)?;
     let mut found = Vec::new(alloc);
     let mut words = Vec::new(alloc);
     for (i, line) in lines.iter().enumerate() {
@@ -555,7 +556,7 @@ pub fn read_steps(
 ) -> Result<Vec<Numbered>, StepsFault>
     ensures { Reads (λ v. v.items) result (steps mode names.now script.now) }
 {
-    match text::ascii(script) {
+    match ascii(script) {
         Some(script) => read_text(alloc, mode, names, script),
         None => read_lines(alloc, mode, names, script),
     }

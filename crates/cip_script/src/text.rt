@@ -1,90 +1,12 @@
-//! Lines, words, numbers and bytes as they stand in a script.
+//! Words and bytes as they stand in a script.
 
-ghost use Rattle.std.specs.Prelude.{◌≡◌, ◌==◌, ◌↔◌, ◌≤◌, ◌<◌, ◌*◌, ◌++◌, ◌∷◌, [], length, take};
-ghost use Rattle.std.specs.Prelude.{map, IfOk, OnOk, IfSome, slice_index, IsSome, option_map};
-ghost use Rattle.std.specs.Prelude.{if◌then◌else◌};
-ghost use Rattle.std.specs.Str.{IsAscii};
-ghost use Rattle.std.specs.Str.Lines.{lines, strip_carriage_return};
+ghost use Rattle.std.specs.Prelude.{◌≡◌, ◌==◌, ◌≤◌, ◌*◌, ◌++◌, ◌∷◌, [], length, take, map};
+ghost use Rattle.std.specs.Prelude.{IfOk, OnOk, IfSome, slice_index, option_map, if◌then◌else◌};
 ghost use Rattle.hex.specs.Hex.{decode_of};
-ghost use Rattle.cip_script.specs.Text.{words_of, kept_words, bytes_of, ok_bytes, is_newline};
+ghost use Rattle.cip_script.specs.Text.{words_of, kept_words, bytes_of, ok_bytes};
 
 use cip_tool::digit;
-use cip_words::line_end;
 use std::alloc::{AllocError, Global};
-
-/// The line as a text, if it is ASCII.
-pub(crate) fn ascii(line: &[u8]) -> Option<&str>
-    ensures text { IfSome result (λ text. text.now ≡ line.now) }
-    ensures exact { IsSome result ↔ IsAscii line.now }
-{
-    match std::str::from_utf8(line) {
-        Ok(text) if text.is_ascii() => Some(text),
-        _ => None,
-    }
-}
-
-/// The line without the one carriage return at its end.
-fn without_return(line: &[u8]) -> &[u8]
-    ensures { result.now ≡ strip_carriage_return line.now }
-{
-    match line.strip_suffix(b"\r") {
-        Some(rest) => rest,
-        None => line,
-    }
-}
-
-/// The lines of a script.
-pub(crate) fn lines_of(alloc: Global, script: &[u8]) -> Result<Vec<&[u8]>, AllocError>
-    ensures { IfOk result (λ v. map (λ line. line.now) v.items ≡ lines script.now) }
-{
-    let parts = parts_of(alloc, script)?;
-    let mut found = Vec::new(alloc);
-    for (i, part) in parts.iter().enumerate() {
-        if i + 1 < parts.len() {
-            found.push(without_return(part))?;
-        } else if !part.is_empty() {
-            found.push(*part)?;
-        }
-    }
-    Ok(found)
-}
-
-// The line that ends at this newline, without the one carriage return at its end.
-fn line_before(text: &str, newline: usize) -> &str
-    requires text { IsAscii text.now }
-    requires within { newline ≤ length text.now }
-    ensures { result.now ≡ strip_carriage_return (take newline text.now) }
-{
-    if newline != 0 && text.as_bytes()[newline - 1] == b'\r' {
-        &text[..newline - 1]
-    } else {
-        &text[..newline]
-    }
-}
-
-/// The first line of what is left of a script that is ASCII, and what is left behind it.
-pub(crate) fn first_line(text: &str) -> (&str, &str)
-    requires text { IsAscii text.now }
-    requires some { 0 < length text.now }
-    ensures text { IsAscii result.0.now × IsAscii result.1.now }
-    ensures less { length result.1.now < length text.now }
-    ensures lines { lines text.now ≡ result.0.now ∷ lines result.1.now }
-{
-    match line_end(text.as_bytes()) {
-        Some(newline) => (line_before(text, newline), &text[newline + 1..]),
-        None => (text, ""),
-    }
-}
-
-ghost use Rattle.std.specs.List.{slice_split};
-
-/// The parts between newlines.
-fn parts_of(alloc: Global, script: &[u8]) -> Result<Vec<&[u8]>, AllocError>
-    ensures { IfOk result (λ v. map (λ part. part.now) v.items
-        ≡ slice_split is_newline script.now) }
-{
-    script.split(|byte| *byte == b'\n').collect(alloc)
-}
 
 // One more word at the end, if it is not empty.
 #[inline(always)]

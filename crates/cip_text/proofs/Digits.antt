@@ -32,7 +32,7 @@ pub PAIRS_at : (p : ℕ) → p < 256
 PAIRS_at p h = pairs_below 256 p tt h
 
 -- two writes in a row, seen from the front
-take_two_writes : (xs : List ℕ) (o x y : ℕ) → o + 1 < length xs
+pub take_two_writes : (xs : List ℕ) (o x y : ℕ) → o + 1 < length xs
     → take (o + 2) (slice_set (slice_set xs o x) (o + 1) y) ≡ take o xs ++ (x ∷ y ∷ [])
 take_two_writes xs o x y fits =
     let len : length (slice_set xs o x) ≡ length xs = length-set xs o x in

@@ -3,7 +3,8 @@ ghost use Rattle.std.specs.Prelude.{◌≡◌, ◌≤◌, ◌*◌, length};
 ghost use Rattle.hex.specs.Hex.{encode_upper};
 
 /// Each byte as a pair of digits, in upper case.
-pub(crate) fn fill_pairs(bytes: &[u8], output: &mut [u8])
+#[inline(always)]
+pub fn fill_pairs(bytes: &[u8], output: &mut [u8])
     requires { length output.old ≡ 2 * length bytes.now }
     ensures { output.new ≡ encode_upper bytes.now }
 {

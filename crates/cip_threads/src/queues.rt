@@ -202,7 +202,7 @@ fn is_less(one: FrameName, other: FrameName) -> bool
 }
 
 // A name in front of a module's queue.
-#[derive(Clone, Copy, Debug)]
+#[derive(Clone, Copy)]
 struct Front {
     m: usize,
     name: FrameName,

@@ -46,7 +46,7 @@ pub enum RunFault {
 }
 
 /// A message or the book is missing something or differs from the journal, or there was no memory.
-#[derive(Clone, Copy, Debug, PartialEq, Eq)]
+#[derive(Clone, Copy, PartialEq, Eq)]
 pub(crate) enum CompareFault {
     NoMemory,
     Differs(ModuleId),

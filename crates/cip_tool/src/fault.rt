@@ -43,7 +43,7 @@ pub enum WordFault {
 }
 
 /// Why a word gave nothing.
-#[derive(Clone, Copy, Debug, PartialEq, Eq)]
+#[derive(Clone, Copy, PartialEq, Eq)]
 pub(crate) enum WordError {
     Fault(WordFault),
     NoMemory,

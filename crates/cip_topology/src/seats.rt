@@ -10,14 +10,14 @@ use std::cmp::Ordering;
 use std::marker::Model;
 
 /// A link, by its place, and an address on it.
-#[derive(Debug, Drop)]
+#[derive(Drop)]
 pub(crate) struct Spot {
     pub(crate) link: usize,
     pub(crate) address: Address,
 }
 
 /// A port: the place of its module, and its number.
-#[derive(Clone, Copy, Debug)]
+#[derive(Clone, Copy)]
 pub(crate) struct Seat {
     pub(crate) at: usize,
     pub(crate) port: PortNumber,

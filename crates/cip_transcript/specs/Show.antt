@@ -1,7 +1,6 @@
 -- The lines of a transcript. Numbers are decimal; bytes are upper-case pairs, `-` for none.
 use Rattle.std.specs.Prelude.{ℕ, ◌+◌, ◌==◌, List, [], ◌∷◌, ◌/◌, ◌%◌, ◌++◌, length, codes, decimal}
 use Rattle.std.specs.Prelude.{if◌then◌else◌, unwrap_or, slice_get, map, Option, Some, None, Ok, Err}
-use Rattle.hex.specs.Hex.{encode_upper}
 use Rattle.cip_base.specs.declared.numbers.ModuleId.{ModuleId}
 use Rattle.cip_base.specs.declared.triad.Triad.{Triad}
 use Rattle.cip_chain.specs.declared.chains.ChainFault.TheVariants as chains
@@ -18,6 +17,7 @@ use Rattle.cip_event.specs.declared.event.Refused.TheVariants.{ReservedService, 
 use Rattle.cip_event.specs.declared.event.Dropped.{Dropped as Drop}
 use Rattle.cip_event.specs.declared.event.Dropped.TheVariants.{Malformed, Late, UnknownId}
 use Rattle.cip_event.specs.declared.event.Dropped.TheVariants as dropped
+use Rattle.cip_text.specs.Texts.{pairs_text}
 use Rattle.cip_topology.specs.Plan.{Plan}
 use Rattle.cip_world.specs.declared.journal.FrameName.{FrameName}
 use Rattle.cip_world.specs.declared.journal.Input.{Input}
@@ -26,12 +26,9 @@ use Rattle.cip_world.specs.declared.journal.Entry.{Entry}
 use Rattle.cip_world.specs.declared.journal.Entry.TheVariants.{Step, Lost}
 use Rattle.cip_transcript.specs.Chained.{Chained}
 
--- a number below 10,000, with zeros before it
-abbrev pub four_digits : ℕ → List ℕ
-four_digits n = (48 + n / 1000) ∷ (48 + n / 100 % 10) ∷ (48 + n / 10 % 10) ∷ (48 + n % 10) ∷ []
-
+-- bytes in upper-case pairs, a dash for none
 abbrev pub bytes_text : List ℕ → List ℕ
-bytes_text bytes = if length bytes == 0 then codes "-" else encode_upper bytes
+bytes_text = pairs_text
 
 -- a number, a dash for none
 abbrev pub optional_text : Option ℕ → List ℕ

@@ -2,7 +2,6 @@
 #![tactic(auto)]
 
 mod chains;
-mod line;
 mod names;
 mod pieces;
 mod show;

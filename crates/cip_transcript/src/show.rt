@@ -7,11 +7,11 @@ ghost use Rattle.cip_transcript.specs.Show.{frame_text, command_text, input_text
 ghost use Rattle.cip_transcript.specs.Show.{name_of, numbers_text, trail_text, names_text};
 ghost use Rattle.cip_transcript.specs.Show.{chain_text, head_text, lost_text, entry_text};
 
-use crate::line::{ROOM, byte, number, number_then, pairs, room_for, word};
-use crate::pieces::{put, put_bytes, put_front, put_number};
+use crate::pieces::{put, put_bytes, put_number};
 use cip_base::{Address, Bytes, ModuleId, NoMemory, PortNumber, Triad};
 use cip_chain::ChainView;
 use cip_module::{Body, Command, Dropped, Output, Refused};
+use cip_text::line::{ROOM, byte, number, number_then, pairs, put_front, room_for, word};
 use cip_world::{Entry, FrameName, Input};
 
 // Bytes that the room has no place for, and the end of the line.

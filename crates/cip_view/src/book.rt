@@ -37,7 +37,7 @@ pub struct Known {
 }
 
 /// The step that is under way.
-#[derive(Clone, Copy, Debug)]
+#[derive(Clone, Copy)]
 struct Step {
     entry: usize,
     at: ModuleId,

@@ -17,7 +17,7 @@ use std::collections::BTreeMap;
 pub(crate) const TOLD: usize = 8;
 
 /// Where a connection begins and ends: the places of the modules, and the instances O→T and T→O.
-#[derive(Clone, Copy, Debug, PartialEq, Eq, PartialOrd, Ord)]
+#[derive(Clone, Copy, PartialEq, Eq, PartialOrd, Ord)]
 struct Ends {
     first: usize,
     last: usize,
@@ -26,7 +26,7 @@ struct Ends {
 }
 
 /// A connection of an op: its triad, and where it begins and ends.
-#[derive(Clone, Copy, Debug)]
+#[derive(Clone, Copy)]
 struct Opened {
     triad: Triad,
     ends: Ends,

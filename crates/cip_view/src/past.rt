@@ -10,7 +10,7 @@ use std::alloc::Global;
 const KEPT: usize = 16_384;
 
 /// An entry that was read.
-#[derive(Clone, Copy, Debug)]
+#[derive(Clone, Copy)]
 pub(crate) struct Taken {
     pub entry: usize,
     /// The module that took a step; None of a loss.

@@ -122,7 +122,7 @@ impl From<NoMemory> for WideFault {
 }
 
 /// Why a line gave nothing.
-#[derive(Debug, Drop)]
+#[derive(Drop)]
 pub(crate) enum LineError {
     Fault(LineFault),
     NoMemory,

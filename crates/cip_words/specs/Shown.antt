@@ -1,5 +1,5 @@
 -- Words, numbers and bytes as a transcript shows them.
-use Rattle.std.specs.Prelude.{ℕ, Bool, List, [], length, nat_lt, ◌==◌, ◌&&◌, if◌then◌else◌}
+use Rattle.std.specs.Prelude.{ℕ, Bool, List, [], ◌∷◌, length, nat_lt, ◌==◌, ◌&&◌, if◌then◌else◌}
 use Rattle.std.specs.Prelude.{slice_index, ◌≡◌, ◌<◌, false}
 use Rattle.std.specs.Prelude.{Option, Some, None, option_and_then, codes, Result, Ok, Err}
 use Rattle.std.specs.Char.{is_ascii_digit}
@@ -27,6 +27,15 @@ HasNoNewline text count = (k : ℕ) → k < count → is_newline (slice_index te
 -- the parts of a line between its spaces
 abbrev pub words_of : List ℕ → List (List ℕ)
 words_of line = slice_split is_space line
+
+-- the two parts, where there are two
+abbrev pub two_of : List (List ℕ) → Option (List ℕ × List ℕ)
+two_of (first ∷ last ∷ []) = Some (first, last)
+two_of parts = None
+
+-- the two parts of a word around its only dot
+abbrev pub halves_of : List ℕ → Option (List ℕ × List ℕ)
+halves_of word = two_of (slice_split is_dot word)
 
 -- the number that decimal digits write, at least one of them
 unfoldable pub number_of : List ℕ → Option ℕ

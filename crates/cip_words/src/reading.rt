@@ -1,10 +1,10 @@
 //! Words, numbers and bytes as they stand in a line.
-ghost use Rattle.std.specs.Prelude.{◌≡◌, ◌^◌, ◌↔◌, map, IfOk, IfSome, IsSome, option_map};
-ghost use Rattle.std.specs.Prelude.{Some, None, true, false, ◌<◌, length, slice_index, IfNone};
+ghost use Rattle.std.specs.Prelude.{◌≡◌, ◌^◌, ◌↔◌, [], map, IfOk, IfSome, IsSome, option_map};
+ghost use Rattle.std.specs.Prelude.{Some, None, true, false, MatchOption};
 ghost use Rattle.std.specs.Str.{IsAscii};
 ghost use Rattle.std.specs.List.{list_all, slice_split};
 ghost use Rattle.std.specs.Char.{is_ascii_digit};
-ghost use Rattle.cip_words.specs.Shown.{words_of, is_dot, is_newline, HasNoNewline};
+ghost use Rattle.cip_words.specs.Shown.{words_of, is_dot, halves_of};
 ghost use Rattle.cip_words.specs.Shown.{number_of, below, bytes_of};
 
 use hex::FromHexError;
@@ -21,21 +21,6 @@ pub fn ascii(line: &[u8]) -> Option<&str>
     None
 }
 
-/// Where the first line of a text ends: the place of its first newline.
-pub fn line_end(text: &[u8]) -> Option<usize>
-    ensures within { IfSome result (λ end. end < length text.now) }
-    ensures newline { IfSome result (λ end. is_newline (slice_index text.now end) ≡ true) }
-    ensures first { IfSome result (λ end. HasNoNewline text.now end) }
-    ensures none { IfNone result (HasNoNewline text.now (length text.now)) }
-{
-    for (i, byte) in text.iter().enumerate() {
-        if *byte == b'\n' {
-            return Some(i);
-        }
-    }
-    None
-}
-
 /// The words of a line: what stands between its spaces, empty words too.
 pub fn words(alloc: Global, line: &str) -> Result<Vec<&str>, AllocError>
     ensures { IfOk result (λ v. map (λ word. word.now) v.items ≡ words_of line.now) }
@@ -43,11 +28,57 @@ pub fn words(alloc: Global, line: &str) -> Result<Vec<&str>, AllocError>
     line.split(' ').collect(alloc)
 }
 
+// The most words of a line that shows a part of an entry, and one more.
+const ROOM: usize = 10;
+
+// Room for the words of a line. Where it is refused, each word asks for its own.
+fn room<'a>(alloc: Global) -> Vec<&'a str>
+    ensures { result.items ≡ [] }
+{
+    match Vec::with_capacity(alloc, ROOM) {
+        Ok(parts) => parts,
+        Err(_) => Vec::new(alloc),
+    }
+}
+
+/// The words of a line that is ASCII, as `words` gives them, found byte by byte. AllocError where
+/// an allocation is refused.
+pub fn ascii_words(alloc: Global, line: &str) -> Result<Vec<&str>, AllocError>
+    requires { IsAscii line.now }
+    ensures { IfOk result (λ v. map (λ word. word.now) v.items ≡ words_of line.now) }
+{
+    let mut parts = room(alloc);
+    let mut start = 0;
+    'bytes: for i in 0..line.len() {
+        if line.as_bytes()[i] != b' ' {
+            continue;
+        }
+        parts.push(&line[start..i])?;
+        start = i + 1;
+    }
+    parts.push(&line[start..])?;
+    Ok(parts)
+}
+
 /// The parts of a word between its dots.
 pub fn dotted(alloc: Global, word: &str) -> Result<Vec<&str>, AllocError>
     ensures { IfOk result (λ v. map (λ part. part.now) v.items ≡ slice_split is_dot word.now) }
 {
     word.split('.').collect(alloc)
+}
+
+/// The two parts of a word around its only dot.
+pub fn halves(word: &str) -> Option<(&str, &str)>
+    ensures { MatchOption result (halves_of word.now ≡ None)
+        (λ parts. halves_of word.now ≡ Some (parts.0.now, parts.1.now)) }
+{
+    let Some((first, rest)) = word.split_once('.') else {
+        return None;
+    };
+    match rest.split_once('.') {
+        Some(_) => None,
+        None => Some((first, rest)),
+    }
 }
 
 // Whether each byte is a decimal digit.

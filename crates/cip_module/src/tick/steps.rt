@@ -13,7 +13,7 @@ use cip_base::Ms;
 use cip_event::Output;
 
 /// Why a tick does not happen.
-#[derive(Clone, Copy, Debug, PartialEq, Eq)]
+#[derive(Clone, Copy, PartialEq, Eq)]
 pub(crate) enum TickFault {
     OutOfMemory,
     Full,

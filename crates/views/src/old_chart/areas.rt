@@ -5,7 +5,7 @@ use cip_base::NoMemory;
 use std::alloc::Global;
 
 /// Where a text stands.
-#[derive(Clone, Copy, Debug)]
+#[derive(Clone, Copy)]
 pub(crate) struct Area {
     pub left: u64,
     pub top: u64,
@@ -14,7 +14,7 @@ pub(crate) struct Area {
 }
 
 /// By which of its points a text is placed.
-#[derive(Clone, Copy, Debug, PartialEq, Eq)]
+#[derive(Clone, Copy, PartialEq, Eq)]
 pub(crate) enum Anchor {
     Start,
     Middle,
@@ -22,7 +22,7 @@ pub(crate) enum Anchor {
 }
 
 /// The place of a text: a point on its base line.
-#[derive(Clone, Copy, Debug)]
+#[derive(Clone, Copy)]
 pub(crate) struct Spot {
     pub x: u64,
     pub y: u64,
@@ -70,7 +70,7 @@ impl Area {
 }
 
 /// What takes a part of a chart.
-#[derive(Clone, Copy, Debug)]
+#[derive(Clone, Copy)]
 enum Thing {
     Text(Area),
     Line(Line),

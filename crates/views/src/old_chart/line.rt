@@ -4,7 +4,7 @@ use crate::old_chart::layout::{Heights, ROW, x_of};
 use crate::old_chart::model::{Arrow, Fate};
 
 /// Where the line of a frame begins and ends.
-#[derive(Clone, Copy, Debug)]
+#[derive(Clone, Copy)]
 pub(crate) struct Line {
     pub x1: u64,
     pub y1: u64,

@@ -3,7 +3,7 @@ use cip_read::{FrameName, Given};
 use cip_view::Label;
 
 /// How the row of cyclic data looks, but for its bytes: rows of one look may be folded.
-#[derive(Clone, Copy, Debug, PartialEq, Eq)]
+#[derive(Clone, Copy, PartialEq, Eq)]
 pub(crate) struct Look {
     pub column: usize,
     /// 0 for a command, 1 for a frame.
@@ -17,7 +17,7 @@ pub(crate) struct Look {
 }
 
 /// An entry.
-#[derive(Clone, Copy, Debug)]
+#[derive(Clone, Copy)]
 pub(crate) struct Row {
     pub entry: usize,
     /// None where a frame was lost.
@@ -37,7 +37,7 @@ pub(crate) struct Row {
 }
 
 /// How a frame ended.
-#[derive(Clone, Copy, Debug, PartialEq, Eq)]
+#[derive(Clone, Copy, PartialEq, Eq)]
 pub(crate) enum Fate {
     /// It is on its way.
     Waits,

@@ -1,6 +1,0 @@
-use Rattle.std.proofs.Common.{append_assoc}
-use Rattle.cip_transcript.proofs.Digits.{four_pairs}
-use Rattle.cip_transcript.proofs.line.four.Goals as goal
-
-pub returns-clause-text : goal.returns-clause-text
-returns-clause-text c = rw (← four_pairs c.args.number c.requires.0, ← append_assoc, ← c.pair-last.ensures.text) c.pair.ensures.text

@@ -1,6 +1,0 @@
--- no newline stands in front
-use Rattle.cip_words.specs.Shown.{HasNoNewline}
-use Rattle.cip_words.proofs.reading.line_end.Given as goal
-
-abbrev pub invariant-loop-i : goal.invariant-loop-i
-invariant-loop-i l = HasNoNewline l.text l.i
