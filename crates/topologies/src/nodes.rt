@@ -41,12 +41,10 @@ const NODES: &[(usize, u16, u8, Option<usize>)] = &[
     (4, 2, 0x01, None),
 ];
 
-#[test]
-fn addresses_lead_to_modules(rt: HostRuntime) -> Result<(), Fail> {
-    let topology = chassis(rt.alloc())?;
+fn addresses_lead_to_modules(rt: &HostRuntime, topology: &Topology) -> Result<(), Fail> {
     for (from, port, address, want) in NODES {
-        let given = node(&topology, *from, *port, *address);
-        assert_eq!(&rt; given, *want, "from {from} by port {port} to {address}");
+        let given = node(topology, *from, *port, *address);
+        assert_eq!(rt; given, *want, "from {from} by port {port} to {address}");
     }
     Ok(())
 }
@@ -70,17 +68,18 @@ fn there_and_back(
     Some((there.at.0, there.port.get(), is_back))
 }
 
-#[test]
-fn the_way_there_and_the_way_back(rt: HostRuntime) -> Result<(), Fail> {
-    let topology = chassis(rt.alloc())?;
-    let there = there_and_back(&topology, 0, 2, 0x05);
-    assert_eq!(&rt; there, Some((1, 2, true)));
-    let there = there_and_back(&topology, 2, 1, 0x00);
-    assert_eq!(&rt; there, Some((1, 1, true)));
-    let there = there_and_back(&topology, 2, 2, 0x07);
-    assert_eq!(&rt; there, Some((3, 2, true)));
-    let there = there_and_back(&topology, 0, 2, 0x09);
-    assert_eq!(&rt; there, None);
+const WAYS: [(usize, u16, u8, Option<(usize, u16, bool)>); 4] = [
+    (0, 2, 0x05, Some((1, 2, true))),
+    (2, 1, 0x00, Some((1, 1, true))),
+    (2, 2, 0x07, Some((3, 2, true))),
+    (0, 2, 0x09, None),
+];
+
+fn the_way_there_and_the_way_back(rt: &HostRuntime, topology: &Topology) -> Result<(), Fail> {
+    for (from, port, address, want) in &WAYS {
+        let given = there_and_back(topology, *from, *port, *address);
+        assert_eq!(rt; given, *want, "from {from} by port {port} to {address}");
+    }
     Ok(())
 }
 
@@ -93,16 +92,14 @@ fn is_named(topology: &Topology, place: usize, name: &str) -> bool {
     }
 }
 
-#[test]
-fn modules_by_name(rt: HostRuntime) -> Result<(), Fail> {
-    let topology = chassis(rt.alloc())?;
+fn modules_by_name(rt: &HostRuntime, topology: &Topology) -> Result<(), Fail> {
     for (place, name) in NAMES.iter().enumerate() {
         let found = topology.by_name(name.as_bytes());
-        assert_eq!(&rt; found, Some(ModuleId(place)), "{name}");
-        assert!(&rt; is_named(&topology, place, name), "{name}");
+        assert_eq!(rt; found, Some(ModuleId(place)), "{name}");
+        assert!(rt; is_named(topology, place, name), "{name}");
     }
-    assert!(&rt; topology.by_name(b"s").is_none());
-    assert!(&rt; topology.name_of(ModuleId(4)).is_none());
+    assert!(rt; topology.by_name(b"s").is_none());
+    assert!(rt; topology.name_of(ModuleId(4)).is_none());
     Ok(())
 }
 
@@ -118,27 +115,48 @@ fn is_link(topology: &Topology, place: usize, name: &str, last: u8) -> bool {
     }
 }
 
-#[test]
-fn links_in_the_order_of_the_file(rt: HostRuntime) -> Result<(), Fail> {
-    let topology = chassis(rt.alloc())?;
-    assert_eq!(&rt; topology.links().len(), 3);
+fn links_in_the_order_of_the_file(rt: &HostRuntime, topology: &Topology) -> Result<(), Fail> {
+    assert_eq!(rt; topology.links().len(), 3);
     for (place, (name, last)) in LINKS.iter().enumerate() {
-        assert!(&rt; is_link(&topology, place, name, *last), "{name}");
+        assert!(rt; is_link(topology, place, name, *last), "{name}");
     }
     Ok(())
 }
 
-#[test]
-fn the_adapter_as_the_file_says_it(rt: HostRuntime) -> Result<(), Fail> {
-    let topology = chassis(rt.alloc())?;
-    assert_eq!(&rt; topology.configs().len(), 4);
-    let settings = topology.configs()[3].settings();
-    assert_eq!(&rt; settings.kind, ModuleKind::Adapter);
-    assert_eq!(&rt; settings.first_id, 0x41);
-    assert_eq!(&rt; settings.first_number, 1);
-    assert_eq!(&rt; settings.clock, 0);
-    assert_eq!(&rt; settings.pending_room, 256);
-    assert_eq!(&rt; settings.hop_room, 256);
-    assert_eq!(&rt; settings.ports.as_slice().len(), 1);
+type Said = (ModuleKind, u32, u32, u64, usize, usize, usize);
+
+// A module's kind, first id, first number and clock, the room of its tables, how many ports it has.
+fn said_of(topology: &Topology, place: usize) -> Option<Said> {
+    let settings = topology.configs().get(place)?.settings();
+    Some((
+        settings.kind,
+        settings.first_id,
+        settings.first_number,
+        settings.clock,
+        settings.pending_room,
+        settings.hop_room,
+        settings.ports.as_slice().len(),
+    ))
+}
+
+fn the_adapter_as_the_file_says_it(rt: &HostRuntime, topology: &Topology) -> Result<(), Fail> {
+    assert_eq!(rt; topology.configs().len(), 4);
+    let said = Some((ModuleKind::Adapter, 0x41, 1, 0, 256, 256, 1));
+    assert_eq!(rt; said_of(topology, 3), said);
     Ok(())
+}
+
+// What is said of a topology that is lent: so it is dropped at one place.
+fn play_chassis(rt: &HostRuntime, topology: &Topology) -> Result<(), Fail> {
+    addresses_lead_to_modules(rt, topology)?;
+    the_way_there_and_the_way_back(rt, topology)?;
+    modules_by_name(rt, topology)?;
+    links_in_the_order_of_the_file(rt, topology)?;
+    the_adapter_as_the_file_says_it(rt, topology)
+}
+
+#[test]
+fn the_chassis_as_it_is_loaded(rt: HostRuntime) -> Result<(), Fail> {
+    let topology = chassis(rt.alloc())?;
+    play_chassis(&rt, &topology)
 }
