@@ -3,6 +3,7 @@ use cip_base::{Address, ModuleId, PortNumber};
 use cip_module::{LegalAddresses, ModuleKind};
 use cip_topology::{CHASSIS, Topology, load};
 use std::alloc::Global;
+use std::process::Abort;
 use std::test::Fail;
 
 fn chassis(alloc: Global) -> Result<Topology, Fail> {
@@ -41,7 +42,7 @@ const NODES: &[(usize, u16, u8, Option<usize>)] = &[
     (4, 2, 0x01, None),
 ];
 
-fn addresses_lead_to_modules(rt: &HostRuntime, topology: &Topology) -> Result<(), Fail> {
+fn addresses_lead_to_modules(rt: &impl Abort, topology: &Topology) -> Result<(), Fail> {
     for (from, port, address, want) in NODES {
         let given = node(topology, *from, *port, *address);
         assert_eq!(rt; given, *want, "from {from} by port {port} to {address}");
@@ -75,7 +76,7 @@ const WAYS: [(usize, u16, u8, Option<(usize, u16, bool)>); 4] = [
     (0, 2, 0x09, None),
 ];
 
-fn the_way_there_and_the_way_back(rt: &HostRuntime, topology: &Topology) -> Result<(), Fail> {
+fn the_way_there_and_the_way_back(rt: &impl Abort, topology: &Topology) -> Result<(), Fail> {
     for (from, port, address, want) in &WAYS {
         let given = there_and_back(topology, *from, *port, *address);
         assert_eq!(rt; given, *want, "from {from} by port {port} to {address}");
@@ -92,7 +93,7 @@ fn is_named(topology: &Topology, place: usize, name: &str) -> bool {
     }
 }
 
-fn modules_by_name(rt: &HostRuntime, topology: &Topology) -> Result<(), Fail> {
+fn modules_by_name(rt: &impl Abort, topology: &Topology) -> Result<(), Fail> {
     for (place, name) in NAMES.iter().enumerate() {
         let found = topology.by_name(name.as_bytes());
         assert_eq!(rt; found, Some(ModuleId(place)), "{name}");
@@ -115,7 +116,7 @@ fn is_link(topology: &Topology, place: usize, name: &str, last: u8) -> bool {
     }
 }
 
-fn links_in_the_order_of_the_file(rt: &HostRuntime, topology: &Topology) -> Result<(), Fail> {
+fn links_in_the_order_of_the_file(rt: &impl Abort, topology: &Topology) -> Result<(), Fail> {
     assert_eq!(rt; topology.links().len(), 3);
     for (place, (name, last)) in LINKS.iter().enumerate() {
         assert!(rt; is_link(topology, place, name, *last), "{name}");
@@ -139,7 +140,7 @@ fn said_of(topology: &Topology, place: usize) -> Option<Said> {
     ))
 }
 
-fn the_adapter_as_the_file_says_it(rt: &HostRuntime, topology: &Topology) -> Result<(), Fail> {
+fn the_adapter_as_the_file_says_it(rt: &impl Abort, topology: &Topology) -> Result<(), Fail> {
     assert_eq!(rt; topology.configs().len(), 4);
     let said = Some((ModuleKind::Adapter, 0x41, 1, 0, 256, 256, 1));
     assert_eq!(rt; said_of(topology, 3), said);
@@ -147,7 +148,7 @@ fn the_adapter_as_the_file_says_it(rt: &HostRuntime, topology: &Topology) -> Res
 }
 
 // What is said of a topology that is lent: so it is dropped at one place.
-fn play_chassis(rt: &HostRuntime, topology: &Topology) -> Result<(), Fail> {
+fn play_chassis(rt: &impl Abort, topology: &Topology) -> Result<(), Fail> {
     addresses_lead_to_modules(rt, topology)?;
     the_way_there_and_the_way_back(rt, topology)?;
     modules_by_name(rt, topology)?;
