@@ -214,7 +214,10 @@ const WRITTEN: [Written; 10] = [
 #[test]
 fn whole_transcripts(rt: HostRuntime) -> Result<(), Fail> {
     for (place, (script, whole)) in WRITTEN.iter().enumerate() {
-        assert!(rt; is_written(rt.alloc(), script, whole, PLAIN), "script {place}");
+        assert!(rt;
+            is_written(rt.alloc(), script, whole, PLAIN),
+            "script {place}"
+        );
     }
     Ok(())
 }
