@@ -274,12 +274,10 @@ fn play_connections(rt: &HostRuntime, room: usize, first: u32, rows: &str) -> Re
     play(alloc, Connections { alloc, table }, rows)
 }
 
-/// The room of a table, its first number, and rows.
-type Case = (usize, u32, &'static str);
-
-const CASES: [Case; 6] = [
-    // Ids end and never come back.
-    (
+#[test]
+fn ids_end_and_never_come_back(rt: HostRuntime) -> Result<(), Fail> {
+    play_connections(
+        &rt,
         2,
         0xFFFF_FFFD,
         "
@@ -296,11 +294,14 @@ const CASES: [Case; 6] = [
         begin 3 end = IdsSpent
         last = 4294967295
         ",
-    ),
-    // A reset begins the next incarnation.
-    // Counts end at 65,535, and go on only in the next incarnation: then no triad, id or op is
-    // left.
-    (
+    )
+}
+
+// Counts end at 65,535, and go on only in the next incarnation: then no triad, id or op is left.
+#[test]
+fn a_reset_begins_the_next_incarnation(rt: HostRuntime) -> Result<(), Fail> {
+    play_connections(
+        &rt,
         2,
         0xFFFD,
         "
@@ -325,9 +326,13 @@ const CASES: [Case; 6] = [
         last = 131072
         begin 3 end = none 131073
         ",
-    ),
-    // No reset follows the last incarnation.
-    (
+    )
+}
+
+#[test]
+fn no_reset_follows_the_last_incarnation(rt: HostRuntime) -> Result<(), Fail> {
+    play_connections(
+        &rt,
         1,
         0xFFFF_0001,
         "
@@ -336,9 +341,13 @@ const CASES: [Case; 6] = [
         last = 4294901762
         abandon 1 = true
         ",
-    ),
-    // Hops by their names.
-    (
+    )
+}
+
+#[test]
+fn hops_by_their_names(rt: HostRuntime) -> Result<(), Fail> {
+    play_connections(
+        &rt,
         3,
         0x31,
         "
@@ -368,45 +377,7 @@ const CASES: [Case; 6] = [
         least = 1
         by_up 0x32 2 01 = none
         ",
-    ),
-    // Hops that fall silent.
-    (
-        2,
-        1,
-        "
-        # 40 ms by the O to T side, 80 ms by the T to O side, from 1 ms on.
-        begin 1 through = 1 2
-        finish 1 = true
-        expire 40999 = none
-        touch 1 40999 = true
-        expire 80998 = none
-        touch 1 80998 = true
-        expire 80999 = none
-        expire 81000 = 1
-        expire 81000 = none
-        ",
-    ),
-    // Counts of an end.
-    (
-        2,
-        1,
-        "
-        begin 1 end = none 1
-        finish 1 = true
-        begin 2 through = 2 3
-        finish 2 = true
-        count 1 7 = 7
-        count 2 7 = none
-        ",
-    ),
-];
-
-#[test]
-fn tables_of_connections(rt: HostRuntime) -> Result<(), Fail> {
-    for (room, first, rows) in &CASES {
-        play_connections(&rt, *room, *first, rows)?;
-    }
-    Ok(())
+    )
 }
 
 #[test]
@@ -423,6 +394,44 @@ fn hops_of_commands(rt: HostRuntime) -> Result<(), Fail> {
         by_op 5 = 9
         by_op 6 = none
         last = 1
+        ",
+    )
+}
+
+#[test]
+fn hops_that_fall_silent(rt: HostRuntime) -> Result<(), Fail> {
+    play_connections(
+        &rt,
+        2,
+        1,
+        "
+        # 40 ms by the O to T side, 80 ms by the T to O side, from 1 ms on.
+        begin 1 through = 1 2
+        finish 1 = true
+        expire 40999 = none
+        touch 1 40999 = true
+        expire 80998 = none
+        touch 1 80998 = true
+        expire 80999 = none
+        expire 81000 = 1
+        expire 81000 = none
+        ",
+    )
+}
+
+#[test]
+fn counts_of_an_end(rt: HostRuntime) -> Result<(), Fail> {
+    play_connections(
+        &rt,
+        2,
+        1,
+        "
+        begin 1 end = none 1
+        finish 1 = true
+        begin 2 through = 2 3
+        finish 2 = true
+        count 1 7 = 7
+        count 2 7 = none
         ",
     )
 }

@@ -30,135 +30,177 @@ fn play_ends(rt: &HostRuntime, rows: &str) -> Result<(), Fail> {
     play_target(alloc, Target::new(alloc, identity, &ASSEMBLIES)?, rows)
 }
 
-/// Rows, each of these played over a part that is made anew.
-const CASES: [&str; 9] = [
-    // Points in any mixture and width.
-    "
-    status 0x4806 0x4804 1 2004_2464_2C65_2C66 = fits
-    status 0x4806 0x4804 1 2004_2464_2465_2466 = fits
-    status 0x4806 0x4804 1 2004_2464_2465_2C66 = fits
-    status 0x4806 0x4804 1 2004_2464_2C65_2466 = fits
-    status 0x4806 0x4804 1 2004_2C64_2465_2466 = fits
-    status 0x4806 0x4804 1 2004_2C64_2465_2C66 = fits
-    status 0x4806 0x4804 1 2004_2C64_2C65_2466 = fits
-    status 0x4806 0x4804 1 2004_2C64_2C65_2C66 = fits
-    status 0x4806 0x4804 1 21000400_25006400_2D006500_2E0066000000 = fits
-    status 0x4806 0x4804 1 2004_260064000000_2C65_2C66 = fits
-    ",
-    // Other paths.
-    "
-    status 0x4806 0x4804 1 - = 0x0315
-    status 0x4806 0x4804 1 2005_2464_2C65_2C66 = 0x0315
-    status 0x4806 0x4804 1 2464_2C65_2C66 = 0x0315
-    status 0x4806 0x4804 1 2004_2464_2C65 = 0x0315
-    status 0x4806 0x4804 1 2004_3064_2C65_2C66 = 0x0315
-    status 0x4806 0x4804 1 2004_2464_2C65_2C66_2C66 = 0x0315
-    status 0x4806 0x4804 1 2004_2464_2C65_2C66_8000_8000 = 0x0315
-    status 0x4806 0x4804 1 0205_2004_2464_2C65_2C66 = 0x0315
-    ",
-    // Inhibits and keys.
-    "
-    status 0x4806 0x4804 1 4305_2004_2464_2C65_2C66 = fits
-    status 0x4806 0x4804 1 2004_4305_2464_2C65_2C66 = fits
-    status 0x4806 0x4804 1 2004_2464_4305_2C65_2C66 = fits
-    status 0x4806 0x4804 1 2004_2464_2C65_4305_2C66 = fits
-    status 0x4806 0x4804 1 2004_2464_2C65_2C66_4305_4300 = fits
-    status 0x4806 0x4804 1 2004_2464_2C65_2C66_4305_8000_4305 = fits
-    status 0x4806 0x4804 1 3404_0000_0000_0000_00_00_2004_2464_2C65_2C66 = fits
-    status 0x4806 0x4804 1 3404_0000_0000_0000_00_00_4305_2004_2464_2C65_2C66 = fits
-    status 0x4806 0x4804 1 4305_3404_0000_0000_0000_00_00_2004_2464_2C65_2C66 = 0x0315
-    status 0x4806 0x4804 1 3404_0000_0000_0000_00_00_3404_0000_0000_0000_00_00_2004_2464_2C65_\
-        2C66 = 0x0315
-    ",
-    // Configuration bytes.
-    "
-    status 0x4806 0x4804 1 2004_2464_2465_2466_8000 = fits
-    status 0x4806 0x4804 1 2004_2464_2465_2466_80010000 = 0x0117
-    status 0x4806 0x4804 1 2004_2466_2465_2466_80010708 = fits
-    status 0x4806 0x4804 1 2004_2466_2465_2466 = 0x0117
-    status 0x4806 0x4804 1 2004_2466_2465_2466_800207080000 = 0x0117
-    status 0x4806 0x4804 1 2004_2467_2465_2466_800207080900 = fits
-    status 0x4806 0x4804 1 2004_2467_2465_2466_800207080901 = 0x0117
-    status 0x4806 0x4804 1 2004_2467_2465_2466_80010708 = 0x0117
-    status 0x4806 0x4804 1 2004_2467_2465_2466 = 0x0117
-    status 0x4806 0x4804 1 2004_2467_2465_2466_8003070809000000 = 0x0117
-    ",
-    // The first of two rows.
-    "
-    open 0x4806 0x4804 1 2004_2464_2C65_2C66 = fits
-    # Of class 3: another path, no configuration, output or input of that instance, no
-    # configuration bytes, and what fits else.
-    status 0x4806 0x4804 3 2005_2401 = 0x0315
-    status 0x4806 0x4804 3 2004_2401_2465_2466 = 0x0117
-    status 0x4806 0x4804 3 2004_2464_2401_2466 = 0x0117
-    status 0x4806 0x4804 3 2004_2464_2465_2401 = 0x0117
-    status 0x4806 0x4804 3 2004_2467_2465_2466 = 0x0117
-    status 0x4807 0x4804 3 2004_2464_2C65_2C66 = 0x0103
-    status 0x4806 0x4804 3 2004_2464_2C65_2C66 = 0x0103
-    # Of class 1: of another size, and what fits but for its owner.
-    status 0x4806 0x4805 1 2004_2464_2C65_2C66 = 0x0109
-    status 0x4806 0x4804 1 2004_2464_2C65_2C66 = 0x0106
-    ",
-    // Sizes of both classes.
-    "
-    status 0x4806 0x4804 0x01 2004_2464_2C65_2C66 = fits
-    status 0x4804 0x4804 0x01 2004_2464_2C65_2C66 = 0x0109
-    status 0x4806 0x4802 0x01 2004_2464_2C65_2C66 = 0x0109
-    status 0x4804 0x4802 0xA0 2004_2464_2C65_2C66 = fits
-    status 0x4806 0x4804 0x00 2004_2464_2C65_2C66 = 0x0109
-    status 0x4806 0x4804 0x02 2004_2464_2C65_2C66 = 0x0103
-    status 0x4806 0x4804 0x0F 2004_2464_2C65_2C66 = 0x0103
-    ",
-    // An output is owned until it is released.
-    "
-    open 0x4806 0x4804 1 2004_2467_2C65_2C66_8002AABBCC00 = fits
-    produce 103 = AABBCC
-    produce 101 = 00000000
-    status 0x4806 0x4804 1 2004_2464_2C65_2C66 = 0x0106
-    consume 101 01020304 = true
-    produce 101 = 01020304
-    produce 102 = 0000
-    release 102 = true
-    status 0x4806 0x4804 1 2004_2464_2C65_2C66 = 0x0106
-    release 101 = true
-    status 0x4806 0x4804 1 2004_2464_2C65_2C66 = fits
-    ",
-    // A reset makes a target anew.
-    "
-    open 0x4806 0x4804 1 2004_2467_2C65_2C66_8002AABBCC00 = fits
-    consume 101 01020304 = true
-    answer 10_03_2004_2466_3003_0506 = 90_00_00_00
-    reset = done
-    least = 100 -
-    after 100 = 101 00000000
-    after 101 = 102 0000
-    after 102 = 103 000000
-    after 103 = none
-    answer 0E_03_2004_2465_3003 = 8E_00_00_00_00000000
-    answer 0E_03_2004_2466_3003 = 8E_00_00_00_0000
-    answer 01_02_2001_2401 = 81_00_00_00_01010C000200010300000B0B0000024252
-    status 0x4806 0x4804 1 2004_2464_2C65_2C66 = fits
-    # It serves as before, and can be reset again.
-    open 0x4806 0x4804 1 2004_2464_2C65_2C66 = fits
-    status 0x4806 0x4804 1 2004_2464_2C65_2C66 = 0x0106
-    consume 101 05060708 = true
-    produce 101 = 05060708
-    reset = done
-    produce 101 = 00000000
-    status 0x4806 0x4804 1 2004_2464_2C65_2C66 = fits
-    ",
-    // An output of no bytes has no owner.
-    "
-    open 0x4802 0x4804 1 2004_2464_2C64_2C66 = fits
-    open 0x4802 0x4804 1 2004_2464_2C64_2C66 = fits
-    status 0x4802 0x4804 1 2004_2464_2C64_2C66 = fits
-    ",
-];
+#[test]
+fn points_in_any_mixture_and_width(rt: HostRuntime) -> Result<(), Fail> {
+    play_ends(
+        &rt,
+        "
+        status 0x4806 0x4804 1 2004_2464_2C65_2C66 = fits
+        status 0x4806 0x4804 1 2004_2464_2465_2466 = fits
+        status 0x4806 0x4804 1 2004_2464_2465_2C66 = fits
+        status 0x4806 0x4804 1 2004_2464_2C65_2466 = fits
+        status 0x4806 0x4804 1 2004_2C64_2465_2466 = fits
+        status 0x4806 0x4804 1 2004_2C64_2465_2C66 = fits
+        status 0x4806 0x4804 1 2004_2C64_2C65_2466 = fits
+        status 0x4806 0x4804 1 2004_2C64_2C65_2C66 = fits
+        status 0x4806 0x4804 1 21000400_25006400_2D006500_2E0066000000 = fits
+        status 0x4806 0x4804 1 2004_260064000000_2C65_2C66 = fits
+        ",
+    )
+}
 
 #[test]
-fn ends_of_connections(rt: HostRuntime) -> Result<(), Fail> {
-    for rows in &CASES {
-        play_ends(&rt, rows)?;
-    }
-    Ok(())
+fn other_paths(rt: HostRuntime) -> Result<(), Fail> {
+    play_ends(
+        &rt,
+        "
+        status 0x4806 0x4804 1 - = 0x0315
+        status 0x4806 0x4804 1 2005_2464_2C65_2C66 = 0x0315
+        status 0x4806 0x4804 1 2464_2C65_2C66 = 0x0315
+        status 0x4806 0x4804 1 2004_2464_2C65 = 0x0315
+        status 0x4806 0x4804 1 2004_3064_2C65_2C66 = 0x0315
+        status 0x4806 0x4804 1 2004_2464_2C65_2C66_2C66 = 0x0315
+        status 0x4806 0x4804 1 2004_2464_2C65_2C66_8000_8000 = 0x0315
+        status 0x4806 0x4804 1 0205_2004_2464_2C65_2C66 = 0x0315
+        ",
+    )
+}
+
+#[test]
+fn inhibits_and_keys(rt: HostRuntime) -> Result<(), Fail> {
+    play_ends(
+        &rt,
+        "
+        status 0x4806 0x4804 1 4305_2004_2464_2C65_2C66 = fits
+        status 0x4806 0x4804 1 2004_4305_2464_2C65_2C66 = fits
+        status 0x4806 0x4804 1 2004_2464_4305_2C65_2C66 = fits
+        status 0x4806 0x4804 1 2004_2464_2C65_4305_2C66 = fits
+        status 0x4806 0x4804 1 2004_2464_2C65_2C66_4305_4300 = fits
+        status 0x4806 0x4804 1 2004_2464_2C65_2C66_4305_8000_4305 = fits
+        status 0x4806 0x4804 1 3404_0000_0000_0000_00_00_2004_2464_2C65_2C66 = fits
+        status 0x4806 0x4804 1 3404_0000_0000_0000_00_00_4305_2004_2464_2C65_2C66 = fits
+        status 0x4806 0x4804 1 4305_3404_0000_0000_0000_00_00_2004_2464_2C65_2C66 = 0x0315
+        status 0x4806 0x4804 1 3404_0000_0000_0000_00_00_3404_0000_0000_0000_00_00_2004_2464_2C65_\
+            2C66 = 0x0315
+        ",
+    )
+}
+
+#[test]
+fn configuration_bytes(rt: HostRuntime) -> Result<(), Fail> {
+    play_ends(
+        &rt,
+        "
+        status 0x4806 0x4804 1 2004_2464_2465_2466_8000 = fits
+        status 0x4806 0x4804 1 2004_2464_2465_2466_80010000 = 0x0117
+        status 0x4806 0x4804 1 2004_2466_2465_2466_80010708 = fits
+        status 0x4806 0x4804 1 2004_2466_2465_2466 = 0x0117
+        status 0x4806 0x4804 1 2004_2466_2465_2466_800207080000 = 0x0117
+        status 0x4806 0x4804 1 2004_2467_2465_2466_800207080900 = fits
+        status 0x4806 0x4804 1 2004_2467_2465_2466_800207080901 = 0x0117
+        status 0x4806 0x4804 1 2004_2467_2465_2466_80010708 = 0x0117
+        status 0x4806 0x4804 1 2004_2467_2465_2466 = 0x0117
+        status 0x4806 0x4804 1 2004_2467_2465_2466_8003070809000000 = 0x0117
+        ",
+    )
+}
+
+#[test]
+fn the_first_of_two_rows(rt: HostRuntime) -> Result<(), Fail> {
+    play_ends(
+        &rt,
+        "
+        open 0x4806 0x4804 1 2004_2464_2C65_2C66 = fits
+        # Of class 3: another path, no configuration, output or input of that instance, no
+        # configuration bytes, and what fits else.
+        status 0x4806 0x4804 3 2005_2401 = 0x0315
+        status 0x4806 0x4804 3 2004_2401_2465_2466 = 0x0117
+        status 0x4806 0x4804 3 2004_2464_2401_2466 = 0x0117
+        status 0x4806 0x4804 3 2004_2464_2465_2401 = 0x0117
+        status 0x4806 0x4804 3 2004_2467_2465_2466 = 0x0117
+        status 0x4807 0x4804 3 2004_2464_2C65_2C66 = 0x0103
+        status 0x4806 0x4804 3 2004_2464_2C65_2C66 = 0x0103
+        # Of class 1: of another size, and what fits but for its owner.
+        status 0x4806 0x4805 1 2004_2464_2C65_2C66 = 0x0109
+        status 0x4806 0x4804 1 2004_2464_2C65_2C66 = 0x0106
+        ",
+    )
+}
+
+#[test]
+fn sizes_of_both_classes(rt: HostRuntime) -> Result<(), Fail> {
+    play_ends(
+        &rt,
+        "
+        status 0x4806 0x4804 0x01 2004_2464_2C65_2C66 = fits
+        status 0x4804 0x4804 0x01 2004_2464_2C65_2C66 = 0x0109
+        status 0x4806 0x4802 0x01 2004_2464_2C65_2C66 = 0x0109
+        status 0x4804 0x4802 0xA0 2004_2464_2C65_2C66 = fits
+        status 0x4806 0x4804 0x00 2004_2464_2C65_2C66 = 0x0109
+        status 0x4806 0x4804 0x02 2004_2464_2C65_2C66 = 0x0103
+        status 0x4806 0x4804 0x0F 2004_2464_2C65_2C66 = 0x0103
+        ",
+    )
+}
+
+#[test]
+fn an_output_is_owned_until_it_is_released(rt: HostRuntime) -> Result<(), Fail> {
+    play_ends(
+        &rt,
+        "
+        open 0x4806 0x4804 1 2004_2467_2C65_2C66_8002AABBCC00 = fits
+        produce 103 = AABBCC
+        produce 101 = 00000000
+        status 0x4806 0x4804 1 2004_2464_2C65_2C66 = 0x0106
+        consume 101 01020304 = true
+        produce 101 = 01020304
+        produce 102 = 0000
+        release 102 = true
+        status 0x4806 0x4804 1 2004_2464_2C65_2C66 = 0x0106
+        release 101 = true
+        status 0x4806 0x4804 1 2004_2464_2C65_2C66 = fits
+        ",
+    )
+}
+
+#[test]
+fn a_reset_makes_a_target_anew(rt: HostRuntime) -> Result<(), Fail> {
+    play_ends(
+        &rt,
+        "
+        open 0x4806 0x4804 1 2004_2467_2C65_2C66_8002AABBCC00 = fits
+        consume 101 01020304 = true
+        answer 10_03_2004_2466_3003_0506 = 90_00_00_00
+        reset = done
+        least = 100 -
+        after 100 = 101 00000000
+        after 101 = 102 0000
+        after 102 = 103 000000
+        after 103 = none
+        answer 0E_03_2004_2465_3003 = 8E_00_00_00_00000000
+        answer 0E_03_2004_2466_3003 = 8E_00_00_00_0000
+        answer 01_02_2001_2401 = 81_00_00_00_01010C000200010300000B0B0000024252
+        status 0x4806 0x4804 1 2004_2464_2C65_2C66 = fits
+        # It serves as before, and can be reset again.
+        open 0x4806 0x4804 1 2004_2464_2C65_2C66 = fits
+        status 0x4806 0x4804 1 2004_2464_2C65_2C66 = 0x0106
+        consume 101 05060708 = true
+        produce 101 = 05060708
+        reset = done
+        produce 101 = 00000000
+        status 0x4806 0x4804 1 2004_2464_2C65_2C66 = fits
+        ",
+    )
+}
+
+#[test]
+fn an_output_of_no_bytes_has_no_owner(rt: HostRuntime) -> Result<(), Fail> {
+    play_ends(
+        &rt,
+        "
+        open 0x4802 0x4804 1 2004_2464_2C64_2C66 = fits
+        open 0x4802 0x4804 1 2004_2464_2C64_2C66 = fits
+        status 0x4802 0x4804 1 2004_2464_2C64_2C66 = fits
+        ",
+    )
 }

@@ -238,130 +238,82 @@ fn play_paths(rt: &HostRuntime, rows: &str) -> Result<(), Fail> {
     play(alloc, Paths { alloc }, rows)
 }
 
-/// Rows, each of these played over a part that is made anew.
-const CASES: [&str; 8] = [
-    // Each spelling of each form.
-    "
-    # A spelling, and the shortest one of the same segment.
-    spelled 0205 = 0205
-    spelled 0EFF = 0EFF
-    spelled 12010500 = 0205
-    spelled 12020506 = 12020506
-    spelled 120331323300 = 120331323300
-    spelled 0F020005 = 0205
-    spelled 0F120105 = 0F120105
-    spelled 1F0112010500 = 0F120105
-    spelled 1F020F000506 = 1F020F000506
-    spelled 2006 = 2006
-    spelled 21000600 = 2006
-    spelled 21000601 = 21000601
-    spelled 2401 = 2401
-    spelled 25000102 = 25000102
-    spelled 260001020000 = 25000102
-    spelled 260001020304 = 260001020304
-    spelled 2809 = 2809
-    spelled 29000900 = 2809
-    spelled 2C64 = 2C64
-    spelled 2D006400 = 2C64
-    spelled 2E0064000001 = 2E0064000001
-    spelled 3003 = 3003
-    spelled 31000300 = 3003
-    spelled 340401010C0001008102 = 340401010C0001008102
-    spelled 8000 = 8000
-    spelled 800201020304 = 800201020304
-    spelled 9100 = 9100
-    spelled 91024142 = 91024142
-    spelled 910341424300 = 910341424300
-    spelled 430A = 430A
-    ",
-    // Each fault of each form.
-    "
-    # The last byte of each is the one that cannot continue a path.
-    fault 00 = Reserved(0)
-    fault 10 = Reserved(16)
-    fault 1200 = Reserved(0)
-    fault 1211 = Reserved(17)
-    fault 12010501 = BadPad
-    fault 120331323301 = BadPad
-    fault 0F0000 = Reserved(0)
-    fault 1F00 = Reserved(0)
-    fault 1F010000 = Reserved(0)
-    fault 1F0112010509 = BadPad
-    fault 2101 = BadPad
-    fault 22 = Reserved(34)
-    fault 2501 = BadPad
-    fault 2601 = BadPad
-    fault 27 = Reserved(39)
-    fault 2901 = BadPad
-    fault 2A = Reserved(42)
-    fault 2D01 = BadPad
-    fault 2EFF = BadPad
-    fault 3101 = BadPad
-    fault 32 = Reserved(50)
-    fault 3405 = Reserved(5)
-    fault 44 = Reserved(68)
-    fault 81 = Reserved(129)
-    fault 91014101 = BadPad
-    fault 92 = Reserved(146)
-    fault FF = Reserved(255)
-    view 0005 = Reserved(0)
-    ",
-    // Write path never has memory.
-    "
-    copy 0205_0103_2004_2464_2C65_2C66 = 6 words true
-    segments 0205_0103_2004_2464_2C65_2C66 = [port 2 05][port 1 03][class 4][instance \
-        100][point 101][point 102]
-    written 0205_0103_2004_2464_2C65_2C66 = 0205_0103_2004_2464_2C65_2C66
-    ",
-    // A hop in each spelling.
-    "
-    hop 0205_0103_2004_2464_2C65_2C66 = 6 words port 2 05 rest 5 0103_2004_2464_2C65_2C66
-    hop 12010500_0103_2004_2464_2C65_2C66 = 7 words port 2 05 rest 5 0103_2004_2464_2C65_2C66
-    hop 0F120001 = 2 words port 18 01 rest 0 -
-    # The address '123', and a pad.
-    hop 120331323300 = 3 words port 2 313233 rest 0 -
-    hop 2004_0205 = 2 words no hop
-    ",
-    // A hop behind a key.
-    "
-    hop 3404_0101_0C00_0100_81_02_0103 = 6 words key 257 12 1 129 2 port 1 03 rest 0 -
-    hop 3404_0101_0C00_0100_81_02_3404_0101_0C00_0100_81_02 = 10 words no hop
-    # What follows the hop, and not what follows the key.
-    hop 3404_0101_0C00_0100_81_02_0103_2001 = 7 words key 257 12 1 129 2 port 1 03 rest 1 2001
-    ",
-    // A path without its first segment.
-    "
-    first - = none
-    first 2001 = class 1 before -
-    first 0205_0103 = port 2 05 before 0103
-    first 120331323300_2001 = port 2 313233 before 2001
-    first 3404_0101_0C00_0100_81_02_0103 = key 257 12 1 129 2 before 0103
-    first 80021122_3344_4305 = words 11223344 before 4305
-    first 9103414243_00_2001 = symbol 414243 before 2001
-    ",
-    // At most 255 words.
-    "
-    view 20*510 = 255 words
-    view 20*512 = TooLong
-    view 00*512 = TooLong
-    copy 20*510 = 255 words true
-    copy 20*512 = TooLong
-    copy 00*512 = TooLong
-    written 20*510 = 510 bytes
-    classes 255 = 510 bytes
-    classes 256 = TooLong
-    data 00*510 = TooLong
-    ",
-    // The texts of faults.
-    "text 22 = the byte 34 is reserved",
-];
+#[test]
+fn each_spelling_of_each_form(rt: HostRuntime) -> Result<(), Fail> {
+    play_paths(
+        &rt,
+        "
+        # A spelling, and the shortest one of the same segment.
+        spelled 0205 = 0205
+        spelled 0EFF = 0EFF
+        spelled 12010500 = 0205
+        spelled 12020506 = 12020506
+        spelled 120331323300 = 120331323300
+        spelled 0F020005 = 0205
+        spelled 0F120105 = 0F120105
+        spelled 1F0112010500 = 0F120105
+        spelled 1F020F000506 = 1F020F000506
+        spelled 2006 = 2006
+        spelled 21000600 = 2006
+        spelled 21000601 = 21000601
+        spelled 2401 = 2401
+        spelled 25000102 = 25000102
+        spelled 260001020000 = 25000102
+        spelled 260001020304 = 260001020304
+        spelled 2809 = 2809
+        spelled 29000900 = 2809
+        spelled 2C64 = 2C64
+        spelled 2D006400 = 2C64
+        spelled 2E0064000001 = 2E0064000001
+        spelled 3003 = 3003
+        spelled 31000300 = 3003
+        spelled 340401010C0001008102 = 340401010C0001008102
+        spelled 8000 = 8000
+        spelled 800201020304 = 800201020304
+        spelled 9100 = 9100
+        spelled 91024142 = 91024142
+        spelled 910341424300 = 910341424300
+        spelled 430A = 430A
+        ",
+    )
+}
 
 #[test]
-fn paths_and_their_segments(rt: HostRuntime) -> Result<(), Fail> {
-    for rows in &CASES {
-        play_paths(&rt, rows)?;
-    }
-    Ok(())
+fn each_fault_of_each_form(rt: HostRuntime) -> Result<(), Fail> {
+    play_paths(
+        &rt,
+        "
+        # The last byte of each is the one that cannot continue a path.
+        fault 00 = Reserved(0)
+        fault 10 = Reserved(16)
+        fault 1200 = Reserved(0)
+        fault 1211 = Reserved(17)
+        fault 12010501 = BadPad
+        fault 120331323301 = BadPad
+        fault 0F0000 = Reserved(0)
+        fault 1F00 = Reserved(0)
+        fault 1F010000 = Reserved(0)
+        fault 1F0112010509 = BadPad
+        fault 2101 = BadPad
+        fault 22 = Reserved(34)
+        fault 2501 = BadPad
+        fault 2601 = BadPad
+        fault 27 = Reserved(39)
+        fault 2901 = BadPad
+        fault 2A = Reserved(42)
+        fault 2D01 = BadPad
+        fault 2EFF = BadPad
+        fault 3101 = BadPad
+        fault 32 = Reserved(50)
+        fault 3405 = Reserved(5)
+        fault 44 = Reserved(68)
+        fault 81 = Reserved(129)
+        fault 91014101 = BadPad
+        fault 92 = Reserved(146)
+        fault FF = Reserved(255)
+        view 0005 = Reserved(0)
+        ",
+    )
 }
 
 #[test]
@@ -372,6 +324,87 @@ fn every_other_segment_byte_is_reserved(rt: HostRuntime) {
     let reserved = (0..=255u8).filter(|head| view_path(&[*head]).err()
         == Some(PathFault::Reserved(*head)));
     assert_eq!(rt; reserved.count(), 210);
+}
+
+#[test]
+fn write_path_never_has_memory(rt: HostRuntime) -> Result<(), Fail> {
+    play_paths(
+        &rt,
+        "
+        copy 0205_0103_2004_2464_2C65_2C66 = 6 words true
+        segments 0205_0103_2004_2464_2C65_2C66 = [port 2 05][port 1 03][class 4][instance \
+            100][point 101][point 102]
+        written 0205_0103_2004_2464_2C65_2C66 = 0205_0103_2004_2464_2C65_2C66
+        ",
+    )
+}
+
+#[test]
+fn a_hop_in_each_spelling(rt: HostRuntime) -> Result<(), Fail> {
+    play_paths(
+        &rt,
+        "
+        hop 0205_0103_2004_2464_2C65_2C66 = 6 words port 2 05 rest 5 0103_2004_2464_2C65_2C66
+        hop 12010500_0103_2004_2464_2C65_2C66 = 7 words port 2 05 rest 5 0103_2004_2464_2C65_2C66
+        hop 0F120001 = 2 words port 18 01 rest 0 -
+        # The address '123', and a pad.
+        hop 120331323300 = 3 words port 2 313233 rest 0 -
+        hop 2004_0205 = 2 words no hop
+        ",
+    )
+}
+
+#[test]
+fn a_hop_behind_a_key(rt: HostRuntime) -> Result<(), Fail> {
+    play_paths(
+        &rt,
+        "
+        hop 3404_0101_0C00_0100_81_02_0103 = 6 words key 257 12 1 129 2 port 1 03 rest 0 -
+        hop 3404_0101_0C00_0100_81_02_3404_0101_0C00_0100_81_02 = 10 words no hop
+        # What follows the hop, and not what follows the key.
+        hop 3404_0101_0C00_0100_81_02_0103_2001 = 7 words key 257 12 1 129 2 port 1 03 rest 1 2001
+        ",
+    )
+}
+
+#[test]
+fn a_path_without_its_first_segment(rt: HostRuntime) -> Result<(), Fail> {
+    play_paths(
+        &rt,
+        "
+        first - = none
+        first 2001 = class 1 before -
+        first 0205_0103 = port 2 05 before 0103
+        first 120331323300_2001 = port 2 313233 before 2001
+        first 3404_0101_0C00_0100_81_02_0103 = key 257 12 1 129 2 before 0103
+        first 80021122_3344_4305 = words 11223344 before 4305
+        first 9103414243_00_2001 = symbol 414243 before 2001
+        ",
+    )
+}
+
+#[test]
+fn at_most_255_words(rt: HostRuntime) -> Result<(), Fail> {
+    play_paths(
+        &rt,
+        "
+        view 20*510 = 255 words
+        view 20*512 = TooLong
+        view 00*512 = TooLong
+        copy 20*510 = 255 words true
+        copy 20*512 = TooLong
+        copy 00*512 = TooLong
+        written 20*510 = 510 bytes
+        classes 255 = 510 bytes
+        classes 256 = TooLong
+        data 00*510 = TooLong
+        ",
+    )
+}
+
+#[test]
+fn the_texts_of_faults(rt: HostRuntime) -> Result<(), Fail> {
+    play_paths(&rt, "text 22 = the byte 34 is reserved")
 }
 
 // How long reading takes is told by the run of this test alone, timed from outside

@@ -68,39 +68,48 @@ fn play_values(rt: &HostRuntime, rows: &str) -> Result<(), Fail> {
     play(alloc, Values { alloc }, rows)
 }
 
-/// Rows, each of these played over a part that is made anew.
-const CASES: [&str; 4] = [
-    // Addresses of one to sixteen bytes.
-    "
-    address - = Empty
-    address 07*17 = TooLong
-    address 07*16 = 07070707070707070707070707070707 07070707070707070707070707070707
-    same 07*16 07*16 = true
-    same 07*15 07*16 = false
-    shown 05FF00 = Address { bytes: [5, 255, 0] }
-    shown 07*16 = Address { bytes: [7, 7, 7, 7, 7, 7, 7, 7, 7, 7, 7, 7, 7, 7, 7, 7] }
-    ",
-    // Numbers from one.
-    "
-    ms 0 = none
-    ms 65535 = 65535
-    port 0 = none
-    port 18 = 18
-    ",
-    // Triads in the order of their fields.
-    "
-    less 1 9 9 2 1 9 = true
-    less 2 1 9 2 1 10 = true
-    less 2 1 10 2 1 9 = false
-    ",
-    // Bytes keep their list.
-    "overwritten 0102 0304 = 0304 true",
-];
+#[test]
+fn addresses_of_one_to_sixteen_bytes(rt: HostRuntime) -> Result<(), Fail> {
+    play_values(
+        &rt,
+        "
+        address - = Empty
+        address 07*17 = TooLong
+        address 07*16 = 07070707070707070707070707070707 07070707070707070707070707070707
+        same 07*16 07*16 = true
+        same 07*15 07*16 = false
+        shown 05FF00 = Address { bytes: [5, 255, 0] }
+        shown 07*16 = Address { bytes: [7, 7, 7, 7, 7, 7, 7, 7, 7, 7, 7, 7, 7, 7, 7, 7] }
+        ",
+    )
+}
 
 #[test]
-fn values_in_their_ranges(rt: HostRuntime) -> Result<(), Fail> {
-    for rows in &CASES {
-        play_values(&rt, rows)?;
-    }
-    Ok(())
+fn numbers_from_one(rt: HostRuntime) -> Result<(), Fail> {
+    play_values(
+        &rt,
+        "
+        ms 0 = none
+        ms 65535 = 65535
+        port 0 = none
+        port 18 = 18
+        ",
+    )
+}
+
+#[test]
+fn triads_in_the_order_of_their_fields(rt: HostRuntime) -> Result<(), Fail> {
+    play_values(
+        &rt,
+        "
+        less 1 9 9 2 1 9 = true
+        less 2 1 9 2 1 10 = true
+        less 2 1 10 2 1 9 = false
+        ",
+    )
+}
+
+#[test]
+fn bytes_keep_their_list(rt: HostRuntime) -> Result<(), Fail> {
+    play_values(&rt, "overwritten 0102 0304 = 0304 true")
 }

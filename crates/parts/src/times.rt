@@ -70,34 +70,40 @@ fn play_times(rt: &HostRuntime, rows: &str) -> Result<(), Fail> {
     play(alloc, Times { alloc, clock }, rows)
 }
 
-/// Rows, each of these played over a part that is made anew.
-const CASES: [&str; 3] = [
-    // A clock counts to its last time.
-    "
-    # 65,535 ms before the last time.
-    clock 9223372036789240807 = 9223372036789240807
-    advance 65535 = 9223372036854775807
-    advance 65535 = ClockFull: the clock is full
-    now = 9223372036854775807
-    ",
-    // Deadlines are in microseconds.
-    "
-    clock 7 = 7
-    after_ticks 7 250 = 32000007
-    after_rpi 10000 0 = 40007
-    after_rpi 10000 7 = 5120007
-    ",
-    // The fault prints its text.
-    "
-    clock 9223372036854775807 = 9223372036854775807
-    advance 1 = ClockFull: the clock is full
-    ",
-];
+#[test]
+fn a_clock_counts_to_its_last_time(rt: HostRuntime) -> Result<(), Fail> {
+    play_times(
+        &rt,
+        "
+        # 65,535 ms before the last time.
+        clock 9223372036789240807 = 9223372036789240807
+        advance 65535 = 9223372036854775807
+        advance 65535 = ClockFull: the clock is full
+        now = 9223372036854775807
+        ",
+    )
+}
 
 #[test]
-fn clocks_and_deadlines(rt: HostRuntime) -> Result<(), Fail> {
-    for rows in &CASES {
-        play_times(&rt, rows)?;
-    }
-    Ok(())
+fn deadlines_are_in_microseconds(rt: HostRuntime) -> Result<(), Fail> {
+    play_times(
+        &rt,
+        "
+        clock 7 = 7
+        after_ticks 7 250 = 32000007
+        after_rpi 10000 0 = 40007
+        after_rpi 10000 7 = 5120007
+        ",
+    )
+}
+
+#[test]
+fn the_fault_prints_its_text(rt: HostRuntime) -> Result<(), Fail> {
+    play_times(
+        &rt,
+        "
+        clock 9223372036854775807 = 9223372036854775807
+        advance 1 = ClockFull: the clock is full
+        ",
+    )
 }

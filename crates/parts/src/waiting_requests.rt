@@ -196,12 +196,10 @@ fn play_waiting(rt: &HostRuntime, room: usize, first: u32, rows: &str) -> Result
     play(alloc, Waiting { alloc, table }, rows)
 }
 
-/// The room of a table, its first number, and rows.
-type Case = (usize, u32, &'static str);
-
-const CASES: [Case; 6] = [
-    // Numbers end and never come back.
-    (
+#[test]
+fn numbers_end_and_never_come_back(rt: HostRuntime) -> Result<(), Fail> {
+    play_waiting(
+        &rt,
         2,
         0xFFFF_FFFE,
         "
@@ -218,10 +216,14 @@ const CASES: [Case; 6] = [
         can_add = NumbersSpent
         last = 4294967295
         ",
-    ),
-    // A reset begins the next incarnation.
-    // Counts end at 65,535, and go on only in the next incarnation.
-    (
+    )
+}
+
+// Counts end at 65,535, and go on only in the next incarnation.
+#[test]
+fn a_reset_begins_the_next_incarnation(rt: HostRuntime) -> Result<(), Fail> {
+    play_waiting(
+        &rt,
         2,
         0xFFFE,
         "
@@ -243,10 +245,14 @@ const CASES: [Case; 6] = [
         last = 131072
         add 6 10 = 131073
         ",
-    ),
-    // No reset follows the last incarnation.
-    // FFFE_0001 is the incarnation before the last.
-    (
+    )
+}
+
+// FFFE_0001 is the incarnation before the last.
+#[test]
+fn no_reset_follows_the_last_incarnation(rt: HostRuntime) -> Result<(), Fail> {
+    play_waiting(
+        &rt,
         1,
         0xFFFE_0001,
         "
@@ -258,9 +264,13 @@ const CASES: [Case; 6] = [
         reset = false
         least = 4294901761
         ",
-    ),
-    // The due leave in rising number.
-    (
+    )
+}
+
+#[test]
+fn the_due_leave_in_rising_number(rt: HostRuntime) -> Result<(), Fail> {
+    play_waiting(
+        &rt,
         3,
         7,
         "
@@ -274,18 +284,26 @@ const CASES: [Case; 6] = [
         least = 8
         after 8 = none
         ",
-    ),
-    // Copies are equal.
-    (
+    )
+}
+
+#[test]
+fn copies_are_equal(rt: HostRuntime) -> Result<(), Fail> {
+    play_waiting(
+        &rt,
         1,
         1,
         "
         copy 1 00 9 2 05 40000 6 66 257 168496141 = 1 00 9 to 2 05 due 40000 words 6 opening 66 \
             257 168496141 true
         ",
-    ),
-    // Faults print their texts.
-    (
+    )
+}
+
+#[test]
+fn faults_print_their_texts(rt: HostRuntime) -> Result<(), Fail> {
+    play_waiting(
+        &rt,
         1,
         0xFFFF_FFFF,
         "
@@ -294,15 +312,7 @@ const CASES: [Case; 6] = [
         take 4294967295 2 05 = op 1 to 2 05 due 10 words 4 unconnected
         add 1 10 = the numbers are spent: op 1 to 2 05 due 10 words 4 unconnected
         ",
-    ),
-];
-
-#[test]
-fn tables_of_waiting_requests(rt: HostRuntime) -> Result<(), Fail> {
-    for (room, first, rows) in &CASES {
-        play_waiting(&rt, *room, *first, rows)?;
-    }
-    Ok(())
+    )
 }
 
 // More bytes than there are addresses: the allocator itself refuses them.

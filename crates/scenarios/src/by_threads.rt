@@ -76,50 +76,29 @@ fn refused<T: Threads + Wait + Sync>(
     Ok(result == Err(ConsoleFault::Script(line, fault)) && text.is_empty())
 }
 
-/// A script, how many turns there are, and what is written.
-type Written = (&'static str, usize, &'static str);
-
-const WRITTEN: [Written; 5] = [
-    (SEND, 100, SENT),
-    (SEND, 5, SENT),
-    (SEND, 2, FIRST_TWO),
-    (SEND, 0, "limit\n"),
-    ("# nothing\n", 100, "quiet\n"),
-];
-
 #[test]
 fn a_send_by_threads(rt: HostRuntime) -> Result<(), Fail> {
-    for (script, turns, transcript) in &WRITTEN {
-        writes(&rt, rt.alloc(), script, *turns, transcript)?;
-    }
-    Ok(())
+    let alloc = rt.alloc();
+    writes(&rt, alloc, SEND, 100, SENT)?;
+    writes(&rt, alloc, SEND, 5, SENT)?;
+    writes(&rt, alloc, SEND, 2, FIRST_TWO)?;
+    writes(&rt, alloc, SEND, 0, "limit\n")?;
+    writes(&rt, alloc, "# nothing\n", 100, "quiet\n")
 }
-
-/// A script, its first faulty line, and the fault.
-type Faulty = (&'static str, usize, ScriptFault);
-
-const FAULTY: [Faulty; 8] = [
-    (
-        "send S 1 0x07 0xFA 02050103 010220012401\nrun 10\n",
-        2,
-        ScriptFault::NotWithThreads,
-    ),
-    ("deliver 0.0", 1, ScriptFault::NotWithThreads),
-    ("lose 0.0", 1, ScriptFault::NotWithThreads),
-    ("tables S", 1, ScriptFault::NotWithThreads),
-    ("trail S 1", 1, ScriptFault::NotWithThreads),
-    // before the count of the words, and behind an unknown word
-    ("run 1 2", 1, ScriptFault::NotWithThreads),
-    ("runs 1 2", 1, ScriptFault::UnknownWord),
-    ("tick S", 1, ScriptFault::Count),
-];
 
 #[test]
 fn words_that_threads_do_not_take(rt: HostRuntime) -> Result<(), Fail> {
-    for (script, line, fault) in &FAULTY {
-        let is_refused = refused(&rt, rt.alloc(), script, *line, *fault)?;
-        assert!(rt; is_refused, "{script}");
-    }
+    let alloc = rt.alloc();
+    let after_send = "send S 1 0x07 0xFA 02050103 010220012401\nrun 10\n";
+    assert!(rt; refused(&rt, alloc, after_send, 2, ScriptFault::NotWithThreads)?);
+    assert!(rt; refused(&rt, alloc, "deliver 0.0", 1, ScriptFault::NotWithThreads)?);
+    assert!(rt; refused(&rt, alloc, "lose 0.0", 1, ScriptFault::NotWithThreads)?);
+    assert!(rt; refused(&rt, alloc, "tables S", 1, ScriptFault::NotWithThreads)?);
+    assert!(rt; refused(&rt, alloc, "trail S 1", 1, ScriptFault::NotWithThreads)?);
+    // before the count of the words, and behind an unknown word
+    assert!(rt; refused(&rt, alloc, "run 1 2", 1, ScriptFault::NotWithThreads)?);
+    assert!(rt; refused(&rt, alloc, "runs 1 2", 1, ScriptFault::UnknownWord)?);
+    assert!(rt; refused(&rt, alloc, "tick S", 1, ScriptFault::Count)?);
     Ok(())
 }
 
@@ -153,20 +132,14 @@ fn options_of_a_run_by_threads(rt: HostRuntime) -> Result<(), Fail> {
     Ok(())
 }
 
-const OUT_OF_RANGE: [&[&str]; 6] = [
-    &["--turns", "0"],
-    &["--turns", "1000001"],
-    &["--threads", "--turns", "4294967296"],
-    &["--threads", "--turns", "-1"],
-    &["--threads", "--turns"],
-    &["--threads", "--threads"],
-];
-
 #[test]
 fn turns_out_of_their_range(rt: HostRuntime) -> Result<(), Fail> {
-    for (place, words) in OUT_OF_RANGE.iter().enumerate() {
-        let is_usage = is_usage(rt.alloc(), words)?;
-        assert!(rt; is_usage, "row {place}");
-    }
+    let alloc = rt.alloc();
+    assert!(rt; is_usage(alloc, &["--turns", "0"])?);
+    assert!(rt; is_usage(alloc, &["--turns", "1000001"])?);
+    assert!(rt; is_usage(alloc, &["--threads", "--turns", "4294967296"])?);
+    assert!(rt; is_usage(alloc, &["--threads", "--turns", "-1"])?);
+    assert!(rt; is_usage(alloc, &["--threads", "--turns"])?);
+    assert!(rt; is_usage(alloc, &["--threads", "--threads"])?);
     Ok(())
 }

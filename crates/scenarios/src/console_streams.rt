@@ -153,112 +153,88 @@ const SENT: &[u8] =
         8100000001010C000200010300000B0B0000024252\n4 S frame 3.0\n  0 done 1 \
         8100000001010C000200010300000B0B0000024252\nquiet\n";
 
-/// A script, and the whole transcript of it.
-type Written = (&'static [u8], &'static [u8]);
-
-const WRITTEN: [Written; 10] = [
-    (SEND, SENT),
-    // Ticks of two.
-    (
-        b"send S 1 0x07 2 02050103 010220012401\r\nrun 10",
-        b"0 S send 1\n  0 send 2 05 request 1 5202200624010701060001022001240101000103\n1 A frame \
-            0.0\n  0 send 2 01 reply 1 D2000101040201\n2 S frame 1.0\n  0 done 1 \
-            D2000101040201\nquiet\n",
-    ),
-    // Ticks of one and of none.
-    (
-        b"send S 1 0x07 1 02050103 010220012401\nsend S 2 0x07 0 02050103 010220012401\n",
-        b"0 S send 1\n  0 done 1 D2000101040202\n1 S send 2\n  0 done 2 D2000101040202\n",
-    ),
-    // Ticks of two, of one and of none.
-    (
-        b"send S 1 0x07 2 02050103 010220012401\r\nrun 10\r\nsend S 2 0x07 1 02050103 \
-            010220012401\nsend S 3 0x07 0 02050103 010220012401\n",
-        b"0 S send 1\n  0 send 2 05 request 1 5202200624010701060001022001240101000103\n1 A frame \
-            0.0\n  0 send 2 01 reply 1 D2000101040201\n2 S frame 1.0\n  0 done 1 \
-            D2000101040201\nquiet\n3 S send 2\n  0 done 2 D2000101040202\n4 S send 3\n  0 done 3 \
-            D2000101040202\n",
-    ),
-    // No module of LAN has address 09: the frame stands in the transcript and never waits.
-    (
-        b"send S 1 7 250 0209 010220012401\nsend S 1 7 250 0209 010220012401\nrun 5\n",
-        b"0 S send 1\n  0 send 2 09 request 1 010220012401\n1 S send 1\n  0 refused \
-            OpUsed\nquiet\n",
-    ),
-    // Runs of none and of one.
-    (
-        b"run 0\nsend S 1 7 250 0205 0E03200124013007\nrun 0\nrun 1\nrun 1\nrun 1\n",
-        b"quiet\n0 S send 1\n  0 send 2 05 request 1 0E03200124013007\nlimit\n1 A frame 0.0\n  0 \
-            send 2 01 reply 1 8E000000024152\nlimit\n2 S frame 1.0\n  0 done 1 \
-            8E000000024152\nquiet\nquiet\n",
-    ),
-    // An electronic key on the way, that of A and that of another product.
-    (
-        b"send S 1 0x07 0xFA 0205340401010C00010081020103 010220012401\nrun 10\nsend S 2 0x07 0xFA \
-            0205340401010C00010001020103 010220012401\nrun 10\n",
-        b"0 S send 1\n  0 send 2 05 request 1 \
-            52022006240107F906000102200124010600340401010C00010081020103\n1 A frame 0.0\n  0 send \
-            1 03 request 1 010220012401\n2 B frame 1.0\n  0 send 1 00 reply 1 \
-            8100000001010C000200010300000B0B0000024252\n3 A frame 2.0\n  0 send 2 01 reply 1 \
-            8100000001010C000200010300000B0B0000024252\n4 S frame 3.0\n  0 done 1 \
-            8100000001010C000200010300000B0B0000024252\nquiet\n5 S send 2\n  0 send 2 05 request 2 \
-            52022006240107F906000102200124010600340401010C00010001020103\n6 A frame 5.0\n  0 send \
-            2 01 reply 2 D2000101160106\n7 S frame 6.0\n  0 done 2 D2000101160106\nquiet\n",
-    ),
-    // Scripts that do nothing.
-    (b"", b""),
-    (b"# nothing\n\n   \n", b""),
-    (b"# nothing\n\n   \nrun 0", b"quiet\n"),
-];
-
 #[test]
-fn whole_transcripts(rt: HostRuntime) -> Result<(), Fail> {
-    for (place, (script, whole)) in WRITTEN.iter().enumerate() {
-        assert!(rt;
-            is_written(rt.alloc(), script, whole, PLAIN),
-            "script {place}"
-        );
-    }
+fn an_unconnected_send(rt: HostRuntime) -> Result<(), Fail> {
+    assert!(rt; is_written(rt.alloc(), SEND, SENT, PLAIN));
     Ok(())
 }
 
-/// A script, its first faulty line, and the fault.
-type Faulty = (&'static [u8], usize, ScriptFault);
+#[test]
+fn ticks_of_two(rt: HostRuntime) -> Result<(), Fail> {
+    let script = b"send S 1 0x07 2 02050103 010220012401\r\nrun 10";
+    let whole =
+        b"0 S send 1\n  0 send 2 05 request 1 5202200624010701060001022001240101000103\n1 A frame \
+            0.0\n  0 send 2 01 reply 1 D2000101040201\n2 S frame 1.0\n  0 done 1 \
+            D2000101040201\nquiet\n";
+    assert!(rt; is_written(rt.alloc(), script, whole, PLAIN));
+    Ok(())
+}
 
-const FAULTY: [Faulty; 26] = [
-    (b"# \xC3\xA9", 1, ScriptFault::NotText),
-    (b"opens S \xFF", 1, ScriptFault::NotText),
-    (b"opens S", 1, ScriptFault::UnknownWord),
-    (b"RUN 1", 1, ScriptFault::UnknownWord),
-    (b"run\t1", 1, ScriptFault::UnknownWord),
-    (b" # 1", 1, ScriptFault::UnknownWord),
-    (b"\r\n\nrun", 3, ScriptFault::Count),
-    (b"run 1 2", 1, ScriptFault::Count),
-    (b"run 1\nsend C x 7 7 -\nopen", 2, ScriptFault::Count),
-    (b"send C x 7 7 - - -", 1, ScriptFault::Count),
-    (b"send C x 7 7 - -", 1, ScriptFault::NoModule),
-    (b"send s 1 7 7 - -", 1, ScriptFault::NoModule),
-    (b"send S 4294967296 7 7 - -", 1, ScriptFault::BadNumber),
-    (b"send S 1 256 7 zz zz", 1, ScriptFault::BadNumber),
-    (b"send S 1 7 0x100 zz zz", 1, ScriptFault::BadNumber),
-    (b"run +1", 1, ScriptFault::BadNumber),
-    (b"run 0x", 1, ScriptFault::BadNumber),
-    (b"run 18446744073709551616", 1, ScriptFault::BadNumber),
-    (b"run 1\r", 1, ScriptFault::BadNumber),
-    (b"send S 1 7 7 0 zz", 1, ScriptFault::BadBytes),
-    (b"send S 1 7 7 0005 zz", 1, ScriptFault::BadPath),
-    (b"send S 1 7 7 - 0x01", 1, ScriptFault::BadBytes),
-    (b"\nrun", 2, ScriptFault::Count),
-    (b"send S 1 256 7 - -", 1, ScriptFault::BadNumber),
-    (b"send S 1 7 7 0 -", 1, ScriptFault::BadBytes),
-    (b"send S 1 7 7 - zz", 1, ScriptFault::BadBytes),
-];
+#[test]
+fn ticks_of_one_and_of_none(rt: HostRuntime) -> Result<(), Fail> {
+    let script = b"send S 1 0x07 1 02050103 010220012401\nsend S 2 0x07 0 02050103 010220012401\n";
+    let whole = b"0 S send 1\n  0 done 1 D2000101040202\n1 S send 2\n  0 done 2 D2000101040202\n";
+    assert!(rt; is_written(rt.alloc(), script, whole, PLAIN));
+    Ok(())
+}
+
+// No module of LAN has address 09: the frame stands in the transcript and never waits.
+#[test]
+fn a_frame_to_nobody(rt: HostRuntime) -> Result<(), Fail> {
+    let script = b"send S 1 7 250 0209 010220012401\nsend S 1 7 250 0209 010220012401\nrun 5\n";
+    let whole = b"0 S send 1\n  0 send 2 09 request 1 010220012401\n1 S send 1\n  0 refused \
+            OpUsed\nquiet\n";
+    assert!(rt; is_written(rt.alloc(), script, whole, PLAIN));
+    Ok(())
+}
+
+#[test]
+fn runs_of_none_and_of_one(rt: HostRuntime) -> Result<(), Fail> {
+    let script = b"run 0\nsend S 1 7 250 0205 0E03200124013007\nrun 0\nrun 1\nrun 1\nrun 1\n";
+    let whole =
+        b"quiet\n0 S send 1\n  0 send 2 05 request 1 0E03200124013007\nlimit\n1 A frame 0.0\n  0 \
+            send 2 01 reply 1 8E000000024152\nlimit\n2 S frame 1.0\n  0 done 1 \
+            8E000000024152\nquiet\nquiet\n";
+    assert!(rt; is_written(rt.alloc(), script, whole, PLAIN));
+    Ok(())
+}
+
+#[test]
+fn scripts_that_do_nothing(rt: HostRuntime) -> Result<(), Fail> {
+    assert!(rt; is_written(rt.alloc(), b"", b"", PLAIN));
+    assert!(rt; is_written(rt.alloc(), b"# nothing\n\n   \n", b"", PLAIN));
+    Ok(())
+}
 
 #[test]
 fn the_first_faulty_line(rt: HostRuntime) -> Result<(), Fail> {
-    for (script, line, fault) in &FAULTY {
+    let rows: [(&[u8], usize, ScriptFault); 22] = [
+        (b"# \xC3\xA9", 1, ScriptFault::NotText),
+        (b"opens S \xFF", 1, ScriptFault::NotText),
+        (b"opens S", 1, ScriptFault::UnknownWord),
+        (b"RUN 1", 1, ScriptFault::UnknownWord),
+        (b"run\t1", 1, ScriptFault::UnknownWord),
+        (b" # 1", 1, ScriptFault::UnknownWord),
+        (b"\r\n\nrun", 3, ScriptFault::Count),
+        (b"run 1 2", 1, ScriptFault::Count),
+        (b"run 1\nsend C x 7 7 -\nopen", 2, ScriptFault::Count),
+        (b"send C x 7 7 - - -", 1, ScriptFault::Count),
+        (b"send C x 7 7 - -", 1, ScriptFault::NoModule),
+        (b"send s 1 7 7 - -", 1, ScriptFault::NoModule),
+        (b"send S 4294967296 7 7 - -", 1, ScriptFault::BadNumber),
+        (b"send S 1 256 7 zz zz", 1, ScriptFault::BadNumber),
+        (b"send S 1 7 0x100 zz zz", 1, ScriptFault::BadNumber),
+        (b"run +1", 1, ScriptFault::BadNumber),
+        (b"run 0x", 1, ScriptFault::BadNumber),
+        (b"run 18446744073709551616", 1, ScriptFault::BadNumber),
+        (b"run 1\r", 1, ScriptFault::BadNumber),
+        (b"send S 1 7 7 0 zz", 1, ScriptFault::BadBytes),
+        (b"send S 1 7 7 0005 zz", 1, ScriptFault::BadPath),
+        (b"send S 1 7 7 - 0x01", 1, ScriptFault::BadBytes),
+    ];
+    for (script, line, fault) in rows {
         assert!(rt;
-            is_faulty(rt.alloc(), script, *line, *fault),
+            is_faulty(rt.alloc(), script, line, fault),
             "{line} {fault}"
         );
     }

@@ -9,6 +9,8 @@ mod console_rows;
 #[cfg(test)]
 mod console_streams;
 #[cfg(test)]
+mod console_transcripts;
+#[cfg(test)]
 mod explained_faults;
 #[cfg(test)]
 mod keeping_room;
