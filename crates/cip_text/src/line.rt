@@ -189,6 +189,7 @@ pub fn put_front(text: &mut Vec<u8>, bytes: &[u8]) -> Result<(), NoMemory>
 }
 
 /// Room for so many bytes more: where what stands there leaves less, it goes into the text.
+/// NoMemory where an allocation is refused: the text then has its beginning.
 #[inline(always)]
 pub fn room_for(
     text: &mut Vec<u8>,
@@ -200,6 +201,8 @@ pub fn room_for(
     ensures most { IfOk result (λ next. next + count ≤ 256) }
     ensures text { IfOk result (λ next.
         text.new.items ++ take next room.now ≡ text.old.items ++ take at room.now) }
+    ensures err { OnErr result
+        ((put : ℕ) × (text.new.items ≡ text.old.items ++ take put (take at room.now))) }
 {
     if count <= ROOM - at {
         return Ok(at);
