@@ -12,9 +12,17 @@ use thiserror::Error;
 
 /// The 1 to 16 bytes that name a node on a link (Volume 1, Appendix C, port segment, link address).
 /// They lie in the value itself: no call takes memory.
-#[derive(Debug, Drop)]
+#[derive(Debug)]
 pub struct Address {
     bytes: SmallVec<u8, 16, NoHeap>,
+}
+
+// (A derive would be written, and proved, anew in each crate above.)
+impl Drop for Address {
+    #[inline(always)]
+    fn drop(self) {
+        let Address { bytes: _ } = self;
+    }
 }
 
 impl Model for Address {

@@ -7,9 +7,17 @@ ghost use Rattle.std.specs.Cmp.Lexicographic.{nat_list_eq_equiv};
 use std::marker::Model;
 
 /// Bytes that are owned. A contract sees them as their list.
-#[derive(Debug, Drop)]
+#[derive(Debug)]
 pub struct Bytes {
     items: Vec<u8>,
+}
+
+// (A derive would be written, and proved, anew in each crate above.)
+impl Drop for Bytes {
+    #[inline(always)]
+    fn drop(self) {
+        let Bytes { items: _ } = self;
+    }
 }
 
 impl Model for Bytes {

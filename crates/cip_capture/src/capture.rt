@@ -20,7 +20,6 @@ struct Flow {
 }
 
 /// The packets of a run.
-#[derive(Drop)]
 pub struct CaptureView<'a> {
     book: Book<'a>,
     hosts: Hosts,
@@ -40,6 +39,26 @@ pub struct CaptureView<'a> {
     waiting: BTreeMap<FrameName, u64>,
     // the packet of the frame that the step under way was given
     given: Option<u64>,
+}
+
+// (A derive would be written, and proved, anew in each crate above.)
+impl Drop for CaptureView<'_> {
+    fn drop(self) {
+        let CaptureView {
+            book: _,
+            hosts: _,
+            out: _,
+            entry: _,
+            head: _,
+            now: _,
+            times: _,
+            flows: _,
+            counts: _,
+            packets: _,
+            waiting: _,
+            given: _,
+        } = self;
+    }
 }
 
 // The front of bytes, as many as a packet carries.

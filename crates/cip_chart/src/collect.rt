@@ -19,7 +19,6 @@ use std::alloc::Global;
 use std::collections::BTreeMap;
 
 /// The chart of a run, or of a part of it.
-#[derive(Drop)]
 pub struct ChartView<'a> {
     pub(crate) topology: &'a Topology,
     pub(crate) columns: Vec<Option<usize>>,
@@ -43,6 +42,31 @@ pub struct ChartView<'a> {
     // what a message says, before it is copied
     room: Draft,
     out: String,
+}
+
+// (A derive would be written, and proved, anew in each crate above.)
+impl Drop for ChartView<'_> {
+    fn drop(self) {
+        let ChartView {
+            topology: _,
+            columns: _,
+            rows: _,
+            arrows: _,
+            marks: _,
+            notes: _,
+            book: _,
+            cut: _,
+            is_page: _,
+            flying: _,
+            times: _,
+            round: _,
+            together: _,
+            entry: _,
+            row: _,
+            room: _,
+            out: _,
+        } = self;
+    }
 }
 
 impl<'a> ChartView<'a> {

@@ -64,9 +64,15 @@ pub struct ModuleSettings {
 }
 
 /// A module's settings, each in its range.
-#[derive(Drop)]
 pub struct ModuleConfig {
     settings: ModuleSettings,
+}
+
+// (A derive would be written, and proved, anew in each crate above.)
+impl Drop for ModuleConfig {
+    fn drop(self) {
+        let ModuleConfig { settings: _ } = self;
+    }
 }
 
 impl Model for ModuleConfig {

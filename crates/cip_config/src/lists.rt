@@ -6,9 +6,15 @@ use cip_target::AssemblyConfig;
 use std::marker::Model;
 
 /// The ports of a module, in the order of its topology.
-#[derive(Drop)]
 pub struct Ports {
     ports: Vec<PortConfig>,
+}
+
+// (A derive would be written, and proved, anew in each crate above.)
+impl Drop for Ports {
+    fn drop(self) {
+        let Ports { ports: _ } = self;
+    }
 }
 
 impl Model for Ports {
@@ -37,9 +43,15 @@ impl Ports {
 }
 
 /// The assemblies of a module, in the order of its topology.
-#[derive(Drop)]
 pub struct Assemblies {
     assemblies: Vec<AssemblyConfig>,
+}
+
+// (A derive would be written, and proved, anew in each crate above.)
+impl Drop for Assemblies {
+    fn drop(self) {
+        let Assemblies { assemblies: _ } = self;
+    }
 }
 
 impl Model for Assemblies {

@@ -31,7 +31,6 @@ use std::marker::Model;
 /// The connections of a module, opening and open, each under its triad. An id has a count in its
 /// low half, under an incarnation: counts rise, and a reset begins the next incarnation, so that no
 /// id comes back. All memory is taken by `with_room`.
-#[derive(Drop)]
 pub struct HopTable {
     room: usize,
     // One past the last that was drawn: up to 2^32.
@@ -41,6 +40,21 @@ pub struct HopTable {
     downs: NumberIndex,
     ops: NumberIndex,
     records: Records,
+}
+
+// (A derive would be written, and proved, anew in each crate above.)
+impl Drop for HopTable {
+    fn drop(self) {
+        let HopTable {
+            room: _,
+            next: _,
+            triads: _,
+            ups: _,
+            downs: _,
+            ops: _,
+            records: _,
+        } = self;
+    }
 }
 
 impl Model for HopTable {

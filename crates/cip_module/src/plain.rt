@@ -19,9 +19,15 @@ use std::alloc::Global;
 /// A module that originates, routes and answers. It decodes each request and reply and writes what
 /// goes on of it anew; the bytes of a datum and of an Enter go on as they are, in the buffer in
 /// which they came, or in one of their length where it has room for more than twice as many and 16.
-#[derive(Drop)]
 pub struct PlainModule {
     pub(crate) device: Device,
+}
+
+// (A derive would be written, and proved, anew in each crate above.)
+impl Drop for PlainModule {
+    fn drop(self) {
+        let PlainModule { device: _ } = self;
+    }
 }
 
 impl PlainModule {

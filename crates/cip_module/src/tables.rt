@@ -16,9 +16,15 @@ pub struct PendingRow {
 }
 
 /// The requests that wait, in rising number.
-#[derive(Drop)]
 pub struct PendingRows {
     rows: Vec<PendingRow>,
+}
+
+// (A derive would be written, and proved, anew in each crate above.)
+impl Drop for PendingRows {
+    fn drop(self) {
+        let PendingRows { rows: _ } = self;
+    }
 }
 
 impl Model for PendingRows {
@@ -102,9 +108,15 @@ pub struct HopRow {
 }
 
 /// The connections that are open, in rising triad.
-#[derive(Drop)]
 pub struct HopRows {
     rows: Vec<HopRow>,
+}
+
+// (A derive would be written, and proved, anew in each crate above.)
+impl Drop for HopRows {
+    fn drop(self) {
+        let HopRows { rows: _ } = self;
+    }
 }
 
 impl Model for HopRows {
@@ -160,7 +172,8 @@ impl HopRows {
     pub fn by_op(self, op: u32) -> Option<HopRow>
         ensures { result ≡ find (is_row_by_op op) self }
     {
-        self.rows.into_iter().find(|row| is_by_op(row, op))
+        let HopRows { rows } = self;
+        rows.into_iter().find(|row| is_by_op(row, op))
     }
 
     /// The row of the connection of which this is the own id towards the originator, on the link by
@@ -168,8 +181,8 @@ impl HopRows {
     pub fn by_up(self, id: u32, port: PortNumber, address: &Address) -> Option<HopRow>
         ensures { result ≡ find (is_row_by_up id port address.now) self }
     {
-        self.rows
-            .into_iter()
+        let HopRows { rows } = self;
+        rows.into_iter()
             .find(|row| is_by_up(row, id, port, address))
     }
 }
@@ -182,9 +195,15 @@ pub struct AssemblyRow {
 }
 
 /// The assemblies, in rising instance.
-#[derive(Drop)]
 pub struct AssemblyRows {
     rows: Vec<AssemblyRow>,
+}
+
+// (A derive would be written, and proved, anew in each crate above.)
+impl Drop for AssemblyRows {
+    fn drop(self) {
+        let AssemblyRows { rows: _ } = self;
+    }
 }
 
 impl Model for AssemblyRows {

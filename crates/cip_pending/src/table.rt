@@ -25,13 +25,24 @@ use std::marker::Model;
 /// The requests that wait for their replies, each under its number. A number has a count in its low
 /// half, under an incarnation: counts rise, and a reset begins the next incarnation, so that no
 /// number comes back. All memory is taken by `with_room`.
-#[derive(Drop)]
 pub struct PendingTable {
     room: usize,
     // One past the last that was given: up to 2^32.
     next: u64,
     order: NumberIndex,
     records: Records,
+}
+
+// (A derive would be written, and proved, anew in each crate above.)
+impl Drop for PendingTable {
+    fn drop(self) {
+        let PendingTable {
+            room: _,
+            next: _,
+            order: _,
+            records: _,
+        } = self;
+    }
 }
 
 impl Model for PendingTable {

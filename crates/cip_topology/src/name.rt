@@ -13,9 +13,17 @@ use std::marker::Model;
 
 /// The name of a link or a module: 1 to 16 ASCII letters, digits, `_` or `-`. They lie in the value
 /// itself: no call takes memory.
-#[derive(Debug, Drop)]
+#[derive(Debug)]
 pub struct Name {
     bytes: SmallVec<u8, 16, NoHeap>,
+}
+
+// (A derive would be written, and proved, anew in each crate above.)
+impl Drop for Name {
+    #[inline(always)]
+    fn drop(self) {
+        let Name { bytes: _ } = self;
+    }
 }
 
 impl Model for Name {

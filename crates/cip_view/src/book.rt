@@ -46,7 +46,6 @@ struct Step {
 }
 
 /// What is known of a run.
-#[derive(Drop)]
 pub struct Book<'a> {
     topology: &'a Topology,
     frames: BTreeMap<FrameName, Sent>,
@@ -61,6 +60,22 @@ pub struct Book<'a> {
     // the ops that have not ended
     ops: BTreeMap<(usize, u32), CommandWord>,
     step: Option<Step>,
+}
+
+// (A derive would be written, and proved, anew in each crate above.)
+impl Drop for Book<'_> {
+    fn drop(self) {
+        let Book {
+            topology: _,
+            frames: _,
+            classes: _,
+            ids: _,
+            opened: _,
+            counts: _,
+            ops: _,
+            step: _,
+        } = self;
+    }
 }
 
 // The sequence count of a datum, where its connection has the transport class 1.

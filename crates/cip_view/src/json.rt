@@ -368,7 +368,6 @@ fn put_line(out: &mut String, object: &Draft, behind: &str) -> Result<(), NoMemo
 }
 
 /// The entries as JSON.
-#[derive(Drop)]
 pub struct JsonView<'a> {
     book: Book<'a>,
     past: Past<'a>,
@@ -379,6 +378,20 @@ pub struct JsonView<'a> {
     has_output: bool,
     // what is put next, and goes behind the others when it is whole
     part: Draft,
+}
+
+// (A derive would be written, and proved, anew in each crate above.)
+impl Drop for JsonView<'_> {
+    fn drop(self) {
+        let JsonView {
+            book: _,
+            past: _,
+            out: _,
+            entry: _,
+            has_output: _,
+            part: _,
+        } = self;
+    }
 }
 
 impl<'a> JsonView<'a> {

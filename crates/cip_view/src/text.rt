@@ -19,11 +19,21 @@ use cip_topology::Topology;
 use std::alloc::Global;
 
 /// The transcript as it is, and below each line of an output what its message says.
-#[derive(Drop)]
 pub struct TextView<'a> {
     book: Book<'a>,
     past: Past<'a>,
     out: String,
+}
+
+// (A derive would be written, and proved, anew in each crate above.)
+impl Drop for TextView<'_> {
+    fn drop(self) {
+        let TextView {
+            book: _,
+            past: _,
+            out: _,
+        } = self;
+    }
 }
 
 impl<'a> TextView<'a> {

@@ -28,12 +28,22 @@ pub trait Shown {
 }
 
 /// Modules in boxes, joined by the links of a topology, and the journal of what they did.
-#[derive(Drop)]
 pub struct World {
     alloc: Global,
     // Given up before the ledger: a table is one large piece, an entry several small ones.
     modules: Vec<Box<dyn Module + Send>>,
     ledger: Ledger,
+}
+
+// (A derive would be written, and proved, anew in each crate above.)
+impl Drop for World {
+    fn drop(self) {
+        let World {
+            alloc: _,
+            modules: _,
+            ledger: _,
+        } = self;
+    }
 }
 
 impl Shown for World {
