@@ -12,6 +12,7 @@ use crate::strangers::strange_keys;
 use cip_base::NoMemory;
 use cip_topology::{LoadFault, load};
 use std::alloc::Global;
+use std::mem;
 use toml::Table;
 
 // The most faults that are told.
@@ -32,47 +33,100 @@ fn tell_fault(
     Ok(())
 }
 
-// The fault of a document, if it has one.
-fn fault_of(alloc: Global, text: &str, report: &mut Report) -> Result<Option<LoadFault>, NoMemory>
-    ensures told { IfOk result (λ found. IsTold text.now report.new.faults found) }
+// The fault of a text takes the place of the one that was found before; None where it has none.
+fn find(
+    alloc: Global,
+    text: &str,
+    report: &mut Report,
+    found: &mut Option<LoadFault>,
+) -> Result<(), NoMemory>
+    ensures told { IfOk result (λ _. IsTold text.now report.new.faults found.new) }
     ensures more { report.old.faults ≤ report.new.faults }
 {
     match load(alloc, text) {
         Ok(topology) => {
-            unreached(alloc, &topology, report)?;
-            Ok(None)
+            drop(found.take());
+            let warned = unreached(alloc, &topology, report);
+            drop(topology);
+            Ok(warned?)
         }
         Err(LoadFault::NoMemory) => Err(NoMemory),
         Err(fault) => {
-            tell_fault(alloc, text, &fault, report)?;
-            Ok(Some(fault))
+            let told = tell_fault(alloc, text, &fault, report);
+            // (one place to give it up is one to prove)
+            drop(mem::replace(found, Some(fault)));
+            told
         }
     }
 }
 
-// The rules that a document breaks, one after the other: each is mended before the next is sought.
+// The rule that a document breaks is mended, and the next one is sought.
+fn mend(
+    alloc: Global,
+    document: &mut Table,
+    fault: &LoadFault,
+    turn: usize,
+) -> Result<String, NoMemory> {
+    repair(alloc, document, fault, turn)?;
+    // A date that was read can be written: memory alone can fail.
+    match toml::table_to_string(alloc, document) {
+        Ok(text) => Ok(text),
+        Err(_) => Err(NoMemory),
+    }
+}
+
+// The rules that a document breaks behind the one that was found, one after the other: each is
+// mended before the next is sought.
 fn broken_rules(
     alloc: Global,
-    document: Table,
-    first: LoadFault,
+    document: &mut Table,
     report: &mut Report,
+    found: &mut Option<LoadFault>,
 ) -> Result<(), NoMemory>
     ensures { report.old.faults ≤ report.new.faults }
 {
-    let mut document = document;
-    let mut fault = first;
     'rules: for turn in 0..MOST {
-        repair(alloc, &mut document, &fault, turn)?;
-        // A date that was read can be written: memory alone can fail.
-        let Ok(text) = toml::table_to_string(alloc, &document) else {
-            return Err(NoMemory);
+        let Some(fault) = found.as_ref() else {
+            return Ok(());
         };
-        match fault_of(alloc, text.as_str(), report)? {
-            Some(next) => fault = next,
-            None => return Ok(()),
-        }
+        let text = mend(alloc, document, fault, turn)?;
+        find(alloc, text.as_str(), report, found)?;
     }
     Ok(())
+}
+
+// What a document tells beside the fault that was found, and which rules it breaks behind that one.
+fn tell_document(
+    alloc: Global,
+    document: &mut Table,
+    report: &mut Report,
+    found: &mut Option<LoadFault>,
+) -> Result<(), NoMemory>
+    ensures { report.old.faults ≤ report.new.faults }
+{
+    strange_keys(alloc, document, report)?;
+    decimal_addresses(alloc, document, report)?;
+    broken_rules(alloc, document, report, found)
+}
+
+// All that is told of a text.
+fn tell_all(
+    alloc: Global,
+    text: &str,
+    report: &mut Report,
+    found: &mut Option<LoadFault>,
+) -> Result<(), NoMemory>
+    ensures { IfOk result (λ _. report.new.faults ≡ 0 → IsTaken text.now) }
+{
+    find(alloc, text, report, found)?;
+    match toml::table_from_str(alloc, text) {
+        Ok(document) => {
+            let mut document = document;
+            tell_document(alloc, &mut document, report, found)
+        }
+        Err(error) if error.is_memory() => Err(NoMemory),
+        Err(_) => Ok(()),
+    }
 }
 
 /// Every rule that the text of a topology file breaks, in the order of `docs/TOPOLOGY.md`, each in
@@ -87,16 +141,11 @@ pub fn check(alloc: Global, text: &str) -> Result<Report, NoMemory>
     ensures { IfOk result (λ report. report.faults ≡ 0 → IsTaken text.now) }
 {
     let mut report = Report::new(alloc);
-    let first = fault_of(alloc, text, &mut report)?;
-    let document = match toml::table_from_str(alloc, text) {
-        Ok(document) => document,
-        Err(error) if error.is_memory() => return Err(NoMemory),
-        Err(_) => return Ok(report),
-    };
-    strange_keys(alloc, &document, &mut report)?;
-    decimal_addresses(alloc, &document, &mut report)?;
-    if let Some(first) = first {
-        broken_rules(alloc, document, first, &mut report)?;
+    let mut found = None;
+    let told = tell_all(alloc, text, &mut report, &mut found);
+    drop(found);
+    match told {
+        Ok(()) => Ok(report),
+        Err(NoMemory) => Err(NoMemory),
     }
-    Ok(report)
 }

@@ -182,6 +182,21 @@ fn want_by(config: &ModuleConfig, tables: &Tables, status: u16) -> Want {
     Want::Numbers
 }
 
+// The same of a module of a world.
+fn want_at(
+    world: &World,
+    at: ModuleId,
+    config: &ModuleConfig,
+    status: u16,
+) -> Result<Want, RoomsFault>
+    requires stand { ⟦<World as Shown>⟧.stands world.now }
+{
+    match world.tables(at) {
+        Ok(tables) => Ok(want_by(config, &tables, status)),
+        Err(_) => Err(RoomsFault::NoMemory),
+    }
+}
+
 // What was found, each want of a module once.
 #[derive(Drop)]
 struct Watch {
@@ -203,10 +218,7 @@ fn look(alloc: Global, world: &World, line: usize, watch: &mut Watch) -> Result<
     let Some(config) = world.topology().configs().get(at.0) else {
         return Ok(());
     };
-    let Ok(tables) = world.tables(at) else {
-        return Err(RoomsFault::NoMemory);
-    };
-    let want = want_by(config, &tables, status);
+    let want = want_at(world, at, config, status)?;
     if is_told(watch.told.as_slice(), at, want) {
         return Ok(());
     }
@@ -280,6 +292,41 @@ fn play_all(
     Ok(())
 }
 
+// The same over a world, and what was found.
+fn watched(
+    alloc: Global,
+    world: &mut World,
+    names: &[Bytes],
+    script: &[u8],
+) -> Result<Report, RoomsFault>
+    requires stand { ⟦<World as Shown>⟧.stands world.old }
+{
+    let mut watch = Watch {
+        report: Report::new(alloc),
+        told: Vec::new(alloc),
+    };
+    play_all(alloc, world, names, script, &mut watch)?;
+    Ok(watch.report)
+}
+
+// The same over the modules of a topology, whose names these are.
+fn watched_over(
+    alloc: Global,
+    topology: Topology,
+    modules: Vec<Box<dyn Module + Send>>,
+    names: &[Bytes],
+    script: &[u8],
+) -> Result<Report, RoomsFault> {
+    match World::new(alloc, topology, modules) {
+        Ok(world) => {
+            let mut world = world;
+            watched(alloc, &mut world, names, script)
+        }
+        // Of new modules memory alone can be wanting.
+        Err(_) => Err(RoomsFault::NoMemory),
+    }
+}
+
 /// Plays a script over the modules of a topology, in its order and each as at its beginning, and
 /// tells of each module that refused a request since a room of it was full, or its numbers or ids
 /// were spent: where first, and which key of the file says so. Script is the line that is faulty or
@@ -290,15 +337,8 @@ pub fn small_rooms(
     modules: Vec<Box<dyn Module + Send>>,
     script: &[u8],
 ) -> Result<Report, RoomsFault> {
-    let names = names_of(alloc, &topology)?;
-    // Of new modules memory alone can be wanting.
-    let Ok(mut world) = World::new(alloc, topology, modules) else {
-        return Err(RoomsFault::NoMemory);
-    };
-    let mut watch = Watch {
-        report: Report::new(alloc),
-        told: Vec::new(alloc),
-    };
-    play_all(alloc, &mut world, names.as_slice(), script, &mut watch)?;
-    Ok(watch.report)
+    match names_of(alloc, &topology) {
+        Ok(names) => watched_over(alloc, topology, modules, names.as_slice(), script),
+        Err(NoMemory) => Err(RoomsFault::NoMemory),
+    }
 }
