@@ -3,6 +3,7 @@
 use crate::fault::{LineError, unmet};
 use crate::reading::{Named, bytes_of, instance_of};
 use cip_base::{Bytes, ModuleId};
+use cip_module::AssemblyRow;
 use cip_outcomes::{
     Counted, Datum, Differing, OpName, Place, Unmet, module_name, newest_arrived, newest_consumed,
     standing_of,
@@ -141,6 +142,24 @@ fn no_assembly(topology: &Topology, at: ModuleId, instance: u32) -> LineError {
     })
 }
 
+// The same among the assemblies of a module.
+fn expect_among(
+    alloc: Global,
+    topology: &Topology,
+    at: ModuleId,
+    number: u32,
+    rows: &[AssemblyRow],
+    word: &str,
+) -> Result<(), LineError> {
+    for row in rows {
+        if u32::from(row.instance) == number {
+            let place = assembly_place(topology, at, number);
+            return expect_datum(alloc, "assembly", place, row.bytes.as_slice(), word);
+        }
+    }
+    Err(no_assembly(topology, at, number))
+}
+
 /// `assembly M INSTANCE BYTES`
 pub(crate) fn expect_assembly(
     alloc: Global,
@@ -153,16 +172,12 @@ pub(crate) fn expect_assembly(
 {
     let number = instance_of(instance)?;
     let topology = world.topology();
-    let tables = match world.tables(at) {
-        Ok(tables) => tables,
-        Err(WorldFault::NoMemory) => return Err(LineError::NoMemory),
-        Err(_) => return Err(no_assembly(topology, at, number)),
-    };
-    for row in tables.assemblies.as_slice() {
-        if u32::from(row.instance) == number {
-            let place = assembly_place(topology, at, number);
-            return expect_datum(alloc, "assembly", place, row.bytes.as_slice(), word);
+    match world.tables(at) {
+        Ok(tables) => {
+            let rows = tables.assemblies.as_slice();
+            expect_among(alloc, topology, at, number, rows, word)
         }
+        Err(WorldFault::NoMemory) => Err(LineError::NoMemory),
+        Err(_) => Err(no_assembly(topology, at, number)),
     }
-    Err(no_assembly(topology, at, number))
 }

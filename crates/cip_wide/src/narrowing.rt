@@ -23,6 +23,7 @@ use cip_topology::Topology;
 use cip_transcript::names_of;
 use cip_world::{FrameName, Shown, World};
 use std::alloc::{AllocError, Global};
+use std::mem;
 
 // How many lines are played at most.
 const MOST_LINES: usize = 1_000_000;
@@ -115,6 +116,49 @@ fn note(ops: &mut Ops, new: NewOp) -> Result<(), NoMemory> {
     }
 }
 
+// A step is played, and its line stands in the script.
+fn play_put(
+    alloc: Global,
+    world: &mut World,
+    narrow: &mut Kept,
+    step: Step,
+    line: &str,
+) -> Result<(), LineError>
+    requires stand { ⟦<World as Shown>⟧.stands world.old }
+    ensures stand { ⟦<World as Shown>⟧.stands world.new }
+    ensures short { string_len narrow.old.script ≤ 1_048_576
+        → IfOk result (λ _. string_len narrow.new.script ≤ 1_048_576) }
+{
+    match play_step(world, step) {
+        Ok(()) => put_line(narrow, line),
+        Err(PlayFault::Stopped(fault)) => Err(stopped(alloc, world, line, fault)),
+        Err(PlayFault::NoMemory) => Err(LineError::NoMemory),
+    }
+}
+
+// A line that stands in the script is played, and the op that it asks for is noted.
+fn play_noted(
+    alloc: Global,
+    world: &mut World,
+    narrow: &mut Kept,
+    line: &str,
+    new: Option<NewOp>,
+) -> Result<(), LineError>
+    requires stand { ⟦<World as Shown>⟧.stands world.old }
+    ensures stand { ⟦<World as Shown>⟧.stands world.new }
+    ensures short { string_len narrow.old.script ≤ 1_048_576
+        → IfOk result (λ _. string_len narrow.new.script ≤ 1_048_576) }
+{
+    let step = step_of(alloc, world, narrow.names.as_slice(), line)?;
+    if let Some(new) = new {
+        note(&mut narrow.ops, new)?;
+    }
+    match step {
+        Some(step) => play_put(alloc, world, narrow, step, line),
+        None => Ok(()),
+    }
+}
+
 // A line that stands in the script is played.
 fn play_plain(
     alloc: Global,
@@ -128,18 +172,7 @@ fn play_plain(
         → IfOk result (λ _. string_len narrow.new.script ≤ 1_048_576) }
 {
     let Plain { line, new } = plain;
-    let step = step_of(alloc, world, narrow.names.as_slice(), line.as_str())?;
-    if let Some(new) = new {
-        note(&mut narrow.ops, new)?;
-    }
-    let Some(step) = step else {
-        return Ok(());
-    };
-    match play_step(world, step) {
-        Ok(()) => put_line(narrow, line.as_str()),
-        Err(PlayFault::Stopped(fault)) => Err(stopped(alloc, world, line.as_str(), fault)),
-        Err(PlayFault::NoMemory) => Err(LineError::NoMemory),
-    }
+    play_noted(alloc, world, narrow, line.as_str(), new)
 }
 
 // A frame is lost, behind a comment that says why.
@@ -415,10 +448,13 @@ fn limit_of(
 ) -> Result<usize, LineError> {
     let mut line = String::from_str(alloc, "run ")?;
     line.push_str(limit)?;
-    match step_of(alloc, world, names, line.as_str())? {
-        Some(Step::Run { limit }) => Ok(limit),
-        _ => Ok(0),
-    }
+    let step = step_of(alloc, world, names, line.as_str())?;
+    let limit = match &step {
+        Some(Step::Run { limit }) => *limit,
+        _ => 0,
+    };
+    drop(step);
+    Ok(limit)
 }
 
 // A line `run N` while links are down. What it says in the end comes of `run 0`.
@@ -484,7 +520,8 @@ fn refused_at(world: &World, ops: &Ops, number: usize) -> WideFault
 {
     match refusal_of(world, ops) {
         Ok(Some(refusal)) => WideFault::Line(number, LineFault::Refused(refusal)),
-        _ => WideFault::NoMemory,
+        Ok(None) => WideFault::NoMemory,
+        Err(_) => WideFault::NoMemory,
     }
 }
 
@@ -604,6 +641,92 @@ fn ascii_of(alloc: Global, wide: &[u8]) -> Result<&str, WideFault>
     }
 }
 
+// The lines of a wide script, whose blocks have their ends.
+fn lines_in(alloc: Global, wide: &[u8]) -> Result<Vec<Line<'_>>, WideFault>
+    ensures { IfOk result (λ _. IsAscii wide.now) }
+{
+    let text = ascii_of(alloc, wide)?;
+    let lines = lines_of(alloc, text)?;
+    match check_blocks(alloc, lines.as_slice()) {
+        Ok(()) => Ok(lines),
+        Err(fault) => Err(fault),
+    }
+}
+
+// What is kept before the first line.
+fn first_kept(alloc: Global, topology: &Topology) -> Result<Kept, NoMemory>
+    ensures { IfOk result (λ kept. string_len kept.script ≤ 1_048_576) }
+{
+    let names = names_of(alloc, topology)?;
+    let ops = Ops::new(alloc, names.len())?;
+    Ok(Kept {
+        names,
+        ops,
+        script: String::new(alloc),
+        ends: Ends::new(alloc),
+        outages: Outages::new(alloc),
+        refused: None,
+    })
+}
+
+// The lines are played over the modules of a topology.
+fn play_over(
+    alloc: Global,
+    topology: Topology,
+    modules: Vec<Box<dyn Module + Send>>,
+    narrow: &mut Kept,
+    lines: &[Line<'_>],
+) -> Result<(), WideFault>
+    ensures { string_len narrow.old.script ≤ 1_048_576
+        → IfOk result (λ _. string_len narrow.new.script ≤ 1_048_576) }
+{
+    match World::new(alloc, topology, modules) {
+        Ok(world) => {
+            let mut world = world;
+            play_all(alloc, &mut world, narrow, lines)
+        }
+        // Of new modules memory alone can be wanting.
+        Err(_) => Err(WideFault::NoMemory),
+    }
+}
+
+// The script that lines over the modules of a topology are.
+fn script_over(
+    alloc: Global,
+    topology: Topology,
+    modules: Vec<Box<dyn Module + Send>>,
+    narrow: Kept,
+    lines: &[Line<'_>],
+) -> Result<String, WideFault>
+    ensures { string_len narrow.script ≤ 1_048_576
+        → IfOk result (λ script. string_len script ≤ 1_048_576) }
+{
+    let mut narrow = narrow;
+    let played = play_over(alloc, topology, modules, &mut narrow, lines);
+    let script = mem::replace(&mut narrow.script, String::new(alloc));
+    // (one place to give it up is one to prove)
+    drop(narrow);
+    match played {
+        Ok(()) => Ok(script),
+        Err(fault) => Err(fault),
+    }
+}
+
+// The same before anything was played.
+fn first_script(
+    alloc: Global,
+    topology: Topology,
+    modules: Vec<Box<dyn Module + Send>>,
+    lines: &[Line<'_>],
+) -> Result<String, WideFault>
+    ensures { IfOk result (λ script. string_len script ≤ 1_048_576) }
+{
+    match first_kept(alloc, &topology) {
+        Ok(narrow) => script_over(alloc, topology, modules, narrow, lines),
+        Err(NoMemory) => Err(WideFault::NoMemory),
+    }
+}
+
 /// The script of `cipbridge` that a wide script over the modules of a topology is, in its order and
 /// each as at its beginning. It is played over a world to find the frames that it names, and to see
 /// that what it expects comes. Line is the first line, from 1, that is faulty or not as expected;
@@ -618,23 +741,8 @@ pub fn narrow(
     ensures ascii { IfOk result (λ _. IsAscii wide.now) }
     ensures short { IfOk result (λ script. string_len script ≤ 1_048_576) }
 {
-    let text = ascii_of(alloc, wide)?;
-    let lines = lines_of(alloc, text)?;
-    check_blocks(alloc, lines.as_slice())?;
-    let names = names_of(alloc, &topology)?;
-    let ops = Ops::new(alloc, names.len())?;
-    // Of new modules memory alone can be wanting.
-    let Ok(mut world) = World::new(alloc, topology, modules) else {
-        return Err(WideFault::NoMemory);
-    };
-    let mut narrow = Kept {
-        names,
-        ops,
-        script: String::new(alloc),
-        ends: Ends::new(alloc),
-        outages: Outages::new(alloc),
-        refused: None,
-    };
-    play_all(alloc, &mut world, &mut narrow, lines.as_slice())?;
-    Ok(narrow.script)
+    match lines_in(alloc, wide) {
+        Ok(lines) => first_script(alloc, topology, modules, lines.as_slice()),
+        Err(fault) => Err(fault),
+    }
 }
