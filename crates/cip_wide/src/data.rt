@@ -53,6 +53,10 @@ fn expect_datum(
     }
 }
 
+fn op_place(topology: &Topology, op: Named<'_>) -> Place {
+    Place::Op(OpName::of_word(topology, op.word, op.at, op.number))
+}
+
 /// `arrived OP BYTES`
 pub(crate) fn expect_arrived(
     alloc: Global,
@@ -60,14 +64,22 @@ pub(crate) fn expect_arrived(
     op: Named<'_>,
     word: &str,
 ) -> Result<(), LineError> {
-    let name = OpName::of_word(world.topology(), op.word, op.at, op.number);
     match newest_arrived(world.journal(), op.at, op.number) {
-        Some(found) => expect_datum(alloc, "arrived", Place::Op(name), found.as_slice(), word),
+        Some(found) => {
+            let found = found.as_slice();
+            expect_datum(
+                alloc,
+                "arrived",
+                op_place(world.topology(), op),
+                found,
+                word,
+            )
+        }
         None => {
-            let _bytes = bytes_of(alloc, word)?;
+            drop(bytes_of(alloc, word)?);
             Err(unmet(Unmet::NoDatum {
                 kind: "arrived",
-                place: Place::Op(name),
+                place: op_place(world.topology(), op),
             }))
         }
     }
@@ -82,14 +94,15 @@ fn consumed<'a>(
     instance: u32,
     word: &str,
 ) -> Result<Datum<'a>, LineError> {
-    let place = assembly_place(world.topology(), at, instance);
     match newest_consumed(world.journal(), at, instance) {
         Some(datum) => {
+            let place = assembly_place(world.topology(), at, instance);
             expect_datum(alloc, kind, place, datum.bytes.as_slice(), word)?;
             Ok(datum)
         }
         None => {
-            let _bytes = bytes_of(alloc, word)?;
+            drop(bytes_of(alloc, word)?);
+            let place = assembly_place(world.topology(), at, instance);
             Err(unmet(Unmet::NoDatum { kind, place }))
         }
     }

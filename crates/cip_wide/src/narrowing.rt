@@ -15,7 +15,7 @@ use crate::plain::{NewOp, Plain, plain_line};
 use cip_base::{Bytes, NoMemory};
 use cip_ends::Ends;
 use cip_module::Module;
-use cip_outcomes::{Ops, is_refused, module_text, nearest, refusal_of};
+use cip_outcomes::{Near, Ops, is_refused, module_text, nearest, refusal_of};
 use cip_script::{
     Mode, PlayFault, ScriptFault, Step, StepsFault, explain, play_step, read_steps, usage_of,
 };
@@ -47,24 +47,33 @@ struct Kept {
     refused: Option<usize>,
 }
 
-// What is wrong with a line that stands in no script, or stops there.
+// The modules that there are, and the one nearest to that of a line.
+fn modules_near(alloc: Global, world: &World, line: &str) -> Result<(String, Near), NoMemory> {
+    let names = module_names(alloc, world.topology())?;
+    let name = line.split(' ').nth(1).unwrap_or("");
+    let near = nearest(alloc, name, names.as_slice())?;
+    Ok((listed(alloc, names.as_slice())?, near))
+}
+
+// What is wrong with a line that stands in no script, or stops there, and how that is explained.
 fn script_fault(
     alloc: Global,
     world: &World,
     line: &str,
     fault: ScriptFault,
 ) -> Result<LineFault, NoMemory> {
-    let explained = explain(alloc, line.as_bytes(), 1, fault)?;
     match fault {
         ScriptFault::NoModule => {
-            let names = module_names(alloc, world.topology())?;
-            let name = line.split(' ').nth(1).unwrap_or("");
-            let near = nearest(alloc, name, names.as_slice())?;
-            let names = listed(alloc, names.as_slice())?;
+            let (names, near) = modules_near(alloc, world, line)?;
+            let explained = explain(alloc, line.as_bytes(), 1, fault)?;
             Ok(LineFault::NoModule(explained, names, near))
         }
-        ScriptFault::NoFrame => Ok(LineFault::NoFrame(explained, world.waiting()?)),
-        _ => Ok(LineFault::Script(explained)),
+        ScriptFault::NoFrame => {
+            let waiting = world.waiting()?;
+            let explained = explain(alloc, line.as_bytes(), 1, fault)?;
+            Ok(LineFault::NoFrame(explained, waiting))
+        }
+        _ => Ok(LineFault::Script(explain(alloc, line.as_bytes(), 1, fault)?)),
     }
 }
 
@@ -116,6 +125,14 @@ fn note(ops: &mut Ops, new: NewOp) -> Result<(), NoMemory> {
     }
 }
 
+// The same where a line asks for one.
+fn note_new(ops: &mut Ops, new: Option<NewOp>) -> Result<(), NoMemory> {
+    match new {
+        Some(new) => note(ops, new),
+        None => Ok(()),
+    }
+}
+
 // A step is played, and its line stands in the script.
 fn play_put(
     alloc: Global,
@@ -150,12 +167,14 @@ fn play_noted(
         → IfOk result (λ _. string_len narrow.new.script ≤ 1_048_576) }
 {
     let step = step_of(alloc, world, narrow.names.as_slice(), line)?;
-    if let Some(new) = new {
-        note(&mut narrow.ops, new)?;
-    }
-    match step {
-        Some(step) => play_put(alloc, world, narrow, step, line),
-        None => Ok(()),
+    let noted = note_new(&mut narrow.ops, new);
+    match (noted, step) {
+        (Ok(()), Some(step)) => play_put(alloc, world, narrow, step, line),
+        (Ok(()), None) => Ok(()),
+        (Err(NoMemory), step) => {
+            drop(step);
+            Err(LineError::NoMemory)
+        }
     }
 }
 

@@ -12,22 +12,26 @@ use std::sync::Wait;
 use std::test::Fail;
 use std::thread::Threads;
 
-// New modules of a topology, each as a box of any module: a function can't hand such boxes out.
-macro_rules! boxes {
-    ($alloc:ident, $topology:expr) => {{
-        let mut modules: Vec<Box<dyn Module + Send>> = Vec::new($alloc);
-        for new in new_modules($alloc, $topology.configs())? {
-            let pushed = match new {
-                NewModule::Plain(module_) => modules.push(module_),
-                NewModule::Adapter(module_) => modules.push(module_),
-                NewModule::Indexed(module_) => modules.push(module_),
-            };
-            if pushed.is_err() {
-                return Err(NoMemory.into());
-            }
-        }
-        modules
-    }};
+// One more box of any module.
+fn put_box(modules: &mut Vec<Box<dyn Module + Send>>, new: NewModule) -> Result<(), NoMemory> {
+    let pushed = match new {
+        NewModule::Plain(module_) => modules.push(module_),
+        NewModule::Adapter(module_) => modules.push(module_),
+        NewModule::Indexed(module_) => modules.push(module_),
+    };
+    match pushed {
+        Ok(()) => Ok(()),
+        Err(_) => Err(NoMemory),
+    }
+}
+
+// New modules of a topology, each as a box of any module.
+fn boxes(alloc: Global, topology: &Topology) -> Result<Vec<Box<dyn Module + Send>>, NoMemory> {
+    let mut modules = Vec::new(alloc);
+    for new in new_modules(alloc, topology.configs())? {
+        put_box(&mut modules, new)?;
+    }
+    Ok(modules)
 }
 
 /// Runs a script over new modules of a topology.
@@ -37,7 +41,7 @@ pub fn run_new<R: Source, W: Sink>(
     writer: &mut W,
     topology: Topology,
 ) -> Result<(), ConsoleFault> {
-    let modules = boxes!(alloc, topology);
+    let modules = boxes(alloc, &topology)?;
     run(alloc, reader, writer, topology, modules)
 }
 
@@ -65,7 +69,7 @@ pub fn run_chassis_live<T: Threads + Wait + Sync>(
     let Some(topology) = load(alloc, CHASSIS).ok() else {
         return Err(ConsoleFault::NoMemory);
     };
-    let modules = boxes!(alloc, topology);
+    let modules = boxes(alloc, &topology)?;
     run_live(
         rt, alloc, reader, writer, topology, modules, turns, &OpenGate,
     )
@@ -106,12 +110,7 @@ fn chassis(alloc: Global) -> Result<Topology, Fail> {
     Ok(load(alloc, CHASSIS).ok().ok_or("no chassis")?)
 }
 
-fn changed(
-    alloc: Global,
-    topology: &Topology,
-    change: Change,
-) -> Result<Vec<Box<dyn Module + Send>>, Fail> {
-    let mut modules = boxes!(alloc, topology);
+fn make_change(modules: &mut Vec<Box<dyn Module + Send>>, change: Change) -> Result<(), Fail> {
     match change {
         Change::OneLess => {
             let _ = modules.pop();
@@ -129,6 +128,16 @@ fn changed(
             }
         }
     }
+    Ok(())
+}
+
+fn changed(
+    alloc: Global,
+    topology: &Topology,
+    change: Change,
+) -> Result<Vec<Box<dyn Module + Send>>, Fail> {
+    let mut modules = boxes(alloc, topology)?;
+    make_change(&mut modules, change)?;
     Ok(modules)
 }
 

@@ -1,6 +1,6 @@
 //! Topologies, and their modules in boxes.
-use cip_indexed::IndexedModule;
-use cip_module::{AdapterModule, Module, ModuleConfig, ModuleKind, PlainModule};
+use cip_indexed::NewModule;
+use cip_module::{Module, ModuleConfig};
 use cip_topology::{CHASSIS, Topology, load};
 use std::alloc::Global;
 use std::test::Fail;
@@ -17,24 +17,13 @@ pub fn chassis(alloc: Global) -> Result<Topology, Fail> {
 
 /// A new module of a config.
 pub fn boxed(alloc: Global, config: &ModuleConfig) -> Option<Box<dyn Module + Send>> {
-    let config = config.copy(alloc).ok()?;
-    match config.settings().kind {
-        ModuleKind::Plain => {
-            let module_ = PlainModule::new(alloc, config).ok()?;
-            let boxed: Box<dyn Module + Send> = Box::new(alloc, module_).ok()?;
-            Some(boxed)
-        }
-        ModuleKind::Adapter => {
-            let module_ = AdapterModule::new(alloc, config).ok()?;
-            let boxed: Box<dyn Module + Send> = Box::new(alloc, module_).ok()?;
-            Some(boxed)
-        }
-        ModuleKind::Indexed => {
-            let module_ = IndexedModule::new(alloc, config).ok()?;
-            let boxed: Box<dyn Module + Send> = Box::new(alloc, module_).ok()?;
-            Some(boxed)
-        }
-    }
+    let new = NewModule::new(alloc, config.copy(alloc).ok()?).ok()?;
+    let boxed: Box<dyn Module + Send> = match new {
+        NewModule::Plain(module_) => module_,
+        NewModule::Adapter(module_) => module_,
+        NewModule::Indexed(module_) => module_,
+    };
+    Some(boxed)
 }
 
 /// New modules of the topology, in its order.
