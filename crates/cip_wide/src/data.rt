@@ -3,7 +3,6 @@
 use crate::fault::{LineError, unmet};
 use crate::reading::{Named, bytes_of, instance_of};
 use cip_base::{Bytes, ModuleId};
-use cip_module::AssemblyRow;
 use cip_outcomes::{
     Counted, Datum, Differing, OpName, Place, Unmet, module_name, newest_arrived, newest_consumed,
     standing_of,
@@ -53,10 +52,6 @@ fn expect_datum(
     }
 }
 
-fn op_place(topology: &Topology, op: Named<'_>) -> Place {
-    Place::Op(OpName::of_word(topology, op.word, op.at, op.number))
-}
-
 /// `arrived OP BYTES`
 pub(crate) fn expect_arrived(
     alloc: Global,
@@ -64,22 +59,14 @@ pub(crate) fn expect_arrived(
     op: Named<'_>,
     word: &str,
 ) -> Result<(), LineError> {
+    let name = OpName::of_word(world.topology(), op.word, op.at, op.number);
     match newest_arrived(world.journal(), op.at, op.number) {
-        Some(found) => {
-            let found = found.as_slice();
-            expect_datum(
-                alloc,
-                "arrived",
-                op_place(world.topology(), op),
-                found,
-                word,
-            )
-        }
+        Some(found) => expect_datum(alloc, "arrived", Place::Op(name), found.as_slice(), word),
         None => {
-            drop(bytes_of(alloc, word)?);
+            let _bytes = bytes_of(alloc, word)?;
             Err(unmet(Unmet::NoDatum {
                 kind: "arrived",
-                place: op_place(world.topology(), op),
+                place: Place::Op(name),
             }))
         }
     }
@@ -94,15 +81,14 @@ fn consumed<'a>(
     instance: u32,
     word: &str,
 ) -> Result<Datum<'a>, LineError> {
+    let place = assembly_place(world.topology(), at, instance);
     match newest_consumed(world.journal(), at, instance) {
         Some(datum) => {
-            let place = assembly_place(world.topology(), at, instance);
             expect_datum(alloc, kind, place, datum.bytes.as_slice(), word)?;
             Ok(datum)
         }
         None => {
-            drop(bytes_of(alloc, word)?);
-            let place = assembly_place(world.topology(), at, instance);
+            let _bytes = bytes_of(alloc, word)?;
             Err(unmet(Unmet::NoDatum { kind, place }))
         }
     }
@@ -155,24 +141,6 @@ fn no_assembly(topology: &Topology, at: ModuleId, instance: u32) -> LineError {
     })
 }
 
-// The same among the assemblies of a module.
-fn expect_among(
-    alloc: Global,
-    topology: &Topology,
-    at: ModuleId,
-    number: u32,
-    rows: &[AssemblyRow],
-    word: &str,
-) -> Result<(), LineError> {
-    for row in rows {
-        if u32::from(row.instance) == number {
-            let place = assembly_place(topology, at, number);
-            return expect_datum(alloc, "assembly", place, row.bytes.as_slice(), word);
-        }
-    }
-    Err(no_assembly(topology, at, number))
-}
-
 /// `assembly M INSTANCE BYTES`
 pub(crate) fn expect_assembly(
     alloc: Global,
@@ -185,12 +153,16 @@ pub(crate) fn expect_assembly(
 {
     let number = instance_of(instance)?;
     let topology = world.topology();
-    match world.tables(at) {
-        Ok(tables) => {
-            let rows = tables.assemblies.as_slice();
-            expect_among(alloc, topology, at, number, rows, word)
+    let tables = match world.tables(at) {
+        Ok(tables) => tables,
+        Err(WorldFault::NoMemory) => return Err(LineError::NoMemory),
+        Err(_) => return Err(no_assembly(topology, at, number)),
+    };
+    for row in tables.assemblies.as_slice() {
+        if u32::from(row.instance) == number {
+            let place = assembly_place(topology, at, number);
+            return expect_datum(alloc, "assembly", place, row.bytes.as_slice(), word);
         }
-        Err(WorldFault::NoMemory) => Err(LineError::NoMemory),
-        Err(_) => Err(no_assembly(topology, at, number)),
     }
+    Err(no_assembly(topology, at, number))
 }

@@ -91,28 +91,26 @@ fn expect_part(
     number: u16,
     word: &str,
 ) -> Result<(), LineError> {
+    let name = name_of(world, op);
     let Ok(view) = read_reply(reply.as_slice()) else {
         return Err(unmet(Unmet::NoReply {
             kind: "attribute",
-            op: name_of(world, op),
+            op: name,
         }));
     };
     if let Some(found) = failure_of(reply) {
         return Err(unmet(Unmet::Failed {
-            op: name_of(world, op),
+            op: name,
             found,
             answer: answer_of(world, op.at, op.number, found, false),
         }));
     }
     let Some(part) = attribute_of(world.journal(), op.at, op.number, view, number) else {
-        return Err(unmet(Unmet::NoAttribute {
-            op: name_of(world, op),
-            number,
-        }));
+        return Err(unmet(Unmet::NoAttribute { op: name, number }));
     };
     match differing(alloc, part, word)? {
         Some(bytes) => Err(unmet(Unmet::Attribute {
-            op: name_of(world, op),
+            op: name,
             number,
             bytes,
         })),

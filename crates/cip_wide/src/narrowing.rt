@@ -15,7 +15,7 @@ use crate::plain::{NewOp, Plain, plain_line};
 use cip_base::{Bytes, NoMemory};
 use cip_ends::Ends;
 use cip_module::Module;
-use cip_outcomes::{Near, Ops, is_refused, module_text, nearest, refusal_of};
+use cip_outcomes::{Ops, is_refused, module_text, nearest, refusal_of};
 use cip_script::{
     Mode, PlayFault, ScriptFault, Step, StepsFault, explain, play_step, read_steps, usage_of,
 };
@@ -23,7 +23,6 @@ use cip_topology::Topology;
 use cip_transcript::names_of;
 use cip_world::{FrameName, Shown, World};
 use std::alloc::{AllocError, Global};
-use std::mem;
 
 // How many lines are played at most.
 const MOST_LINES: usize = 1_000_000;
@@ -47,33 +46,24 @@ struct Kept {
     refused: Option<usize>,
 }
 
-// The modules that there are, and the one nearest to that of a line.
-fn modules_near(alloc: Global, world: &World, line: &str) -> Result<(String, Near), NoMemory> {
-    let names = module_names(alloc, world.topology())?;
-    let name = line.split(' ').nth(1).unwrap_or("");
-    let near = nearest(alloc, name, names.as_slice())?;
-    Ok((listed(alloc, names.as_slice())?, near))
-}
-
-// What is wrong with a line that stands in no script, or stops there, and how that is explained.
+// What is wrong with a line that stands in no script, or stops there.
 fn script_fault(
     alloc: Global,
     world: &World,
     line: &str,
     fault: ScriptFault,
 ) -> Result<LineFault, NoMemory> {
+    let explained = explain(alloc, line.as_bytes(), 1, fault)?;
     match fault {
         ScriptFault::NoModule => {
-            let (names, near) = modules_near(alloc, world, line)?;
-            let explained = explain(alloc, line.as_bytes(), 1, fault)?;
+            let names = module_names(alloc, world.topology())?;
+            let name = line.split(' ').nth(1).unwrap_or("");
+            let near = nearest(alloc, name, names.as_slice())?;
+            let names = listed(alloc, names.as_slice())?;
             Ok(LineFault::NoModule(explained, names, near))
         }
-        ScriptFault::NoFrame => {
-            let waiting = world.waiting()?;
-            let explained = explain(alloc, line.as_bytes(), 1, fault)?;
-            Ok(LineFault::NoFrame(explained, waiting))
-        }
-        _ => Ok(LineFault::Script(explain(alloc, line.as_bytes(), 1, fault)?)),
+        ScriptFault::NoFrame => Ok(LineFault::NoFrame(explained, world.waiting()?)),
+        _ => Ok(LineFault::Script(explained)),
     }
 }
 
@@ -125,59 +115,6 @@ fn note(ops: &mut Ops, new: NewOp) -> Result<(), NoMemory> {
     }
 }
 
-// The same where a line asks for one.
-fn note_new(ops: &mut Ops, new: Option<NewOp>) -> Result<(), NoMemory> {
-    match new {
-        Some(new) => note(ops, new),
-        None => Ok(()),
-    }
-}
-
-// A step is played, and its line stands in the script.
-fn play_put(
-    alloc: Global,
-    world: &mut World,
-    narrow: &mut Kept,
-    step: Step,
-    line: &str,
-) -> Result<(), LineError>
-    requires stand { ⟦<World as Shown>⟧.stands world.old }
-    ensures stand { ⟦<World as Shown>⟧.stands world.new }
-    ensures short { string_len narrow.old.script ≤ 1_048_576
-        → IfOk result (λ _. string_len narrow.new.script ≤ 1_048_576) }
-{
-    match play_step(world, step) {
-        Ok(()) => put_line(narrow, line),
-        Err(PlayFault::Stopped(fault)) => Err(stopped(alloc, world, line, fault)),
-        Err(PlayFault::NoMemory) => Err(LineError::NoMemory),
-    }
-}
-
-// A line that stands in the script is played, and the op that it asks for is noted.
-fn play_noted(
-    alloc: Global,
-    world: &mut World,
-    narrow: &mut Kept,
-    line: &str,
-    new: Option<NewOp>,
-) -> Result<(), LineError>
-    requires stand { ⟦<World as Shown>⟧.stands world.old }
-    ensures stand { ⟦<World as Shown>⟧.stands world.new }
-    ensures short { string_len narrow.old.script ≤ 1_048_576
-        → IfOk result (λ _. string_len narrow.new.script ≤ 1_048_576) }
-{
-    let step = step_of(alloc, world, narrow.names.as_slice(), line)?;
-    let noted = note_new(&mut narrow.ops, new);
-    match (noted, step) {
-        (Ok(()), Some(step)) => play_put(alloc, world, narrow, step, line),
-        (Ok(()), None) => Ok(()),
-        (Err(NoMemory), step) => {
-            drop(step);
-            Err(LineError::NoMemory)
-        }
-    }
-}
-
 // A line that stands in the script is played.
 fn play_plain(
     alloc: Global,
@@ -191,7 +128,18 @@ fn play_plain(
         → IfOk result (λ _. string_len narrow.new.script ≤ 1_048_576) }
 {
     let Plain { line, new } = plain;
-    play_noted(alloc, world, narrow, line.as_str(), new)
+    let step = step_of(alloc, world, narrow.names.as_slice(), line.as_str())?;
+    if let Some(new) = new {
+        note(&mut narrow.ops, new)?;
+    }
+    let Some(step) = step else {
+        return Ok(());
+    };
+    match play_step(world, step) {
+        Ok(()) => put_line(narrow, line.as_str()),
+        Err(PlayFault::Stopped(fault)) => Err(stopped(alloc, world, line.as_str(), fault)),
+        Err(PlayFault::NoMemory) => Err(LineError::NoMemory),
+    }
 }
 
 // A frame is lost, behind a comment that says why.
@@ -467,13 +415,10 @@ fn limit_of(
 ) -> Result<usize, LineError> {
     let mut line = String::from_str(alloc, "run ")?;
     line.push_str(limit)?;
-    let step = step_of(alloc, world, names, line.as_str())?;
-    let limit = match &step {
-        Some(Step::Run { limit }) => *limit,
-        _ => 0,
-    };
-    drop(step);
-    Ok(limit)
+    match step_of(alloc, world, names, line.as_str())? {
+        Some(Step::Run { limit }) => Ok(limit),
+        _ => Ok(0),
+    }
 }
 
 // A line `run N` while links are down. What it says in the end comes of `run 0`.
@@ -539,8 +484,7 @@ fn refused_at(world: &World, ops: &Ops, number: usize) -> WideFault
 {
     match refusal_of(world, ops) {
         Ok(Some(refusal)) => WideFault::Line(number, LineFault::Refused(refusal)),
-        Ok(None) => WideFault::NoMemory,
-        Err(_) => WideFault::NoMemory,
+        _ => WideFault::NoMemory,
     }
 }
 
@@ -660,92 +604,6 @@ fn ascii_of(alloc: Global, wide: &[u8]) -> Result<&str, WideFault>
     }
 }
 
-// The lines of a wide script, whose blocks have their ends.
-fn lines_in(alloc: Global, wide: &[u8]) -> Result<Vec<Line<'_>>, WideFault>
-    ensures { IfOk result (λ _. IsAscii wide.now) }
-{
-    let text = ascii_of(alloc, wide)?;
-    let lines = lines_of(alloc, text)?;
-    match check_blocks(alloc, lines.as_slice()) {
-        Ok(()) => Ok(lines),
-        Err(fault) => Err(fault),
-    }
-}
-
-// What is kept before the first line.
-fn first_kept(alloc: Global, topology: &Topology) -> Result<Kept, NoMemory>
-    ensures { IfOk result (λ kept. string_len kept.script ≤ 1_048_576) }
-{
-    let names = names_of(alloc, topology)?;
-    let ops = Ops::new(alloc, names.len())?;
-    Ok(Kept {
-        names,
-        ops,
-        script: String::new(alloc),
-        ends: Ends::new(alloc),
-        outages: Outages::new(alloc),
-        refused: None,
-    })
-}
-
-// The lines are played over the modules of a topology.
-fn play_over(
-    alloc: Global,
-    topology: Topology,
-    modules: Vec<Box<dyn Module + Send>>,
-    narrow: &mut Kept,
-    lines: &[Line<'_>],
-) -> Result<(), WideFault>
-    ensures { string_len narrow.old.script ≤ 1_048_576
-        → IfOk result (λ _. string_len narrow.new.script ≤ 1_048_576) }
-{
-    match World::new(alloc, topology, modules) {
-        Ok(world) => {
-            let mut world = world;
-            play_all(alloc, &mut world, narrow, lines)
-        }
-        // Of new modules memory alone can be wanting.
-        Err(_) => Err(WideFault::NoMemory),
-    }
-}
-
-// The script that lines over the modules of a topology are.
-fn script_over(
-    alloc: Global,
-    topology: Topology,
-    modules: Vec<Box<dyn Module + Send>>,
-    narrow: Kept,
-    lines: &[Line<'_>],
-) -> Result<String, WideFault>
-    ensures { string_len narrow.script ≤ 1_048_576
-        → IfOk result (λ script. string_len script ≤ 1_048_576) }
-{
-    let mut narrow = narrow;
-    let played = play_over(alloc, topology, modules, &mut narrow, lines);
-    let script = mem::replace(&mut narrow.script, String::new(alloc));
-    // (one place to give it up is one to prove)
-    drop(narrow);
-    match played {
-        Ok(()) => Ok(script),
-        Err(fault) => Err(fault),
-    }
-}
-
-// The same before anything was played.
-fn first_script(
-    alloc: Global,
-    topology: Topology,
-    modules: Vec<Box<dyn Module + Send>>,
-    lines: &[Line<'_>],
-) -> Result<String, WideFault>
-    ensures { IfOk result (λ script. string_len script ≤ 1_048_576) }
-{
-    match first_kept(alloc, &topology) {
-        Ok(narrow) => script_over(alloc, topology, modules, narrow, lines),
-        Err(NoMemory) => Err(WideFault::NoMemory),
-    }
-}
-
 /// The script of `cipbridge` that a wide script over the modules of a topology is, in its order and
 /// each as at its beginning. It is played over a world to find the frames that it names, and to see
 /// that what it expects comes. Line is the first line, from 1, that is faulty or not as expected;
@@ -760,8 +618,23 @@ pub fn narrow(
     ensures ascii { IfOk result (λ _. IsAscii wide.now) }
     ensures short { IfOk result (λ script. string_len script ≤ 1_048_576) }
 {
-    match lines_in(alloc, wide) {
-        Ok(lines) => first_script(alloc, topology, modules, lines.as_slice()),
-        Err(fault) => Err(fault),
-    }
+    let text = ascii_of(alloc, wide)?;
+    let lines = lines_of(alloc, text)?;
+    check_blocks(alloc, lines.as_slice())?;
+    let names = names_of(alloc, &topology)?;
+    let ops = Ops::new(alloc, names.len())?;
+    // Of new modules memory alone can be wanting.
+    let Ok(mut world) = World::new(alloc, topology, modules) else {
+        return Err(WideFault::NoMemory);
+    };
+    let mut narrow = Kept {
+        names,
+        ops,
+        script: String::new(alloc),
+        ends: Ends::new(alloc),
+        outages: Outages::new(alloc),
+        refused: None,
+    };
+    play_all(alloc, &mut world, &mut narrow, lines.as_slice())?;
+    Ok(narrow.script)
 }

@@ -146,81 +146,6 @@ fn entered_op(ops: &Ops, at: ModuleId, args: &[&str]) -> Option<u32> {
     }
 }
 
-// What the words of a line are read with.
-#[derive(Clone, Copy)]
-struct Reading<'a> {
-    alloc: Global,
-    world: &'a World,
-    ops: &'a Ops,
-    // the first word, those behind it, and the module that the line is for
-    word: &'a str,
-    args: &'a [&'a str],
-    at: Option<ModuleId>,
-}
-
-// The number of the op that the line asks for by this word.
-fn put_new_op(
-    ops: &Ops,
-    at: ModuleId,
-    word: &str,
-    found: &str,
-    plain: &mut Plain,
-) -> Result<(), LineError> {
-    plain.new = new_op(ops, at, word, found)?;
-    let number = match &plain.new {
-        Some(op) => Some(op.number),
-        None => None,
-    };
-    match number {
-        Some(number) => write!(plain.line, "{number}")?,
-        None => plain.line.push_str(found)?,
-    }
-    Ok(())
-}
-
-// The next word of a line, whose name in the usage is this field.
-fn put_word(
-    reading: Reading<'_>,
-    field: &str,
-    found: &str,
-    plain: &mut Plain,
-) -> Result<(), LineError> {
-    let Reading {
-        alloc,
-        ops,
-        word,
-        ..
-    } = reading;
-    match (field, reading.at) {
-        ("OP", Some(at)) if asks(word) => put_new_op(ops, at, word, found, plain),
-        ("OP", Some(at)) => put_old_op(alloc, ops, at, word, "OP", found, &mut plain.line),
-        ("OF", Some(at)) => put_old_op(alloc, ops, at, word, "OF", found, &mut plain.line),
-        ("BYTES", Some(at)) if word == "enter" => {
-            let of = entered_op(ops, at, reading.args);
-            put_datum(reading.world.journal(), at, of, found, &mut plain.line)
-        }
-        ("PATH", _) => put_path(alloc, word, found, &mut plain.line),
-        _ => {
-            plain.line.push_str(found)?;
-            Ok(())
-        }
-    }
-}
-
-// The words behind the first one, each behind a space.
-fn put_words(
-    reading: Reading<'_>,
-    usage: &'static str,
-    plain: &mut Plain,
-) -> Result<(), LineError> {
-    let mut fields = usage.split(' ');
-    for found in reading.args {
-        plain.line.push(' ')?;
-        put_word(reading, fields.next().unwrap_or(""), found, plain)?;
-    }
-    Ok(())
-}
-
 /// The line of these words, of which the names of the words behind the first one are the usage.
 pub(crate) fn plain_line(
     alloc: Global,
@@ -230,21 +155,30 @@ pub(crate) fn plain_line(
     usage: &'static str,
     args: &[&str],
 ) -> Result<Plain, LineError> {
-    let mut plain = Plain {
-        line: String::from_str(alloc, word)?,
-        new: None,
-    };
+    let mut line = String::from_str(alloc, word)?;
+    let mut new = None;
+    let mut fields = usage.split(' ');
     let at = module_of(world.topology(), args);
-    let reading = Reading {
-        alloc,
-        world,
-        ops,
-        word,
-        args,
-        at,
-    };
-    match put_words(reading, usage, &mut plain) {
-        Ok(()) => Ok(plain),
-        Err(fault) => Err(fault),
+    for found in args {
+        let field = fields.next().unwrap_or("");
+        line.push(' ')?;
+        match (field, at) {
+            ("OP", Some(at)) if asks(word) => {
+                new = new_op(ops, at, word, found)?;
+                match &new {
+                    Some(op) => write!(line, "{}", op.number)?,
+                    None => line.push_str(found)?,
+                }
+            }
+            ("OP", Some(at)) => put_old_op(alloc, ops, at, word, "OP", found, &mut line)?,
+            ("OF", Some(at)) => put_old_op(alloc, ops, at, word, "OF", found, &mut line)?,
+            ("BYTES", Some(at)) if word == "enter" => {
+                let of = entered_op(ops, at, args);
+                put_datum(world.journal(), at, of, found, &mut line)?
+            }
+            ("PATH", _) => put_path(alloc, word, found, &mut line)?,
+            _ => line.push_str(found)?,
+        }
     }
+    Ok(Plain { line, new })
 }

@@ -68,14 +68,9 @@ fn ran<T: Threads + Wait + Sync>(
     let begun = out.begin(guard);
     let turns = asked.turns;
     let report = run_threads(workers, alloc, topology, modules, feeds, turns, &OpenGate);
-    let ended = match begun {
-        Ok(()) => out.end(guard),
-        Err(fault) => Err(fault),
-    };
-    match ended {
-        Ok(()) => Ok(report),
-        Err(fault) => Err(fault),
-    }
+    begun?;
+    out.end(guard)?;
+    Ok(report)
 }
 
 // Where the request of the first module's op 1 went, and what the last entry there came from.
@@ -110,43 +105,6 @@ fn told(alloc: Global, names: &[Bytes], report: &Report) -> Result<Vec<u8>, Faul
     Ok(text)
 }
 
-// What comes of a run, and its end, which is told in the end.
-fn put_run(out: &mut Out, names: &[Bytes], report: &Result<Report, RunFault>) -> Result<(), Fault> {
-    let alloc = out.alloc();
-    match report {
-        Ok(report) => out.put_bytes(told(alloc, names, report)?.as_slice()),
-        Err(fault) => {
-            let told = format!(in alloc; "{fault}\n")?;
-            out.put(told.as_str())
-        }
-    }
-}
-
-// Why a run is made anew.
-fn is_anew(report: &Result<Report, RunFault>) -> Option<RunFault> {
-    match report {
-        Err(RunFault::NoMemory) => Some(RunFault::NoMemory),
-        Err(RunFault::NoThread) => Some(RunFault::NoThread),
-        _ => None,
-    }
-}
-
-// The same run, of which nothing is refused, behind what was.
-fn run_anew<T: Threads + Wait + Sync>(
-    out: &mut Out,
-    workers: &T,
-    plant: Plant,
-    names: &[Bytes],
-    asked: &LiveRun,
-    fault: RunFault,
-) -> Result<(), Fault> {
-    let alloc = out.alloc();
-    let told = format!(in alloc; "{fault}\nanew\n")?;
-    out.put(told.as_str())?;
-    let report = ran(out, workers, plant, asked, Guard::Nothing)?;
-    put_run(out, names, &report)
-}
-
 /// Runs modules on threads between the marks. Where memory is refused, or no thread is made, the
 /// lines tell so, and all is made `anew` for the same run without marks.
 pub fn run_live<T: Threads + Wait + Sync>(
@@ -156,10 +114,21 @@ pub fn run_live<T: Threads + Wait + Sync>(
     names: &[Bytes],
     asked: &LiveRun,
 ) -> Result<(), Fault> {
-    let report = ran(out, workers, plant, asked, Guard::Marks)?;
-    if let Some(fault) = is_anew(&report) {
-        drop(report);
-        return run_anew(out, workers, plant, names, asked, fault);
+    let alloc = out.alloc();
+    let mut report = ran(out, workers, plant, asked, Guard::Marks)?;
+    let refused = report.as_ref().err().copied();
+    if let Some(fault) = refused {
+        if fault == RunFault::NoMemory || fault == RunFault::NoThread {
+            let told = format!(in alloc; "{fault}\nanew\n")?;
+            out.put(told.as_str())?;
+            report = ran(out, workers, plant, asked, Guard::Nothing)?;
+        }
     }
-    put_run(out, names, &report)
+    match report {
+        Ok(report) => out.put_bytes(told(alloc, names, &report)?.as_slice()),
+        Err(fault) => {
+            let told = format!(in alloc; "{fault}\n")?;
+            out.put(told.as_str())
+        }
+    }
 }

@@ -16,6 +16,7 @@ use std::alloc::Global;
 use std::collections::BTreeMap;
 
 /// The chart of a run, or of a part of it.
+#[derive(Drop)]
 pub struct ChartView<'a> {
     pub(crate) topology: &'a Topology,
     pub(crate) columns: Vec<Option<usize>>,
@@ -34,27 +35,6 @@ pub struct ChartView<'a> {
     entry: usize,
     row: Option<usize>,
     out: String,
-}
-
-impl Drop for ChartView<'_> {
-    fn drop(self) {
-        let ChartView {
-            topology: _,
-            columns: _,
-            rows: _,
-            arrows: _,
-            marks: _,
-            notes: _,
-            book: _,
-            cut: _,
-            is_page: _,
-            flying: _,
-            times: _,
-            entry: _,
-            row: _,
-            out: _,
-        } = self;
-    }
 }
 
 impl<'a> ChartView<'a> {

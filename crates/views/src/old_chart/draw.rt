@@ -1,6 +1,6 @@
 //! The chart as SVG.
 use crate::old_chart::areas::{Areas, width_of};
-use crate::old_chart::arrows::{Shown, put_arrows, take_arrows};
+use crate::old_chart::arrows::{put_arrows, take_arrows};
 use crate::old_chart::collect::ChartView;
 use crate::old_chart::escape::put_escaped;
 use crate::old_chart::layout::{Heights, LEFT, MARK, SPACING};
@@ -57,69 +57,6 @@ fn put_head(width: u64, height: u64, out: &mut String) -> Result<(), NoMemory> {
     Ok(())
 }
 
-// What is drawn when all has its place.
-fn put_placed(
-    alloc: Global,
-    chart: &ChartView<'_>,
-    is_link: bool,
-    heights: &Heights,
-    sides: &Sides,
-    arrows: &[Shown],
-    right: u64,
-    out: &mut String,
-) -> Result<(), NoMemory> {
-    let end = heights.end();
-    let width = width_with(chart, right);
-    let notes = MARK.saturating_mul(chart.notes.len() as u64);
-    let height = end.saturating_add(20).saturating_add(notes);
-    put_head(width, height, out)?;
-    put_lives(chart, heights, body_of(chart.topology), out)?;
-    put_rows(chart, heights, width, out)?;
-    put_arrows(chart, arrows, is_link, out)?;
-    put_marks(alloc, chart, heights, sides, out)?;
-    put_notes(chart.notes.as_slice(), end, out)?;
-    out.push_str("</svg>\n")?;
-    Ok(())
-}
-
-// Rows and arrows take their places, and all is drawn.
-fn place_arrows(
-    alloc: Global,
-    chart: &ChartView<'_>,
-    is_link: bool,
-    heights: &Heights,
-    areas: &mut Areas,
-    sides: &mut Sides,
-    out: &mut String,
-) -> Result<(), NoMemory> {
-    take_rows(alloc, chart, heights, sides, areas)?;
-    let arrows = take_arrows(alloc, chart, heights, areas)?;
-    put_placed(
-        alloc,
-        chart,
-        is_link,
-        heights,
-        sides,
-        arrows.as_slice(),
-        areas.right,
-        out,
-    )
-}
-
-// Names take their places, and then the rest.
-fn place_names(
-    alloc: Global,
-    chart: &ChartView<'_>,
-    is_link: bool,
-    heights: &Heights,
-    areas: &mut Areas,
-    out: &mut String,
-) -> Result<(), NoMemory> {
-    take_names(chart, heights, areas)?;
-    let mut sides = Sides::of(alloc, chart, heights)?;
-    place_arrows(alloc, chart, is_link, heights, areas, &mut sides, out)
-}
-
 /// The chart as SVG, its arrows as links to what their messages say where that stands on a page.
 pub(crate) fn put_svg(
     alloc: Global,
@@ -127,7 +64,23 @@ pub(crate) fn put_svg(
     is_link: bool,
     out: &mut String,
 ) -> Result<(), NoMemory> {
-    let heights = Heights::of(alloc, chart.rows.as_slice(), body_of(chart.topology))?;
-    let mut areas = Areas::new(alloc, heights.end())?;
-    place_names(alloc, chart, is_link, &heights, &mut areas, out)
+    let body = body_of(chart.topology);
+    let heights = Heights::of(alloc, chart.rows.as_slice(), body)?;
+    let end = heights.end();
+    let mut areas = Areas::new(alloc, end)?;
+    take_names(chart, &heights, &mut areas)?;
+    let mut sides = Sides::of(alloc, chart, &heights)?;
+    take_rows(alloc, chart, &heights, &mut sides, &mut areas)?;
+    let arrows = take_arrows(alloc, chart, &heights, &mut areas)?;
+    let width = width_with(chart, areas.right);
+    let notes = MARK.saturating_mul(chart.notes.len() as u64);
+    let height = end.saturating_add(20).saturating_add(notes);
+    put_head(width, height, out)?;
+    put_lives(chart, &heights, body, out)?;
+    put_rows(chart, &heights, width, out)?;
+    put_arrows(chart, arrows.as_slice(), is_link, out)?;
+    put_marks(alloc, chart, &heights, &sides, out)?;
+    put_notes(chart.notes.as_slice(), end, out)?;
+    out.push_str("</svg>\n")?;
+    Ok(())
 }
