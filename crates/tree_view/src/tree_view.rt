@@ -6,28 +6,9 @@ use cip_decode::{Pairs, decode_reply, decode_request, reply_json, request_json, 
 use cip_event::{Body, Output};
 use cip_read::{CommandWord, FrameName, Given, Line};
 use cip_topology::Topology;
-use cip_view::{Book, Ending, Known, Label, NameText, Sent, View, drop_word, refusal_word};
-use serde_json::{Map, Value, json, put};
+use cip_view::{Book, Ending, Known, NameText, Sent, View, drop_word, refusal_word};
+use serde_json::{Value, json};
 use std::alloc::{AllocError, Global};
-use std::fmt;
-
-// One more member of an object that is made. So no value waits for the members before it, each of
-// which may be refused.
-fn member(
-    object: &mut Map<String, Value>,
-    alloc: Global,
-    key: &str,
-    value: Result<Value, AllocError>,
-) -> Result<(), AllocError> {
-    put(object, alloc, key, value?)
-}
-
-// An object of one member.
-fn alone(alloc: Global, key: &str, value: Result<Value, AllocError>) -> Result<Value, AllocError> {
-    let mut object = Map::new(alloc);
-    member(&mut object, alloc, key, value)?;
-    Ok(Value::Object(object))
-}
 
 fn pairs(alloc: Global, bytes: &[u8]) -> Result<Value, AllocError> {
     Ok(Value::String(format!(in alloc; "{}", Pairs(bytes))?))
@@ -35,15 +16,6 @@ fn pairs(alloc: Global, bytes: &[u8]) -> Result<Value, AllocError> {
 
 fn name_json(alloc: Global, name: &[u8]) -> Result<Value, AllocError> {
     Ok(Value::String(format!(in alloc; "{}", NameText(name))?))
-}
-
-// What can't be decoded.
-fn unreadable<T: fmt::Display + Drop>(alloc: Global, fault: T) -> Result<Value, AllocError> {
-    Ok(Value::String(format!(in alloc; "{fault}")?))
-}
-
-fn label_json(alloc: Global, label: &Label) -> Result<Value, AllocError> {
-    Ok(Value::String(format!(in alloc; "{label}")?))
 }
 
 fn frame_json(alloc: Global, frame: FrameName) -> Result<Value, AllocError> {
@@ -54,7 +26,10 @@ fn frame_json(alloc: Global, frame: FrameName) -> Result<Value, AllocError> {
 fn decoded_request(alloc: Global, bytes: &[u8]) -> Result<Value, AllocError> {
     match decode_request(bytes) {
         Ok(request) => request_json(alloc, &request),
-        Err(fault) => alone(alloc, "unreadable", unreadable(alloc, fault)),
+        Err(fault) => {
+            let text = format!(in alloc; "{fault}")?;
+            json!(in alloc; {"unreadable": text})
+        }
     }
 }
 
@@ -62,7 +37,10 @@ fn decoded_request(alloc: Global, bytes: &[u8]) -> Result<Value, AllocError> {
 fn decoded_reply(alloc: Global, bytes: &[u8]) -> Result<Value, AllocError> {
     match decode_reply(bytes) {
         Ok(reply) => reply_json(alloc, &reply),
-        Err(fault) => alone(alloc, "unreadable", unreadable(alloc, fault)),
+        Err(fault) => {
+            let text = format!(in alloc; "{fault}")?;
+            json!(in alloc; {"unreadable": text})
+        }
     }
 }
 
@@ -73,69 +51,41 @@ fn known_triad(alloc: Global, triad: Option<Triad>) -> Result<Value, AllocError>
     }
 }
 
-fn count_json(count: Option<u16>) -> Value {
-    match count {
-        Some(count) => Value::from(count),
-        None => Value::Null,
-    }
-}
-
 // A datum: its connection where it is known, its sequence count where it has one.
 fn datum_json(alloc: Global, known: Known, bytes: &[u8]) -> Result<Value, AllocError> {
+    let triad = known_triad(alloc, known.triad)?;
     let (count, rest) = match (known.class_, bytes) {
-        (Some(1), [low, high, rest @ ..]) => (Some(u16::from_le_bytes([*low, *high])), rest),
-        _ => (None, bytes),
+        (Some(1), [low, high, rest @ ..]) => {
+            (Value::from(u16::from_le_bytes([*low, *high])), rest)
+        }
+        _ => (Value::Null, bytes),
     };
-    let mut datum = Map::new(alloc);
-    member(&mut datum, alloc, "triad", known_triad(alloc, known.triad))?;
-    member(&mut datum, alloc, "count", Ok(count_json(count)))?;
-    member(&mut datum, alloc, "data", pairs(alloc, rest))?;
-    Ok(Value::Object(datum))
+    let data = pairs(alloc, rest)?;
+    json!(in alloc; {"triad": triad, "count": count, "data": data})
 }
 
 // The word of a command, and what its number is.
 fn command_json(alloc: Global, word: CommandWord, number: u32) -> Result<Value, AllocError> {
-    let (command, key) = match word {
-        CommandWord::Send => ("send", "op"),
-        CommandWord::Open => ("open", "op"),
-        CommandWord::Large => ("large", "op"),
-        CommandWord::Close => ("close", "op"),
-        CommandWord::Enter => ("enter", "of"),
-        CommandWord::Set => ("set", "instance"),
-        CommandWord::Produce => ("produce", "instance"),
-    };
-    let mut given = Map::new(alloc);
-    member(
-        &mut given,
-        alloc,
-        "command",
-        Value::try_from_str(alloc, command),
-    )?;
-    member(&mut given, alloc, key, Ok(Value::from(number)))?;
-    Ok(Value::Object(given))
+    match word {
+        CommandWord::Send => json!(in alloc; {"command": "send", "op": number}),
+        CommandWord::Open => json!(in alloc; {"command": "open", "op": number}),
+        CommandWord::Large => json!(in alloc; {"command": "large", "op": number}),
+        CommandWord::Close => json!(in alloc; {"command": "close", "op": number}),
+        CommandWord::Enter => json!(in alloc; {"command": "enter", "of": number}),
+        CommandWord::Set => json!(in alloc; {"command": "set", "instance": number}),
+        CommandWord::Produce => json!(in alloc; {"command": "produce", "instance": number}),
+    }
 }
 
 fn given_json(alloc: Global, given: Given) -> Result<Value, AllocError> {
     match given {
         Given::Command(word, number) => command_json(alloc, word, number),
         Given::Tick(ms) => json!(in alloc; {"tick_ms": ms}),
-        Given::Frame(frame) => alone(alloc, "frame", frame_json(alloc, frame)),
+        Given::Frame(frame) => {
+            let frame = frame_json(alloc, frame)?;
+            json!(in alloc; {"frame": frame})
+        }
     }
-}
-
-// A message, or a datum: its number, its bytes and what they say.
-fn message_json(
-    alloc: Global,
-    key: &str,
-    number: u32,
-    bytes: &[u8],
-    says: Result<Value, AllocError>,
-) -> Result<Value, AllocError> {
-    let mut message = Map::new(alloc);
-    member(&mut message, alloc, "says", says)?;
-    member(&mut message, alloc, key, Ok(Value::from(number)))?;
-    member(&mut message, alloc, "bytes", pairs(alloc, bytes))?;
-    Ok(Value::Object(message))
 }
 
 /// The entries as JSON.
@@ -176,34 +126,29 @@ impl<'a> TreeView<'a> {
         Ok(())
     }
 
-    // The entry under way, without its outputs, and then with them.
-    fn entry_json(&mut self, alloc: Global) -> Result<Value, AllocError> {
-        let mut entry = Map::new(alloc);
-        let head = self.head.take().unwrap_or(Value::Null);
-        member(&mut entry, alloc, "entry", Ok(head))?;
-        let outputs = std::mem::replace(&mut self.outputs, Vec::new(alloc));
-        member(&mut entry, alloc, "outputs", Ok(Value::Array(outputs)))?;
-        Ok(Value::Object(entry))
-    }
-
     // The entry under way is whole.
     fn put_entry(&mut self, alloc: Global) -> Result<(), NoMemory> {
-        if self.head.is_none() && self.outputs.is_empty() {
-            return Ok(());
+        let outputs = std::mem::replace(&mut self.outputs, Vec::new(alloc));
+        if let Some(head) = self.head.take() {
+            let list = Value::Array(outputs);
+            let entry = json!(in alloc; {"entry": head, "outputs": list})?;
+            return self.put(alloc, &entry);
         }
-        let entry = self.entry_json(alloc)?;
-        self.put(alloc, &entry)
+        if !outputs.is_empty() {
+            let list = Value::Array(outputs);
+            let entry = json!(in alloc; {"entry": null, "outputs": list})?;
+            return self.put(alloc, &entry);
+        }
+        Ok(())
     }
 
     // The frame that the step was given.
     fn arrived_json(&self, alloc: Global, sent: Option<Sent>) -> Result<Value, AllocError> {
         match sent {
             Some(sent) => {
-                let mut arrived = Map::new(alloc);
-                let from = name_json(alloc, self.book.name(sent.from));
-                member(&mut arrived, alloc, "from", from)?;
-                member(&mut arrived, alloc, "label", label_json(alloc, &sent.label))?;
-                Ok(Value::Object(arrived))
+                let label = format!(in alloc; "{}", sent.label)?;
+                let from = name_json(alloc, self.book.name(sent.from))?;
+                json!(in alloc; {"from": from, "label": label})
             }
             None => Ok(Value::Null),
         }
@@ -218,50 +163,26 @@ impl<'a> TreeView<'a> {
     ) -> Result<(), NoMemory> {
         self.put_entry(alloc)?;
         self.book.begin(entry, at, given)?;
-        self.head = Some(self.step_json(alloc, entry, at, given)?);
+        let name = name_json(alloc, self.book.name(at))?;
+        let given = given_json(alloc, given)?;
+        let arrived = self.arrived_json(alloc, self.book.arrived())?;
+        let head = json!(in alloc; {
+            "number": entry,
+            "module": name,
+            "given": given,
+            "arrived": arrived
+        })?;
+        self.head = Some(head);
         Ok(())
-    }
-
-    fn step_json(
-        &self,
-        alloc: Global,
-        entry: usize,
-        at: ModuleId,
-        given: Given,
-    ) -> Result<Value, AllocError> {
-        let mut head = Map::new(alloc);
-        member(&mut head, alloc, "number", Ok(Value::from(entry)))?;
-        member(
-            &mut head,
-            alloc,
-            "module",
-            name_json(alloc, self.book.name(at)),
-        )?;
-        member(&mut head, alloc, "given", given_json(alloc, given))?;
-        let arrived = self.arrived_json(alloc, self.book.arrived());
-        member(&mut head, alloc, "arrived", arrived)?;
-        Ok(Value::Object(head))
     }
 
     fn take_lost(&mut self, alloc: Global, entry: usize, frame: FrameName) -> Result<(), NoMemory> {
         self.put_entry(alloc)?;
         let sent = self.book.lose(frame);
-        self.head = Some(self.lost_json(alloc, entry, frame, sent)?);
+        let frame = frame_json(alloc, frame)?;
+        let arrived = self.arrived_json(alloc, sent)?;
+        self.head = Some(json!(in alloc; {"number": entry, "lost": frame, "arrived": arrived})?);
         Ok(())
-    }
-
-    fn lost_json(
-        &self,
-        alloc: Global,
-        entry: usize,
-        frame: FrameName,
-        sent: Option<Sent>,
-    ) -> Result<Value, AllocError> {
-        let mut head = Map::new(alloc);
-        member(&mut head, alloc, "number", Ok(Value::from(entry)))?;
-        member(&mut head, alloc, "lost", frame_json(alloc, frame))?;
-        member(&mut head, alloc, "arrived", self.arrived_json(alloc, sent))?;
-        Ok(Value::Object(head))
     }
 
     fn body_json(
@@ -272,23 +193,19 @@ impl<'a> TreeView<'a> {
     ) -> Result<Value, AllocError> {
         match body {
             Body::Request { number, bytes } => {
-                let bytes = bytes.as_slice();
-                message_json(
-                    alloc,
-                    "request",
-                    *number,
-                    bytes,
-                    decoded_request(alloc, bytes),
-                )
+                let says = decoded_request(alloc, bytes.as_slice())?;
+                let bytes = pairs(alloc, bytes.as_slice())?;
+                json!(in alloc; {"request": *number, "bytes": bytes, "says": says})
             }
             Body::Reply { number, bytes } => {
-                let bytes = bytes.as_slice();
-                message_json(alloc, "reply", *number, bytes, decoded_reply(alloc, bytes))
+                let says = decoded_reply(alloc, bytes.as_slice())?;
+                let bytes = pairs(alloc, bytes.as_slice())?;
+                json!(in alloc; {"reply": *number, "bytes": bytes, "says": says})
             }
             Body::Data { id, bytes } => {
-                let bytes = bytes.as_slice();
-                let says = datum_json(alloc, self.book.of_id(to, *id), bytes);
-                message_json(alloc, "data", *id, bytes, says)
+                let says = datum_json(alloc, self.book.of_id(to, *id), bytes.as_slice())?;
+                let bytes = pairs(alloc, bytes.as_slice())?;
+                json!(in alloc; {"data": *id, "bytes": bytes, "says": says})
             }
         }
     }
@@ -306,23 +223,18 @@ impl<'a> TreeView<'a> {
             Some(sent) => (sent.to, sent.made_at),
             None => (None, None),
         };
-        let mut frame = Map::new(alloc);
-        member(
-            &mut frame,
-            alloc,
-            "holds",
-            self.body_json(alloc, body, node),
-        )?;
-        member(&mut frame, alloc, "port", Ok(Value::from(port.get())))?;
-        member(&mut frame, alloc, "address", pairs(alloc, to.as_slice()))?;
-        member(&mut frame, alloc, "to", self.module_json(alloc, node))?;
-        member(
-            &mut frame,
-            alloc,
-            "refused_at",
-            self.module_json(alloc, made_at),
-        )?;
-        Ok(alone(alloc, "send", Ok(Value::Object(frame)))?)
+        let holds = self.body_json(alloc, body, node)?;
+        let address = pairs(alloc, to.as_slice())?;
+        let node = self.module_json(alloc, node)?;
+        let made_at = self.module_json(alloc, made_at)?;
+        let frame = json!(in alloc; {
+            "port": port.get(),
+            "address": address,
+            "to": node,
+            "refused_at": made_at,
+            "holds": holds
+        })?;
+        Ok(json!(in alloc; {"send": frame})?)
     }
 
     fn done_json(&mut self, alloc: Global, op: u32, reply: &[u8]) -> Result<Value, NoMemory> {
@@ -331,17 +243,16 @@ impl<'a> TreeView<'a> {
             Ok(reply) if reply.view.general != 0 => self.book.made_at(),
             _ => None,
         };
-        let mut done = Map::new(alloc);
-        member(
-            &mut done,
-            alloc,
-            "refused_at",
-            self.module_json(alloc, made_at),
-        )?;
-        member(&mut done, alloc, "says", decoded_reply(alloc, reply))?;
-        member(&mut done, alloc, "op", Ok(Value::from(op)))?;
-        member(&mut done, alloc, "bytes", pairs(alloc, reply))?;
-        Ok(alone(alloc, "done", Ok(Value::Object(done)))?)
+        let made_at = self.module_json(alloc, made_at)?;
+        let says = decoded_reply(alloc, reply)?;
+        let bytes = pairs(alloc, reply)?;
+        let done = json!(in alloc; {
+            "op": op,
+            "bytes": bytes,
+            "says": says,
+            "refused_at": made_at
+        })?;
+        Ok(json!(in alloc; {"done": done})?)
     }
 
     fn consumed_json(
@@ -351,15 +262,17 @@ impl<'a> TreeView<'a> {
         instance: u32,
         bytes: &[u8],
     ) -> Result<Value, NoMemory> {
-        let says = datum_json(alloc, self.book.of_triad(triad), bytes);
-        let consumed = message_json(alloc, "instance", instance, bytes, says);
-        Ok(alone(alloc, "consumed", consumed)?)
+        let says = datum_json(alloc, self.book.of_triad(triad), bytes)?;
+        let bytes = pairs(alloc, bytes)?;
+        let consumed = json!(in alloc; {"instance": instance, "bytes": bytes, "says": says})?;
+        Ok(json!(in alloc; {"consumed": consumed})?)
     }
 
     fn arrived_datum(&self, alloc: Global, op: u32, bytes: &[u8]) -> Result<Value, NoMemory> {
-        let says = datum_json(alloc, self.book.of_op(op), bytes);
-        let arrived = message_json(alloc, "op", op, bytes, says);
-        Ok(alone(alloc, "arrived", arrived)?)
+        let says = datum_json(alloc, self.book.of_op(op), bytes)?;
+        let bytes = pairs(alloc, bytes)?;
+        let arrived = json!(in alloc; {"op": op, "bytes": bytes, "says": says})?;
+        Ok(json!(in alloc; {"arrived": arrived})?)
     }
 
     fn output_json(
@@ -373,8 +286,7 @@ impl<'a> TreeView<'a> {
             Output::Done { op, reply } => self.done_json(alloc, *op, reply.as_slice()),
             Output::Refused(fault) => {
                 self.book.refused();
-                let word = Value::try_from_str(alloc, refusal_word(*fault));
-                Ok(alone(alloc, "refused", word)?)
+                Ok(json!(in alloc; {"refused": refusal_word(*fault)})?)
             }
             Output::Consumed {
                 triad,
@@ -382,16 +294,16 @@ impl<'a> TreeView<'a> {
                 bytes,
             } => self.consumed_json(alloc, *triad, *instance, bytes.as_slice()),
             Output::Arrived { op, bytes } => self.arrived_datum(alloc, *op, bytes.as_slice()),
-            Output::Expired { triad } => { Ok(alone(alloc, "expired", triad_json(alloc, *triad))?) }
+            Output::Expired { triad } => {
+                let triad = triad_json(alloc, *triad)?;
+                Ok(json!(in alloc; {"expired": triad})?)
+            }
             Output::Ended { op } => {
                 self.book.done(*op);
-                let ended = alone(alloc, "op", Ok(Value::from(*op)));
-                Ok(alone(alloc, "ended", ended)?)
+                let ended = json!(in alloc; {"op": *op})?;
+                Ok(json!(in alloc; {"ended": ended})?)
             }
-            Output::Dropped(reason) => {
-                let word = Value::try_from_str(alloc, drop_word(*reason));
-                Ok(alone(alloc, "dropped", word)?)
-            }
+            Output::Dropped(reason) => Ok(json!(in alloc; {"dropped": drop_word(*reason)})?),
         }
     }
 
@@ -409,10 +321,10 @@ impl<'a> TreeView<'a> {
     fn take_note(&mut self, alloc: Global, text: &[u8]) -> Result<(), NoMemory> {
         self.put_entry(alloc)?;
         let line = match std::str::from_utf8(text) {
-            Ok(text) => Value::try_from_str(alloc, text),
-            Err(_) => Ok(Value::Null),
+            Ok(text) => Value::try_from_str(alloc, text)?,
+            Err(_) => Value::Null,
         };
-        let note = alone(alloc, "note", line)?;
+        let note = json!(in alloc; {"note": line})?;
         self.put(alloc, &note)
     }
 
@@ -420,33 +332,10 @@ impl<'a> TreeView<'a> {
     fn open_json(&self, alloc: Global) -> Result<Value, NoMemory> {
         let mut list = Vec::new(alloc);
         for ((place, op), _) in self.book.ops() {
-            list.push(self.op_json(alloc, *place, *op)?)?;
+            let name = name_json(alloc, self.book.name(ModuleId(*place)))?;
+            list.push(json!(in alloc; {"module": name, "op": *op})?)?;
         }
         Ok(Value::Array(list))
-    }
-
-    fn op_json(&self, alloc: Global, place: usize, op: u32) -> Result<Value, AllocError> {
-        let mut object = Map::new(alloc);
-        let name = name_json(alloc, self.book.name(ModuleId(place)));
-        member(&mut object, alloc, "module", name)?;
-        member(&mut object, alloc, "op", Ok(Value::from(op)))?;
-        Ok(Value::Object(object))
-    }
-
-    // What stands at the end.
-    fn end_json(&self, alloc: Global, ending: Ending) -> Result<Value, NoMemory> {
-        let mut end = Map::new(alloc);
-        let open = self.open_json(alloc)?;
-        member(&mut end, alloc, "open", Ok(open))?;
-        member(&mut end, alloc, "lines", Ok(Value::from(ending.lines)))?;
-        member(&mut end, alloc, "cut", Ok(Value::Bool(ending.is_cut)))?;
-        member(
-            &mut end,
-            alloc,
-            "waiting",
-            Ok(Value::from(self.book.waiting())),
-        )?;
-        Ok(alone(alloc, "end", Ok(Value::Object(end)))?)
     }
 }
 
@@ -464,7 +353,15 @@ impl View for TreeView<'_> {
 
     fn end(&mut self, alloc: Global, _rest: &[u8], ending: Ending) -> Result<(), NoMemory> {
         self.put_entry(alloc)?;
-        let end = self.end_json(alloc, ending)?;
+        let open = self.open_json(alloc)?;
+        let waiting = self.book.waiting();
+        let end = json!(in alloc; {
+            "lines": ending.lines,
+            "cut": ending.is_cut,
+            "open": open,
+            "waiting": waiting
+        })?;
+        let end = json!(in alloc; {"end": end})?;
         self.put(alloc, &end)
     }
 
