@@ -1,5 +1,6 @@
 -- What each change of the index and of the records is in the list that they make together.
-use Rattle.std.proofs.Common.{◌≡◌, ℕ, zero, suc, ◌<◌, Bool, true, false, cond, T, List, [], ◌∷◌, length, get_or, refl, ap, ◌∙◌, arith, Option, Some, None, IsSome}
+use Rattle.std.proofs.Common.{◌≡◌, ℕ, zero, suc, ◌<◌, Bool, true, false, cond, T, List, [], ◌∷◌, length, get_or, refl, ap, ◌∙◌, arith, Option, Some, None}
+use Rattle.std.proofs.Common.{IsSome}
 use Rattle.std.specs.List.{find}
 use Rattle.std.specs.Option.{option_map, option_map_or}
 use Rattle.std.specs.Ordering.{is_lt}

@@ -1,5 +1,6 @@
 -- What an index of trails keeps of a journal.
-use Rattle.std.specs.Prelude.{◌≡◌, ℕ, zero, suc, ◌+◌, ◌<◌, ◌≤◌, List, [], ◌∷◌, Option, Some, None, Bool, if◌then◌else◌, length, reverse, take, slice_get, option_map}
+use Rattle.std.specs.Prelude.{◌≡◌, ℕ, zero, suc, ◌+◌, ◌<◌, ◌≤◌, List, [], ◌∷◌, Option, Some, None, Bool, if◌then◌else◌, length, reverse, take, slice_get}
+use Rattle.std.specs.Prelude.{option_map}
 use Rattle.std.specs.List.{list_any}
 use Rattle.std.specs.BTreeMap.{BTreeMap, get}
 use Rattle.std.specs.Ordering.{nat_cmp, ordering_then}

@@ -8,7 +8,8 @@ ghost use Rattle.cip_hops.specs.declared.opening.HopDown.TheVariants.{Link as Do
 ghost use Rattle.cip_config.specs.declared.config.ModuleSettings.{ModuleSettings as Settings};
 ghost use Rattle.cip_topology.specs.Plan.{IsTopology};
 ghost use Rattle.cip_topology.specs.Nodes.{Way};
-ghost use Rattle.cip_world.specs.Chains.{Member, IsChain, last_of, AreDeliveries, AreKept, IsTakenBy};
+ghost use Rattle.cip_world.specs.Chains.{Member, IsChain, last_of, AreDeliveries, AreKept};
+ghost use Rattle.cip_world.specs.Chains.{IsTakenBy};
 ghost use Rattle.cip_world.specs.Entering.{before_entry, IsEntered};
 ghost use Rattle.cip_world.specs.Journals.{Journal};
 ghost use Rattle.cip_world.specs.Mirrors.{IsOlder, IsMirrored};

@@ -2,7 +2,9 @@
 ghost use Rattle.std.specs.Prelude.{◌≡◌, ◌<◌, ◌∷◌, length, reverse, IfOk, OnOk, OnErr, slice_get};
 ghost use Rattle.cip_world.specs.Journals.{Journal};
 ghost use Rattle.cip_world.specs.Trails.{trail_of};
-ghost use Rattle.cip_chain.specs.Index.{op_of, command_of, arrival_of, sent_at, goes_to, along, AddsCommand, AddsArrival, IsIndexed, IsIndexSoFar, IsIndexOf};
+ghost use Rattle.cip_chain.specs.Index.{op_of, command_of, arrival_of, sent_at, goes_to, along};
+ghost use Rattle.cip_chain.specs.Index.{AddsCommand, AddsArrival, IsIndexed, IsIndexSoFar};
+ghost use Rattle.cip_chain.specs.Index.{IsIndexOf};
 
 use crate::trails::{first_request, is_refused, walk};
 use cip_base::{ModuleId, NoMemory};

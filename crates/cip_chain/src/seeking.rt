@@ -3,7 +3,8 @@ ghost use Rattle.std.specs.Prelude.{◌≡◌, IfOk, IfErr};
 ghost use Rattle.cip_topology.specs.Plan.{IsTopology};
 ghost use Rattle.cip_world.specs.Runs.{IsRun};
 ghost use Rattle.cip_hops.specs.declared.hop.Hop.{Hop};
-ghost use Rattle.cip_chain.specs.Found.{member, IsSeen, IsOpened, IsOpenedFault, IsNext, IsNextFault};
+ghost use Rattle.cip_chain.specs.Found.{member, IsSeen, IsOpened, IsOpenedFault, IsNext};
+ghost use Rattle.cip_chain.specs.Found.{IsNextFault};
 
 use crate::chains::ChainFault;
 use cip_base::ModuleId;

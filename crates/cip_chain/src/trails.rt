@@ -5,7 +5,9 @@ ghost use Rattle.cip_topology.specs.Plan.{Plan, IsTopology};
 ghost use Rattle.cip_world.specs.RepliesTell.{RepliesTell};
 ghost use Rattle.cip_world.specs.Runs.{IsRun};
 ghost use Rattle.cip_world.specs.TrailTells.{TrailTells};
-ghost use Rattle.cip_world.specs.Trails.{is_refusal, opens_or_sends, asks_for, is_command, is_request_sent, request_from, request_by, arrived_in, trail_of};
+ghost use Rattle.cip_world.specs.Trails.{is_refusal, opens_or_sends, asks_for, is_command};
+ghost use Rattle.cip_world.specs.Trails.{is_request_sent, request_from, request_by, arrived_in};
+ghost use Rattle.cip_world.specs.Trails.{trail_of};
 ghost use Rattle.cip_chain.specs.Seeking.{is_next, is_nothing, seeks};
 
 use cip_base::{ModuleId, NoMemory};

@@ -1,6 +1,7 @@
 //! The lines of frames.
 ghost use Rattle.std.specs.Prelude.{◌≡◌, ◌==◌, is_some, IsTrue, IsFalse};
-ghost use Rattle.cip_chart.specs.Bands.{share, between, thousandths, x_at, reach, within, IsBetween};
+ghost use Rattle.cip_chart.specs.Bands.{share, between, thousandths, x_at, reach, within};
+ghost use Rattle.cip_chart.specs.Bands.{IsBetween};
 
 use crate::collect::ChartView;
 use crate::layout::{Heights, ROW, x_of};

@@ -1,5 +1,6 @@
 //! The first of many deadlines, in logarithmic time.
-ghost use Rattle.std.specs.Prelude.{◌≡◌, ℕ, ◌*◌, ◌<◌, ◌≤◌, length, drop, slice_index, slice_set, IfOk, min};
+ghost use Rattle.std.specs.Prelude.{◌≡◌, ℕ, ◌*◌, ◌<◌, ◌≤◌, length, drop, slice_index, slice_set};
+ghost use Rattle.std.specs.Prelude.{IfOk, min};
 ghost use Rattle.cip_clock.specs.declared.deadlines.TheConstants.{NEVER as never};
 ghost use Rattle.cip_clock.specs.Bounds.{bound_of, IsTree};
 

@@ -1,7 +1,8 @@
 //! The reply of a failed Forward_Close.
 ghost use Rattle.std.specs.Prelude.{◌≡◌, IfOk};
 ghost use Rattle.cip_message.specs.Exact.{IsRead};
-ghost use Rattle.cip_message.specs.Failure.{ReadsFailure, IsFailureFault, failure_at, HasTriadForWords};
+ghost use Rattle.cip_message.specs.Failure.{ReadsFailure, IsFailureFault, failure_at};
+ghost use Rattle.cip_message.specs.Failure.{HasTriadForWords};
 ghost use Rattle.cip_close.specs.Failed.{close_failure_bytes};
 
 use crate::request::FORWARD_CLOSE_REPLY;

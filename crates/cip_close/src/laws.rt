@@ -4,7 +4,7 @@ ghost use Rattle.std.specs.Prelude.{◌≡◌, ◌%◌, length, Ok};
 ghost use Rattle.cip_base.specs.declared.timing.Status.{Status};
 ghost use Rattle.cip_segment.specs.Spelling.{IsReadable};
 ghost use Rattle.cip_message.specs.Exact.{ReadsEach, Decides, Refuses, RefusesBytes};
-ghost use Rattle.cip_message.specs.declared.failure.ConnectionFailure.{ConnectionFailure as Failure};
+ghost use Rattle.cip_message.specs.declared.failure.ConnectionFailure.{ConnectionFailure as Failed};
 ghost use Rattle.cip_message.specs.Failure.{failure_data};
 ghost use Rattle.cip_message.specs.Reply.{reply_with};
 ghost use Rattle.cip_message.specs.ReplyAt.{reply_at, IsDone};
@@ -12,7 +12,8 @@ ghost use Rattle.cip_message.specs.RequestAt.{IsSent};
 ghost use Rattle.cip_close.specs.Failed.{close_failure_bytes};
 ghost use Rattle.cip_close.specs.Close.{Close, ReadsClose, IsCloseFault, close_data, close_bytes};
 ghost use Rattle.cip_close.specs.CloseAt.{close_at};
-ghost use Rattle.cip_close.specs.Success.{CloseSuccess, ReadsCloseReply, IsCloseReplyFault, close_reply_data, close_reply_bytes};
+ghost use Rattle.cip_close.specs.Success.{CloseSuccess, ReadsCloseReply, IsCloseReplyFault};
+ghost use Rattle.cip_close.specs.Success.{close_reply_data, close_reply_bytes};
 ghost use Rattle.cip_close.specs.SuccessAt.{close_reply_at};
 
 /// Reading data as that of Forward_Close gives the one record that has its layout, or the one fault
@@ -51,6 +52,6 @@ pub fn written_close_reply_is_read()
 /// The reply of a failure that is written is read as a reply of that status; its data is read back
 /// as the law of failures says.
 pub fn written_close_failure_is_read()
-    ensures { (status : Status) (f : Failure)
+    ensures { (status : Status) (f : Failed)
         → reply_at (close_failure_bytes status f) ≡ Ok (reply_with 0xCE status (failure_data f)) }
 {}

@@ -2,7 +2,10 @@
 ghost use Rattle.std.specs.Prelude.{◌≡◌};
 ghost use Rattle.std.specs.List.{list_all, list_any};
 ghost use Rattle.cip_target.specs.Assemblies.{is_assembly};
-ghost use Rattle.cip_config.specs.Config.{is_name_byte, is_name, is_text_byte, is_range, is_legal, is_port, has_number, numbers_differ, most_ports, are_ports, has_instance, instances_differ, are_assemblies, is_room, are_counts, is_settings};
+ghost use Rattle.cip_config.specs.Config.{is_name_byte, is_name, is_text_byte, is_range, is_legal};
+ghost use Rattle.cip_config.specs.Config.{is_port, has_number, numbers_differ, most_ports};
+ghost use Rattle.cip_config.specs.Config.{are_ports, has_instance, instances_differ};
+ghost use Rattle.cip_config.specs.Config.{are_assemblies, is_room, are_counts, is_settings};
 
 use crate::config::{LegalAddresses, ModuleKind, ModuleSettings, PortConfig};
 use cip_base::{

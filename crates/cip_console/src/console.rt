@@ -5,7 +5,7 @@ ghost use Rattle.cip_world.specs.Fresh.{IsNewFault};
 ghost use Rattle.cip_console.specs.Outcome.{Wrote, WroteOf};
 ghost use Rattle.cip_script.specs.Steps.{steps};
 ghost use Rattle.cip_transcript.specs.Show.{names_of};
-ghost use Rattle.cip_console.specs.declared.console.ConsoleFault.TheVariants.{NoMemory as NoConsoleMemory};
+ghost use Rattle.cip_console.specs.declared.console.ConsoleFault.TheVariants.{NoMemory as Refused};
 
 use crate::playing::{PlayFault, flush, play, tell_waiting};
 use crate::source::{ReadFault, SCRIPT_LIMIT, Sink, Source, WriteFault, read_script};
@@ -48,7 +48,7 @@ pub enum ConsoleFault {
 }
 
 impl From<AllocError> for ConsoleFault {
-    ghost from_gives = { λ _ fault. fault ≡ NoConsoleMemory };
+    ghost from_gives = { λ _ fault. fault ≡ Refused };
 
     fn from(_refused: AllocError) -> ConsoleFault {
         ConsoleFault::NoMemory
@@ -56,7 +56,7 @@ impl From<AllocError> for ConsoleFault {
 }
 
 impl From<NoMemory> for ConsoleFault {
-    ghost from_gives = { λ _ fault. fault ≡ NoConsoleMemory };
+    ghost from_gives = { λ _ fault. fault ≡ Refused };
 
     fn from(_refused: NoMemory) -> ConsoleFault {
         ConsoleFault::NoMemory

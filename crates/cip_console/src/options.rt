@@ -1,6 +1,6 @@
 //! The options of the program.
 ghost use Rattle.std.specs.Prelude.{◌≡◌, ◌≤◌, IfOk};
-ghost use Rattle.cip_console.specs.declared.options.OptionsFault.TheVariants.{NoMemory as NoOptionsMemory};
+ghost use Rattle.cip_console.specs.declared.options.OptionsFault.TheVariants.{NoMemory as Refused};
 
 use cip_base::NoMemory;
 use clap::error::ErrorKind;
@@ -46,7 +46,7 @@ pub enum OptionsFault {
 }
 
 impl From<AllocError> for OptionsFault {
-    ghost from_gives = { λ _ fault. fault ≡ NoOptionsMemory };
+    ghost from_gives = { λ _ fault. fault ≡ Refused };
 
     fn from(_refused: AllocError) -> OptionsFault {
         OptionsFault::NoMemory

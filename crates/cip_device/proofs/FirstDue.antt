@@ -1,5 +1,6 @@
 -- What a tick does before the first deadline, and what at it.
-use Rattle.std.proofs.Common.{◌≡◌, ◌≢◌, ℕ, ◌+◌, ◌*◌, ◌^◌, ◌<◌, ◌≤◌, Bool, true, false, ◌||◌, List, [], ◌∷◌, ◌++◌, map, nat_lt, if◌then◌else◌, refl, sym, ap, ◌∙◌, IfSome, arith, Option, Some, None}
+use Rattle.std.proofs.Common.{◌≡◌, ◌≢◌, ℕ, ◌+◌, ◌*◌, ◌^◌, ◌<◌, ◌≤◌, Bool, true, false, ◌||◌, List, [], ◌∷◌, ◌++◌, map, nat_lt, if◌then◌else◌, refl, sym, ap}
+use Rattle.std.proofs.Common.{◌∙◌, IfSome, arith, Option, Some, None}
 use Rattle.std.specs.List.{filter, filter_map, cons_option, list_any}
 use Rattle.std.specs.Option.{option_map_or}
 use Rattle.std.specs.FinMap as finite

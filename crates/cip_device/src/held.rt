@@ -1,5 +1,6 @@
 //! What lies on the heap behind a handle.
-ghost use Rattle.std.specs.Prelude.{◌≡◌, ◌≢◌, ◌↔◌, ℕ, ◌<◌, ◌≤◌, [], true, length, find, option_map, Some, IfOk};
+ghost use Rattle.std.specs.Prelude.{◌≡◌, ◌≢◌, ◌↔◌, ℕ, ◌<◌, ◌≤◌, [], true, length, find, option_map};
+ghost use Rattle.std.specs.Prelude.{Some, IfOk};
 ghost use Rattle.cip_indexed.specs.NewModules.{config_of_new, state_of_new};
 ghost use Rattle.cip_base.specs.Counts.{incarnation};
 ghost use Rattle.cip_hops.specs.Hops.{is_past};
@@ -13,7 +14,8 @@ ghost use Rattle.cip_device.specs.Reads.{is_row_of, IsRead, IsCounted, HasNone};
 ghost use Rattle.cip_device.specs.Rows.{IsConnectionAt, IsPendingAt, NoConnectionAt, NoPendingAt};
 ghost use Rattle.cip_device.specs.Deadlines.{IsSoonest, IsAtRest, Waits};
 ghost use Rattle.cip_device.specs.Incarnations.{AreIncarnations};
-ghost use Rattle.cip_device.specs.Statuses.{IsDeadlineStatus, IsNextStatus, IsReadStatus, IsStepStatus, IsTableStatus};
+ghost use Rattle.cip_device.specs.Statuses.{IsDeadlineStatus, IsNextStatus, IsReadStatus};
+ghost use Rattle.cip_device.specs.Statuses.{IsStepStatus, IsTableStatus};
 
 use crate::deadlines::milliseconds_until;
 use crate::numbers::{CLOCK_FULL, DONE, NO_MEMORY, NOTHING, SHORT, UNREAD};

@@ -1,6 +1,7 @@
 //! What a device does, in the form in which it crosses to C.
 ghost use Rattle.std.specs.Prelude.{◌≡◌, length, take};
-ghost use Rattle.cip_device.specs.Outputs.{payload_of, reason_of_refused, reason_of_dropped, IsOutline};
+ghost use Rattle.cip_device.specs.Outputs.{payload_of, reason_of_refused, reason_of_dropped};
+ghost use Rattle.cip_device.specs.Outputs.{IsOutline};
 
 use crate::numbers::{
     DROPPED_LATE, DROPPED_MALFORMED, DROPPED_UNKNOWN_ID, DROPPED_WRONG_SIZE, OUT_ARRIVED,

@@ -1,7 +1,8 @@
 //! The connections that are open and the requests that wait, in the form in which they cross to C.
 ghost use Rattle.std.specs.Prelude.{◌≡◌, length, take};
 ghost use Rattle.std.specs.Option.{option_map_or};
-ghost use Rattle.cip_device.specs.Rows.{or_zero, kind_of_pending, triad_of_kind, IsLinkSide, IsUp, IsDown, IsWaiting, IsConnection, IsPending};
+ghost use Rattle.cip_device.specs.Rows.{or_zero, kind_of_pending, triad_of_kind, IsLinkSide, IsUp};
+ghost use Rattle.cip_device.specs.Rows.{IsDown, IsWaiting, IsConnection, IsPending};
 
 use crate::numbers::{PENDING_CLOSE, PENDING_LARGE_OPEN, PENDING_OPEN, PENDING_SEND};
 use crate::output::{padded, short_length};

@@ -1,8 +1,10 @@
 //! The settings of a device, in the form in which they come from C.
-ghost use Rattle.std.specs.Prelude.{◌≡◌, ◌⊎◌, ◌↔◌, false, true, IfOk, IsOk, IfErr, IfSome, IsSome, IsTrue, Some, map};
+ghost use Rattle.std.specs.Prelude.{◌≡◌, ◌⊎◌, ◌↔◌, false, true, IfOk, IsOk, IfErr, IfSome, IsSome};
+ghost use Rattle.std.specs.Prelude.{IsTrue, Some, map};
 ghost use Rattle.std.specs.List.{list_all};
 ghost use Rattle.cip_target.specs.Identity.{is_identity};
-ghost use Rattle.cip_device.specs.Settings.{kind_of, port_of, assembly_of, identity_of, is_given_port, AreLegal, IsConfigOf};
+ghost use Rattle.cip_device.specs.Settings.{kind_of, port_of, assembly_of, identity_of};
+ghost use Rattle.cip_device.specs.Settings.{is_given_port, AreLegal, IsConfigOf};
 
 use crate::making::bytes_of;
 use crate::numbers::{ADAPTER, BAD_ARGUMENT, INDEXED, NO_MEMORY, PLAIN};

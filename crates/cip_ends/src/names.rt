@@ -1,5 +1,6 @@
 //! The ops that have names, and where the newest of each stands.
-ghost use Rattle.std.specs.Prelude.{◌≡◌, ◌≤◌, ◌++◌, ◌∷◌, [], length, IfNone, IfSome, IsFalse, IsTrue, OnErr, OnOk};
+ghost use Rattle.std.specs.Prelude.{◌≡◌, ◌≤◌, ◌++◌, ◌∷◌, [], length, IfNone, IfSome, IsFalse};
+ghost use Rattle.std.specs.Prelude.{IsTrue, OnErr, OnOk};
 ghost use Rattle.cip_ends.specs.Names.{HasNone, IsMeant, IsNewest, IsOf, key_of};
 
 use cip_base::{ModuleId, NoMemory};

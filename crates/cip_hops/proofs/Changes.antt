@@ -18,7 +18,8 @@ use Rattle.cip_hops.specs.declared.hop.Held.TheVariants.{Opening as IsOpening, O
 use Rattle.cip_hops.specs.declared.table.HopTable.TheInside.{Inside}
 use Rattle.cip_hops.specs.Sides.{up_is_link, down_is_link}
 use Rattle.cip_hops.specs.Changes.{Suits, IsMeant, change_of}
-use Rattle.cip_hops.specs.Hops.{Hops, opening_of, as_opening, as_hop, opened, open_in, finished, with_held, with_hop, ends_here, change_in, is_link, touched, counted, IsHop, IsHeld}
+use Rattle.cip_hops.specs.Hops.{Hops, opening_of, as_opening, as_hop, opened, open_in, finished, with_held, with_hop, ends_here, change_in, is_link, touched}
+use Rattle.cip_hops.specs.Hops.{counted, IsHop, IsHeld}
 use Rattle.cip_hops.specs.Kept.{hops, IsKept}
 use Rattle.cip_base.proofs.Lengths.{one_if}
 use Rattle.cip_hops.proofs.Ids.{is_some-if}

@@ -15,7 +15,8 @@ use Rattle.cip_hops.specs.declared.hop.Held.{Held}
 use Rattle.cip_hops.specs.declared.hop.Held.TheVariants.{Opening as IsOpening, Open}
 use Rattle.cip_hops.specs.declared.table.HopTable.TheInside.{Inside}
 use Rattle.cip_hops.specs.Sides.{op_of, up_is, down_is}
-use Rattle.cip_hops.specs.Hops.{triad_of, up_id_of, down_id_of, held_op_of, as_hop, is_hop, is_id, first_hop, is_hop_by_up, is_hop_by_down, is_hop_by_op, hop_by_up, hop_by_down, hop_by_op}
+use Rattle.cip_hops.specs.Hops.{triad_of, up_id_of, down_id_of, held_op_of, as_hop, is_hop, is_id, first_hop, is_hop_by_up, is_hop_by_down, is_hop_by_op}
+use Rattle.cip_hops.specs.Hops.{hop_by_up, hop_by_down, hop_by_op}
 use Rattle.cip_hops.specs.Kept.{Indexes, hops, IsKept}
 use Rattle.cip_base.proofs.Views.{find-only, find-nowhere}
 use Rattle.cip_hops.proofs.Steps.{triads_apart, stands, under, within}

@@ -1,5 +1,6 @@
 //! The records of a table, and the first of their deadlines.
-ghost use Rattle.std.specs.Prelude.{◌≡◌, ℕ, ◌+◌, ◌<◌, ◌≤◌, [], false, Some, None, IfOk, IsTrue, IsSomeAnd};
+ghost use Rattle.std.specs.Prelude.{◌≡◌, ℕ, ◌+◌, ◌<◌, ◌≤◌, [], false, Some, None, IfOk, IsTrue};
+ghost use Rattle.std.specs.Prelude.{IsSomeAnd};
 ghost use Rattle.std.specs.Option.{option_copied};
 ghost use Rattle.slab.specs.Slab.{get, slab_len, with_value, ContainsKey, HasRoomFor, Updates};
 ghost use Rattle.cip_hops.specs.declared.hop.Held.{Held as Kept};

@@ -1,6 +1,7 @@
 //! The table: records in a slab, and indexes of their keys by triad, by own ids and by op. All room
 //! is reserved.
-ghost use Rattle.std.specs.Prelude.{◌≡◌, ℕ, ◌+◌, ◌++◌, ◌<◌, ◌^◌, ◌||◌, [], false, IfOk, IsSome, IsSomeAnd, IsTrue, is_ok, is_some, if◌then◌else◌};
+ghost use Rattle.std.specs.Prelude.{◌≡◌, ℕ, ◌+◌, ◌++◌, ◌<◌, ◌^◌, ◌||◌, [], false, IfOk, IsSome};
+ghost use Rattle.std.specs.Prelude.{IsSomeAnd, IsTrue, is_ok, is_some, if◌then◌else◌};
 ghost use Rattle.std.specs.List.{position, list_any};
 ghost use Rattle.std.specs.Option.{option_copied, option_to_list, option_map_or};
 ghost use Rattle.std.specs.FinMap as map;
@@ -12,7 +13,12 @@ ghost use Rattle.cip_base.specs.declared.triad.Triad.{Triad as Triads};
 ghost use Rattle.cip_hops.specs.declared.hop.Side.TheVariants.{Up, Down};
 ghost use Rattle.cip_hops.specs.Sides.{op_of};
 ghost use Rattle.cip_hops.specs.Changes.{Suits, IsChanged};
-ghost use Rattle.cip_hops.specs.Hops.{has_next_incarnation, reset, refusal, begin_gives, begun, IsOpFree, opening_at, hop_at, without, without_if, IsWithout, finished, changed, is_link, ends_here, touched, counted, hop_by_up, hop_by_down, hop_by_op, HasId, up_id_of, down_id_of, first_due, due, rest, first_after, as_hop, is_hop_due, is_entry_due, is_entry_open, is_past, IsWithin};
+ghost use Rattle.cip_hops.specs.Hops.{has_next_incarnation, reset, refusal, begin_gives, begun};
+ghost use Rattle.cip_hops.specs.Hops.{IsOpFree, opening_at, hop_at, without, without_if, IsWithout};
+ghost use Rattle.cip_hops.specs.Hops.{finished, changed, is_link, ends_here, touched, counted};
+ghost use Rattle.cip_hops.specs.Hops.{hop_by_up, hop_by_down, hop_by_op, HasId, up_id_of};
+ghost use Rattle.cip_hops.specs.Hops.{down_id_of, first_due, due, rest, first_after, as_hop};
+ghost use Rattle.cip_hops.specs.Hops.{is_hop_due, is_entry_due, is_entry_open, is_past, IsWithin};
 ghost use Rattle.cip_hops.specs.Onwards.{on_side, hop_by, onward_of, after_onward};
 
 use crate::hop::{Change, Held, Hop, Side};

@@ -1,5 +1,6 @@
 -- After a reset a module is as it was made, in its next incarnation, and nothing that was drawn before stands there any more.
-use Rattle.std.proofs.Common.{◌≡◌, ℕ, ◌+◌, ◌≤◌, ◌<◌, Bool, true, false, cond, List, [], ◌∷◌, ◌++◌, length, Option, Some, None, refl, sym, ap, subst, ◌∙◌, inl, inr, arith, eqb, leb}
+use Rattle.std.proofs.Common.{◌≡◌, ℕ, ◌+◌, ◌≤◌, ◌<◌, Bool, true, false, cond, List, [], ◌∷◌, ◌++◌, length, Option, Some, None, refl, sym, ap, subst, ◌∙◌, inl}
+use Rattle.std.proofs.Common.{inr, arith, eqb, leb}
 use Rattle.std.specs.FinMap as map
 use Rattle.std.specs.Option.{option_and_then, option_map_or}
 use Rattle.std.specs.Ordering.{nat_cmp}
@@ -18,7 +19,8 @@ use Rattle.cip_hops.specs.declared.hop.Hop.{Hop}
 use Rattle.cip_hops.specs.declared.hop.Held.{Held}
 use Rattle.cip_hops.specs.declared.hop.Held.TheVariants.{Opening as IsOpening, Open}
 use Rattle.cip_hops.specs.Sides.{own_ids, up_is, down_is}
-use Rattle.cip_hops.specs.Hops.{Hops, as_hop, ids_of, is_id, hop_at, hop_by_up, hop_by_down, is_hop_by_up, is_hop_by_down, open_in, finished, begun, change_in, changed, touched, counted}
+use Rattle.cip_hops.specs.Hops.{Hops, as_hop, ids_of, is_id, hop_at, hop_by_up, hop_by_down, is_hop_by_up, is_hop_by_down, open_in, finished, begun, change_in}
+use Rattle.cip_hops.specs.Hops.{changed, touched, counted}
 use Rattle.cip_target.specs.ApplicationPath.{Application, application_of}
 use Rattle.cip_target.specs.Assemblies.{AssemblyMap, size_in, zeroed, configs_in}
 use Rattle.cip_target.specs.declared.config.AssemblyConfig.{AssemblyConfig}
@@ -30,7 +32,8 @@ use Rattle.cip_target.proofs.Sizes.{put_sizes, written_sizes, answered_sizes}
 use Rattle.cip_config.specs.declared.config.ModuleSettings.{ModuleSettings}
 use Rattle.cip_event.specs.declared.event.Body.TheVariants as bodies
 use Rattle.cip_event.specs.declared.event.Output.TheVariants as outputs
-use Rattle.cip_module.specs.Effects.{Effect, Answers, Begins, Accepts, Finishes, Takes, PendingTimesOut, Removes, HopTimesOut, Renews, Counts, Writes, resets, answered_state, abandoned, abandoned_if, removed, given_up, overwritten, apply, output_of, applied, outputs_of}
+use Rattle.cip_module.specs.Effects.{Effect, Answers, Begins, Accepts, Finishes, Takes, PendingTimesOut, Removes, HopTimesOut, Renews, Counts, Writes, resets}
+use Rattle.cip_module.specs.Effects.{answered_state, abandoned, abandoned_if, removed, given_up, overwritten, apply, output_of, applied, outputs_of}
 use Rattle.cip_module.specs.Resets.{reset_state}
 use Rattle.cip_module.specs.State.{State, spent_with}
 use Rattle.cip_module.specs.Table.{with_spending}

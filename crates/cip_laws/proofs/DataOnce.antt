@@ -24,7 +24,8 @@ use Rattle.cip_module.specs.CommandRows.{enter_row}
 use Rattle.cip_module.specs.DataRows.{DataRow, data_row}
 use Rattle.cip_module.specs.DataRows as datum
 use Rattle.cip_laws.specs.EffectLists.{gain}
-use Rattle.cip_module.specs.Effects.{Effect, Replies, Answers, Finishes, Takes, PendingTimesOut, Passes, here_answer, reply_up, replied, timed_out_reply, timed_out_bytes, datum_up, datum_down, datum_by, passed, apply, output_of, outputs_of, succeeded_at}
+use Rattle.cip_module.specs.Effects.{Effect, Replies, Answers, Finishes, Takes, PendingTimesOut, Passes, here_answer, reply_up, replied, timed_out_reply}
+use Rattle.cip_module.specs.Effects.{timed_out_bytes, datum_up, datum_down, datum_by, passed, apply, output_of, outputs_of, succeeded_at}
 use Rattle.cip_laws.specs.Outputs.{is_datum, DatumOf, GoesUp, Arrives, GoesDown, IsConsumed, one_datum}
 use Rattle.cip_module.specs.State.{State}
 use Rattle.cip_module.specs.Table.{datum_effects, entered_effects, enter_effects, refused_effects, decide}

@@ -1,5 +1,6 @@
 -- An op gets one Ended at most, and neither a Done nor another Ended in the turn of its Ended or after it.
-use Rattle.std.proofs.Common.{◌≡◌, ℕ, ◌+◌, ◌≤◌, ◌<◌, Bool, true, false, cond, List, [], ◌∷◌, ◌++◌, length, get_or, Option, Some, None, refl, sym, ap, subst, ◌∙◌, ◌⊎◌, inl, inr, arith, eqb, ltb, ◌||◌, zero, suc}
+use Rattle.std.proofs.Common.{◌≡◌, ℕ, ◌+◌, ◌≤◌, ◌<◌, Bool, true, false, cond, List, [], ◌∷◌, ◌++◌, length, get_or, Option, Some, None, refl, sym, ap, subst}
+use Rattle.std.proofs.Common.{◌∙◌, ◌⊎◌, inl, inr, arith, eqb, ltb, ◌||◌, zero, suc}
 use Rattle.std.specs.FinMap as map
 use Rattle.std.specs.List.{filter_map, cons_option}
 use Rattle.std.specs.declared.cmp.Ordering.{Ordering}
@@ -28,7 +29,8 @@ use Rattle.cip_hops.specs.Hops.{as_hop, opening_of}
 use Rattle.cip_config.specs.declared.config.ModuleSettings.{ModuleSettings}
 use Rattle.cip_event.specs.declared.event.Output.{Output}
 use Rattle.cip_event.specs.declared.event.Output.TheVariants as outputs
-use Rattle.cip_module.specs.Effects.{Effect, Spends, Replies, Answers, Forwards, Accepts, Removes, RefusesCommand, Drops, resets, here_answer, answered_state, ended_by as told_ended, reply_up, apply, applied, output_of, outputs_of}
+use Rattle.cip_module.specs.Effects.{Effect, Spends, Replies, Answers, Forwards, Accepts, Removes, RefusesCommand, Drops, resets, here_answer, answered_state}
+use Rattle.cip_module.specs.Effects.{ended_by as told_ended, reply_up, apply, applied, output_of, outputs_of}
 use Rattle.cip_module.specs.Resets.{asking_op, opening_op, noted, all_noted, held_ops, waiting_ops, open_ops, all_ended}
 use Rattle.cip_module.specs.State.{State, is_spent, spent_with}
 use Rattle.cip_module.specs.Table.{up_side_of}

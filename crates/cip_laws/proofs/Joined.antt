@@ -28,7 +28,9 @@ use Rattle.cip_event.specs.declared.event.Body.TheVariants as bodies
 use Rattle.cip_event.specs.declared.event.Event.{Event}
 use Rattle.cip_event.specs.declared.event.Output.{Output}
 use Rattle.cip_event.specs.declared.event.Output.TheVariants as outputs
-use Rattle.cip_module.specs.Effects.{Sending, Effect, Forwards, Begins, Accepts, Finishes, Takes, PendingTimesOut, Removes, HopTimesOut, Renews, Counts, entry_for, kind_for, abandoned, abandoned_if, removed, given_up, ends_here, apply, output_of, applied, outputs_of, Answers, resets, answered_state}
+use Rattle.cip_module.specs.Effects.{Sending, Effect, Forwards, Begins, Accepts, Finishes, Takes, PendingTimesOut, Removes, HopTimesOut, Renews, Counts}
+use Rattle.cip_module.specs.Effects.{entry_for, kind_for, abandoned, abandoned_if, removed, given_up, ends_here, apply, output_of, applied, outputs_of, Answers}
+use Rattle.cip_module.specs.Effects.{resets, answered_state}
 use Rattle.cip_module.specs.State.{State}
 use Rattle.cip_laws.specs.Tells.{Tells, ForwardsAs, BeginsAs, AcceptsAs, FinishesAs, SentOn, ClosedOn}
 use Rattle.cip_module.proofs.Opens.{opens_for}

@@ -42,7 +42,9 @@ use Rattle.cip_module.specs.RequestRows.{RequestRow, request_row}
 use Rattle.cip_module.specs.RequestRows as request
 use Rattle.cip_module.specs.CommandRows.{op_row, close_command_row, send_row}
 use Rattle.cip_module.specs.State.{State}
-use Rattle.cip_module.specs.Table.{up_side_of, send_below, unconnected_effects, unconnected_data_effects, open_below, open_effects, open_data_effects, close_effects, close_below, close_data_effects, request_effects, refused_effects, with_spending, send_effects, open_command_effects, closed_effects, close_command_effects, close_of, open_of, sent, decide}
+use Rattle.cip_module.specs.Table.{up_side_of, send_below, unconnected_effects, unconnected_data_effects, open_below, open_effects, open_data_effects}
+use Rattle.cip_module.specs.Table.{close_effects, close_below, close_data_effects, request_effects, refused_effects, with_spending, send_effects}
+use Rattle.cip_module.specs.Table.{open_command_effects, closed_effects, close_command_effects, close_of, open_of, sent, decide}
 use Rattle.cip_laws.specs.Tells.{asker}
 use Rattle.cip_event.specs.Params.{widened}
 

@@ -28,7 +28,9 @@ use Rattle.cip_module.specs.CommandRows as command
 use Rattle.cip_module.specs.CommandRows.{enter_row}
 use Rattle.cip_module.specs.DataRows.{DataRow, data_row}
 use Rattle.cip_module.specs.DataRows as datum
-use Rattle.cip_module.specs.Effects.{Effect, Replies, Answers, Forwards, Begins, Finishes, Takes, PendingTimesOut, HopTimesOut, Passes, RefusesCommand, Drops, resets, here_answer, ended_by, reply_up, replied, timed_out_reply, timed_out_bytes, datum_by, passed, output_of, applied, succeeded_at}
+use Rattle.cip_module.specs.Effects.{Effect, Replies, Answers, Forwards, Begins, Finishes, Takes, PendingTimesOut, HopTimesOut, Passes, RefusesCommand, Drops}
+use Rattle.cip_module.specs.Effects.{resets, here_answer, ended_by, reply_up, replied, timed_out_reply, timed_out_bytes, datum_by, passed, output_of, applied}
+use Rattle.cip_module.specs.Effects.{succeeded_at}
 use Rattle.cip_module.specs.State.{State}
 use Rattle.cip_module.specs.Table.{counts, datum_effects, enter_effects, entered_effects, refused_effects, decide}
 use Rattle.cip_laws.specs.Tells.{PassesAs, PassedOn, Entered, Made}

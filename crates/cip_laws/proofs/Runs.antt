@@ -45,7 +45,8 @@ pub use Rattle.cip_target.specs.Ends.{HasPoints}
 pub use Rattle.cip_target.proofs.EndPoints.{end_points}
 pub use Rattle.cip_laws.proofs.Failures.{request_fails, unconnected_fails, open_fails, close_fails, link_fails, end_fails}
 -- Chains: what a datum or a tick tells is of the connection that stands there, and a datum that is found goes on.
-pub use Rattle.cip_laws.proofs.TellsStand.{own_stands, came_stands, produced_stands, renews_stands, hop_times_out_stands, passing, passes_stands, counting, counts_stands}
+pub use Rattle.cip_laws.proofs.TellsStand.{own_stands, came_stands, produced_stands, renews_stands, hop_times_out_stands, passing, passes_stands, counting}
+pub use Rattle.cip_laws.proofs.TellsStand.{counts_stands}
 pub use Rattle.cip_laws.proofs.DataMet.{goes_down, goes_up, goes_entered}
 pub use Rattle.cip_laws.proofs.DataOnce.{datum_of, frame_once, enter_once}
 -- What the tables tell of a state, and the first state.

@@ -17,12 +17,14 @@ use Rattle.cip_hops.specs.declared.hop.Held.TheVariants.{Opening as IsOpening, O
 use Rattle.cip_hops.specs.declared.hop.Side.{Side}
 use Rattle.cip_hops.specs.declared.hop.Side.TheVariants.{Up, Down}
 use Rattle.cip_hops.specs.Sides.{own_ids}
-use Rattle.cip_hops.specs.Hops.{Hops, opening_at, hop_at, opening_of, ids_of, open_in, opened, finished, begun, without, change_in, changed, is_link, touched, counted}
+use Rattle.cip_hops.specs.Hops.{Hops, opening_at, hop_at, opening_of, ids_of, open_in, opened, finished, begun, without, change_in, changed, is_link, touched}
+use Rattle.cip_hops.specs.Hops.{counted}
 use Rattle.cip_open.specs.Open.{Open as OpenRequest}
 use Rattle.cip_open.specs.Success.{OpenSuccess}
 use Rattle.cip_target.specs.declared.link.EndLink.{EndLink}
 use Rattle.cip_config.specs.declared.config.ModuleSettings.{ModuleSettings}
-use Rattle.cip_module.specs.Effects.{Effect, Begins, Accepts, Finishes, Takes, PendingTimesOut, Removes, HopTimesOut, Renews, Counts, abandoned, abandoned_if, removed, given_up, renewed, recounted, ends_here, apply, Answers, resets, answered_state}
+use Rattle.cip_module.specs.Effects.{Effect, Begins, Accepts, Finishes, Takes, PendingTimesOut, Removes, HopTimesOut, Renews, Counts, abandoned, abandoned_if}
+use Rattle.cip_module.specs.Effects.{removed, given_up, renewed, recounted, ends_here, apply, Answers, resets, answered_state}
 use Rattle.cip_module.specs.State.{State}
 use Rattle.cip_base.proofs.Points.{put_here}
 use Rattle.cip_module.proofs.Removed.{open_at}

@@ -13,7 +13,8 @@ use Rattle.cip_module.specs.RequestRows.{RequestRow}
 use Rattle.cip_module.specs.Effects.{Sending}
 use Rattle.cip_module.specs.State.{State}
 use Rattle.cip_laws.proofs.AskedOpens.{asks_asker}
-use Rattle.cip_laws.specs.Tells.{asker, Came, AsksSend, AsksOpen, AsksClose, RepliesAs, RequestFails, SendUnread, SendFails, OpenUnread, OpenFails, OpenEnds, CloseUnread, CloseFails, CloseEnds, AnswersAs, Itself, Embedded, ForwardsAs, BeginsAs, SentOn, ClosedOn}
+use Rattle.cip_laws.specs.Tells.{asker, Came, AsksSend, AsksOpen, AsksClose, RepliesAs, RequestFails, SendUnread, SendFails, OpenUnread, OpenFails, OpenEnds}
+use Rattle.cip_laws.specs.Tells.{CloseUnread, CloseFails, CloseEnds, AnswersAs, Itself, Embedded, ForwardsAs, BeginsAs, SentOn, ClosedOn}
 
 pub came_asker : (config : ModuleSettings) (event : Event) (up : UpSide) (row : RequestRow) → Came config event up row → asker event ≡ Some up
 came_asker config event up row came = ap asker came.event_is ∙ ap (λ (u : UpSide). Some u) (sym came.up_is)

@@ -19,7 +19,8 @@ use Rattle.cip_module.specs.declared.refusals.LinkRefusal.{LinkRefusal}
 use Rattle.cip_module.specs.declared.refusals.OpenRefusal.TheVariants.{NoRoomToPassOn, NotAccepted, NoRoomToEndHere}
 use Rattle.cip_module.specs.Keys.{leading_mismatch}
 use Rattle.cip_module.specs.Links.{link_refusal}
-use Rattle.cip_module.specs.OpenRows.{OpenRow, Refuses, Forwarded, Accepted, accepted_row, here_row, ids_if_forwarded, on_row, hop_row, key_row, open_row, is_consumed}
+use Rattle.cip_module.specs.OpenRows.{OpenRow, Refuses, Forwarded, Accepted, accepted_row, here_row, ids_if_forwarded, on_row, hop_row, key_row, open_row}
+use Rattle.cip_module.specs.OpenRows.{is_consumed}
 use Rattle.cip_module.specs.RequestRows.{ForwardOpen}
 use Rattle.cip_module.specs.State.{State}
 use Rattle.cip_module.specs.Table.{up_side_of, open_effects, open_data_effects}

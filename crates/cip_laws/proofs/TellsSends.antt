@@ -19,7 +19,8 @@ use Rattle.cip_module.specs.declared.refusals.UnconnectedRefusal.TheVariants.{Em
 use Rattle.cip_module.specs.Keys.{leading_mismatch}
 use Rattle.cip_module.specs.Object.{begins_with_manager}
 use Rattle.cip_module.specs.Links.{link_refusal}
-use Rattle.cip_module.specs.UnconnectedRows.{UnconnectedRow, Refuses, AnsweredHere, Forwarded, link_row, hop_row, key_row, route_row, embedded_row, unconnected_row}
+use Rattle.cip_module.specs.UnconnectedRows.{UnconnectedRow, Refuses, AnsweredHere, Forwarded, link_row, hop_row, key_row, route_row, embedded_row}
+use Rattle.cip_module.specs.UnconnectedRows.{unconnected_row}
 use Rattle.cip_module.specs.RequestRows.{UnconnectedSend}
 use Rattle.cip_module.specs.State.{State}
 use Rattle.cip_module.specs.Table.{unconnected_effects, unconnected_data_effects}

@@ -27,7 +27,8 @@ use Rattle.cip_event.specs.declared.event.Event.{Event}
 use Rattle.cip_event.specs.declared.event.Output.{Output}
 use Rattle.cip_event.specs.declared.event.Output.TheVariants as outputs
 use Rattle.cip_event.specs.declared.event.Refused.{Refused}
-use Rattle.cip_module.specs.Effects.{Sending, Effect, Answers, Forwards, Begins, Finishes, Takes, PendingTimesOut, HopTimesOut, Passes, RefusesCommand, Drops, resets, here_answer, timed_out_bytes, datum_by, succeeded, output_of, applied}
+use Rattle.cip_module.specs.Effects.{Sending, Effect, Answers, Forwards, Begins, Finishes, Takes, PendingTimesOut, HopTimesOut, Passes, RefusesCommand, Drops}
+use Rattle.cip_module.specs.Effects.{resets, here_answer, timed_out_bytes, datum_by, succeeded, output_of, applied}
 use Rattle.cip_module.specs.OpenRows.{opening_with}
 use Rattle.cip_module.specs.State.{State}
 use Rattle.cip_module.specs.Table.{up_side_of}

@@ -1,6 +1,7 @@
 -- The routing table read backwards: what each effect of an event tells of the event, and of the
 -- state before it.
-use Rattle.std.specs.Prelude.{◌≡◌, ℕ, ◌+◌, ◌*◌, ◌^◌, ◌≤◌, ◌<◌, ◌==◌, ◌⊎◌, true, false, if◌then◌else◌, Option, Some, None, Ok, Err, List, [], ◌∷◌, drop, length, Bool}
+use Rattle.std.specs.Prelude.{◌≡◌, ℕ, ◌+◌, ◌*◌, ◌^◌, ◌≤◌, ◌<◌, ◌==◌, ◌⊎◌, true, false, if◌then◌else◌, Option, Some, None, Ok, Err, List, [], ◌∷◌, drop, length}
+use Rattle.std.specs.Prelude.{Bool}
 use Rattle.std.specs.FinMap as map
 use Rattle.cip_base.specs.Words.{ConnectionId, InstanceNumber, LinkAddress, Microseconds, Milliseconds, Octets, OpNumber, PortIdentifier, RequestNumber}
 use Rattle.cip_base.specs.declared.timing.Timing.{Timing}
@@ -73,8 +74,10 @@ use Rattle.cip_module.specs.DataRows.{DataRow, is_last, data_row}
 use Rattle.cip_module.specs.DataRows as datum
 use Rattle.cip_module.specs.CommandRows.{op_row, close_command_row, send_row, enter_row, set_row, produce_row}
 use Rattle.cip_module.specs.Produced.{reads_from, next_count, datum_bytes}
-use Rattle.cip_module.specs.Effects.{Sending, Effect, Spends, Replies, Answers, Forwards, Begins, Accepts, Finishes, Takes, PendingTimesOut, Removes, HopTimesOut, Renews, Passes, Counts, Writes, RefusesCommand, Drops, Advances}
-use Rattle.cip_module.specs.Table.{wait_of, words_of, message_on, up_side_of, open_on, accepted_bytes, close_on, unread_open_bytes, unread_close_bytes, sent, asked_open, close_of, other}
+use Rattle.cip_module.specs.Effects.{Sending, Effect, Spends, Replies, Answers, Forwards, Begins, Accepts, Finishes, Takes, PendingTimesOut, Removes}
+use Rattle.cip_module.specs.Effects.{HopTimesOut, Renews, Passes, Counts, Writes, RefusesCommand, Drops, Advances}
+use Rattle.cip_module.specs.Table.{wait_of, words_of, message_on, up_side_of, open_on, accepted_bytes, close_on, unread_open_bytes, unread_close_bytes, sent}
+use Rattle.cip_module.specs.Table.{asked_open, close_of, other}
 use Rattle.cip_module.specs.State.{State, is_spent}
 use Rattle.cip_module.specs.Links.{LeadsOn}
 

@@ -15,9 +15,12 @@ ghost use Rattle.cip_event.specs.declared.event.Event.TheVariants.{Command, Fram
 ghost use Rattle.cip_event.specs.declared.event.Output.{Output as Given};
 ghost use Rattle.cip_event.specs.declared.event.Output.TheVariants.{Send};
 ghost use Rattle.cip_laws.specs.Changes.{puts, numbers_drawn, drawn_ids, HeldCase};
-ghost use Rattle.cip_laws.specs.EffectLists.{gain, takes_up, births, IsLight, IsBounded, AllStand, AreMade};
-ghost use Rattle.cip_module.specs.Effects.{Effect, Passes, apply, reply_up, datum_by, output_of, outputs_of};
-ghost use Rattle.cip_laws.specs.Outputs.{GaveBy, RequestBy, RepliesBy, is_datum, PassedBy, DatumOf, tells_end, EndedBy};
+ghost use Rattle.cip_laws.specs.EffectLists.{gain, takes_up, births, IsLight, IsBounded, AllStand};
+ghost use Rattle.cip_laws.specs.EffectLists.{AreMade};
+ghost use Rattle.cip_module.specs.Effects.{Effect, Passes, apply, reply_up, datum_by, output_of};
+ghost use Rattle.cip_module.specs.Effects.{outputs_of};
+ghost use Rattle.cip_laws.specs.Outputs.{GaveBy, RequestBy, RepliesBy, is_datum, PassedBy, DatumOf};
+ghost use Rattle.cip_laws.specs.Outputs.{tells_end, EndedBy};
 ghost use Rattle.cip_module.specs.State.{State};
 ghost use Rattle.cip_module.specs.Table.{decide};
 ghost use Rattle.cip_laws.specs.Tells.{asker, Tells, AllTell};

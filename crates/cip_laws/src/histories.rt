@@ -21,7 +21,8 @@ ghost use Rattle.cip_laws.specs.Histories.{Turn, state_after, IsHistory};
 ghost use Rattle.cip_laws.specs.Openings.{SentIn, Joined, HopOpened};
 ghost use Rattle.cip_laws.specs.Outputs.{BornBy};
 ghost use Rattle.cip_laws.specs.OwnTriads.{HasOwnTriads};
-ghost use Rattle.cip_laws.specs.Weights.{is_request, is_reply, is_ended, is_asked_by, same_up, weight, came};
+ghost use Rattle.cip_laws.specs.Weights.{is_request, is_reply, is_ended, is_asked_by, same_up};
+ghost use Rattle.cip_laws.specs.Weights.{weight, came};
 ghost use Rattle.cip_laws.specs.Resets.{ResetIn, made_again};
 ghost use Rattle.cip_laws.specs.Turns.{SomeTurn, AskedIn, Has};
 

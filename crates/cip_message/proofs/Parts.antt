@@ -9,7 +9,8 @@ use Rattle.cip_message.specs.declared.fault.DataFault.{DataFault}
 use Rattle.cip_message.specs.declared.fault.DataFault.TheVariants.{Short, Long, Path}
 use Rattle.cip_message.specs.Counted.{whole_length, counted_at, counted_path_at, with_part}
 use Rattle.cip_message.specs.Cut.{IsCutOff, IsOverlong, IsPathFault, IsPartFault}
-use Rattle.cip_message.proofs.Counteds.{counted_at-Short, counted_at-Long, counted_path_at-Short, counted_path_at-Long, counted_path_at-Path, counted_verdict, counted_path_verdict}
+use Rattle.cip_message.proofs.Counteds.{counted_at-Short, counted_at-Long, counted_path_at-Short, counted_path_at-Long, counted_path_at-Path, counted_verdict}
+use Rattle.cip_message.proofs.Counteds.{counted_path_verdict}
 use Rattle.cip_message.proofs.Ends.{cut_off, overlong, whole-zeros, whole-take, cut_short, over_long}
 use Rattle.cip_message.proofs.Readers.{IsBytes-drop}
 

@@ -2,7 +2,8 @@
 ghost use Rattle.std.specs.Prelude.{◌≡◌, ◌++◌, IfOk, OnOk};
 ghost use Rattle.cip_message.specs.Gives.{Gives};
 ghost use Rattle.cip_message.specs.Exact.{IsRead};
-ghost use Rattle.cip_message.specs.Failure.{ReadsFailure, IsFailureFault, failure_at, failure_data, failure_bytes, HasTriadForWords};
+ghost use Rattle.cip_message.specs.Failure.{ReadsFailure, IsFailureFault, failure_at, failure_data};
+ghost use Rattle.cip_message.specs.Failure.{failure_bytes, HasTriadForWords};
 
 use crate::fault::DataFault;
 use crate::numbers::{put_triad, triad_within};

@@ -4,8 +4,9 @@ ghost use Rattle.std.specs.Prelude.{◌≡◌, ◌<◌, ◌≤◌, ℕ, Ok};
 ghost use Rattle.cip_base.specs.Words.{Octets};
 ghost use Rattle.cip_segment.specs.Spelling.{IsReadable};
 ghost use Rattle.cip_message.specs.Exact.{ReadsEach, Decides, Refuses, RefusesBytes};
-ghost use Rattle.cip_message.specs.declared.failure.ConnectionFailure.{ConnectionFailure as Failure};
-ghost use Rattle.cip_message.specs.Failure.{ReadsFailure, IsFailureFault, failure_at, failure_data, HasTriadForWords};
+ghost use Rattle.cip_message.specs.declared.failure.ConnectionFailure.{ConnectionFailure as Failed};
+ghost use Rattle.cip_message.specs.Failure.{ReadsFailure, IsFailureFault, failure_at, failure_data};
+ghost use Rattle.cip_message.specs.Failure.{HasTriadForWords};
 ghost use Rattle.cip_message.specs.Request.{Request, ReadsRequest, IsRequestFault, request_bytes};
 ghost use Rattle.cip_message.specs.RequestAt.{request_at};
 ghost use Rattle.cip_message.specs.Manager.{manager_request, manager_bytes};
@@ -52,5 +53,5 @@ pub fn failure_is_exact()
 
 /// The data of a failure that is written is read back as the same record.
 pub fn written_failure_is_read()
-    ensures { (f : Failure) → HasTriadForWords f → failure_at (failure_data f) ≡ Ok f }
+    ensures { (f : Failed) → HasTriadForWords f → failure_at (failure_data f) ≡ Ok f }
 {}

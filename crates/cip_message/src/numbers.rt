@@ -1,6 +1,7 @@
 //! Number fields of messages at their places.
 ghost use Rattle.std.specs.Prelude.{◌≡◌, ◌+◌, ◌<◌, ◌≤◌, ◌++◌, length, OnOk};
-ghost use Rattle.cip_message.specs.Numbers.{word_in, double_in, triad_in, triad_within, triad_bytes};
+ghost use Rattle.cip_message.specs.Numbers.{word_in, double_in, triad_in, triad_within};
+ghost use Rattle.cip_message.specs.Numbers.{triad_bytes};
 
 use byteorder::{ByteOrder, LittleEndian};
 use cip_base::{Triad, put_double, put_word};

@@ -2,7 +2,8 @@
 ghost use Rattle.std.specs.Prelude.{◌≡◌, ◌<◌, ◌≤◌, ◌↔◌, length, IfOk, IsErrOf, OnOk, ◌++◌};
 ghost use Rattle.cip_message.specs.Gives.{Gives};
 ghost use Rattle.cip_message.specs.Exact.{IsRead};
-ghost use Rattle.cip_message.specs.Reply.{ReadsReply, IsReplyFault, reply_bytes, reply_with, reply_header, status_of};
+ghost use Rattle.cip_message.specs.Reply.{ReadsReply, IsReplyFault, reply_bytes, reply_with};
+ghost use Rattle.cip_message.specs.Reply.{reply_header, status_of};
 ghost use Rattle.cip_message.specs.ReplyAt.{reply_from, reply_at};
 ghost use Rattle.cip_message.specs.Reading.{reply_of};
 

@@ -1,5 +1,6 @@
 -- That the tables of a module fit one another after a connection ends here.
-use Rattle.std.proofs.Common.{◌≡◌, ℕ, ◌≤◌, ◌<◌, Bool, true, false, cond, eqb, ◌&&◌, refl, sym, ap, subst, ◌∙◌, Option, Some, None, is_some, List, [], length, ◌⊎◌, inl, inr, Ok, Err}
+use Rattle.std.proofs.Common.{◌≡◌, ℕ, ◌≤◌, ◌<◌, Bool, true, false, cond, eqb, ◌&&◌, refl, sym, ap, subst, ◌∙◌, Option, Some, None, is_some, List, [], length}
+use Rattle.std.proofs.Common.{◌⊎◌, inl, inr, Ok, Err}
 use Rattle.std.specs.Prelude.{option_and_then, nat_lt, not, IsSomeAnd}
 use Rattle.std.specs.Option.{option_map_or}
 use Rattle.std.specs.Cmp.{nat_cmp_total}
@@ -19,8 +20,10 @@ use Rattle.cip_hops.specs.Hops.{Hops, begun, finished, opened, opening_at, held_
 use Rattle.cip_hops.proofs.Changes.{finished_is}
 use Rattle.cip_target.specs.ApplicationPath.{Application, application_of}
 use Rattle.cip_target.specs.Assemblies.{AssemblyMap, Owners, size_in, owned_with}
-use Rattle.cip_target.specs.declared.ends.EndRefusal.TheVariants.{NotAnApplicationPath, NoSuchInstanceOrConfiguration, TransportClassNotSupported, SizeMismatch, OutputOwned}
-use Rattle.cip_target.specs.Ends.{Ends, sized_row, application_row, end_row, row_at, is_configuration, are_sizes, class_of, link_of, configuration_of, configured, accepted}
+use Rattle.cip_target.specs.declared.ends.EndRefusal.TheVariants.{NotAnApplicationPath, NoSuchInstanceOrConfiguration, TransportClassNotSupported, SizeMismatch}
+use Rattle.cip_target.specs.declared.ends.EndRefusal.TheVariants.{OutputOwned}
+use Rattle.cip_target.specs.Ends.{Ends, sized_row, application_row, end_row, row_at, is_configuration, are_sizes, class_of, link_of, configuration_of}
+use Rattle.cip_target.specs.Ends.{configured, accepted}
 use Rattle.cip_target.specs.declared.link.EndLink.{EndLink}
 use Rattle.cip_target.proofs.Fitting.{FitsWith, fitting}
 use Rattle.cip_config.specs.declared.config.ModuleSettings.{ModuleSettings}

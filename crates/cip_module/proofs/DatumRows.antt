@@ -1,5 +1,6 @@
 -- A datum goes on by the connection that was found by its id, and that side is watched anew.
-use Rattle.std.proofs.Common.{◌≡◌, ℕ, true, false, not, List, [], ◌∷◌, ◌++◌, refl, sym, ap, subst, ◌∙◌, Option, Some, None, is_some, if◌then◌else◌, ◌==◌, length, arith}
+use Rattle.std.proofs.Common.{◌≡◌, ℕ, true, false, not, List, [], ◌∷◌, ◌++◌, refl, sym, ap, subst, ◌∙◌, Option, Some, None, is_some, if◌then◌else◌, ◌==◌}
+use Rattle.std.proofs.Common.{length, arith}
 use Rattle.std.proofs.lemmas.Bool.Decides.{nat_tests}
 use Rattle.std.specs.Option.{option_map_or}
 use Rattle.std.specs.FinMap as map
@@ -11,7 +12,8 @@ use Rattle.cip_hops.specs.declared.hop.Hop.{Hop}
 use Rattle.cip_hops.specs.declared.hop.Side.{Side}
 use Rattle.cip_hops.specs.declared.hop.Side.TheVariants.{Up, Down}
 use Rattle.cip_hops.specs.declared.hop.Held.TheVariants.{Open}
-use Rattle.cip_hops.specs.Hops.{Hops, hop_at, hop_by_up, hop_by_down, is_hop_by_up, is_hop_by_down, up_id_of, down_id_of, HasId, IsWithin, changed, touched, is_link}
+use Rattle.cip_hops.specs.Hops.{Hops, hop_at, hop_by_up, hop_by_down, is_hop_by_up, is_hop_by_down, up_id_of, down_id_of, HasId, IsWithin, changed, touched}
+use Rattle.cip_hops.specs.Hops.{is_link}
 use Rattle.cip_hops.proofs.Named.{and_first, is_id_true}
 use Rattle.cip_hops.proofs.Touching.{held_open}
 use Rattle.cip_config.specs.declared.config.ModuleSettings.{ModuleSettings}

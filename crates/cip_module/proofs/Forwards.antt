@@ -1,5 +1,6 @@
 -- A datum that goes on between two links, as the table of connections tells where.
-use Rattle.std.proofs.Common.{◌≡◌, ℕ, Bool, true, false, List, [], ◌∷◌, length, refl, sym, ap, subst, ◌∙◌, Option, Some, None, IfSome, is_some, not, ◌==◌, if◌then◌else◌}
+use Rattle.std.proofs.Common.{◌≡◌, ℕ, Bool, true, false, List, [], ◌∷◌, length, refl, sym, ap, subst, ◌∙◌, Option, Some, None, IfSome, is_some, not, ◌==◌}
+use Rattle.std.proofs.Common.{if◌then◌else◌}
 use Rattle.std.proofs.lemmas.Bool.{eqb-true}
 use Rattle.std.specs.Option.{option_map_or}
 use Rattle.cip_hops.specs.declared.opening.HopUp.{HopUp}

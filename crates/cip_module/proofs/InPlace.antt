@@ -1,5 +1,6 @@
 -- What goes on, or goes up, is an edit of what came; and a function that puts out what was made, anew or so, keeps its promise.
-use Rattle.std.proofs.Common.{◌≡◌, ◌<◌, ℕ, Bool, true, false, cond, eqb, List, [], ◌∷◌, ◌++◌, length, map as map_list, refl, sym, ap, subst, ◌∙◌, arith, Option, Some, Result, Ok, Err, IfOk}
+use Rattle.std.proofs.Common.{◌≡◌, ◌<◌, ℕ, Bool, true, false, cond, eqb, List, [], ◌∷◌, ◌++◌, length, map as map_list, refl, sym, ap, subst, ◌∙◌, arith, Option}
+use Rattle.std.proofs.Common.{Some, Result, Ok, Err, IfOk}
 use Rattle.std.specs.Option.{option_map, option_map_or}
 use Rattle.std.specs.FinMap as map
 use Rattle.std.proofs.lemmas.Bool.{eqb-true, eqb-false}
@@ -40,7 +41,8 @@ use Rattle.cip_module.specs.declared.reaction.Reaction.{Reaction}
 use Rattle.cip_module.specs.declared.reaction.Reaction.TheVariants as reactions
 use Rattle.cip_module.specs.declared.reaction.Edit.{Edit}
 use Rattle.cip_module.specs.declared.reaction.Edit.TheVariants.{AsTheyCame, Unwrapped, SentOn, OpenedOn, ClosedOn, SuccessUp}
-use Rattle.cip_module.specs.Effects.{Effect, Forwards, Begins, Removes, Finishes, Takes, given_up, success_up, succeeded, waits_large, replied, reply_up, applied, outputs_of}
+use Rattle.cip_module.specs.Effects.{Effect, Forwards, Begins, Removes, Finishes, Takes, given_up, success_up, succeeded, waits_large, replied, reply_up}
+use Rattle.cip_module.specs.Effects.{applied, outputs_of}
 use Rattle.cip_module.specs.OpenRows as opens
 use Rattle.cip_module.specs.OpenRows.{OpenRow, open_row, opening_with}
 use Rattle.cip_module.specs.CloseRows as closes
@@ -53,7 +55,8 @@ use Rattle.cip_event.specs.Filled.{filled}
 use Rattle.cip_module.specs.Reactions.{Becomes, PutsOut}
 use Rattle.cip_module.specs.Steps.{IsStep}
 use Rattle.cip_module.specs.State.{State}
-use Rattle.cip_module.specs.Table.{up_side_of, send_below, open_below, close_below, unconnected_effects, open_effects, close_effects, reply_effects, with_spending, decide, after_effects, Stepped}
+use Rattle.cip_module.specs.Table.{up_side_of, send_below, open_below, close_below, unconnected_effects, open_effects, close_effects, reply_effects}
+use Rattle.cip_module.specs.Table.{with_spending, decide, after_effects, Stepped}
 use Rattle.cip_module.specs.Links.{LeadsOn}
 use Rattle.cip_module.specs.declared.device.Device.{Device}
 use Rattle.cip_module.specs.Code.Device.{state_of_device}

@@ -31,7 +31,8 @@ use Rattle.cip_module.specs.Effects.{abandoned, abandoned_if, given_up_of}
 use Rattle.cip_module.specs.OpenRows.{writes_to}
 use Rattle.cip_module.specs.Paired.{IsAwaited, IsOther}
 use Rattle.cip_module.specs.State.{is_spent, spent_with}
-use Rattle.cip_module.proofs.Fits.{Becomes, becomes_put, becomes_gone, spent_becomes, links_becomes, owned_becomes, paired_becomes, paired_begun, paired_ended, paired_added, paired_dropped}
+use Rattle.cip_module.proofs.Fits.{Becomes, becomes_put, becomes_gone, spent_becomes, links_becomes, owned_becomes, paired_becomes, paired_begun, paired_ended}
+use Rattle.cip_module.proofs.Fits.{paired_added, paired_dropped}
 
 -- what was spent stays spent, and the op is spent now
 pub spent_now : (op : ℕ) (ops : List ℕ) → is_spent op (spent_with op ops) ≡ true

@@ -1,5 +1,6 @@
 -- What an end sends of an assembly: the data as they stand before the counts, and the counts one after another.
-use Rattle.std.proofs.Common.{◌≡◌, ℕ, suc, Bool, true, false, cond, List, [], ◌∷◌, ◌++◌, length, get_or, ◌<◌, refl, sym, ap, ◌∙◌, arith, append_assoc, append-nil, Option, Some, None, inl, inr, if◌then◌else◌, ◌==◌}
+use Rattle.std.proofs.Common.{◌≡◌, ℕ, suc, Bool, true, false, cond, List, [], ◌∷◌, ◌++◌, length, get_or, ◌<◌, refl, sym, ap, ◌∙◌, arith, append_assoc}
+use Rattle.std.proofs.Common.{append-nil, Option, Some, None, inl, inr, if◌then◌else◌, ◌==◌}
 use Rattle.std.specs.Prelude.{map}
 use Rattle.std.specs.Option.{option_and_then, option_map_or, option_map}
 use Rattle.std.specs.List.{filter, cons_option}

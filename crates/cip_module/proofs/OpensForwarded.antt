@@ -12,10 +12,12 @@ use Rattle.cip_target.specs.declared.ends.EndRefusal.TheVariants.{NotAnApplicati
 use Rattle.cip_config.specs.declared.config.ModuleSettings.{ModuleSettings}
 use Rattle.cip_module.specs.declared.refusals.KeyPart.{KeyPart}
 use Rattle.cip_module.specs.declared.refusals.LinkRefusal.{LinkRefusal}
-use Rattle.cip_module.specs.declared.refusals.OpenRefusal.TheVariants.{ConnectionTypeNotSupported, RpiOfZero, TriadInUse, NotSentOn, NoRoomToPassOn, NotAccepted, NoRoomToEndHere}
+use Rattle.cip_module.specs.declared.refusals.OpenRefusal.TheVariants.{ConnectionTypeNotSupported, RpiOfZero, TriadInUse, NotSentOn, NoRoomToPassOn}
+use Rattle.cip_module.specs.declared.refusals.OpenRefusal.TheVariants.{NotAccepted, NoRoomToEndHere}
 use Rattle.cip_module.specs.Keys.{leading_mismatch}
 use Rattle.cip_module.specs.Links.{link_refusal, LeadsOn}
-use Rattle.cip_module.specs.OpenRows.{OpenRow, Refuses, Forwarded, Accepted, room_row, accepted_row, here_row, ids_if_forwarded, on_row, hop_row, key_row, is_supported, open_row, is_consumed}
+use Rattle.cip_module.specs.OpenRows.{OpenRow, Refuses, Forwarded, Accepted, room_row, accepted_row, here_row, ids_if_forwarded, on_row, hop_row, key_row}
+use Rattle.cip_module.specs.OpenRows.{is_supported, open_row, is_consumed}
 use Rattle.cip_module.specs.State.{State}
 use Rattle.cip_module.proofs.Conditions.{past, past_not, none_is}
 use Rattle.cip_module.proofs.SendsForwarded.{link_ticks}

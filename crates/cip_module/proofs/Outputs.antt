@@ -21,7 +21,8 @@ use Rattle.cip_open.specs.Open.{Open as OpenRecord}
 use Rattle.cip_target.specs.ApplicationPath.{Application, application_of}
 use Rattle.cip_target.specs.Assemblies.{AssemblyMap, Owners, size_in}
 use Rattle.cip_target.specs.declared.ends.EndRefusal.{EndRefusal}
-use Rattle.cip_target.specs.declared.ends.EndRefusal.TheVariants.{NotAnApplicationPath, NoSuchInstanceOrConfiguration, TransportClassNotSupported, SizeMismatch, OutputOwned}
+use Rattle.cip_target.specs.declared.ends.EndRefusal.TheVariants.{NotAnApplicationPath, NoSuchInstanceOrConfiguration, TransportClassNotSupported, SizeMismatch}
+use Rattle.cip_target.specs.declared.ends.EndRefusal.TheVariants.{OutputOwned}
 use Rattle.cip_target.specs.Ends.{EndRow, sized_row, application_row, end_row, is_configuration, are_sizes, class_of, link_of}
 use Rattle.cip_target.specs.declared.link.EndLink.{EndLink}
 use Rattle.cip_module.specs.OpenRows.{Refuses, Accepted, writes_to, is_consumed, accepted_row, here_row}

@@ -15,7 +15,8 @@ use Rattle.cip_close.specs.SuccessAt.{close_reply_at}
 use Rattle.cip_pending.specs.declared.entry.Kind.{Kind}
 use Rattle.cip_pending.specs.declared.entry.Kind.TheVariants.{Unconnected, Opening, OpeningLarge, Closing}
 use Rattle.cip_pending.specs.Kinds.{opened_triad}
-use Rattle.cip_module.specs.ReplyRows.{ReplyRow, OpenSucceeded, PassedUp, MalformedForItsKind, triad_eq, is_own, failure_row, opened_row, closed_row, opening_row, open_kind_row, closing_row, read_row}
+use Rattle.cip_module.specs.ReplyRows.{ReplyRow, OpenSucceeded, PassedUp, MalformedForItsKind, triad_eq, is_own, failure_row, opened_row, closed_row}
+use Rattle.cip_module.specs.ReplyRows.{opening_row, open_kind_row, closing_row, read_row}
 use Rattle.cip_base.specs.Fields.{IsBytes}
 
 either_row : {P : Type 0} (b : Bool) (x y z : ReplyRow) → cond b x y ≡ z → (x ≡ z → P) → (y ≡ z → P) → P

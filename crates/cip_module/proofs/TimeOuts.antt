@@ -1,5 +1,6 @@
 -- What a tick does to the pendings and to the connections, one that is due after another.
-use Rattle.std.proofs.Common.{◌≡◌, ℕ, zero, suc, ◌+◌, ◌<◌, Bool, true, false, cond, List, [], ◌∷◌, ◌++◌, length, get_or, refl, sym, ap, subst, ◌∙◌, arith, append_assoc, Result, Option, Some, None, is_some}
+use Rattle.std.proofs.Common.{◌≡◌, ℕ, zero, suc, ◌+◌, ◌<◌, Bool, true, false, cond, List, [], ◌∷◌, ◌++◌, length, get_or, refl, sym, ap, subst, ◌∙◌, arith}
+use Rattle.std.proofs.Common.{append_assoc, Result, Option, Some, None, is_some}
 use Rattle.std.specs.Prelude.{map}
 use Rattle.std.specs.Option.{option_to_list, option_and_then}
 use Rattle.std.specs.List.{find, filter, filter_map, remove}
@@ -26,7 +27,8 @@ use Rattle.cip_hops.proofs.Steps.{triads_apart}
 use Rattle.cip_base.proofs.Views.{found-gives, find-only, tied_name}
 use Rattle.cip_config.specs.declared.config.ModuleSettings.{ModuleSettings}
 use Rattle.cip_event.specs.declared.event.Output.{Output}
-use Rattle.cip_module.specs.Effects.{Effect, PendingTimesOut, HopTimesOut, apply, applied, output_of, outputs_of, timed_out_reply, abandoned_if, given_up, given_up_of}
+use Rattle.cip_module.specs.Effects.{Effect, PendingTimesOut, HopTimesOut, apply, applied, output_of, outputs_of, timed_out_reply, abandoned_if, given_up}
+use Rattle.cip_module.specs.Effects.{given_up_of}
 use Rattle.cip_module.specs.Code.Does.{Does}
 use Rattle.cip_module.specs.Table.{pending_times_out, pending_time_outs, hop_times_out, hop_time_outs, tick_effects}
 use Rattle.cip_module.specs.Code.Ticks.{TickGives, shown, pendings_timed_out, hop_timed_out, hops_timed_out, pending_time_out, hop_time_out}

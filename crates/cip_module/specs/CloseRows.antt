@@ -30,7 +30,8 @@ use Rattle.cip_hops.specs.Sides.{up_is, op_of}
 use Rattle.cip_hops.specs.Hops.{hop_at, is_id}
 use Rattle.cip_module.specs.declared.refusals.LinkRefusal.{LinkRefusal}
 use Rattle.cip_module.specs.declared.refusals.CloseRefusal.{CloseRefusal}
-use Rattle.cip_module.specs.declared.refusals.CloseRefusal.TheVariants.{CutInTheFixedPart, CutInThePath, BytesAfterThePath, PathUnreadable, NotThisSendersOpenTriad, PathDiffersFromTheHops, NotSentOn}
+use Rattle.cip_module.specs.declared.refusals.CloseRefusal.TheVariants.{CutInTheFixedPart, CutInThePath, BytesAfterThePath, PathUnreadable}
+use Rattle.cip_module.specs.declared.refusals.CloseRefusal.TheVariants.{NotThisSendersOpenTriad, PathDiffersFromTheHops, NotSentOn}
 use Rattle.cip_module.specs.Links.{wait_refusal}
 use Rattle.cip_module.specs.State.{State}
 

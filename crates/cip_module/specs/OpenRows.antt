@@ -50,7 +50,9 @@ use Rattle.cip_config.specs.declared.config.ModuleSettings.{ModuleSettings}
 use Rattle.cip_module.specs.declared.refusals.KeyPart.{KeyPart}
 use Rattle.cip_module.specs.declared.refusals.LinkRefusal.{LinkRefusal}
 use Rattle.cip_module.specs.declared.refusals.OpenRefusal.{OpenRefusal}
-use Rattle.cip_module.specs.declared.refusals.OpenRefusal.TheVariants.{CutInTheFixedPart, CutInThePath, BytesAfterThePath, PathUnreadable, ConnectionTypeNotSupported, RpiOfZero, TriadInUse, KeyMismatch, NotSentOn, NoRoomToPassOn, NotAccepted, NoRoomToEndHere}
+use Rattle.cip_module.specs.declared.refusals.OpenRefusal.TheVariants.{CutInTheFixedPart, CutInThePath, BytesAfterThePath, PathUnreadable}
+use Rattle.cip_module.specs.declared.refusals.OpenRefusal.TheVariants.{ConnectionTypeNotSupported, RpiOfZero, TriadInUse, KeyMismatch, NotSentOn}
+use Rattle.cip_module.specs.declared.refusals.OpenRefusal.TheVariants.{NoRoomToPassOn, NotAccepted, NoRoomToEndHere}
 use Rattle.cip_module.specs.Links.{link_refusal}
 use Rattle.cip_module.specs.Keys.{leading_mismatch}
 use Rattle.cip_module.specs.State.{State}

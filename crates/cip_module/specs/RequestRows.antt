@@ -26,7 +26,8 @@ use Rattle.cip_message.specs.declared.fault.RequestFault.TheVariants.{TooShort, 
 use Rattle.cip_config.specs.declared.config.ModuleSettings.{ModuleSettings}
 use Rattle.cip_target.specs.declared.object.ObjectPath.{ObjectPath}
 use Rattle.cip_module.specs.declared.refusals.RequestRefusal.{RequestRefusal}
-use Rattle.cip_module.specs.declared.refusals.RequestRefusal.TheVariants.{PathPastTheEnd, PathUnreadable, PathFormNotSupported, NoSuchManagerInstance, ServiceNotSupported}
+use Rattle.cip_module.specs.declared.refusals.RequestRefusal.TheVariants.{PathPastTheEnd, PathUnreadable, PathFormNotSupported, NoSuchManagerInstance}
+use Rattle.cip_module.specs.declared.refusals.RequestRefusal.TheVariants.{ServiceNotSupported}
 use Rattle.cip_config.specs.Config.{port_of}
 use Rattle.cip_target.specs.Object.{object_of}
 

@@ -1,5 +1,6 @@
 -- The routing table: what a module does at each event.
-use Rattle.std.specs.Prelude.{ℕ, ◌+◌, ◌*◌, ◌/◌, ◌%◌, ◌^◌, nat_lt, Bool, true, false, if◌then◌else◌, Option, Some, None, Result, Ok, Err, List, [], ◌∷◌, ◌++◌, map, length}
+use Rattle.std.specs.Prelude.{ℕ, ◌+◌, ◌*◌, ◌/◌, ◌%◌, ◌^◌, nat_lt, Bool, true, false, if◌then◌else◌, Option, Some, None, Result, Ok, Err, List, [], ◌∷◌, ◌++◌}
+use Rattle.std.specs.Prelude.{map, length}
 use Rattle.std.specs.FinMap as finite
 use Rattle.cip_base.specs.Words.{ConnectionId, InstanceNumber, LinkAddress, Microseconds, Octets, OpNumber, PortIdentifier, RequestNumber}
 use Rattle.cip_base.specs.declared.timing.Timing.{Timing}
@@ -67,7 +68,8 @@ use Rattle.cip_module.specs.OpenRows.{OpenRow, open_row, opening_with, end_down}
 use Rattle.cip_module.specs.OpenRows as opens
 use Rattle.cip_module.specs.CloseRows.{CloseRow, close_row}
 use Rattle.cip_module.specs.CloseRows as closes
-use Rattle.cip_module.specs.Effects.{Sending, Effect, Spends, Replies, Answers, Forwards, Begins, Accepts, Finishes, Takes, PendingTimesOut, Removes, HopTimesOut, Renews, Passes, Counts, Writes, RefusesCommand, Drops, Advances, applied, outputs_of}
+use Rattle.cip_module.specs.Effects.{Sending, Effect, Spends, Replies, Answers, Forwards, Begins, Accepts, Finishes, Takes, PendingTimesOut, Removes}
+use Rattle.cip_module.specs.Effects.{HopTimesOut, Renews, Passes, Counts, Writes, RefusesCommand, Drops, Advances, applied, outputs_of}
 use Rattle.cip_module.specs.Produced.{produced_effects}
 use Rattle.cip_module.specs.State.{State}
 

@@ -30,7 +30,8 @@ use Rattle.cip_config.specs.declared.config.ModuleSettings.{ModuleSettings}
 use Rattle.cip_module.specs.declared.refusals.KeyPart.{KeyPart}
 use Rattle.cip_module.specs.declared.refusals.LinkRefusal.{LinkRefusal}
 use Rattle.cip_module.specs.declared.refusals.UnconnectedRefusal.{UnconnectedRefusal}
-use Rattle.cip_module.specs.declared.refusals.UnconnectedRefusal.TheVariants.{CutBeforeTheRouteSize, CutInTheRoute, BytesAfterTheRoute, RouteUnreadable, EmbeddedRequestNotAllowed, KeyMismatch, NoPortSegment, NotSentOn}
+use Rattle.cip_module.specs.declared.refusals.UnconnectedRefusal.TheVariants.{CutBeforeTheRouteSize, CutInTheRoute, BytesAfterTheRoute, RouteUnreadable}
+use Rattle.cip_module.specs.declared.refusals.UnconnectedRefusal.TheVariants.{EmbeddedRequestNotAllowed, KeyMismatch, NoPortSegment, NotSentOn}
 use Rattle.cip_module.specs.Links.{link_refusal}
 use Rattle.cip_module.specs.Keys.{leading_mismatch}
 use Rattle.cip_module.specs.Object.{begins_with_manager}

@@ -1,6 +1,7 @@
 //! The replies that rows answer: each failure, by its status and what it tells of the request.
 ghost use Rattle.std.specs.Prelude.{◌≡◌, ◌≤◌, ◌<◌, ◌+◌, length, IfOk};
-ghost use Rattle.cip_module.specs.Answers.{answered, failure_bytes, unconnected_failed, unconnected_failure, open_failed, close_failed};
+ghost use Rattle.cip_module.specs.Answers.{answered, failure_bytes, unconnected_failed};
+ghost use Rattle.cip_module.specs.Answers.{unconnected_failure, open_failed, close_failed};
 ghost use Rattle.cip_module.specs.Effects.{timed_out_bytes};
 ghost use Rattle.cip_module.specs.Table.{unread_open_bytes, unread_close_bytes};
 

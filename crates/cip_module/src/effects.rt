@@ -1,5 +1,6 @@
 //! The effects of the routing table, carried out one by one. None takes memory.
-ghost use Rattle.std.specs.Prelude.{◌≡◌, ◌<◌, [], true, false, None, Some, is_some, if◌then◌else◌, IsTrue, OnOk};
+ghost use Rattle.std.specs.Prelude.{◌≡◌, ◌<◌, [], true, false, None, Some, is_some, if◌then◌else◌};
+ghost use Rattle.std.specs.Prelude.{IsTrue, OnOk};
 ghost use Rattle.std.specs.Option.{ForSome, option_map};
 ghost use Rattle.std.specs.FinMap as map;
 ghost use Rattle.std.specs.Vec.{vec_len, vec_capacity};
@@ -13,7 +14,8 @@ ghost use Rattle.cip_hops.specs.Sides.{down_is_link, up_is_link};
 ghost use Rattle.cip_target.specs.Ends.{row_at, configured};
 ghost use Rattle.cip_module.specs.State.{is_spent, spent_with};
 ghost use Rattle.cip_module.specs.Resets.{can_reset, reset_state};
-ghost use Rattle.cip_module.specs.Effects.{applied, given_up_of, given_up, removed, renewed, recounted, overwritten};
+ghost use Rattle.cip_module.specs.Effects.{applied, given_up_of, given_up, removed, renewed};
+ghost use Rattle.cip_module.specs.Effects.{recounted, overwritten};
 ghost use Rattle.cip_module.specs.Code.Fit.{given_back};
 ghost use Rattle.cip_module.specs.Code.Device.{state_of_device};
 ghost use Rattle.cip_module.specs.Table.{with_spending};

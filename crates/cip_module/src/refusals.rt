@@ -1,6 +1,7 @@
 //! The rows of the routing table that refuse, in the order of the table.
 ghost use Rattle.std.specs.Prelude.{◌≡◌};
-ghost use Rattle.cip_module.specs.Statuses.{key_status, link_status, request_status, unconnected_status, open_status, close_status};
+ghost use Rattle.cip_module.specs.Statuses.{key_status, link_status, request_status};
+ghost use Rattle.cip_module.specs.Statuses.{unconnected_status, open_status, close_status};
 
 use cip_base::Status;
 use cip_target::EndRefusal;

@@ -7,7 +7,8 @@ ghost use Rattle.cip_target.specs.Objects.{reads_reset};
 ghost use Rattle.cip_module.specs.Code.Device.{state_of_device};
 ghost use Rattle.cip_module.specs.Code.Reacts.{ReactsWhole};
 ghost use Rattle.cip_module.specs.Effects.{Answers, objects_of};
-ghost use Rattle.cip_module.specs.Resets.{can_reset, waiting_ops, open_ops, all_noted, held_ops, all_ended};
+ghost use Rattle.cip_module.specs.Resets.{can_reset, waiting_ops, open_ops, all_noted, held_ops};
+ghost use Rattle.cip_module.specs.Resets.{all_ended};
 
 use crate::answers::{answered, failure};
 use crate::device::Device;

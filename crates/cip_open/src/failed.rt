@@ -1,7 +1,8 @@
 //! The reply of a failed open.
 ghost use Rattle.std.specs.Prelude.{◌≡◌, false, IfOk};
 ghost use Rattle.cip_message.specs.Exact.{IsRead};
-ghost use Rattle.cip_message.specs.Failure.{ReadsFailure, IsFailureFault, failure_at, HasTriadForWords};
+ghost use Rattle.cip_message.specs.Failure.{ReadsFailure, IsFailureFault, failure_at};
+ghost use Rattle.cip_message.specs.Failure.{HasTriadForWords};
 ghost use Rattle.cip_open.specs.Failed.{open_failure_bytes};
 ghost use Rattle.cip_open.specs.Reading.{failure_of};
 

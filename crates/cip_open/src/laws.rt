@@ -4,7 +4,7 @@ ghost use Rattle.std.specs.Prelude.{◌≡◌, ◌<◌, ◌+◌, ◌*◌, ◌%�
 ghost use Rattle.cip_base.specs.declared.timing.Status.{Status};
 ghost use Rattle.cip_segment.specs.Spelling.{IsReadable};
 ghost use Rattle.cip_message.specs.Exact.{ReadsEach, Decides, Refuses, RefusesBytes};
-ghost use Rattle.cip_message.specs.declared.failure.ConnectionFailure.{ConnectionFailure as Failure};
+ghost use Rattle.cip_message.specs.declared.failure.ConnectionFailure.{ConnectionFailure as Failed};
 ghost use Rattle.cip_message.specs.Failure.{failure_data};
 ghost use Rattle.cip_message.specs.Reply.{reply_with};
 ghost use Rattle.cip_message.specs.ReplyAt.{reply_at, IsDone};
@@ -14,7 +14,8 @@ ghost use Rattle.cip_open.specs.Kinds.{open_service, open_reply_service, open_fi
 ghost use Rattle.cip_open.specs.Params.{parts, params_of, large_params_of};
 ghost use Rattle.cip_open.specs.Open.{Open, ReadsOpen, IsOpenFault, open_data, open_bytes};
 ghost use Rattle.cip_open.specs.OpenAt.{open_at};
-ghost use Rattle.cip_open.specs.Success.{OpenSuccess, ReadsOpenReply, IsOpenReplyFault, open_reply_data, open_reply_bytes};
+ghost use Rattle.cip_open.specs.Success.{OpenSuccess, ReadsOpenReply, IsOpenReplyFault};
+ghost use Rattle.cip_open.specs.Success.{open_reply_data, open_reply_bytes};
 ghost use Rattle.cip_open.specs.SuccessAt.{open_reply_at};
 
 /// Reading data as that of an open, large or not, gives the one record that has its layout, or the
@@ -56,7 +57,7 @@ pub fn written_open_reply_is_read()
 /// The reply of a failure that is written is read as a reply of that status; its data is read back
 /// as the law of failures says.
 pub fn written_open_failure_is_read()
-    ensures { (large : Bool) (status : Status) (f : Failure)
+    ensures { (large : Bool) (status : Status) (f : Failed)
         → reply_at (open_failure_bytes large status f)
         ≡ Ok (reply_with (open_reply_service large) status (failure_data f)) }
 {}

@@ -1,6 +1,7 @@
 //! The network connection parameters, split.
 ghost use Rattle.std.specs.Prelude.{◌≡◌};
-ghost use Rattle.cip_open.specs.Params.{priority_of, kind_of, sized, params_of, large_params_of, open_params_of};
+ghost use Rattle.cip_open.specs.Params.{priority_of, kind_of, sized, params_of, large_params_of};
+ghost use Rattle.cip_open.specs.Params.{open_params_of};
 
 use crate::parameters::{ConnectionKind, Params, Priority};
 

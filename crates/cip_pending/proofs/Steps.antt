@@ -1,5 +1,6 @@
 -- What each change of the table is in the finite map.
-use Rattle.std.proofs.Common.{◌≡◌, ◌≢◌, ◌⊎◌, inl, inr, ℕ, zero, suc, ◌+◌, ◌-◌, ◌%◌, ◌<◌, ◌≤◌, Bool, true, false, cond, List, length, get_or, refl, sym, ap, subst, ◌∙◌, arith, Option, Some, None, IsSome, nat_le, nat_lt, if◌then◌else◌, find}
+use Rattle.std.proofs.Common.{◌≡◌, ◌≢◌, ◌⊎◌, inl, inr, ℕ, zero, suc, ◌+◌, ◌-◌, ◌%◌, ◌<◌, ◌≤◌, Bool, true, false, cond, List, length, get_or, refl, sym, ap}
+use Rattle.std.proofs.Common.{subst, ◌∙◌, arith, Option, Some, None, IsSome, nat_le, nat_lt, if◌then◌else◌, find}
 use Rattle.std.specs.Option.{option_and_then, option_map_or}
 use Rattle.std.specs.List.{position}
 use Rattle.std.specs.List.Sorted.{IsPartitionPoint}

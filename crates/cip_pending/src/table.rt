@@ -1,5 +1,6 @@
 //! The table: records in a slab, and an index of their keys by number. All room is reserved.
-ghost use Rattle.std.specs.Prelude.{◌≡◌, ℕ, ◌+◌, ◌++◌, ◌<◌, ◌≤◌, ◌||◌, [], false, length, IfOk, ◌==◌, is_ok, is_some, IsTrue, if◌then◌else◌, option_map};
+ghost use Rattle.std.specs.Prelude.{◌≡◌, ℕ, ◌+◌, ◌++◌, ◌<◌, ◌≤◌, ◌||◌, [], false, length, IfOk};
+ghost use Rattle.std.specs.Prelude.{◌==◌, is_ok, is_some, IsTrue, if◌then◌else◌, option_map};
 ghost use Rattle.std.specs.List.{position, list_any};
 ghost use Rattle.std.specs.Ordering.{nat_cmp};
 ghost use Rattle.std.specs.Option.{option_copied, option_to_list};
@@ -7,7 +8,9 @@ ghost use Rattle.std.specs.FinMap as map;
 ghost use Rattle.slab.specs.Slab.{get as get_record};
 ghost use Rattle.cip_base.specs.Counts as counts;
 ghost use Rattle.cip_base.specs.Counts.{count_of};
-ghost use Rattle.cip_pending.specs.Pendings.{has_next_incarnation, reset, refusal, add_gives, added, waiting_at, without_if, IsWithout, is_due, first_due, due, rest, first_after, is_after, IsWithin};
+ghost use Rattle.cip_pending.specs.Pendings.{has_next_incarnation, reset, refusal, add_gives};
+ghost use Rattle.cip_pending.specs.Pendings.{added, waiting_at, without_if, IsWithout, is_due};
+ghost use Rattle.cip_pending.specs.Pendings.{first_due, due, rest, first_after, is_after, IsWithin};
 ghost use Rattle.cip_pending.specs.Quiet.{is_reached};
 ghost use Rattle.cip_base.specs.Joined.{passes};
 ghost use Rattle.cip_base.specs.Rising.{IsRising, Divides};

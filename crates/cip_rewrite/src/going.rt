@@ -1,5 +1,6 @@
 //! What the requests that go on have in common.
-ghost use Rattle.std.specs.Prelude.{◌≡◌, ◌+◌, ◌-◌, ◌/◌, ◌≤◌, ◌++◌, length, take, drop, slice_index, Some};
+ghost use Rattle.std.specs.Prelude.{◌≡◌, ◌+◌, ◌-◌, ◌/◌, ◌≤◌, ◌++◌, length, take, drop, slice_index};
+ghost use Rattle.std.specs.Prelude.{Some};
 ghost use Rattle.std.specs.List.{copy_within};
 ghost use Rattle.std.specs.Vec.{vec_capacity};
 ghost use Rattle.cip_segment.specs.Reading.{HopAt};

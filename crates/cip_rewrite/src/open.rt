@@ -3,7 +3,8 @@ ghost use Rattle.std.specs.Prelude.{◌≡◌, ◌+◌, ◌≤◌, ℕ, Bool, le
 ghost use Rattle.std.specs.Vec.{vec_capacity};
 ghost use Rattle.cip_segment.specs.Reading.{HopAt};
 ghost use Rattle.cip_message.specs.Manager.{manager_bytes};
-ghost use Rattle.cip_open.specs.Kinds.{open_service as service_of, open_fixed_part as fixed_part_of};
+ghost use Rattle.cip_open.specs.Kinds.{open_service as service_of};
+ghost use Rattle.cip_open.specs.Kinds.{open_fixed_part as fixed_part_of};
 ghost use Rattle.cip_open.specs.Open.{Open, open_layout};
 ghost use Rattle.cip_open.specs.GoesOn.{lowered, open_on, IsOpenGoingOn};
 

@@ -1,12 +1,14 @@
 //! An Unconnected_Send that goes on, and the request that it carries.
-ghost use Rattle.std.specs.Prelude.{◌≡◌, ◌+◌, ◌≤◌, ◌<◌, ◌%◌, ℕ, ◌∷◌, ◌++◌, length, drop, slice_index};
+ghost use Rattle.std.specs.Prelude.{◌≡◌, ◌+◌, ◌≤◌, ◌<◌, ◌%◌, ℕ, ◌∷◌, ◌++◌, length, drop};
+ghost use Rattle.std.specs.Prelude.{slice_index};
 ghost use Rattle.std.specs.Vec.{vec_capacity};
 ghost use Rattle.cip_base.specs.Fields.{pad};
 ghost use Rattle.cip_base.specs.Words.{Octets};
 ghost use Rattle.cip_segment.specs.Reading.{HopAt};
 ghost use Rattle.cip_message.specs.Manager.{manager_bytes};
 ghost use Rattle.cip_message.specs.Numbers.{word_in};
-ghost use Rattle.cip_unconnected.specs.Unconnected.{Unconnected, unconnected_layout, unconnected_bytes};
+ghost use Rattle.cip_unconnected.specs.Unconnected.{Unconnected, unconnected_layout};
+ghost use Rattle.cip_unconnected.specs.Unconnected.{unconnected_bytes};
 ghost use Rattle.cip_unconnected.specs.GoesOn.{lowered, IsSendGoingOn};
 
 use crate::going::{move_forward, shorten};

@@ -1,5 +1,6 @@
 -- What is left of a path behind its first hop has fewer words than the path, whatever its bytes are: each segment takes two bytes at least.
-use Rattle.std.proofs.Common.{◌≡◌, ℕ, ◌*◌, ◌-◌, ◌+◌, ◌/◌, ◌≤◌, ◌<◌, Bool, true, false, cond, List, [], ◌∷◌, length, eqb, ltb, Option, Some, None, Result, Ok, Err, refl, ap, arith}
+use Rattle.std.proofs.Common.{◌≡◌, ℕ, ◌*◌, ◌-◌, ◌+◌, ◌/◌, ◌≤◌, ◌<◌, Bool, true, false, cond, List, [], ◌∷◌, length, eqb, ltb, Option, Some, None, Result, Ok}
+use Rattle.std.proofs.Common.{Err, refl, ap, arith}
 use Rattle.std.specs.Prelude.{◌%◌}
 use Rattle.std.proofs.lemmas.List.{length-drop}
 use Rattle.cip_base.specs.declared.key.KeyFields.{KeyFields}
@@ -7,7 +8,9 @@ use Rattle.cip_segment.specs.declared.fault.PathFault.{PathFault}
 use Rattle.cip_segment.specs.declared.fault.PathFault.TheVariants.{BadPad}
 use Rattle.cip_segment.specs.declared.segment.Segment.{Segment}
 use Rattle.cip_segment.specs.declared.segment.Segment.TheVariants.{Port, Key}
-use Rattle.cip_segment.specs.Scan.{◌>>=◌, At, byte_at, word_at, after_pad, bytes_at, padded_at, narrow_at, wide_at, double_at, instance_at, point_at, fields_at, key_at, words_at, symbol_at, inhibit_at, number_at, size_at, plain_port_at, sized_port_at, port_at, other_at, logical_at, segment_at}
+use Rattle.cip_segment.specs.Scan.{◌>>=◌, At, byte_at, word_at, after_pad, bytes_at, padded_at, narrow_at, wide_at, double_at, instance_at, point_at, fields_at}
+use Rattle.cip_segment.specs.Scan.{key_at, words_at, symbol_at, inhibit_at, number_at, size_at, plain_port_at, sized_port_at, port_at, other_at, logical_at}
+use Rattle.cip_segment.specs.Scan.{segment_at}
 use Rattle.cip_segment.specs.Reading.{HopAt, rest_or_none, behind, segments_of, or_none, path_at, segments_within, port_in, hop_in, hop_of}
 
 -- what is left is no longer than what was read

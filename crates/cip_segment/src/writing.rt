@@ -1,9 +1,11 @@
 //! Writing segments in their shortest forms.
-ghost use Rattle.std.specs.Prelude.{◌≡◌, ◌<◌, ◌≤◌, ◌++◌, length, OnOk, IfOk, IfErr, IsTrue, ◌↔◌, All, IsOk};
+ghost use Rattle.std.specs.Prelude.{◌≡◌, ◌<◌, ◌≤◌, ◌++◌, length, OnOk, IfOk, IfErr, IsTrue, ◌↔◌};
+ghost use Rattle.std.specs.Prelude.{All, IsOk};
 ghost use Rattle.cip_segment.specs.Spelling.{Spells};
 ghost use Rattle.cip_base.specs.Fields.{pad};
 ghost use Rattle.cip_segment.specs.Reading.{path_at};
-ghost use Rattle.cip_segment.specs.Short.{short_number, short, IsPut, IsWritable, IsRanged, IsWriteFault};
+ghost use Rattle.cip_segment.specs.Short.{short_number, short, IsPut, IsWritable, IsRanged};
+ghost use Rattle.cip_segment.specs.Short.{IsWriteFault};
 
 use crate::fault::PathFault;
 use crate::path::Path;

@@ -15,7 +15,8 @@ use Rattle.cip_shown.specs.Back.{is_end, input_shown, name_shown, outputs_shown,
 use Rattle.cip_shown.specs.Fits.{FitsOutputs, FitsEntry, FitsEntries}
 use Rattle.cip_shown.proofs.Words.{decimal_word, joined, joined_endless}
 use Rattle.cip_shown.proofs.Outputs.{line_words, line_joined, line_are_words, output_line_read}
-use Rattle.cip_shown.proofs.Heads.{word_of, number_text, head_joined, lost_joined, head_read, lost_read, name_is_word, input_is_word, number_is_word, frame_word}
+use Rattle.cip_shown.proofs.Heads.{word_of, number_text, head_joined, lost_joined, head_read, lost_read, name_is_word, input_is_word, number_is_word}
+use Rattle.cip_shown.proofs.Heads.{frame_word}
 
 in_front : (t : Plan) (line : List ℕ) (parts : List (List ℕ)) (shown : Line) (others : List Line)
     → line_of t line ≡ Some shown → read_lines t parts ≡ Some others → read_lines t (line ∷ parts) ≡ Some (shown ∷ others)

@@ -1,5 +1,6 @@
 -- The line of an entry is read as what its module was given.
-use Rattle.std.proofs.Common.{◌≡◌, ℕ, ◌<◌, ◌≤◌, ◌^◌, ◌++◌, ◌∷◌, ◌==◌, if◌then◌else◌, List, [], length, get_or, unwrap_or, Some, None, true, false, refl, ap, ◌∙◌, arith, append_assoc, inl, inr}
+use Rattle.std.proofs.Common.{◌≡◌, ℕ, ◌<◌, ◌≤◌, ◌^◌, ◌++◌, ◌∷◌, ◌==◌, if◌then◌else◌, List, [], length, get_or, unwrap_or, Some, None, true, false, refl, ap}
+use Rattle.std.proofs.Common.{◌∙◌, arith, append_assoc, inl, inr}
 use Rattle.std.specs.Prelude.{codes, decimal, slice_get, option_map, nat_le, nat_lt}
 use Rattle.std.specs.List.{position, position_or_len, slice_split, list_all}
 use Rattle.std.specs.Str.{bytes_eq}

@@ -1,5 +1,6 @@
 -- What is told of trails and chains shows no part of an entry.
-use Rattle.std.proofs.Common.{◌≡◌, ℕ, ◌≤◌, ◌^◌, unwrap_or, ◌++◌, ◌∷◌, ◌==◌, ◌&&◌, if◌then◌else◌, Bool, List, [], length, None, Ok, Err, true, false, refl, ap, ◌∙◌, arith, inl, inr}
+use Rattle.std.proofs.Common.{◌≡◌, ℕ, ◌≤◌, ◌^◌, unwrap_or, ◌++◌, ◌∷◌, ◌==◌, ◌&&◌, if◌then◌else◌, Bool, List, [], length, None, Ok, Err, true, false, refl, ap}
+use Rattle.std.proofs.Common.{◌∙◌, arith, inl, inr}
 use Rattle.std.specs.Prelude.{codes, decimal, nat_lt, All, option_map}
 use Rattle.std.specs.Char.{is_ascii_digit}
 use Rattle.std.specs.List.{list_all, slice_split, onto_first}

@@ -1,5 +1,6 @@
 -- Words of a line: they hold no space and no end of a line.
-use Rattle.std.proofs.Common.{◌≡◌, ℕ, ◌<◌, ◌/◌, ◌%◌, ◌^◌, ◌++◌, ◌∷◌, ◌==◌, ◌&&◌, Bool, List, [], length, true, false, refl, ap, ◌∙◌, arith, append_assoc, slice_index}
+use Rattle.std.proofs.Common.{◌≡◌, ℕ, ◌<◌, ◌/◌, ◌%◌, ◌^◌, ◌++◌, ◌∷◌, ◌==◌, ◌&&◌, Bool, List, [], length, true, false, refl, ap, ◌∙◌, arith, append_assoc}
+use Rattle.std.proofs.Common.{slice_index}
 use Rattle.std.proofs.Common.{inl, inr, zero, suc}
 use Rattle.std.specs.Prelude.{nat_lt, decimal, All}
 use Rattle.std.specs.Char.{is_ascii_digit}

@@ -4,7 +4,8 @@ ghost use Rattle.cip_topology.specs.Plan.{Plan, IsTopology};
 ghost use Rattle.cip_world.specs.declared.journal.Entry.{Entry};
 ghost use Rattle.cip_transcript.specs.Show.{entry_text, names_of, trail_text, chain_text};
 ghost use Rattle.cip_transcript.specs.Chained.{Chained};
-ghost use Rattle.cip_shown.specs.Back.{ShowsNone, read_text, lines_shown, entries_text, entries_shown};
+ghost use Rattle.cip_shown.specs.Back.{ShowsNone, read_text, lines_shown, entries_text};
+ghost use Rattle.cip_shown.specs.Back.{entries_shown};
 ghost use Rattle.cip_shown.specs.Fits.{FitsEntry, FitsEntries, FitsNumbers, FitsChain};
 
 /// The lines that a transcript shows of an entry over a topology are read as that entry: its own

@@ -11,7 +11,8 @@ use Rattle.cip_target.specs.declared.rows.TargetRefusal.TheVariants.{ClassNotSup
 use Rattle.cip_target.specs.Identity.{identity_bytes}
 use Rattle.cip_target.specs.Object.{object_of}
 use Rattle.cip_target.specs.Assemblies.{AssemblyMap}
-use Rattle.cip_target.specs.Rows.{TargetRow, Refused, Read, Written, Reset, read_row, get_row, reset_row, set_identity_row, set_assembly_row, identity_attribute, assembly_attribute, identity_row, assembly_row, object_row, path_row, target_row}
+use Rattle.cip_target.specs.Rows.{TargetRow, Refused, Read, Written, Reset, read_row, get_row, reset_row, set_identity_row, set_assembly_row}
+use Rattle.cip_target.specs.Rows.{identity_attribute, assembly_attribute, identity_row, assembly_row, object_row, path_row, target_row}
 
 abbrev pub IsThere : AssemblyMap → TargetRow → Type 0
 IsThere m (Refused refusal) = Unit {0}

@@ -1,5 +1,6 @@
 -- The assemblies of a target: the bytes of each instance, and the owner of each that has one.
-use Rattle.std.specs.Prelude.{◌≡◌, ℕ, IsSomeAnd, Bool, ◌&&◌, nat_le, nat_lt, true, if◌then◌else◌, List, [], ◌∷◌, length, Option, Some, None, option_map, replicate, find, take}
+use Rattle.std.specs.Prelude.{◌≡◌, ℕ, IsSomeAnd, Bool, ◌&&◌, nat_le, nat_lt, true, if◌then◌else◌, List, [], ◌∷◌, length, Option, Some, None, option_map}
+use Rattle.std.specs.Prelude.{replicate, find, take}
 use Rattle.std.specs.Ordering.{nat_cmp}
 use Rattle.std.specs.Coded.{Coded, coded_list, coded_ℕ}
 use Rattle.std.specs.FinMap as map

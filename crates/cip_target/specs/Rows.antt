@@ -9,7 +9,8 @@ use Rattle.cip_message.specs.Reply.{Reply}
 use Rattle.cip_target.specs.declared.identity.IdentityFields.{IdentityFields}
 use Rattle.cip_target.specs.declared.object.ObjectPath.{ObjectPath}
 use Rattle.cip_target.specs.declared.rows.TargetRefusal.{TargetRefusal}
-use Rattle.cip_target.specs.declared.rows.TargetRefusal.TheVariants.{PathFormNotSupported, ClassNotSupported, NoSuchInstance, ServiceNotSupported, NoSuchAttribute, NotSettable, DataShort, DataLong}
+use Rattle.cip_target.specs.declared.rows.TargetRefusal.TheVariants.{PathFormNotSupported, ClassNotSupported, NoSuchInstance, ServiceNotSupported}
+use Rattle.cip_target.specs.declared.rows.TargetRefusal.TheVariants.{NoSuchAttribute, NotSettable, DataShort, DataLong}
 use Rattle.cip_target.specs.Identity.{identity_bytes, attribute_of}
 use Rattle.cip_target.specs.Object.{object_of}
 use Rattle.cip_target.specs.Assemblies.{AssemblyMap}

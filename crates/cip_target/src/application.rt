@@ -1,9 +1,11 @@
 //! The application path of an open.
 ghost use Rattle.std.specs.Prelude.{◌≡◌};
 ghost use Rattle.cip_segment.specs.Reading.{segments_of};
-ghost use Rattle.cip_target.specs.ApplicationPath.{behind_key, bytes_in, application_with, points_in, application_of};
+ghost use Rattle.cip_target.specs.ApplicationPath.{behind_key, bytes_in, application_with};
+ghost use Rattle.cip_target.specs.ApplicationPath.{points_in, application_of};
 ghost use Rattle.cip_target.specs.Seen.{bytes_seen};
-ghost use Rattle.cip_target.specs.Viewed.{application_found, parts_of, first_seen, point_seen, IsFirst, IsFirstPoint};
+ghost use Rattle.cip_target.specs.Viewed.{application_found, parts_of, first_seen, point_seen};
+ghost use Rattle.cip_target.specs.Viewed.{IsFirst, IsFirstPoint};
 
 use cip_segment::{PathView, SegmentView, split_first};
 

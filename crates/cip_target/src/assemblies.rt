@@ -1,9 +1,12 @@
 //! The assemblies of a target, in rising instance.
-ghost use Rattle.std.specs.Prelude.{◌≡◌, ◌≤◌, ◌==◌, nat_le, length, IfSome, IsSomeAnd, is_ok, is_some, if◌then◌else◌};
+ghost use Rattle.std.specs.Prelude.{◌≡◌, ◌≤◌, ◌==◌, nat_le, length, IfSome, IsSomeAnd, is_ok};
+ghost use Rattle.std.specs.Prelude.{is_some, if◌then◌else◌};
 ghost use Rattle.std.specs.List.{position};
 ghost use Rattle.std.specs.FinMap as map;
-ghost use Rattle.cip_target.specs.Assemblies.{HasSize, zeroed, configs_in, config_in, first_above, is_above};
-ghost use Rattle.cip_target.specs.Held.{unowned, with_fresh, with_bytes, with_front, with_output, without_owner, all_cleared};
+ghost use Rattle.cip_target.specs.Assemblies.{HasSize, zeroed, configs_in, config_in, first_above};
+ghost use Rattle.cip_target.specs.Assemblies.{is_above};
+ghost use Rattle.cip_target.specs.Held.{unowned, with_fresh, with_bytes, with_front, with_output};
+ghost use Rattle.cip_target.specs.Held.{without_owner, all_cleared};
 ghost use Rattle.cip_target.specs.Seen.{bytes_seen, assembly_seen};
 
 use crate::assembly::Assembly;

@@ -1,7 +1,9 @@
 //! What a module says of itself.
-ghost use Rattle.std.specs.Prelude.{◌≡◌, ◌≤◌, ◌++◌, ◌↔◌, length, IfOk, IfSome, IsSome, IsTrue, OnOk};
+ghost use Rattle.std.specs.Prelude.{◌≡◌, ◌≤◌, ◌++◌, ◌↔◌, length, IfOk, IfSome, IsSome, IsTrue};
+ghost use Rattle.std.specs.Prelude.{OnOk};
 ghost use Rattle.std.specs.List.{list_all};
-ghost use Rattle.cip_target.specs.Identity.{is_printable, is_product_name, is_identity, number_bytes, identity_bytes};
+ghost use Rattle.cip_target.specs.Identity.{is_printable, is_product_name, is_identity};
+ghost use Rattle.cip_target.specs.Identity.{number_bytes, identity_bytes};
 
 use cip_base::{Bytes, MAX_DATUM, NoMemory, put_double, put_word};
 use std::alloc::{AllocError, Global};

@@ -8,7 +8,8 @@ ghost use Rattle.cip_target.specs.declared.link.EndLink.{EndLink as Link};
 ghost use Rattle.cip_target.specs.declared.identity.IdentityFields.{IdentityFields as Fields};
 ghost use Rattle.cip_target.specs.Assemblies.{AssemblyMap, HasSize};
 ghost use Rattle.cip_target.specs.Objects.{Objects, IsReset, reads_reset};
-ghost use Rattle.cip_target.specs.Ends.{Ends, HasPoints, HasSizes, end_row, fresh, ends_after, row_at, accepted, consumed, released, reset};
+ghost use Rattle.cip_target.specs.Ends.{Ends, HasPoints, HasSizes, end_row, fresh, ends_after};
+ghost use Rattle.cip_target.specs.Ends.{row_at, accepted, consumed, released, reset};
 
 /// An open that fits has an application path, and its link has the three instances that the path
 /// names and the transport class that is asked.

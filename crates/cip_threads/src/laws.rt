@@ -10,8 +10,10 @@ ghost use Rattle.cip_config.specs.declared.config.ModuleSettings.{ModuleSettings
 ghost use Rattle.cip_event.specs.declared.event.Output.TheVariants.{Arrived, Consumed};
 ghost use Rattle.cip_module.specs.declared.tables.Tables.{Tables};
 ghost use Rattle.cip_topology.specs.Plan.{Plan, IsTopology};
-ghost use Rattle.cip_world.specs.Chains.{Member, IsChain, last_of, AreDeliveries, AreKept, IsTakenBy};
-ghost use Rattle.cip_world.specs.Entering.{HasOutput, before_entry, IsEntered, ConsumedOf, ArrivedOf};
+ghost use Rattle.cip_world.specs.Chains.{Member, IsChain, last_of, AreDeliveries, AreKept};
+ghost use Rattle.cip_world.specs.Chains.{IsTakenBy};
+ghost use Rattle.cip_world.specs.Entering.{HasOutput, before_entry, IsEntered, ConsumedOf};
+ghost use Rattle.cip_world.specs.Entering.{ArrivedOf};
 ghost use Rattle.cip_world.specs.Journals.{Journal};
 ghost use Rattle.cip_world.specs.Mirrors.{IsOlder, IsMirrored};
 ghost use Rattle.cip_world.specs.RepliesTell.{RepliesTell};

@@ -1,5 +1,6 @@
 //! What a worker sends at its end.
-ghost use Rattle.std.specs.Prelude.{◌≡◌, ◌<◌, ◌+◌, ◌∷◌, IfSome, IsTrue, Some, length, reverse, take, vec_len};
+ghost use Rattle.std.specs.Prelude.{◌≡◌, ◌<◌, ◌+◌, ◌∷◌, IfSome, IsTrue, Some, length, reverse};
+ghost use Rattle.std.specs.Prelude.{take, vec_len};
 ghost use Rattle.cip_laws.specs.Histories.{IsHistory, state_after};
 ghost use Rattle.cip_module.specs.Views.{ShowsState};
 ghost use Rattle.cip_world.specs.declared.journal.Entry.TheVariants.{Step};

@@ -1,5 +1,7 @@
 //! A queue for each module, by its place.
-ghost use Rattle.std.specs.Prelude.{◌≡◌, ◌<◌, ◌+◌, ◌-◌, ◌∷◌, ◌++◌, ℕ, Bool, List, [], All, IfOk, IfSome, IfNone, IsTrue, IsFalse, OnOk, Some, drop, get_or, length, map, replicate, set, vec_len};
+ghost use Rattle.std.specs.Prelude.{◌≡◌, ◌<◌, ◌+◌, ◌-◌, ◌∷◌, ◌++◌, ℕ, Bool, List, [], All, IfOk};
+ghost use Rattle.std.specs.Prelude.{IfSome, IfNone, IsTrue, IsFalse, OnOk, Some, drop, get_or};
+ghost use Rattle.std.specs.Prelude.{length, map, replicate, set, vec_len};
 ghost use Rattle.std.specs.VecDeque.{deque_capacity, deque_len};
 ghost use Rattle.std.specs.declared.cmp.Ordering.TheVariants.{Less};
 ghost use Rattle.cip_world.specs.declared.journal.FrameName.{FrameName as Name};

@@ -1,10 +1,13 @@
 //! Modules on threads.
-ghost use Rattle.std.specs.Prelude.{◌≡◌, ◌≤◌, ◌<◌, ◌+◌, ◌^◌, ◌∷◌, [], All, IfErr, IfOk, IfNone, IfSome, IsTrue, None, OnOk, get_or, length, map, reverse, set, vec_len};
+ghost use Rattle.std.specs.Prelude.{◌≡◌, ◌≤◌, ◌<◌, ◌+◌, ◌^◌, ◌∷◌, [], All, IfErr, IfOk, IfNone};
+ghost use Rattle.std.specs.Prelude.{IfSome, IsTrue, None, OnOk, get_or, length, map, reverse, set};
+ghost use Rattle.std.specs.Prelude.{vec_len};
 ghost use Rattle.cip_world.specs.Fresh.{AreFresh};
 ghost use Rattle.cip_world.specs.Journals.{Journal};
 ghost use Rattle.cip_threads.specs.Feeds.{feeds_of, ticks_of};
 ghost use Rattle.cip_threads.specs.Meetings.{AreMet};
-ghost use Rattle.cip_threads.specs.Reports.{Agrees, AgreeTo, IsReport, IsRunFault, IsWorkerFault, Passes};
+ghost use Rattle.cip_threads.specs.Reports.{Agrees, AgreeTo, IsReport, IsRunFault, IsWorkerFault};
+ghost use Rattle.cip_threads.specs.Reports.{Passes};
 
 use crate::book::Book;
 use crate::feed::Feed;

@@ -1,5 +1,7 @@
 //! What the lock holds: feeds, frames, what each module has in hand, and the journal.
-ghost use Rattle.std.specs.Prelude.{◌↔◌, ◌≡◌, ◌∷◌, [], ◌<◌, List, All, IfOk, IfErr, OnOk, OnErr, IfSome, IfNone, IsTrue, IsFalse, Some, None, drop, length, map, replicate, reverse, vec_len, set};
+ghost use Rattle.std.specs.Prelude.{◌↔◌, ◌≡◌, ◌∷◌, [], ◌<◌, List, All, IfOk, IfErr, OnOk, OnErr};
+ghost use Rattle.std.specs.Prelude.{IfSome, IfNone, IsTrue, IsFalse, Some, None, drop, length, map};
+ghost use Rattle.std.specs.Prelude.{replicate, reverse, vec_len, set};
 ghost use Rattle.cip_world.specs.declared.journal.Input.{Input as Given};
 ghost use Rattle.cip_threads.specs.declared.feed.Feed.{Feed as Fed};
 ghost use Rattle.cip_threads.specs.Feeds.{event_of};
@@ -268,7 +270,8 @@ fn no_hands(alloc: Global, count: usize) -> Result<Vec<Option<Input>>, NoMemory>
 
 impl BookState {
     ghost use Rattle.std.specs.Prelude.{true, ◌↔◌};
-    ghost use Rattle.cip_threads.specs.Hands.{IsHanded, IsEntered, IsNotEntered, IsQuiet, opened, stopped_of};
+    ghost use Rattle.cip_threads.specs.Hands.{IsHanded, IsEntered, IsNotEntered, IsQuiet, opened};
+    ghost use Rattle.cip_threads.specs.Hands.{stopped_of};
     ghost use Rattle.cip_threads.specs.Ends.{IsFinished, MayEnd};
     ghost use Rattle.cip_threads.specs.Flows.{sends_of};
 

@@ -1,5 +1,6 @@
 -- Words of a path, one after the other.
-use Rattle.std.proofs.Common.{◌≡◌, ℕ, ◌+◌, ◌≤◌, Bool, true, false, List, [], ◌∷◌, ◌++◌, refl, sym, ap, ◌∙◌, append_assoc, append-nil, Result, Ok, Err, arith, drop, length, Bor, MatchResult}
+use Rattle.std.proofs.Common.{◌≡◌, ℕ, ◌+◌, ◌≤◌, Bool, true, false, List, [], ◌∷◌, ◌++◌, refl, sym, ap, ◌∙◌, append_assoc, append-nil, Result, Ok, Err, arith}
+use Rattle.std.proofs.Common.{drop, length, Bor, MatchResult}
 use Rattle.std.proofs.lemmas.List.{drop_all}
 use Rattle.cip_segment.specs.declared.segment.Segment.{Segment}
 use Rattle.cip_tool.specs.declared.fault.WordFault.{WordFault}

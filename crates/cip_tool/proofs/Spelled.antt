@@ -25,8 +25,10 @@ use Rattle.cip_tool.specs.Routes.{is_comma, is_segment, segments_of, hop_at, pla
 use Rattle.cip_tool.specs.Spelling.{slashed, address_text, symbol_text, is_symbol, object_text, key_text, words_of, spelling_of, HasBytes}
 use Rattle.cip_tool.proofs.Numerals.{lt_true, lt_false}
 use Rattle.cip_tool.proofs.Routed.{segment_first, hop_first, none_left}
-use Rattle.cip_tool.proofs.Texts.{lacks, not_true, none_pass, all_both, are_digits, digits_no_comma, digits_no_slash, digits_no_equals, plain_no_comma, plain_no_equals}
-use Rattle.cip_tool.proofs.Texts.{pairs_no_comma, pairs_no_equals, digits_other, digits_not_marked, digits_no_segment, number_back, AllLack, split_joined, name_plain}
+use Rattle.cip_tool.proofs.Texts.{lacks, not_true, none_pass, all_both, are_digits, digits_no_comma, digits_no_slash, digits_no_equals, plain_no_comma}
+use Rattle.cip_tool.proofs.Texts.{plain_no_equals}
+use Rattle.cip_tool.proofs.Texts.{pairs_no_comma, pairs_no_equals, digits_other, digits_not_marked, digits_no_segment, number_back, AllLack, split_joined}
+use Rattle.cip_tool.proofs.Texts.{name_plain}
 
 eq_false : (m n : ℕ) → n < m → (m == n) ≡ false
 eq_false m n h = grind (arith, nat_tests)

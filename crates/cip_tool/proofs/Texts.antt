@@ -1,5 +1,6 @@
 -- Which characters stand in what is written, and where it is parted.
-use Rattle.std.proofs.Common.{◌≡◌, ℕ, zero, suc, ◌≤◌, ◌<◌, ◌^◌, ◌/◌, ◌%◌, ◌++◌, ◌∷◌, ◌==◌, ◌&&◌, Bool, true, false, not, List, [], length, get_or, drop, Some, Result, Ok, Err, refl, ap, ◌∙◌, append_assoc, append-nil, ◌+◌, arith, rules, inl, inr}
+use Rattle.std.proofs.Common.{◌≡◌, ℕ, zero, suc, ◌≤◌, ◌<◌, ◌^◌, ◌/◌, ◌%◌, ◌++◌, ◌∷◌, ◌==◌, ◌&&◌, Bool, true, false, not, List, [], length, get_or, drop, Some}
+use Rattle.std.proofs.Common.{Result, Ok, Err, refl, ap, ◌∙◌, append_assoc, append-nil, ◌+◌, arith, rules, inl, inr}
 use Rattle.std.specs.Prelude.{nat_lt, decimal, All, OnOk}
 use Rattle.std.specs.Char.{digit_value}
 use Rattle.std.specs.List.{list_all, list_any, slice_split, join_with_byte}

@@ -1,5 +1,6 @@
 -- What the words of a path in words name.
-use Rattle.std.specs.Prelude.{◌≡◌, ℕ, Bool, List, [], ◌∷◌, map, length, take, ◌==◌, ◌&&◌, ◌%◌, ◌^◌, not, nat_lt, if◌then◌else◌, Option, Some, None, codes, Result, Ok, Err, drop}
+use Rattle.std.specs.Prelude.{◌≡◌, ℕ, Bool, List, [], ◌∷◌, map, length, take, ◌==◌, ◌&&◌, ◌%◌, ◌^◌, not, nat_lt, if◌then◌else◌, Option, Some, None, codes}
+use Rattle.std.specs.Prelude.{Result, Ok, Err, drop}
 use Rattle.std.specs.List.{slice_split, list_all, list_any}
 use Rattle.std.specs.Str.{bytes_eq}
 use denote.Ref.{Bor}

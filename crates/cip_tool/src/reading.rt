@@ -1,11 +1,13 @@
 //! The words of a path in words, one after the other.
-ghost use Rattle.std.specs.Prelude.{◌≡◌, ◌+◌, ◌<◌, ◌^◌, MatchResult, length, ◌++◌, ◌∷◌, [], All, IfOk, OnOk, Some, None, drop};
+ghost use Rattle.std.specs.Prelude.{◌≡◌, ◌+◌, ◌<◌, ◌^◌, MatchResult, length, ◌++◌, ◌∷◌, [], All};
+ghost use Rattle.std.specs.Prelude.{IfOk, OnOk, Some, None, drop};
 ghost use Rattle.std.specs.Prelude.{if◌then◌else◌, option_map};
 ghost use Rattle.cip_segment.specs.declared.segment.Segment.TheVariants.{Port};
 ghost use Rattle.cip_segment.specs.Short.{IsWritable};
 ghost use Rattle.cip_tool.specs.Words.{texts, GivesBy, port_of};
 ghost use Rattle.cip_tool.specs.Routes.{is_object, is_segment, segments_of, named_by, placed};
-ghost use Rattle.cip_tool.specs.Routes.{hop_at, lone_by, words_from, Routes, RouteFails, Places, IsTaken};
+ghost use Rattle.cip_tool.specs.Routes.{hop_at, lone_by, words_from, Routes, RouteFails, Places};
+ghost use Rattle.cip_tool.specs.Routes.{IsTaken};
 
 use crate::fault::{RouteFault, WordError, WordFault};
 use crate::words::{address_of, named_of, object_of, parts_of, port_of};

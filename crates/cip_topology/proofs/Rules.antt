@@ -8,7 +8,8 @@ use Rattle.cip_topology.specs.declared.key.Key.{Key}
 use Rattle.cip_topology.specs.declared.place.Place.{Place}
 use Rattle.cip_topology.specs.declared.fault.LoadFault.{LoadFault}
 use Rattle.cip_topology.specs.Words.{word_of}
-use Rattle.cip_topology.specs.Keys.{Read, ◌>>=◌, value_at, natural, within, number_of, number_at, number_or, number_or_at, with_count, counted, counted_at, text_if, text_at}
+use Rattle.cip_topology.specs.Keys.{Read, ◌>>=◌, value_at, natural, within, number_of, number_at, number_or, number_or_at, with_count, counted, counted_at}
+use Rattle.cip_topology.specs.Keys.{text_if, text_at}
 use Rattle.cip_base.specs.Counts.{count_of}
 
 -- the first of two rules is kept where both are

@@ -11,7 +11,8 @@ use Rattle.cip_topology.specs.declared.key.Key.TheVariants as key
 use Rattle.cip_topology.specs.declared.place.Place.{Place}
 use Rattle.cip_topology.specs.Words.{word_of}
 use Rattle.cip_topology.specs.Documents.{HasNumber, HasNumberOr, HasText, HasAddress}
-use Rattle.cip_topology.specs.Keys.{Read, ◌>>=◌, needed, value_at, out_of_range, within, number_of, number_at, number_or, number_or_at, with_count, counted, counted_at, text_if, text_at}
+use Rattle.cip_topology.specs.Keys.{Read, ◌>>=◌, needed, value_at, out_of_range, within, number_of, number_at, number_or, number_or_at, with_count, counted}
+use Rattle.cip_topology.specs.Keys.{counted_at, text_if, text_at}
 use Rattle.cip_topology.specs.Keys.{sized, pairs_of, address_in, address_of, address_at}
 use Rattle.cip_base.specs.Counts.{count_of}
 use Rattle.cip_topology.proofs.Rules.{le_true, le_of}

@@ -2,7 +2,8 @@
 ghost use Rattle.std.specs.Prelude.{◌≡◌, None, Some, []};
 ghost use Rattle.toml.specs.View.{view, items_view, table_view};
 ghost use Rattle.cip_topology.specs.declared.place.Place.TheVariants.{Link as LinkPlace};
-ghost use Rattle.cip_topology.specs.LinkTables.{bytes_at, text_bytes_at, legal_at, is_linked, link_of_table, link_of, links_after};
+ghost use Rattle.cip_topology.specs.LinkTables.{bytes_at, text_bytes_at, legal_at, is_linked};
+ghost use Rattle.cip_topology.specs.LinkTables.{link_of_table, link_of, links_after};
 ghost use Rattle.cip_topology.specs.Files.{Gives};
 
 use crate::fault::LoadFault;

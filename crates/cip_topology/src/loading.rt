@@ -3,7 +3,8 @@ ghost use Rattle.std.specs.Prelude.{◌≡◌, ◌≤◌, length, None, IfOk, If
 ghost use Rattle.toml.specs.Parse.{parse_document};
 ghost use Rattle.toml.specs.View.{view, items_view, table_view};
 ghost use Rattle.cip_topology.specs.declared.place.Place.TheVariants.{File as TheFile};
-ghost use Rattle.cip_topology.specs.Files.{some_items, tables_at, plan_with, topology_of, Gives, IsRefusal};
+ghost use Rattle.cip_topology.specs.Files.{some_items, tables_at, plan_with, topology_of, Gives};
+ghost use Rattle.cip_topology.specs.Files.{IsRefusal};
 
 use crate::fault::{LoadFault, Syntax};
 use crate::key::Key;

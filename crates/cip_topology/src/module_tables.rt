@@ -7,7 +7,9 @@ ghost use Rattle.cip_topology.specs.declared.fault.LoadFault.TheVariants.{NoMemo
 ghost use Rattle.cip_topology.specs.Plan.{AreLinks};
 ghost use Rattle.cip_topology.specs.Seats.{IsIndexOf, AreFree, all_seated};
 ghost use Rattle.cip_topology.specs.PortTables.{ports_at};
-ghost use Rattle.cip_topology.specs.ModuleTables.{kind_at, identity_at, counts_at, has_originator, is_taken, named_settings, settings_of_table, settings_of, modules_after};
+ghost use Rattle.cip_topology.specs.ModuleTables.{kind_at, identity_at, counts_at, has_originator};
+ghost use Rattle.cip_topology.specs.ModuleTables.{is_taken, named_settings, settings_of_table};
+ghost use Rattle.cip_topology.specs.ModuleTables.{settings_of, modules_after};
 ghost use Rattle.cip_topology.specs.Files.{Gives};
 
 use crate::fault::LoadFault;

@@ -5,7 +5,11 @@ ghost use Rattle.toml.specs.View.{view, items_view, table_view};
 ghost use Rattle.cip_config.specs.Config.{has_number, has_instance};
 ghost use Rattle.cip_topology.specs.Nodes.{is_at};
 ghost use Rattle.cip_topology.specs.Seats.{is_seated};
-ghost use Rattle.cip_topology.specs.PortTables.{new_number, link_from, link_named, port_on, port_of_table, port_of, ports_after, right_ports, ports_at, new_instance, assembly_of_table, assembly_of, assemblies_after, at_most, assemblies_at};
+ghost use Rattle.cip_topology.specs.PortTables.{new_number, link_from, link_named, port_on};
+ghost use Rattle.cip_topology.specs.PortTables.{port_of_table, port_of, ports_after, right_ports};
+ghost use Rattle.cip_topology.specs.PortTables.{ports_at, new_instance, assembly_of_table};
+ghost use Rattle.cip_topology.specs.PortTables.{assembly_of, assemblies_after, at_most};
+ghost use Rattle.cip_topology.specs.PortTables.{assemblies_at};
 ghost use Rattle.cip_topology.specs.Files.{Gives};
 
 use crate::fault::LoadFault;

@@ -2,7 +2,8 @@
 ghost use Rattle.std.specs.Prelude.{◌≡◌, ◌<◌, [], None, IfOk, MatchResult, OnOk};
 ghost use Rattle.std.specs.Ordering.{nat_cmp};
 ghost use Rattle.std.specs.Cmp.Lexicographic.{slice_cmp};
-ghost use Rattle.cip_topology.specs.Seats.{spot_cmp, spot, AreRising, StandsAt, FitsAt, seat_at, seated};
+ghost use Rattle.cip_topology.specs.Seats.{spot_cmp, spot, AreRising, StandsAt, FitsAt, seat_at};
+ghost use Rattle.cip_topology.specs.Seats.{seated};
 
 use cip_base::{Address, NoMemory, PortNumber};
 use std::alloc::Global;

@@ -3,11 +3,16 @@ ghost use Rattle.std.specs.Prelude.{◌≡◌, ◌≤◌, true, IfOk, MatchResul
 ghost use Rattle.toml.specs.Data.{get_member};
 ghost use Rattle.toml.specs.View.{view, items_view, table_view};
 ghost use Rattle.cip_target.specs.Identity.{is_product_name};
-ghost use Rattle.cip_topology.specs.declared.fault.LoadFault.TheVariants.{NoMemory, Missing as NoKey, Range as NoRange};
-ghost use Rattle.cip_topology.specs.declared.key.Key.TheVariants.{Clock as AtClock, ProductName as AtProductName};
+ghost use Rattle.cip_topology.specs.declared.fault.LoadFault.TheVariants.{NoMemory};
+ghost use Rattle.cip_topology.specs.declared.fault.LoadFault.TheVariants.{Missing as NoKey};
+ghost use Rattle.cip_topology.specs.declared.fault.LoadFault.TheVariants.{Range as NoRange};
+ghost use Rattle.cip_topology.specs.declared.key.Key.TheVariants.{Clock as AtClock};
+ghost use Rattle.cip_topology.specs.declared.key.Key.TheVariants.{ProductName as AtProductName};
 ghost use Rattle.cip_topology.specs.Words.{word_of};
 ghost use Rattle.cip_topology.specs.Faults.{found_of};
-ghost use Rattle.cip_topology.specs.Keys.{value_at, number_of, number_at, number_or_at, counted_at, text_at, name_at, pairs_of, address_at, array_of, items_at, table_of};
+ghost use Rattle.cip_topology.specs.Keys.{value_at, number_of, number_at, number_or_at, counted_at};
+ghost use Rattle.cip_topology.specs.Keys.{text_at, name_at, pairs_of, address_at, array_of};
+ghost use Rattle.cip_topology.specs.Keys.{items_at, table_of};
 ghost use Rattle.cip_topology.specs.Files.{Gives};
 
 use crate::fault::LoadFault;

@@ -1,7 +1,9 @@
 -- Reading the data of Unconnected_Send gives exactly the record that has its layout.
-use Rattle.std.proofs.Common.{◌≡◌, ℕ, ◌+◌, ◌*◌, ◌/◌, ◌%◌, ◌<◌, ◌≤◌, List, [], ◌∷◌, ◌++◌, length, take, drop, get_or, eqb, Ok, Err, refl, sym, ap, subst, ◌∙◌, append_assoc, arith, inl, inr}
+use Rattle.std.proofs.Common.{◌≡◌, ℕ, ◌+◌, ◌*◌, ◌/◌, ◌%◌, ◌<◌, ◌≤◌, List, [], ◌∷◌, ◌++◌, length, take, drop, get_or, eqb, Ok, Err, refl, sym, ap, subst, ◌∙◌}
+use Rattle.std.proofs.Common.{append_assoc, arith, inl, inr}
 use Rattle.std.specs.Prelude.{MatchResult, replicate}
-use Rattle.std.proofs.lemmas.List.{take_at, drop_at, take-append-drop, length-append, length-take-le, length-drop, get_or-drop, get_or-take, get_or-append-add, drop-drop}
+use Rattle.std.proofs.lemmas.List.{take_at, drop_at, take-append-drop, length-append, length-take-le, length-drop, get_or-drop, get_or-take, get_or-append-add}
+use Rattle.std.proofs.lemmas.List.{drop-drop}
 use Rattle.cip_segment.specs.Spelling.{IsReadable}
 use Rattle.std.proofs.lemmas.Bool.{cond_both, cases_lt, eqb-true, eqb-false}
 use Rattle.cip_segment.proofs.Whole.{whole_words}
@@ -17,7 +19,8 @@ use Rattle.cip_segment.specs.Reading.{path_at}
 use Rattle.cip_segment.proofs.PathsRead.{path_at-IsFault}
 use Rattle.cip_unconnected.specs.declared.fault.UnconnectedFault.{UnconnectedFault}
 use Rattle.cip_unconnected.specs.declared.fault.UnconnectedFault.TheVariants.{Short, Long, Route}
-use Rattle.cip_unconnected.specs.Unconnected.{Unconnected, unconnected_layout, LaysUnconnected, ReadsUnconnected, HasLayout, IsUnconnectedFault, unconnected_data}
+use Rattle.cip_unconnected.specs.Unconnected.{Unconnected, unconnected_layout, LaysUnconnected, ReadsUnconnected, HasLayout, IsUnconnectedFault}
+use Rattle.cip_unconnected.specs.Unconnected.{unconnected_data}
 use Rattle.cip_unconnected.specs.UnconnectedAt.{route_place, with_route, unconnected_at}
 
 -- how long the data has to be

@@ -4,7 +4,9 @@ ghost use Rattle.std.specs.Prelude.{◌≡◌, Ok};
 ghost use Rattle.cip_segment.specs.Spelling.{IsReadable};
 ghost use Rattle.cip_message.specs.Exact.{ReadsEach, Decides, RefusesBytes};
 ghost use Rattle.cip_message.specs.RequestAt.{IsSent};
-ghost use Rattle.cip_unconnected.specs.Unconnected.{Unconnected as Send, ReadsUnconnected, IsUnconnectedFault, unconnected_data, unconnected_bytes};
+ghost use Rattle.cip_unconnected.specs.Unconnected.{Unconnected as Send, ReadsUnconnected};
+ghost use Rattle.cip_unconnected.specs.Unconnected.{IsUnconnectedFault, unconnected_data};
+ghost use Rattle.cip_unconnected.specs.Unconnected.{unconnected_bytes};
 ghost use Rattle.cip_unconnected.specs.UnconnectedAt.{unconnected_at};
 
 /// Reading data as that of Unconnected_Send gives the one record that has its layout, or the one

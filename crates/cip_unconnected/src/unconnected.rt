@@ -1,9 +1,11 @@
 //! The data of Unconnected_Send, read and written.
-ghost use Rattle.std.specs.Prelude.{◌≡◌, ◌+◌, ◌<◌, ◌≤◌, ◌↔◌, true, length, IfOk, IsErrOf, IfSome, IsNone, take, drop};
+ghost use Rattle.std.specs.Prelude.{◌≡◌, ◌+◌, ◌<◌, ◌≤◌, ◌↔◌, true, length, IfOk, IsErrOf, IfSome};
+ghost use Rattle.std.specs.Prelude.{IsNone, take, drop};
 ghost use Rattle.cip_message.specs.Gives.{Gives};
 ghost use Rattle.cip_message.specs.Exact.{IsRead};
 ghost use Rattle.cip_message.specs.Numbers.{word_in};
-ghost use Rattle.cip_unconnected.specs.Unconnected.{ReadsUnconnected, IsUnconnectedFault, is_too_long, unconnected_with};
+ghost use Rattle.cip_unconnected.specs.Unconnected.{ReadsUnconnected, IsUnconnectedFault};
+ghost use Rattle.cip_unconnected.specs.Unconnected.{is_too_long, unconnected_with};
 ghost use Rattle.cip_unconnected.specs.UnconnectedAt.{route_place, unconnected_at, route_words_of};
 ghost use Rattle.cip_unconnected.specs.Reading.{unconnected_of, sent_along};
 

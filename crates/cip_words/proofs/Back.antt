@@ -1,5 +1,6 @@
 -- What is shown is read back.
-use Rattle.std.proofs.Common.{◌≡◌, ℕ, ◌<◌, ◌≤◌, ◌*◌, ◌⊎◌, ◌^◌, ◌++◌, ◌∷◌, ◌==◌, List, [], length, true, false, Some, None, Result, Ok, Err, refl, sym, ap, ◌∙◌, arith, rules}
+use Rattle.std.proofs.Common.{◌≡◌, ℕ, ◌<◌, ◌≤◌, ◌*◌, ◌⊎◌, ◌^◌, ◌++◌, ◌∷◌, ◌==◌, List, [], length, true, false, Some, None, Result, Ok, Err, refl, sym, ap, ◌∙◌}
+use Rattle.std.proofs.Common.{arith, rules}
 use Rattle.std.proofs.Common.{inl, inr}
 use Rattle.std.specs.Prelude.{nat_lt, decimal, All}
 use Rattle.std.specs.Char.{is_ascii_digit}

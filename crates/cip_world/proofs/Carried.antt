@@ -1,5 +1,6 @@
 -- An unbroken chain carries a datum from its op to its end.
-use Rattle.std.proofs.Common.{◌≡◌, ℕ, zero, suc, ◌<◌, ◌≤◌, Bool, true, false, cond, List, [], ◌∷◌, Option, Some, None, refl, sym, ap, subst, ◌∙◌, inl, arith, eqb, length, is_some}
+use Rattle.std.proofs.Common.{◌≡◌, ℕ, zero, suc, ◌<◌, ◌≤◌, Bool, true, false, cond, List, [], ◌∷◌, Option, Some, None, refl, sym, ap, subst, ◌∙◌, inl, arith}
+use Rattle.std.proofs.Common.{eqb, length, is_some}
 use Rattle.std.specs.FinMap as map
 use Rattle.std.specs.Prelude.{slice_get}
 use Rattle.std.specs.Option.{option_map_or, option_and_then}
@@ -47,7 +48,8 @@ use Rattle.cip_topology.specs.Nodes.{Way, across as goes}
 use Rattle.cip_world.specs.declared.journal.Entry.TheVariants.{Step}
 use Rattle.cip_world.specs.declared.journal.Input.{Input}
 use Rattle.cip_world.specs.declared.journal.Input.TheVariants as inputs
-use Rattle.cip_world.specs.Chains.{Member, HasHop, IsNextTo, GoesToEnd, GoesOnBy, IsChain, last_of, IsDelivery, AreDeliveries, IsHeld, IsKept, AreKept, IsTakenBy}
+use Rattle.cip_world.specs.Chains.{Member, HasHop, IsNextTo, GoesToEnd, GoesOnBy, IsChain, last_of, IsDelivery, AreDeliveries, IsHeld, IsKept, AreKept}
+use Rattle.cip_world.specs.Chains.{IsTakenBy}
 use Rattle.cip_world.specs.Entering.{before_entry, IsTaken, IsEntered}
 use Rattle.cip_world.specs.Journals.{Journal, Flight, entry_at, part}
 use Rattle.cip_world.specs.Mirrors.{IsOlder}

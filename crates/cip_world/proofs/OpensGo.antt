@@ -45,7 +45,8 @@ use Rattle.cip_module.specs.RequestRows as request
 use Rattle.cip_module.specs.State.{State}
 use Rattle.cip_module.specs.Statuses.{open_status}
 use Rattle.cip_module.specs.Table.{up_side_of, asked_open, open_on, words_of, unread_open_bytes, accepted_bytes}
-use Rattle.cip_laws.specs.Tells.{Came, AsksSend, AsksOpen, AsksClose, RepliesAs, RequestFails, SendUnread, SendFails, OpenUnread, OpenFails, OpenEnds, CloseUnread, CloseFails, CloseEnds, AnswersAs, Itself, Embedded, ForwardsAs, SentOn, ClosedOn}
+use Rattle.cip_laws.specs.Tells.{Came, AsksSend, AsksOpen, AsksClose, RepliesAs, RequestFails, SendUnread, SendFails, OpenUnread, OpenFails, OpenEnds}
+use Rattle.cip_laws.specs.Tells.{CloseUnread, CloseFails, CloseEnds, AnswersAs, Itself, Embedded, ForwardsAs, SentOn, ClosedOn}
 use Rattle.cip_laws.proofs.AskedOpens.{no_open_event, one_open}
 use Rattle.cip_laws.proofs.NextRows.{open_row_is}
 use Rattle.cip_world.specs.TrailTells.{RefusedBy, Unread, Read}

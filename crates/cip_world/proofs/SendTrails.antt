@@ -29,7 +29,8 @@ use Rattle.cip_segment.proofs.PathsShorten.{hop_takes_two}
 use Rattle.cip_world.proofs.OneRequest.{none_first}
 use Rattle.cip_world.proofs.OpenTrails.{walk_on}
 use Rattle.cip_world.proofs.PutIn.{SentFor}
-use Rattle.cip_world.proofs.SendsGo.{is_failed, AsksSendThat, CameSo, SendGoes, send_goes, send_replied, send_answered, AsksItself, itself_stays, itself_replied, itself_answered}
+use Rattle.cip_world.proofs.SendsGo.{is_failed, AsksSendThat, CameSo, SendGoes, send_goes, send_replied, send_answered, AsksItself, itself_stays}
+use Rattle.cip_world.proofs.SendsGo.{itself_replied, itself_answered}
 use Rattle.cip_world.proofs.TrailSteps.{TrailTo, trail_on}
 use Rattle.cip_world.proofs.WaysBack.{Arrives, PutAt, Replied, ByRow, ByTarget, ByTick, AsItCame, AsSuccess}
 use Rattle.cip_world.proofs.WordsFall.{RequestOut, request_out, WasSent, was_sent}

@@ -1,5 +1,6 @@
 -- What a step whose event asks an Unconnected_Send did for it, and what one did for the request that was embedded in it.
-use Rattle.std.proofs.Common.{◌≡◌, ℕ, ◌+◌, Bool, true, false, cond, List, [], ◌∷◌, Ok, Err, Option, Some, None, refl, sym, ap, subst, ◌∙◌, ◌⊎◌, inl, inr, arith, length, not, ◌&&◌, eqb, leb, ltb, take, drop, ◌*◌, Result}
+use Rattle.std.proofs.Common.{◌≡◌, ℕ, ◌+◌, Bool, true, false, cond, List, [], ◌∷◌, Ok, Err, Option, Some, None, refl, sym, ap, subst, ◌∙◌, ◌⊎◌, inl, inr, arith}
+use Rattle.std.proofs.Common.{length, not, ◌&&◌, eqb, leb, ltb, take, drop, ◌*◌, Result}
 use Rattle.std.specs.Prelude.{slice_index, nat_lt}
 use Rattle.std.proofs.lemmas.Bool.Decides.{nat_tests}
 use Rattle.cip_segment.specs.declared.fault.PathFault.{PathFault}
@@ -43,7 +44,8 @@ use Rattle.cip_module.specs.RequestRows as request
 use Rattle.cip_module.specs.State.{State}
 use Rattle.cip_module.specs.Statuses.{request_status, unconnected_status}
 use Rattle.cip_module.specs.Table.{sent, words_of}
-use Rattle.cip_laws.specs.Tells.{Came, AsksSend, AsksOpen, AsksClose, RepliesAs, RequestFails, SendUnread, SendFails, OpenUnread, OpenFails, OpenEnds, CloseUnread, CloseFails, CloseEnds, AnswersAs, Itself, Embedded, ForwardsAs, SentOn, ClosedOn}
+use Rattle.cip_laws.specs.Tells.{Came, AsksSend, AsksOpen, AsksClose, RepliesAs, RequestFails, SendUnread, SendFails, OpenUnread, OpenFails, OpenEnds}
+use Rattle.cip_laws.specs.Tells.{CloseUnread, CloseFails, CloseEnds, AnswersAs, Itself, Embedded, ForwardsAs, SentOn, ClosedOn}
 use Rattle.cip_module.specs.Links.{LeadsOn}
 use Rattle.cip_module.specs.UnconnectedRows as unconnected
 use Rattle.cip_laws.proofs.AskedOpens.{no_open_event}

@@ -1,5 +1,6 @@
 -- A success by which a module answers a Forward_Open names the up id of a connection that the module opened for that request.
-use Rattle.std.proofs.Common.{◌≡◌, ℕ, ◌+◌, Bool, true, false, cond, List, [], ◌∷◌, ◌++◌, Result, Ok, Err, Option, Some, None, refl, sym, ap, subst, ◌∙◌, ◌⊎◌, inl, inr, arith, eqb}
+use Rattle.std.proofs.Common.{◌≡◌, ℕ, ◌+◌, Bool, true, false, cond, List, [], ◌∷◌, ◌++◌, Result, Ok, Err, Option, Some, None, refl, sym, ap, subst, ◌∙◌, ◌⊎◌}
+use Rattle.std.proofs.Common.{inl, inr, arith, eqb}
 use Rattle.std.specs.FinMap as map
 use Rattle.std.specs.Ordering.{nat_cmp}
 use Rattle.std.specs.Prelude.{is_some, slice_get, nat_lt, length}
@@ -24,7 +25,8 @@ use Rattle.cip_pending.specs.declared.entry.Entry.{Entry}
 use Rattle.cip_pending.specs.declared.entry.UpSide.{UpSide}
 use Rattle.cip_pending.specs.declared.entry.UpSide.TheVariants.{Link, Local}
 use Rattle.cip_pending.specs.declared.entry.Kind.{Kind}
-use Rattle.cip_pending.specs.declared.entry.Kind.TheVariants.{Unconnected as UnconnectedKind, Opening as OpeningKind, OpeningLarge as LargeKind, Closing as ClosingKind}
+use Rattle.cip_pending.specs.declared.entry.Kind.TheVariants.{Unconnected as UnconnectedKind, Opening as OpeningKind, OpeningLarge as LargeKind}
+use Rattle.cip_pending.specs.declared.entry.Kind.TheVariants.{Closing as ClosingKind}
 use Rattle.cip_pending.specs.Kinds.{opened_triad, is_large_kind}
 use Rattle.cip_hops.specs.declared.opening.HopUp.{HopUp}
 use Rattle.cip_hops.specs.declared.opening.HopUp.TheVariants.{Link as UpLink}
@@ -52,7 +54,8 @@ use Rattle.cip_module.specs.RequestRows as request
 use Rattle.cip_module.specs.State.{State}
 use Rattle.cip_module.specs.Statuses.{open_status, link_status}
 use Rattle.cip_module.specs.Table.{up_side_of, open_effects, open_data_effects, accepted_bytes, request_effects, unread_open_bytes, words_of}
-use Rattle.cip_laws.specs.Tells.{Tells, Came, AsksSend, AsksOpen, AsksClose, RepliesAs, RequestFails, SendUnread, SendFails, OpenUnread, OpenFails, OpenEnds, CloseUnread, CloseFails, CloseEnds, AnswersAs, Itself, Embedded, ForwardsAs, FinishesAs, TakesAs, SentOn, ClosedOn}
+use Rattle.cip_laws.specs.Tells.{Tells, Came, AsksSend, AsksOpen, AsksClose, RepliesAs, RequestFails, SendUnread, SendFails, OpenUnread, OpenFails, OpenEnds}
+use Rattle.cip_laws.specs.Tells.{CloseUnread, CloseFails, CloseEnds, AnswersAs, Itself, Embedded, ForwardsAs, FinishesAs, TakesAs, SentOn, ClosedOn}
 use Rattle.cip_module.proofs.Opens.{opens_for}
 use Rattle.cip_module.proofs.Waiting.{waits_at}
 use Rattle.cip_laws.specs.Births.{first_opened, born, Past, IsBirth}

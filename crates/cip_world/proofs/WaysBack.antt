@@ -23,7 +23,8 @@ use Rattle.cip_event.specs.declared.event.Event.TheVariants as events
 use Rattle.cip_event.specs.declared.event.Output.{Output}
 use Rattle.cip_event.specs.declared.event.Output.TheVariants as outputs
 use Rattle.cip_laws.specs.EffectLists.{Stands}
-use Rattle.cip_module.specs.Effects.{Sending, Effect, Answers, Finishes, Takes, here_answer, timed_out_bytes, succeeded, reply_up, apply, applied, Forwards, Begins}
+use Rattle.cip_module.specs.Effects.{Sending, Effect, Answers, Finishes, Takes, here_answer, timed_out_bytes, succeeded, reply_up, apply, applied, Forwards}
+use Rattle.cip_module.specs.Effects.{Begins}
 use Rattle.cip_laws.specs.Histories.{state_after}
 use Rattle.cip_laws.specs.Outputs.{GaveBy, RepliesBy, AtOnce, Here, Opened, Taken, Late}
 use Rattle.cip_module.specs.State.{State}

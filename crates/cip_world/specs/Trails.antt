@@ -1,5 +1,6 @@
 -- The trail of a command: where its request went, entry by entry.
-use Rattle.std.specs.Prelude.{ℕ, zero, suc, ◌+◌, List, [], ◌∷◌, Option, Some, None, Bool, true, false, not, ◌&&◌, ◌==◌, nat_le, if◌then◌else◌, length, option_map, option_and_then}
+use Rattle.std.specs.Prelude.{ℕ, zero, suc, ◌+◌, List, [], ◌∷◌, Option, Some, None, Bool, true, false, not, ◌&&◌, ◌==◌, nat_le, if◌then◌else◌, length}
+use Rattle.std.specs.Prelude.{option_map, option_and_then}
 use Rattle.std.specs.List.{list_any}
 use Rattle.cip_event.specs.declared.event.Body.{Body}
 use Rattle.cip_event.specs.declared.event.Body.TheVariants as bodies

@@ -33,8 +33,10 @@ ghost use Rattle.cip_world.specs.Waiting.{waiting};
 ghost use Rattle.cip_world.specs.Answers.{Answered};
 ghost use Rattle.cip_world.specs.Mirrors.{IsOlder, IsMirrored};
 ghost use Rattle.cip_world.specs.ResetSteps.{IsResetBy};
-ghost use Rattle.cip_world.specs.Chains.{Member, IsChain, last_of, AreDeliveries, AreKept, IsTakenBy};
-ghost use Rattle.cip_world.specs.Entering.{HasOutput, before_entry, IsTaken, IsEntered, IsOpened, ConsumedOf, ArrivedOf};
+ghost use Rattle.cip_world.specs.Chains.{Member, IsChain, last_of, AreDeliveries, AreKept};
+ghost use Rattle.cip_world.specs.Chains.{IsTakenBy};
+ghost use Rattle.cip_world.specs.Entering.{HasOutput, before_entry, IsTaken, IsEntered, IsOpened};
+ghost use Rattle.cip_world.specs.Entering.{ConsumedOf, ArrivedOf};
 ghost use Rattle.cip_world.specs.Roots.{root_of};
 ghost use Rattle.cip_world.specs.Trails.{trail_of};
 

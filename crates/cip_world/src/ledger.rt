@@ -1,5 +1,7 @@
 //! A topology, the journal of what happened in it, and the frames that wait.
-ghost use Rattle.std.specs.Prelude.{◌≡◌, ◌↔◌, ◌∷◌, ◌++◌, ◌≤◌, [], true, drop, filter, length, not, reverse, is_some, option_map, slice_get, IsTrue, OnOk, IfOk, IfSome, IfNone, Some};
+ghost use Rattle.std.specs.Prelude.{◌≡◌, ◌↔◌, ◌∷◌, ◌++◌, ◌≤◌, [], true, drop, filter, length, not};
+ghost use Rattle.std.specs.Prelude.{reverse, is_some, option_map, slice_get, IsTrue, OnOk, IfOk};
+ghost use Rattle.std.specs.Prelude.{IfSome, IfNone, Some};
 ghost use Rattle.std.specs.List.{list_any};
 ghost use Rattle.cip_topology.specs.Nodes.{across};
 ghost use Rattle.cip_world.specs.Journals.{named_by, flight_of, same_name, is_that};

@@ -1,9 +1,11 @@
 //! Names of frames, in rising order.
-ghost use Rattle.std.specs.Prelude.{◌≡◌, ◌∷◌, ◌++◌, [], None, false, not, filter, slice_get, MatchOption, MatchResult, OnOk, OnErr, IfOk};
+ghost use Rattle.std.specs.Prelude.{◌≡◌, ◌∷◌, ◌++◌, [], None, false, not, filter, slice_get};
+ghost use Rattle.std.specs.Prelude.{MatchOption, MatchResult, OnOk, OnErr, IfOk};
 ghost use Rattle.std.specs.List.{list_any};
 ghost use Rattle.cip_world.specs.Journals.{same_name};
 ghost use Rattle.cip_world.specs.Names.{AllBefore};
-ghost use Rattle.cip_world.specs.Spots.{names_in, AreInOrder, AreSpots, IsPlaceOf, value_of, is_first, is_first_gone, is_last_gone};
+ghost use Rattle.cip_world.specs.Spots.{names_in, AreInOrder, AreSpots, IsPlaceOf, value_of};
+ghost use Rattle.cip_world.specs.Spots.{is_first, is_first_gone, is_last_gone};
 
 use crate::journal::FrameName;
 use cip_base::NoMemory;

@@ -1,5 +1,6 @@
 //! The world: modules in boxes, and the journal of what they did.
-ghost use Rattle.std.specs.Prelude.{◌≡◌, ◌∷◌, ◌↔◌, ◌⊎◌, ◌≤◌, ◌<◌, [], true, Err, length, map, reverse, vec_len, IfOk, IfErr, IsTrue, OnOk, OnErr};
+ghost use Rattle.std.specs.Prelude.{◌≡◌, ◌∷◌, ◌↔◌, ◌⊎◌, ◌≤◌, ◌<◌, [], true, Err, length, map};
+ghost use Rattle.std.specs.Prelude.{reverse, vec_len, IfOk, IfErr, IsTrue, OnOk, OnErr};
 ghost use Rattle.cip_event.specs.declared.event.Event.TheVariants as events;
 ghost use Rattle.std.specs.Option.{option_map};
 ghost use Rattle.cip_hops.specs.Hops.{hop_by_op, hop_by_up};
@@ -7,7 +8,8 @@ ghost use Rattle.cip_module.specs.Views.{ShowsState, hop_row_of};
 ghost use Rattle.cip_world.specs.declared.journal.Input.TheVariants as inputs;
 ghost use Rattle.cip_world.specs.Runs.{IsGiven, IsRun, IsWaiting, state_in};
 ghost use Rattle.cip_world.specs.Waiting.{waiting};
-ghost use Rattle.cip_world.specs.Worlds.{Stand, AddsStep, AddsArrival, AddsLoss, IsFeedFault, IsFrameFault, IsOneMore, RunsTo, IsShownAt, looked_up};
+ghost use Rattle.cip_world.specs.Worlds.{Stand, AddsStep, AddsArrival, AddsLoss, IsFeedFault};
+ghost use Rattle.cip_world.specs.Worlds.{IsFrameFault, IsOneMore, RunsTo, IsShownAt, looked_up};
 ghost use Rattle.cip_world.specs.Fresh.{AreFresh, IsNewFault};
 
 use crate::fault::WorldFault;

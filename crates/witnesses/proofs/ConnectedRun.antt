@@ -21,7 +21,8 @@ use Rattle.cip_module.specs.RequestRows.{request_row}
 use Rattle.cip_open.specs.OpenAt.{open_at}
 use Rattle.cip_open.specs.SuccessAt.{open_reply_at}
 use Rattle.cip_segment.specs.Reading.{segments_within, path_at, segments_of, behind, hop_of}
-use Rattle.cip_segment.specs.Scan.{bytes_at, padded_at, narrow_at, double_at, point_at, words_at, number_at, size_at, plain_port_at, port_at, other_at, logical_at, segment_at}
+use Rattle.cip_segment.specs.Scan.{bytes_at, padded_at, narrow_at, double_at, point_at, words_at, number_at, size_at, plain_port_at, port_at, other_at}
+use Rattle.cip_segment.specs.Scan.{logical_at, segment_at}
 use Rattle.cip_target.specs.Ends.{end_row}
 use Rattle.witnesses.specs.ConnectedRun.{open_sent, success, ticked, begins, ends_there, stands, first_datum, second_datum, entered, lost, entered_again, taken}
 

@@ -23,7 +23,8 @@ use Rattle.cip_laws.specs.Turns.{Gave}
 use Rattle.cip_open.specs.Open.{Open}
 use Rattle.cip_open.specs.OpenAt.{open_at}
 use Rattle.cip_segment.specs.Reading.{segments_within, path_at, segments_of, behind, hop_of}
-use Rattle.cip_segment.specs.Scan.{bytes_at, padded_at, narrow_at, double_at, point_at, words_at as path_words_at, number_at, size_at, plain_port_at, port_at, other_at, logical_at, segment_at}
+use Rattle.cip_segment.specs.Scan.{bytes_at, padded_at, narrow_at, double_at, point_at, words_at as path_words_at, number_at, size_at, plain_port_at, port_at}
+use Rattle.cip_segment.specs.Scan.{other_at, logical_at, segment_at}
 use Rattle.cip_module.specs.Table.{asked_open, open_of}
 use Rattle.cip_target.specs.declared.identity.IdentityFields.{IdentityFields}
 use Rattle.cip_topology.specs.Plan.{Plan, IsTopology}

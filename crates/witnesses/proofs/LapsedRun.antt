@@ -29,12 +29,14 @@ use Rattle.cip_module.specs.RequestRows.{request_row}
 use Rattle.cip_open.specs.OpenAt.{open_at}
 use Rattle.cip_open.specs.SuccessAt.{open_reply_at}
 use Rattle.cip_segment.specs.Reading.{segments_within, path_at, segments_of, behind, hop_of}
-use Rattle.cip_segment.specs.Scan.{bytes_at, padded_at, narrow_at, double_at, point_at, words_at, number_at, size_at, plain_port_at, port_at, other_at, logical_at, segment_at}
+use Rattle.cip_segment.specs.Scan.{bytes_at, padded_at, narrow_at, double_at, point_at, words_at, number_at, size_at, plain_port_at, port_at, other_at}
+use Rattle.cip_segment.specs.Scan.{logical_at, segment_at}
 use Rattle.cip_target.specs.Ends.{end_row}
 use Rattle.witnesses.specs.Plans.{scanner, adapter, cell, triad}
 use Rattle.witnesses.specs.OneAfterTheOther.{stands}
 use Rattle.witnesses.specs.LapsedRun.{lapses, of_scanner, of_adapter, upper, lower, out, there}
-use Rattle.witnesses.proofs.Maps.{Gives, none_waits, none_held, held_first, held_none, held_get, held_entries, held_gone, held_twice, pendings_none, bytes_get, entry_get, entry_gone}
+use Rattle.witnesses.proofs.Maps.{Gives, none_waits, none_held, held_first, held_none, held_get, held_entries, held_gone, held_twice, pendings_none, bytes_get}
+use Rattle.witnesses.proofs.Maps.{entry_get, entry_gone}
 use Rattle.witnesses.proofs.OneAfterTheOther.{run_stands}
 use Rattle.witnesses.proofs.Topologies.{cell_is}
 use Rattle.witnesses.proofs.Steps.{and_tick}

@@ -20,11 +20,14 @@ use Rattle.cip_module.specs.RequestRows.{request_row}
 use Rattle.cip_open.specs.OpenAt.{open_at}
 use Rattle.cip_open.specs.SuccessAt.{open_reply_at}
 use Rattle.cip_segment.specs.Reading.{segments_within, path_at, segments_of, behind, hop_of}
-use Rattle.cip_segment.specs.Scan.{bytes_at, padded_at, narrow_at, double_at, point_at, words_at, number_at, size_at, plain_port_at, port_at, other_at, logical_at, segment_at}
+use Rattle.cip_segment.specs.Scan.{bytes_at, padded_at, narrow_at, double_at, point_at, words_at, number_at, size_at, plain_port_at, port_at, other_at}
+use Rattle.cip_segment.specs.Scan.{logical_at, segment_at}
 use Rattle.cip_target.specs.Ends.{end_row}
 use Rattle.witnesses.specs.Plans.{scanner, first_bridge, second_bridge, adapter, row, triad}
 use Rattle.witnesses.specs.ChainedRun.{path}
-use Rattle.witnesses.specs.LargeRun.{large_params, first_request, second_request, third_request, first_success, second_success, third_success, opens, at_first, at_second, ends_there, back_at_second, back_at_first, stands, of_scanner, of_first, of_second, of_adapter, first_member, members}
+use Rattle.witnesses.specs.LargeRun.{large_params, first_request, second_request, third_request, first_success, second_success, third_success, opens, at_first}
+use Rattle.witnesses.specs.LargeRun.{at_second, ends_there, back_at_second, back_at_first, stands, of_scanner, of_first, of_second, of_adapter, first_member}
+use Rattle.witnesses.specs.LargeRun.{members}
 use Rattle.witnesses.proofs.Maps.{Gives, none_waits, none_held, held_first, held_none, held_get, held_entries, entry_get, bytes_get, held_twice, entry_gone}
 use Rattle.witnesses.proofs.ChainOfRow.{chain_of_row}
 use Rattle.witnesses.proofs.Steps.{and_command, and_frame}

@@ -8,7 +8,8 @@ use Rattle.cip_event.specs.declared.event.Dropped.TheVariants.{Late}
 use Rattle.cip_module.specs.State.{initial_state}
 use Rattle.cip_world.specs.Runs.{IsRun, state_in}
 use Rattle.witnesses.specs.Plans.{scanner, adapter, cell, triad, params}
-use Rattle.witnesses.proofs.Maps.{Gives, none_waits, none_held, held_first, held_none, held_get, held_entries, held_gone, held_twice, pendings_none, bytes_get, entry_first, entry_get, entry_entries, entry_gone}
+use Rattle.witnesses.proofs.Maps.{Gives, none_waits, none_held, held_first, held_none, held_get, held_entries, held_gone, held_twice, pendings_none, bytes_get}
+use Rattle.witnesses.proofs.Maps.{entry_first, entry_get, entry_entries, entry_gone}
 use Rattle.witnesses.proofs.Steps.{and_command, and_frame, and_tick}
 use Rattle.cip_message.specs.Counted.{counted_at, counted_path_at}
 use Rattle.cip_message.specs.Failure.{failure_at}
@@ -25,9 +26,12 @@ use Rattle.cip_module.specs.RequestRows.{request_row}
 use Rattle.cip_open.specs.OpenAt.{open_at}
 use Rattle.cip_open.specs.SuccessAt.{open_reply_at}
 use Rattle.cip_segment.specs.Reading.{segments_within, path_at, segments_of, behind, hop_of}
-use Rattle.cip_segment.specs.Scan.{bytes_at, padded_at, narrow_at, double_at, point_at, words_at, number_at, size_at, plain_port_at, port_at, other_at, logical_at, segment_at}
+use Rattle.cip_segment.specs.Scan.{bytes_at, padded_at, narrow_at, double_at, point_at, words_at, number_at, size_at, plain_port_at, port_at, other_at}
+use Rattle.cip_segment.specs.Scan.{logical_at, segment_at}
 use Rattle.cip_target.specs.Ends.{end_row}
-use Rattle.witnesses.specs.LateClose.{first_request, first_success, close_request, given_up_reply, second_request, second_success, close_success, datum, path, opens, accepted, stands, asked_to_close, lapsed, given_up, opens_again, accepted_again, stands_again, closed_late, entered, answered}
+use Rattle.witnesses.specs.LateClose.{first_request, first_success, close_request, given_up_reply, second_request, second_success, close_success, datum, path}
+use Rattle.witnesses.specs.LateClose.{opens, accepted, stands, asked_to_close, lapsed, given_up, opens_again, accepted_again, stands_again, closed_late}
+use Rattle.witnesses.specs.LateClose.{entered, answered}
 
 -- ---- what the modules put out
 

@@ -13,7 +13,8 @@ use Rattle.cip_event.specs.declared.event.Dropped.TheVariants.{UnknownId}
 use Rattle.cip_module.specs.State.{State, initial_state}
 use Rattle.cip_world.specs.Runs.{IsRun, state_in}
 use Rattle.witnesses.specs.Plans.{scanner, adapter, cell, triad, params}
-use Rattle.witnesses.proofs.Maps.{Gives, none_waits, none_held, held_first, held_none, held_get, held_entries, held_gone, held_twice, bytes_get, entry_get, entry_gone}
+use Rattle.witnesses.proofs.Maps.{Gives, none_waits, none_held, held_first, held_none, held_get, held_entries, held_gone, held_twice, bytes_get, entry_get}
+use Rattle.witnesses.proofs.Maps.{entry_gone}
 use Rattle.witnesses.proofs.Steps.{and_command, and_frame}
 use Rattle.cip_message.specs.Counted.{counted_at, counted_path_at}
 use Rattle.cip_message.specs.Failure.{failure_at}
@@ -30,9 +31,12 @@ use Rattle.cip_module.specs.RequestRows.{request_row}
 use Rattle.cip_open.specs.OpenAt.{open_at}
 use Rattle.cip_open.specs.SuccessAt.{open_reply_at}
 use Rattle.cip_segment.specs.Reading.{segments_within, path_at, segments_of, behind, hop_of}
-use Rattle.cip_segment.specs.Scan.{bytes_at, padded_at, narrow_at, double_at, point_at, words_at, number_at, size_at, plain_port_at, port_at, other_at, logical_at, segment_at}
+use Rattle.cip_segment.specs.Scan.{bytes_at, padded_at, narrow_at, double_at, point_at, words_at, number_at, size_at, plain_port_at, port_at, other_at}
+use Rattle.cip_segment.specs.Scan.{logical_at, segment_at}
 use Rattle.cip_target.specs.Ends.{end_row}
-use Rattle.witnesses.specs.OneAfterTheOther.{first_request, first_success, first_datum, close_request, close_success, second_request, second_success, second_datum, path, opens, accepted, stands, entered, asked_to_close, closed, closed_here, opens_again, accepted_again, stands_again, dropped, entered_again, taken}
+use Rattle.witnesses.specs.OneAfterTheOther.{first_request, first_success, first_datum, close_request, close_success, second_request, second_success}
+use Rattle.witnesses.specs.OneAfterTheOther.{second_datum, path, opens, accepted, stands, entered, asked_to_close, closed, closed_here, opens_again}
+use Rattle.witnesses.specs.OneAfterTheOther.{accepted_again, stands_again, dropped, entered_again, taken}
 
 -- ---- what the modules put out
 

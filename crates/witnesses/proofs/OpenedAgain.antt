@@ -26,15 +26,19 @@ use Rattle.cip_module.specs.UnconnectedRows.{unconnected_row}
 use Rattle.cip_open.specs.OpenAt.{open_at}
 use Rattle.cip_open.specs.SuccessAt.{open_reply_at}
 use Rattle.cip_segment.specs.Reading.{behind, hop_of, path_at, segments_of, segments_within}
-use Rattle.cip_segment.specs.Scan.{bytes_at, double_at, logical_at, narrow_at, number_at, other_at, padded_at, plain_port_at, point_at, port_at, segment_at, size_at, words_at}
+use Rattle.cip_segment.specs.Scan.{bytes_at, double_at, logical_at, narrow_at, number_at, other_at, padded_at, plain_port_at, point_at, port_at, segment_at}
+use Rattle.cip_segment.specs.Scan.{size_at, words_at}
 use Rattle.cip_target.specs.Ends.{end_row}
 use Rattle.cip_target.specs.Rows.{target_row}
 use Rattle.cip_unconnected.specs.UnconnectedAt.{unconnected_at}
 use Rattle.witnesses.specs.Plans.{scanner, first_bridge, second_bridge, adapter, row, triad, params}
 use Rattle.witnesses.specs.ChainedRun.{first_request, third_request, first_success, datum, path}
 use Rattle.witnesses.specs.ResetRun.{reset, done}
-use Rattle.witnesses.specs.OpenedAgain.{second_request, second_success, third_success, sends, resets, is_told, opens, at_first, at_second, ends_there, back_at_second, back_at_first, stands, entered, down_at_first, down_at_second, taken, written, produced, up_at_second, up_at_first, arrived, ends}
-use Rattle.witnesses.proofs.Maps.{Gives, none_waits, none_held, held_first, held_none, held_get, held_entries, held_twice, entry_get, entry_gone, bytes_get, pendings_none, bytes_none}
+use Rattle.witnesses.specs.OpenedAgain.{second_request, second_success, third_success, sends, resets, is_told, opens, at_first, at_second, ends_there}
+use Rattle.witnesses.specs.OpenedAgain.{back_at_second, back_at_first, stands, entered, down_at_first, down_at_second, taken, written, produced, up_at_second}
+use Rattle.witnesses.specs.OpenedAgain.{up_at_first, arrived, ends}
+use Rattle.witnesses.proofs.Maps.{Gives, none_waits, none_held, held_first, held_none, held_get, held_entries, held_twice, entry_get, entry_gone, bytes_get}
+use Rattle.witnesses.proofs.Maps.{pendings_none, bytes_none}
 use Rattle.witnesses.proofs.Steps.{and_command, and_frame}
 
 by_sends : Gives scanner (initial_state scanner) (events.Command (commands.Send 1 (record { tick = 7; ticks = 250 }) (2 ∷ 5 ∷ []) reset))

@@ -27,11 +27,13 @@ use Rattle.cip_module.specs.UnconnectedRows.{unconnected_row}
 use Rattle.cip_open.specs.OpenAt.{open_at}
 use Rattle.cip_open.specs.SuccessAt.{open_reply_at}
 use Rattle.cip_segment.specs.Reading.{behind, hop_of, path_at, segments_of, segments_within}
-use Rattle.cip_segment.specs.Scan.{bytes_at, double_at, logical_at, narrow_at, number_at, other_at, padded_at, plain_port_at, point_at, port_at, segment_at, size_at, words_at}
+use Rattle.cip_segment.specs.Scan.{bytes_at, double_at, logical_at, narrow_at, number_at, other_at, padded_at, plain_port_at, point_at, port_at, segment_at}
+use Rattle.cip_segment.specs.Scan.{size_at, words_at}
 use Rattle.cip_target.specs.Ends.{end_row}
 use Rattle.cip_target.specs.Rows.{target_row}
 use Rattle.cip_unconnected.specs.UnconnectedAt.{unconnected_at}
-use Rattle.witnesses.proofs.Maps.{Gives, none_waits, none_held, held_first, held_none, held_get, held_entries, held_twice, entry_get, entry_gone, pendings_none, bytes_none}
+use Rattle.witnesses.proofs.Maps.{Gives, none_waits, none_held, held_first, held_none, held_get, held_entries, held_twice, entry_get, entry_gone, pendings_none}
+use Rattle.witnesses.proofs.Maps.{bytes_none}
 use Rattle.witnesses.proofs.Steps.{and_command, and_frame}
 use Rattle.witnesses.specs.ResetRun.{reset, done}
 use Rattle.witnesses.specs.ResetBridge.{sends, resets, is_told, enters, is_unknown, asks, goes_on, answers, passes, is_answered}

@@ -41,7 +41,8 @@ use Rattle.cip_module.specs.UnconnectedRows.{unconnected_row}
 use Rattle.cip_open.specs.OpenAt.{open_at}
 use Rattle.cip_open.specs.SuccessAt.{open_reply_at}
 use Rattle.cip_segment.specs.Reading.{behind, hop_of, path_at, segments_of, segments_within}
-use Rattle.cip_segment.specs.Scan.{bytes_at, double_at, logical_at, narrow_at, number_at, other_at, padded_at, plain_port_at, point_at, port_at, segment_at, size_at, words_at}
+use Rattle.cip_segment.specs.Scan.{bytes_at, double_at, logical_at, narrow_at, number_at, other_at, padded_at, plain_port_at, point_at, port_at, segment_at}
+use Rattle.cip_segment.specs.Scan.{size_at, words_at}
 use Rattle.cip_target.specs.Ends.{end_row}
 use Rattle.cip_target.specs.Rows.{target_row}
 use Rattle.cip_unconnected.specs.UnconnectedAt.{unconnected_at}
@@ -51,7 +52,8 @@ use Rattle.witnesses.specs.ResetRun as resetting
 use Rattle.witnesses.specs.ResetBridge as under
 use Rattle.witnesses.specs.ChainedRun.{of_scanner, of_first}
 use Rattle.witnesses.specs.ResetTold.{is_reset, goes_on, after_it, begins, own, resets_under_it, finds_none, resets_itself, behind_it, ends_itself}
-use Rattle.witnesses.proofs.Maps.{none_waits as none_wait, none_held, held_first, held_none, held_get, held_entries, held_twice, entry_get, entry_gone, bytes_none}
+use Rattle.witnesses.proofs.Maps.{none_waits as none_wait, none_held, held_first, held_none, held_get, held_entries, held_twice, entry_get, entry_gone}
+use Rattle.witnesses.proofs.Maps.{bytes_none}
 use Rattle.witnesses.proofs.OpenedAgain.{run_resets, run_at_first, run_up_at_first, run_ends}
 use Rattle.witnesses.proofs.ResetRun.{reset_under_way, run_resets as run_resetting}
 use Rattle.witnesses.proofs.ResetBridge.{run_is_unknown}

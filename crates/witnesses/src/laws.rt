@@ -31,7 +31,8 @@ ghost use Rattle.cip_world.specs.Roots.{root_of};
 ghost use Rattle.cip_world.specs.Runs.{IsRun, IsWaiting, state_in};
 ghost use Rattle.cip_world.specs.Trails.{trail_of};
 ghost use Rattle.cip_world.specs.TrailTells.{OpenedIn, SentIn};
-ghost use Rattle.witnesses.specs.Bounds.{IsNameOfSixteen, IsRangeOfSixteen, IsAddressFrom21, IsProductNameOf32};
+ghost use Rattle.witnesses.specs.Bounds.{IsNameOfSixteen, IsRangeOfSixteen, IsAddressFrom21};
+ghost use Rattle.witnesses.specs.Bounds.{IsProductNameOf32};
 ghost use Rattle.witnesses.specs.Plans.{plant, cell, row, scanner, first_bridge, triad, frame};
 ghost use Rattle.witnesses.specs.StoredRun as stored;
 ghost use Rattle.witnesses.specs.ConnectedRun as connected;
@@ -47,7 +48,8 @@ ghost use Rattle.witnesses.specs.ResetRun as resets;
 ghost use Rattle.witnesses.specs.ResetBridge as reset_bridge;
 ghost use Rattle.witnesses.specs.OpenedAgain as again;
 ghost use Rattle.witnesses.specs.ResetTold as told;
-ghost use Rattle.witnesses.specs.Told.{ConsumedFrom, ArrivedFrom, FailsAt, SucceedsAt, AnsweredAt, ComesLate};
+ghost use Rattle.witnesses.specs.Told.{ConsumedFrom, ArrivedFrom, FailsAt, SucceedsAt, AnsweredAt};
+ghost use Rattle.witnesses.specs.Told.{ComesLate};
 
 /// The plans are topologies.
 pub fn plans_are_topologies()

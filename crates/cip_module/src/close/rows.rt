@@ -4,7 +4,8 @@ ghost use Rattle.std.specs.Option.{option_copied};
 ghost use Rattle.cip_segment.specs.Reading.{hop_of};
 ghost use Rattle.cip_close.specs.Reading.{close_of};
 ghost use Rattle.cip_hops.specs.declared.hop.Hop.{Hop as Hops};
-ghost use Rattle.cip_module.specs.CloseRows.{is_sender, below_row, down_row, triad_row, close_row, unread_row};
+ghost use Rattle.cip_module.specs.CloseRows.{is_sender, below_row, down_row, triad_row, close_row};
+ghost use Rattle.cip_module.specs.CloseRows.{unread_row};
 ghost use Rattle.cip_module.specs.Code.Decisions.{close_row_of, CloseLeads};
 ghost use Rattle.cip_module.specs.Code.Device.{state_of_device};
 

@@ -5,7 +5,8 @@ ghost use Rattle.cip_unconnected.specs.Unconnected.{unconnected_bytes};
 ghost use Rattle.cip_unconnected.specs.Reading.{unconnected_of};
 ghost use Rattle.cip_hops.specs.Hops.{hop_by_op};
 ghost use Rattle.cip_target.specs.Assemblies.{size_in};
-ghost use Rattle.cip_module.specs.CommandRows.{op_row, close_command_row, send_row, enter_row, set_row, produce_row};
+ghost use Rattle.cip_module.specs.CommandRows.{op_row, close_command_row, send_row, enter_row};
+ghost use Rattle.cip_module.specs.CommandRows.{set_row, produce_row};
 ghost use Rattle.cip_module.specs.Code.Commands.{Decides, IsNew, CanSend, CanEnter};
 ghost use Rattle.cip_module.specs.Code.Device.{state_of_device};
 

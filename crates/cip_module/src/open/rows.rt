@@ -5,7 +5,9 @@ ghost use Rattle.cip_open.specs.Reading.{open_of};
 ghost use Rattle.cip_target.specs.Ends.{end_row, row_at};
 ghost use Rattle.cip_hops.specs.Sides.{up_is_link};
 ghost use Rattle.cip_module.specs.Keys.{leading_mismatch};
-ghost use Rattle.cip_module.specs.OpenRows.{is_supported_direction, is_supported, ids_if_forwarded, is_consumed, here_row, hop_row, key_row, open_row, unread_row};
+ghost use Rattle.cip_module.specs.OpenRows.{is_supported_direction, is_supported, ids_if_forwarded};
+ghost use Rattle.cip_module.specs.OpenRows.{is_consumed, here_row, hop_row, key_row, open_row};
+ghost use Rattle.cip_module.specs.OpenRows.{unread_row};
 ghost use Rattle.cip_module.specs.Code.Decisions.{open_row_of, OpenLeads};
 ghost use Rattle.cip_module.specs.Code.Device.{state_of_device};
 

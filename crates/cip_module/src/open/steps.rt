@@ -1,6 +1,7 @@
 //! The open group: Forward_Open and Large_Forward_Open at a router, at an end and at its
 //! originator.
-ghost use Rattle.std.specs.Prelude.{◌≡◌, ◌≤◌, ◌<◌, ◌∷◌, [], length, IfOk, OnErr, None, Some, Ok, true};
+ghost use Rattle.std.specs.Prelude.{◌≡◌, ◌≤◌, ◌<◌, ◌∷◌, [], length, IfOk, OnErr, None, Some, Ok};
+ghost use Rattle.std.specs.Prelude.{true};
 ghost use Rattle.cip_message.specs.Received.{IsReceived};
 ghost use Rattle.cip_open.specs.Kinds.{open_service};
 ghost use Rattle.cip_open.specs.Open.{FitWidth};
@@ -11,10 +12,12 @@ ghost use Rattle.cip_pending.specs.Pendings.{refusal};
 ghost use Rattle.cip_hops.specs.Hops as hops;
 ghost use Rattle.cip_hops.specs.Sides.{up_is_link};
 ghost use Rattle.cip_target.specs.Ends.{row_at};
-ghost use Rattle.cip_module.specs.OpenRows.{open_row, opening_with, ids_if_forwarded, end_down, Accepted};
+ghost use Rattle.cip_module.specs.OpenRows.{open_row, opening_with, ids_if_forwarded, end_down};
+ghost use Rattle.cip_module.specs.OpenRows.{Accepted};
 ghost use Rattle.cip_hops.specs.declared.opening.HopDown.TheVariants.{Link as DownLink};
 ghost use Rattle.cip_module.specs.Effects.{Begins};
-ghost use Rattle.cip_module.specs.Table.{up_side_of, open_on, open_below, accepted_bytes, open_effects, open_data_effects, with_spending};
+ghost use Rattle.cip_module.specs.Table.{up_side_of, open_on, open_below, accepted_bytes};
+ghost use Rattle.cip_module.specs.Table.{open_effects, open_data_effects, with_spending};
 ghost use Rattle.cip_module.specs.Code.Reacts.{Reacts, OpenCame, outgoing_of, with_bytes};
 ghost use Rattle.cip_module.specs.Code.Ready.{CanSpend, IsAsked};
 ghost use Rattle.cip_module.specs.Code.Does.{Handles};

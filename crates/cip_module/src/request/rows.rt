@@ -4,7 +4,8 @@ ghost use Rattle.cip_segment.specs.Reading.{segments_of};
 ghost use Rattle.cip_message.specs.Reading.{request_of};
 ghost use Rattle.cip_target.specs.Object.{object_of};
 ghost use Rattle.cip_module.specs.Object.{begins_with_manager};
-ghost use Rattle.cip_module.specs.RequestRows.{Refuses, is_malformed, manager_row, object_row, request_row};
+ghost use Rattle.cip_module.specs.RequestRows.{Refuses, is_malformed, manager_row, object_row};
+ghost use Rattle.cip_module.specs.RequestRows.{request_row};
 ghost use Rattle.cip_module.specs.Code.Decisions.{request_row_of, RequestLeads};
 
 use crate::refusals::RequestRefusal;

@@ -8,7 +8,8 @@ ghost use Rattle.cip_unconnected.specs.UnconnectedAt.{unconnected_at};
 ghost use Rattle.cip_pending.specs.declared.entry.Kind.{Kind as Kinds};
 ghost use Rattle.cip_pending.specs.Pendings.{refusal};
 ghost use Rattle.cip_module.specs.Table.{message_on};
-ghost use Rattle.cip_module.specs.Code.Reacts.{Reacts, SendCame, outgoing_of, send_edit, with_bytes};
+ghost use Rattle.cip_module.specs.Code.Reacts.{Reacts, SendCame, outgoing_of, send_edit};
+ghost use Rattle.cip_module.specs.Code.Reacts.{with_bytes};
 
 use crate::answers::unconnected_failure;
 use crate::device::Device;

@@ -1,4 +1,5 @@
-use Rattle.witnesses.proofs.Bounds.{name_in_numbers, numbers_name, range_in_numbers, numbers_range, address_in_numbers, numbers_address, product_name_in_numbers, numbers_product_name}
+use Rattle.witnesses.proofs.Bounds.{name_in_numbers, numbers_name, range_in_numbers, numbers_range, address_in_numbers, numbers_address}
+use Rattle.witnesses.proofs.Bounds.{product_name_in_numbers, numbers_product_name}
 use Rattle.witnesses.proofs.laws.bounds_in_numbers.Goals as goal
 
 pub returns-clause-name : goal.returns-clause-name
