@@ -4,7 +4,7 @@ ghost use Rattle.std.specs.FinMap as map;
 ghost use Rattle.cip_base.specs.Counts.{count_of};
 ghost use Rattle.cip_hops.specs.Sides.{op_of};
 
-use crate::rows::{Part, Words, play};
+use crate::rows::{Case, Part, TableCase, Words, play};
 use cip_base::{Address, PortNumber, Triad, count_of};
 use cip_hops::{
     BeginFault, BeginReason, Held, Hop, HopDown, HopTable, HopUp, Opening, OwnIds, Side,
@@ -264,23 +264,23 @@ impl Part for Connections {
     }
 }
 
-// Plays rows on an empty table of so much room, whose ids begin here.
-fn play_connections(rt: &HostRuntime, room: usize, first: u32, rows: &str) -> Result<(), Fail> {
+fn play_connections(rt: &HostRuntime, given: &TableCase) -> Result<(), Fail> {
+    let TableCase { room, first, case } = *given;
     if count_of(first) == 0 {
         return Err(Fail::new("counts begin at 1"));
     }
     let alloc = rt.alloc();
     let table = empty_table(alloc, room, first).ok_or("no table")?;
-    play(alloc, Connections { alloc, table }, rows)
+    play(alloc, Connections { alloc, table }, &case)
 }
 
-#[test]
-fn ids_end_and_never_come_back(rt: HostRuntime) -> Result<(), Fail> {
-    play_connections(
-        &rt,
-        2,
-        0xFFFF_FFFD,
-        "
+const CASES: [TableCase; 6] = [
+    TableCase {
+        room: 2,
+        first: 0xFFFF_FFFD,
+        case: Case {
+            name: "ids end and never come back",
+            rows: "
         begin 1 through = 4294967293 4294967294
         begin 1 end = Duplicate
         begin 2 through = IdsSpent
@@ -294,17 +294,15 @@ fn ids_end_and_never_come_back(rt: HostRuntime) -> Result<(), Fail> {
         begin 3 end = IdsSpent
         last = 4294967295
         ",
-    )
-}
-
-// Counts end at 65,535, and go on only in the next incarnation: then no triad, id or op is left.
-#[test]
-fn a_reset_begins_the_next_incarnation(rt: HostRuntime) -> Result<(), Fail> {
-    play_connections(
-        &rt,
-        2,
-        0xFFFD,
-        "
+        },
+    },
+    // Counts end at 65,535, and go on only in the next incarnation: then no triad, id or op is left.
+    TableCase {
+        room: 2,
+        first: 0xFFFD,
+        case: Case {
+            name: "a reset begins the next incarnation",
+            rows: "
         begin 1 through = 65533 65534
         finish 1 = true
         begin 2 through = IdsSpent
@@ -326,31 +324,27 @@ fn a_reset_begins_the_next_incarnation(rt: HostRuntime) -> Result<(), Fail> {
         last = 131072
         begin 3 end = none 131073
         ",
-    )
-}
-
-#[test]
-fn no_reset_follows_the_last_incarnation(rt: HostRuntime) -> Result<(), Fail> {
-    play_connections(
-        &rt,
-        1,
-        0xFFFF_0001,
-        "
+        },
+    },
+    TableCase {
+        room: 1,
+        first: 0xFFFF_0001,
+        case: Case {
+            name: "no reset follows the last incarnation",
+            rows: "
         begin 1 through = 4294901761 4294901762
         reset = false
         last = 4294901762
         abandon 1 = true
         ",
-    )
-}
-
-#[test]
-fn hops_by_their_names(rt: HostRuntime) -> Result<(), Fail> {
-    play_connections(
-        &rt,
-        3,
-        0x31,
-        "
+        },
+    },
+    TableCase {
+        room: 3,
+        first: 0x31,
+        case: Case {
+            name: "hops by their names",
+            rows: "
         begin 2 through = 49 50
         finish 2 = true
         begin 1 end = none 51
@@ -377,34 +371,14 @@ fn hops_by_their_names(rt: HostRuntime) -> Result<(), Fail> {
         least = 1
         by_up 0x32 2 01 = none
         ",
-    )
-}
-
-#[test]
-fn hops_of_commands(rt: HostRuntime) -> Result<(), Fail> {
-    let alloc = rt.alloc();
-    let table = table_of_command(alloc, 5).ok_or("no table")?;
-    play(
-        alloc,
-        Connections { alloc, table },
-        "
-        by_op 5 = none
-        finish 9 = true
-        finish 9 = false
-        by_op 5 = 9
-        by_op 6 = none
-        last = 1
-        ",
-    )
-}
-
-#[test]
-fn hops_that_fall_silent(rt: HostRuntime) -> Result<(), Fail> {
-    play_connections(
-        &rt,
-        2,
-        1,
-        "
+        },
+    },
+    TableCase {
+        room: 2,
+        first: 1,
+        case: Case {
+            name: "hops that fall silent",
+            rows: "
         # 40 ms by the O to T side, 80 ms by the T to O side, from 1 ms on.
         begin 1 through = 1 2
         finish 1 = true
@@ -416,16 +390,14 @@ fn hops_that_fall_silent(rt: HostRuntime) -> Result<(), Fail> {
         expire 81000 = 1
         expire 81000 = none
         ",
-    )
-}
-
-#[test]
-fn counts_of_an_end(rt: HostRuntime) -> Result<(), Fail> {
-    play_connections(
-        &rt,
-        2,
-        1,
-        "
+        },
+    },
+    TableCase {
+        room: 2,
+        first: 1,
+        case: Case {
+            name: "counts of an end",
+            rows: "
         begin 1 end = none 1
         finish 1 = true
         begin 2 through = 2 3
@@ -433,7 +405,35 @@ fn counts_of_an_end(rt: HostRuntime) -> Result<(), Fail> {
         count 1 7 = 7
         count 2 7 = none
         ",
-    )
+        },
+    },
+];
+
+#[test]
+fn each_case(rt: HostRuntime) -> Result<(), Fail> {
+    for case in &CASES {
+        play_connections(&rt, case)?;
+    }
+    Ok(())
+}
+
+const OF_COMMANDS: Case = Case {
+    name: "hops of commands",
+    rows: "
+        by_op 5 = none
+        finish 9 = true
+        finish 9 = false
+        by_op 5 = 9
+        by_op 6 = none
+        last = 1
+        ",
+};
+
+#[test]
+fn hops_of_commands(rt: HostRuntime) -> Result<(), Fail> {
+    let alloc = rt.alloc();
+    let table = table_of_command(alloc, 5).ok_or("no table")?;
+    play(alloc, Connections { alloc, table }, &OF_COMMANDS)
 }
 
 // More bytes than there are addresses: the allocator itself refuses them.

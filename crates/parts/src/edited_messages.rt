@@ -12,7 +12,7 @@ ghost use Rattle.cip_open.specs.GoesOn.{IsOpenGoingOn, IsOpenSuccess};
 ghost use Rattle.cip_close.specs.Close.{Close};
 ghost use Rattle.cip_close.specs.GoesOn.{IsCloseGoingOn};
 
-use crate::rows::{Pairs, Part, Words, play};
+use crate::rows::{Case, Pairs, Part, Words, play};
 use cip_close::{FORWARD_CLOSE, read_close};
 use cip_message::{CONNECTION_MANAGER, read_reply, read_request};
 use cip_open::{open_reply_service, open_service, read_open_of, read_open_reply};
@@ -202,16 +202,15 @@ impl Part for Edits {
     }
 }
 
-fn play_edits(rt: &HostRuntime, rows: &str) -> Result<(), Fail> {
+fn play_edits(rt: &HostRuntime, case: &Case) -> Result<(), Fail> {
     let alloc = rt.alloc();
-    play(alloc, Edits { alloc }, rows)
+    play(alloc, Edits { alloc }, case)
 }
 
-#[test]
-fn an_open_goes_on_twice(rt: HostRuntime) -> Result<(), Fail> {
-    play_edits(
-        &rt,
-        "
+const CASES: [Case; 6] = [
+    Case {
+        name: "an open goes on twice",
+        rows: "
         open_on 0x21 54_0220062401_07F9_00000000_11000000_4200_0101_0D0C0B0A_00_000000_10270000_\
             0648_10270000_0448_01_06_0103_0207_2004_2464_2C65_2C66 = 54_0220062401_07F8_00000000_\
             21000000_4200_0101_0D0C0B0A_00_000000_10270000_0648_10270000_0448_01_05_0207_2004_2464_\
@@ -221,14 +220,10 @@ fn an_open_goes_on_twice(rt: HostRuntime) -> Result<(), Fail> {
             31000000_4200_0101_0D0C0B0A_00_000000_10270000_0648_10270000_0448_01_04_2004_2464_2C65_\
             2C66
         ",
-    )
-}
-
-#[test]
-fn a_large_open_goes_on_twice(rt: HostRuntime) -> Result<(), Fail> {
-    play_edits(
-        &rt,
-        "
+    },
+    Case {
+        name: "a large open goes on twice",
+        rows: "
         large_open_on 0x21 5B_0220062401_07F9_00000000_11000000_4200_0101_0D0C0B0A_00_000000_\
             10270000_5A020048_10270000_04000048_01_06_0103_0207_2004_2464_2C6E_2C66 = \
             5B_0220062401_07F8_00000000_21000000_4200_0101_0D0C0B0A_00_000000_10270000_5A020048_\
@@ -241,14 +236,10 @@ fn a_large_open_goes_on_twice(rt: HostRuntime) -> Result<(), Fail> {
         large_success_up 0x22 0x11 DB5A0000_32000000_21000000_4200_0101_0D0C0B0A_10270000_10270000_\
             01A5_AABB = DB000000_22000000_11000000_4200_0101_0D0C0B0A_10270000_10270000_0100_AABB
         ",
-    )
-}
-
-#[test]
-fn an_open_in_other_spellings(rt: HostRuntime) -> Result<(), Fail> {
-    play_edits(
-        &rt,
-        "
+    },
+    Case {
+        name: "an open in other spellings",
+        rows: "
         # Reserved bytes of any value are written 00.
         open_on 0x21 54_0220062401_07F9_00000000_11000000_4200_0101_0D0C0B0A_00_A55AFF_10270000_\
             0648_10270000_0448_01_06_0103_0207_2004_2464_2C65_2C66 = 54_0220062401_07F8_00000000_\
@@ -266,14 +257,10 @@ fn an_open_in_other_spellings(rt: HostRuntime) -> Result<(), Fail> {
             54_0220062401_0700_00000000_FFFFFFFF_4200_0101_0D0C0B0A_00_000000_10270000_0648_\
             10270000_0448_01_00
         ",
-    )
-}
-
-#[test]
-fn a_success_goes_up_twice(rt: HostRuntime) -> Result<(), Fail> {
-    play_edits(
-        &rt,
-        "
+    },
+    Case {
+        name: "a success goes up twice",
+        rows: "
         success_up 0x32 0x21 D4000000_41000000_31000000_4200_0101_0D0C0B0A_10270000_10270000_0000 \
             = D4000000_32000000_21000000_4200_0101_0D0C0B0A_10270000_10270000_0000
         success_up 0x22 0x11 D4000000_32000000_21000000_4200_0101_0D0C0B0A_10270000_10270000_0000 \
@@ -282,14 +269,10 @@ fn a_success_goes_up_twice(rt: HostRuntime) -> Result<(), Fail> {
         success_up 0x22 0x11 D45A0000_32000000_21000000_4200_0101_0D0C0B0A_10270000_10270000_01A5_\
             ABCD = D4000000_22000000_11000000_4200_0101_0D0C0B0A_10270000_10270000_0100_ABCD
         ",
-    )
-}
-
-#[test]
-fn a_close_goes_on_twice(rt: HostRuntime) -> Result<(), Fail> {
-    play_edits(
-        &rt,
-        "
+    },
+    Case {
+        name: "a close goes on twice",
+        rows: "
         close_on 4E_0220062401_07F9_4200_0101_0D0C0B0A_06_00_0103_0207_2004_2464_2C65_2C66 = \
             4E_0220062401_07F8_4200_0101_0D0C0B0A_05_00_0207_2004_2464_2C65_2C66
         close_on 4E_0220062401_07F8_4200_0101_0D0C0B0A_05_00_0207_2004_2464_2C65_2C66 = \
@@ -298,14 +281,10 @@ fn a_close_goes_on_twice(rt: HostRuntime) -> Result<(), Fail> {
         close_on 4E_04_2100_0600_2500_0100_07F9_4200_0101_0D0C0B0A_06_A5_0103_0207_2004_2464_2C65_\
             2C66 = 4E_0220062401_07F8_4200_0101_0D0C0B0A_05_00_0207_2004_2464_2C65_2C66
         ",
-    )
-}
-
-#[test]
-fn a_request_goes_on_and_arrives(rt: HostRuntime) -> Result<(), Fail> {
-    play_edits(
-        &rt,
-        "
+    },
+    Case {
+        name: "a request goes on and arrives",
+        rows: "
         send_on 52_0220062401_07F9_0600_010220012401_01_00_0103 = 010220012401
         send_on 52_0220062401_07F9_0900_1003200424643003AA_00_02_00_0103_0207 = \
             52_0220062401_07F8_0900_1003200424643003AA_00_01_00_0207
@@ -320,5 +299,13 @@ fn a_request_goes_on_and_arrives(rt: HostRuntime) -> Result<(), Fail> {
         send_on 52_0220062401_07F9_0600_010220012401_06_00_3404_0101_0C00_0100_8102_0103 = \
             010220012401
         ",
-    )
+    },
+];
+
+#[test]
+fn each_case(rt: HostRuntime) -> Result<(), Fail> {
+    for case in &CASES {
+        play_edits(&rt, case)?;
+    }
+    Ok(())
 }

@@ -1,6 +1,7 @@
 //! Opens that end at a target whose assemblies are 100 of no bytes, 101 of 4, 102 of 2 and 103 of
 //! 3. Most are of class 1, with
 //! 4 bytes O to T and 2 bytes T to O, each behind the sequence count.
+use crate::rows::Case;
 use crate::target::{identity, play_target};
 use cip_target::{AssemblyConfig, Target};
 use std::test::Fail;
@@ -24,17 +25,16 @@ const ASSEMBLIES: [AssemblyConfig; 4] = [
     },
 ];
 
-fn play_ends(rt: &HostRuntime, rows: &str) -> Result<(), Fail> {
+fn play_ends(rt: &HostRuntime, case: &Case) -> Result<(), Fail> {
     let alloc = rt.alloc();
     let identity = identity(alloc).ok_or("no identity")?;
-    play_target(alloc, Target::new(alloc, identity, &ASSEMBLIES)?, rows)
+    play_target(alloc, Target::new(alloc, identity, &ASSEMBLIES)?, case)
 }
 
-#[test]
-fn points_in_any_mixture_and_width(rt: HostRuntime) -> Result<(), Fail> {
-    play_ends(
-        &rt,
-        "
+const CASES: [Case; 9] = [
+    Case {
+        name: "points in any mixture and width",
+        rows: "
         status 0x4806 0x4804 1 2004_2464_2C65_2C66 = fits
         status 0x4806 0x4804 1 2004_2464_2465_2466 = fits
         status 0x4806 0x4804 1 2004_2464_2465_2C66 = fits
@@ -46,14 +46,10 @@ fn points_in_any_mixture_and_width(rt: HostRuntime) -> Result<(), Fail> {
         status 0x4806 0x4804 1 21000400_25006400_2D006500_2E0066000000 = fits
         status 0x4806 0x4804 1 2004_260064000000_2C65_2C66 = fits
         ",
-    )
-}
-
-#[test]
-fn other_paths(rt: HostRuntime) -> Result<(), Fail> {
-    play_ends(
-        &rt,
-        "
+    },
+    Case {
+        name: "other paths",
+        rows: "
         status 0x4806 0x4804 1 - = 0x0315
         status 0x4806 0x4804 1 2005_2464_2C65_2C66 = 0x0315
         status 0x4806 0x4804 1 2464_2C65_2C66 = 0x0315
@@ -63,14 +59,10 @@ fn other_paths(rt: HostRuntime) -> Result<(), Fail> {
         status 0x4806 0x4804 1 2004_2464_2C65_2C66_8000_8000 = 0x0315
         status 0x4806 0x4804 1 0205_2004_2464_2C65_2C66 = 0x0315
         ",
-    )
-}
-
-#[test]
-fn inhibits_and_keys(rt: HostRuntime) -> Result<(), Fail> {
-    play_ends(
-        &rt,
-        "
+    },
+    Case {
+        name: "inhibits and keys",
+        rows: "
         status 0x4806 0x4804 1 4305_2004_2464_2C65_2C66 = fits
         status 0x4806 0x4804 1 2004_4305_2464_2C65_2C66 = fits
         status 0x4806 0x4804 1 2004_2464_4305_2C65_2C66 = fits
@@ -83,14 +75,10 @@ fn inhibits_and_keys(rt: HostRuntime) -> Result<(), Fail> {
         status 0x4806 0x4804 1 3404_0000_0000_0000_00_00_3404_0000_0000_0000_00_00_2004_2464_2C65_\
             2C66 = 0x0315
         ",
-    )
-}
-
-#[test]
-fn configuration_bytes(rt: HostRuntime) -> Result<(), Fail> {
-    play_ends(
-        &rt,
-        "
+    },
+    Case {
+        name: "configuration bytes",
+        rows: "
         status 0x4806 0x4804 1 2004_2464_2465_2466_8000 = fits
         status 0x4806 0x4804 1 2004_2464_2465_2466_80010000 = 0x0117
         status 0x4806 0x4804 1 2004_2466_2465_2466_80010708 = fits
@@ -102,14 +90,10 @@ fn configuration_bytes(rt: HostRuntime) -> Result<(), Fail> {
         status 0x4806 0x4804 1 2004_2467_2465_2466 = 0x0117
         status 0x4806 0x4804 1 2004_2467_2465_2466_8003070809000000 = 0x0117
         ",
-    )
-}
-
-#[test]
-fn the_first_of_two_rows(rt: HostRuntime) -> Result<(), Fail> {
-    play_ends(
-        &rt,
-        "
+    },
+    Case {
+        name: "the first of two rows",
+        rows: "
         open 0x4806 0x4804 1 2004_2464_2C65_2C66 = fits
         # Of class 3: another path, no configuration, output or input of that instance, no
         # configuration bytes, and what fits else.
@@ -124,14 +108,10 @@ fn the_first_of_two_rows(rt: HostRuntime) -> Result<(), Fail> {
         status 0x4806 0x4805 1 2004_2464_2C65_2C66 = 0x0109
         status 0x4806 0x4804 1 2004_2464_2C65_2C66 = 0x0106
         ",
-    )
-}
-
-#[test]
-fn sizes_of_both_classes(rt: HostRuntime) -> Result<(), Fail> {
-    play_ends(
-        &rt,
-        "
+    },
+    Case {
+        name: "sizes of both classes",
+        rows: "
         status 0x4806 0x4804 0x01 2004_2464_2C65_2C66 = fits
         status 0x4804 0x4804 0x01 2004_2464_2C65_2C66 = 0x0109
         status 0x4806 0x4802 0x01 2004_2464_2C65_2C66 = 0x0109
@@ -140,14 +120,10 @@ fn sizes_of_both_classes(rt: HostRuntime) -> Result<(), Fail> {
         status 0x4806 0x4804 0x02 2004_2464_2C65_2C66 = 0x0103
         status 0x4806 0x4804 0x0F 2004_2464_2C65_2C66 = 0x0103
         ",
-    )
-}
-
-#[test]
-fn an_output_is_owned_until_it_is_released(rt: HostRuntime) -> Result<(), Fail> {
-    play_ends(
-        &rt,
-        "
+    },
+    Case {
+        name: "an output is owned until it is released",
+        rows: "
         open 0x4806 0x4804 1 2004_2467_2C65_2C66_8002AABBCC00 = fits
         produce 103 = AABBCC
         produce 101 = 00000000
@@ -160,14 +136,10 @@ fn an_output_is_owned_until_it_is_released(rt: HostRuntime) -> Result<(), Fail> 
         release 101 = true
         status 0x4806 0x4804 1 2004_2464_2C65_2C66 = fits
         ",
-    )
-}
-
-#[test]
-fn a_reset_makes_a_target_anew(rt: HostRuntime) -> Result<(), Fail> {
-    play_ends(
-        &rt,
-        "
+    },
+    Case {
+        name: "a reset makes a target anew",
+        rows: "
         open 0x4806 0x4804 1 2004_2467_2C65_2C66_8002AABBCC00 = fits
         consume 101 01020304 = true
         answer 10_03_2004_2466_3003_0506 = 90_00_00_00
@@ -190,17 +162,21 @@ fn a_reset_makes_a_target_anew(rt: HostRuntime) -> Result<(), Fail> {
         produce 101 = 00000000
         status 0x4806 0x4804 1 2004_2464_2C65_2C66 = fits
         ",
-    )
-}
-
-#[test]
-fn an_output_of_no_bytes_has_no_owner(rt: HostRuntime) -> Result<(), Fail> {
-    play_ends(
-        &rt,
-        "
+    },
+    Case {
+        name: "an output of no bytes has no owner",
+        rows: "
         open 0x4802 0x4804 1 2004_2464_2C64_2C66 = fits
         open 0x4802 0x4804 1 2004_2464_2C64_2C66 = fits
         status 0x4802 0x4804 1 2004_2464_2C64_2C66 = fits
         ",
-    )
+    },
+];
+
+#[test]
+fn each_case(rt: HostRuntime) -> Result<(), Fail> {
+    for case in &CASES {
+        play_ends(&rt, case)?;
+    }
+    Ok(())
 }

@@ -3,7 +3,7 @@ ghost use Rattle.std.specs.Prelude.{◌≡◌, ◌<◌, ◌^◌, false, IfSome};
 ghost use Rattle.cip_open.specs.Open.{FitWidth};
 ghost use Rattle.cip_message.specs.Failure.{HasTriadForWords};
 
-use crate::rows::{Numbers, Pairs, Part, Words, play};
+use crate::rows::{Case, Numbers, Pairs, Part, Words, play};
 use cip_base::{Bytes, Status, Triad};
 use cip_close::{
     CloseFields, CloseReply, close_triad_at, close_words_at, read_close, read_close_failure,
@@ -515,7 +515,7 @@ impl Part for Messages {
 }
 
 /// Plays rows that ask about messages.
-pub fn play_messages(rt: &HostRuntime, rows: &str) -> Result<(), Fail> {
+pub fn play_messages(rt: &HostRuntime, case: &Case) -> Result<(), Fail> {
     let alloc = rt.alloc();
-    play(alloc, Messages { alloc }, rows)
+    play(alloc, Messages { alloc }, case)
 }

@@ -1,4 +1,5 @@
 //! The Identity and Assembly objects, with bytes from outside.
+use crate::rows::Case;
 use crate::target::{identity, play_target};
 use cip_target::{AssemblyConfig, Target};
 use std::test::Fail;
@@ -18,17 +19,16 @@ const ASSEMBLIES: [AssemblyConfig; 3] = [
     },
 ];
 
-fn play_objects(rt: &HostRuntime, rows: &str) -> Result<(), Fail> {
+fn play_objects(rt: &HostRuntime, case: &Case) -> Result<(), Fail> {
     let alloc = rt.alloc();
     let identity = identity(alloc).ok_or("no identity")?;
-    play_target(alloc, Target::new(alloc, identity, &ASSEMBLIES)?, rows)
+    play_target(alloc, Target::new(alloc, identity, &ASSEMBLIES)?, case)
 }
 
-#[test]
-fn each_row_by_its_bytes(rt: HostRuntime) -> Result<(), Fail> {
-    play_objects(
-        &rt,
-        "
+const CASES: [Case; 5] = [
+    Case {
+        name: "each row by its bytes",
+        rows: "
         answer 0E_03_2001_2401_3001 = 8E_00_00_00_0101
         answer 0E_03_2001_2401_3002 = 8E_00_00_00_0C00
         answer 0E_03_2001_2401_3003 = 8E_00_00_00_0200
@@ -54,14 +54,10 @@ fn each_row_by_its_bytes(rt: HostRuntime) -> Result<(), Fail> {
         answer 10_03_2004_2464_3003_AA = 90_00_15_00
         answer 0E_03_2004_2465_3004 = 8E_00_14_00
         ",
-    )
-}
-
-#[test]
-fn what_reads_as_a_reset(rt: HostRuntime) -> Result<(), Fail> {
-    play_objects(
-        &rt,
-        "
+    },
+    Case {
+        name: "what reads as a reset",
+        rows: "
         # No data or a byte, an attribute, which does not count, and each spelling.
         reads_reset 05_02_2001_2401 = true
         reads_reset 05_02_2001_2401_00 = true
@@ -88,14 +84,10 @@ fn what_reads_as_a_reset(rt: HostRuntime) -> Result<(), Fail> {
         reads_reset 06_02_2001_2401_00 = false
         reads_reset 0E_03_2001_2401_3001 = false
         ",
-    )
-}
-
-#[test]
-fn resets_that_are_refused(rt: HostRuntime) -> Result<(), Fail> {
-    play_objects(
-        &rt,
-        "
+    },
+    Case {
+        name: "resets that are refused",
+        rows: "
         answer 05_02_2001_2401_0000 = 85_00_15_00
         answer 05_02_2001_2401_010203 = 85_00_15_00
         answer 05_03_2001_2401_3009_0000 = 85_00_15_00
@@ -107,14 +99,10 @@ fn resets_that_are_refused(rt: HostRuntime) -> Result<(), Fail> {
         answer 05_01_2001_0000 = 85_00_05_00
         answer 04_02_2001_2401_0000 = 84_00_08_00
         ",
-    )
-}
-
-#[test]
-fn an_assembly_is_written_in_each_spelling(rt: HostRuntime) -> Result<(), Fail> {
-    play_objects(
-        &rt,
-        "
+    },
+    Case {
+        name: "an assembly is written in each spelling",
+        rows: "
         answer 10_03_2004_2465_3003_01020304 = 90_00_00_00
         answer 0E_06_21000400_25006500_31000300 = 8E_00_00_00_01020304
         answer 10_06_2004_260001010000_31000300_09 = 90_00_00_00
@@ -125,18 +113,22 @@ fn an_assembly_is_written_in_each_spelling(rt: HostRuntime) -> Result<(), Fail> 
         after 257 = none
         serial = 2827
         ",
-    )
-}
-
-#[test]
-fn identities_in_their_ranges(rt: HostRuntime) -> Result<(), Fail> {
-    play_objects(
-        &rt,
-        "
+    },
+    Case {
+        name: "identities in their ranges",
+        rows: "
         # The names '~ ', 'AB', and one with the byte 7F.
         legal 127 7E20 = true
         legal 128 4142 = false
         legal 1 7F41 = false
         ",
-    )
+    },
+];
+
+#[test]
+fn each_case(rt: HostRuntime) -> Result<(), Fail> {
+    for case in &CASES {
+        play_objects(&rt, case)?;
+    }
+    Ok(())
 }

@@ -1,5 +1,5 @@
 //! Paths: every spelling of every segment, their faults, hops, and the longest path.
-use crate::rows::{Pairs, Part, Words, play};
+use crate::rows::{Case, Pairs, Part, Words, play};
 use cip_base::{Bytes, KeyFields};
 use cip_segment::{
     FirstHop, PathFault, PathView, Segment, SegmentView, first_hop, read_path, rest, segment_ok,
@@ -233,16 +233,15 @@ impl Part for Paths {
     }
 }
 
-fn play_paths(rt: &HostRuntime, rows: &str) -> Result<(), Fail> {
+fn play_paths(rt: &HostRuntime, case: &Case) -> Result<(), Fail> {
     let alloc = rt.alloc();
-    play(alloc, Paths { alloc }, rows)
+    play(alloc, Paths { alloc }, case)
 }
 
-#[test]
-fn each_spelling_of_each_form(rt: HostRuntime) -> Result<(), Fail> {
-    play_paths(
-        &rt,
-        "
+const CASES: [Case; 8] = [
+    Case {
+        name: "each spelling of each form",
+        rows: "
         # A spelling, and the shortest one of the same segment.
         spelled 0205 = 0205
         spelled 0EFF = 0EFF
@@ -275,14 +274,10 @@ fn each_spelling_of_each_form(rt: HostRuntime) -> Result<(), Fail> {
         spelled 910341424300 = 910341424300
         spelled 430A = 430A
         ",
-    )
-}
-
-#[test]
-fn each_fault_of_each_form(rt: HostRuntime) -> Result<(), Fail> {
-    play_paths(
-        &rt,
-        "
+    },
+    Case {
+        name: "each fault of each form",
+        rows: "
         # The last byte of each is the one that cannot continue a path.
         fault 00 = Reserved(0)
         fault 10 = Reserved(16)
@@ -313,37 +308,19 @@ fn each_fault_of_each_form(rt: HostRuntime) -> Result<(), Fail> {
         fault FF = Reserved(255)
         view 0005 = Reserved(0)
         ",
-    )
-}
-
-#[test]
-fn every_other_segment_byte_is_reserved(rt: HostRuntime) {
-    // 30 of ports, 12 of numbers, and one each of a key, an inhibit time, simple data and a symbol.
-    let begun = (0..=255u8).filter(|head| view_path(&[*head]).err() == Some(PathFault::Truncated));
-    assert_eq!(rt; begun.count(), 46);
-    let reserved = (0..=255u8).filter(|head| view_path(&[*head]).err()
-        == Some(PathFault::Reserved(*head)));
-    assert_eq!(rt; reserved.count(), 210);
-}
-
-#[test]
-fn write_path_never_has_memory(rt: HostRuntime) -> Result<(), Fail> {
-    play_paths(
-        &rt,
-        "
+    },
+    Case {
+        name: "write path never has memory",
+        rows: "
         copy 0205_0103_2004_2464_2C65_2C66 = 6 words true
         segments 0205_0103_2004_2464_2C65_2C66 = [port 2 05][port 1 03][class 4][instance \
             100][point 101][point 102]
         written 0205_0103_2004_2464_2C65_2C66 = 0205_0103_2004_2464_2C65_2C66
         ",
-    )
-}
-
-#[test]
-fn a_hop_in_each_spelling(rt: HostRuntime) -> Result<(), Fail> {
-    play_paths(
-        &rt,
-        "
+    },
+    Case {
+        name: "a hop in each spelling",
+        rows: "
         hop 0205_0103_2004_2464_2C65_2C66 = 6 words port 2 05 rest 5 0103_2004_2464_2C65_2C66
         hop 12010500_0103_2004_2464_2C65_2C66 = 7 words port 2 05 rest 5 0103_2004_2464_2C65_2C66
         hop 0F120001 = 2 words port 18 01 rest 0 -
@@ -351,27 +328,19 @@ fn a_hop_in_each_spelling(rt: HostRuntime) -> Result<(), Fail> {
         hop 120331323300 = 3 words port 2 313233 rest 0 -
         hop 2004_0205 = 2 words no hop
         ",
-    )
-}
-
-#[test]
-fn a_hop_behind_a_key(rt: HostRuntime) -> Result<(), Fail> {
-    play_paths(
-        &rt,
-        "
+    },
+    Case {
+        name: "a hop behind a key",
+        rows: "
         hop 3404_0101_0C00_0100_81_02_0103 = 6 words key 257 12 1 129 2 port 1 03 rest 0 -
         hop 3404_0101_0C00_0100_81_02_3404_0101_0C00_0100_81_02 = 10 words no hop
         # What follows the hop, and not what follows the key.
         hop 3404_0101_0C00_0100_81_02_0103_2001 = 7 words key 257 12 1 129 2 port 1 03 rest 1 2001
         ",
-    )
-}
-
-#[test]
-fn a_path_without_its_first_segment(rt: HostRuntime) -> Result<(), Fail> {
-    play_paths(
-        &rt,
-        "
+    },
+    Case {
+        name: "a path without its first segment",
+        rows: "
         first - = none
         first 2001 = class 1 before -
         first 0205_0103 = port 2 05 before 0103
@@ -380,14 +349,10 @@ fn a_path_without_its_first_segment(rt: HostRuntime) -> Result<(), Fail> {
         first 80021122_3344_4305 = words 11223344 before 4305
         first 9103414243_00_2001 = symbol 414243 before 2001
         ",
-    )
-}
-
-#[test]
-fn at_most_255_words(rt: HostRuntime) -> Result<(), Fail> {
-    play_paths(
-        &rt,
-        "
+    },
+    Case {
+        name: "at most 255 words",
+        rows: "
         view 20*510 = 255 words
         view 20*512 = TooLong
         view 00*512 = TooLong
@@ -399,12 +364,29 @@ fn at_most_255_words(rt: HostRuntime) -> Result<(), Fail> {
         classes 256 = TooLong
         data 00*510 = TooLong
         ",
-    )
+    },
+    Case {
+        name: "the texts of faults",
+        rows: "text 22 = the byte 34 is reserved",
+    },
+];
+
+#[test]
+fn each_case(rt: HostRuntime) -> Result<(), Fail> {
+    for case in &CASES {
+        play_paths(&rt, case)?;
+    }
+    Ok(())
 }
 
 #[test]
-fn the_texts_of_faults(rt: HostRuntime) -> Result<(), Fail> {
-    play_paths(&rt, "text 22 = the byte 34 is reserved")
+fn every_other_segment_byte_is_reserved(rt: HostRuntime) {
+    // 30 of ports, 12 of numbers, and one each of a key, an inhibit time, simple data and a symbol.
+    let begun = (0..=255u8).filter(|head| view_path(&[*head]).err() == Some(PathFault::Truncated));
+    assert_eq!(rt; begun.count(), 46);
+    let reserved = (0..=255u8).filter(|head| view_path(&[*head]).err()
+        == Some(PathFault::Reserved(*head)));
+    assert_eq!(rt; reserved.count(), 210);
 }
 
 // How long reading takes is told by the run of this test alone, timed from outside

@@ -1,48 +1,36 @@
 //! Requests and replies of the Message Router, by bytes from outside.
 use crate::messages::play_messages;
+use crate::rows::Case;
 use std::test::Fail;
 
-#[test]
-fn requests_of_at_most_66000_bytes(rt: HostRuntime) -> Result<(), Fail> {
-    play_messages(
-        &rt,
-        "
+const CASES: [Case; 8] = [
+    Case {
+        name: "requests of at most 66000 bytes",
+        rows: "
         write_request 0x4B 2001_2401 07*65994 = 66000 bytes
         write_request 0x4B 2001_2401 07*65995 = TooLong: a message has at most 66,000 bytes
         ",
-    )
-}
-
-#[test]
-fn replies_of_at_most_66000_bytes(rt: HostRuntime) -> Result<(), Fail> {
-    play_messages(
-        &rt,
-        "
+    },
+    Case {
+        name: "replies of at most 66000 bytes",
+        rows: "
         write_reply 0xCB 0 - 07*65996 = 66000 bytes
         write_reply 0xCB 0 - 07*65997 = TooLong: a message has at most 66,000 bytes
         ",
-    )
-}
-
-#[test]
-fn a_request_by_its_bytes(rt: HostRuntime) -> Result<(), Fail> {
-    play_messages(
-        &rt,
-        "
+    },
+    Case {
+        name: "a request by its bytes",
+        rows: "
         request 10_03_2004_2464_3003_AA = 16 2004_2464_3003 AA
         write_request 0x10 2004_2464_3003 AA = 10_03_2004_2464_3003_AA
         request 10 = TooShort
         request 90_09 = NotRequest
         request 10_03_2004_2464_30 = PathSize
         ",
-    )
-}
-
-#[test]
-fn a_reply_with_several_words_of_status(rt: HostRuntime) -> Result<(), Fail> {
-    play_messages(
-        &rt,
-        "
+    },
+    Case {
+        name: "a reply with several words of status",
+        rows: "
         reply D4_00_01_02_1103_3412_42 = 212 1 785 42
         reply D4_00_01_02_1103_34 = ExtraSize
         reply D4_00_01 = TooShort
@@ -54,48 +42,40 @@ fn a_reply_with_several_words_of_status(rt: HostRuntime) -> Result<(), Fail> {
         reply D4_FF_01 = TooShort
         reply 54_00_00_00 = NotReply
         ",
-    )
-}
-
-#[test]
-fn a_failure_is_written_by_its_bytes(rt: HostRuntime) -> Result<(), Fail> {
-    play_messages(
-        &rt,
-        "
+    },
+    Case {
+        name: "a failure is written by its bytes",
+        rows: "
         write_reply 0xD4 1 0x0311 0500 = D4_00_01_01_1103_0500
         ",
-    )
-}
-
-#[test]
-fn a_header_and_a_triad(rt: HostRuntime) -> Result<(), Fail> {
-    play_messages(
-        &rt,
-        "
+    },
+    Case {
+        name: "a header and a triad",
+        rows: "
         manager_front 0x4E 66 257 168496141 = 4E_0220062401_4200_0101_0D0C0B0A
         triad_at 6 4E_0220062401_4200_0101_0D0C0B0A = 66 257 168496141
         ",
-    )
-}
-
-#[test]
-fn a_counted_path_fills_the_data(rt: HostRuntime) -> Result<(), Fail> {
-    play_messages(
-        &rt,
-        "
+    },
+    Case {
+        name: "a counted path fills the data",
+        rows: "
         counted_path 02_2006_2401 = 2006_2401
         counted_path 02_2006_24 = Short
         counted_path 01_2006_24 = Long
         ",
-    )
-}
-
-#[test]
-fn the_texts_of_faults(rt: HostRuntime) -> Result<(), Fail> {
-    play_messages(
-        &rt,
-        "
+    },
+    Case {
+        name: "the texts of faults",
+        rows: "
         write_request 0x4B 2001_2401 07*65995 = TooLong: a message has at most 66,000 bytes
         ",
-    )
+    },
+];
+
+#[test]
+fn each_case(rt: HostRuntime) -> Result<(), Fail> {
+    for case in &CASES {
+        play_messages(&rt, case)?;
+    }
+    Ok(())
 }

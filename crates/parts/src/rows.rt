@@ -139,6 +139,21 @@ impl fmt::Display for Numbers {
     }
 }
 
+/// Rows that are played in turn on one part, and what they show.
+#[derive(Clone, Copy)]
+pub struct Case {
+    pub name: &'static str,
+    pub rows: &'static str,
+}
+
+/// A case on an empty table of so much room, whose counts begin here.
+#[derive(Clone, Copy)]
+pub struct TableCase {
+    pub room: usize,
+    pub first: u32,
+    pub case: Case,
+}
+
 /// What answers the questions of rows.
 pub trait Part: Drop {
     /// The answer to a question of this name. None where it can't be asked.
@@ -156,7 +171,7 @@ fn asked<P: Part>(alloc: Global, part: &mut P, question: &str) -> Option<String>
 }
 
 // One row.
-fn play_row<P: Part>(alloc: Global, part: &mut P, row: &str) -> Result<(), Fail> {
+fn play_row<P: Part>(alloc: Global, part: &mut P, name: &str, row: &str) -> Result<(), Fail> {
     if row.is_empty() || row.starts_with('#') {
         return Ok(());
     }
@@ -164,15 +179,16 @@ fn play_row<P: Part>(alloc: Global, part: &mut P, row: &str) -> Result<(), Fail>
     let told = told.replace(alloc, "_", "")?;
     match asked(alloc, part, question) {
         Some(given) if given.as_str() == told.as_str() => Ok(()),
-        Some(given) => Err(Fail::new(format_args!("{question} = {given}"))),
-        None => Err(Fail::new(format_args!("{question} can't be asked"))),
+        Some(given) => Err(Fail::new(format_args!("{name}: {question} = {given}"))),
+        None => Err(Fail::new(format_args!("{name}: {question} can't be asked"))),
     }
 }
 
-/// Plays rows one by one; the failure tells the first that differs, with the answer that was given.
-pub fn play<P: Part>(alloc: Global, mut part: P, rows: &str) -> Result<(), Fail> {
-    for row in rows.lines() {
-        play_row(alloc, &mut part, row.trim())?;
+/// Plays the rows of a case one by one; the failure tells the case, and the first row that differs,
+/// with the answer that was given.
+pub fn play<P: Part>(alloc: Global, mut part: P, case: &Case) -> Result<(), Fail> {
+    for row in case.rows.lines() {
+        play_row(alloc, &mut part, case.name, row.trim())?;
     }
     Ok(())
 }

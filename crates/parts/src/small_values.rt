@@ -1,5 +1,5 @@
 //! Addresses, numbers from 1, triads and lists of bytes.
-use crate::rows::{Pairs, Part, Words, play};
+use crate::rows::{Case, Pairs, Part, Words, play};
 use cip_base::{Address, Bytes, Ms, PortNumber};
 use std::alloc::Global;
 use std::test::Fail;
@@ -63,16 +63,15 @@ impl Part for Values {
     }
 }
 
-fn play_values(rt: &HostRuntime, rows: &str) -> Result<(), Fail> {
+fn play_values(rt: &HostRuntime, case: &Case) -> Result<(), Fail> {
     let alloc = rt.alloc();
-    play(alloc, Values { alloc }, rows)
+    play(alloc, Values { alloc }, case)
 }
 
-#[test]
-fn addresses_of_one_to_sixteen_bytes(rt: HostRuntime) -> Result<(), Fail> {
-    play_values(
-        &rt,
-        "
+const CASES: [Case; 4] = [
+    Case {
+        name: "addresses of one to sixteen bytes",
+        rows: "
         address - = Empty
         address 07*17 = TooLong
         address 07*16 = 07070707070707070707070707070707 07070707070707070707070707070707
@@ -81,35 +80,34 @@ fn addresses_of_one_to_sixteen_bytes(rt: HostRuntime) -> Result<(), Fail> {
         shown 05FF00 = Address { bytes: [5, 255, 0] }
         shown 07*16 = Address { bytes: [7, 7, 7, 7, 7, 7, 7, 7, 7, 7, 7, 7, 7, 7, 7, 7] }
         ",
-    )
-}
-
-#[test]
-fn numbers_from_one(rt: HostRuntime) -> Result<(), Fail> {
-    play_values(
-        &rt,
-        "
+    },
+    Case {
+        name: "numbers from one",
+        rows: "
         ms 0 = none
         ms 65535 = 65535
         port 0 = none
         port 18 = 18
         ",
-    )
-}
-
-#[test]
-fn triads_in_the_order_of_their_fields(rt: HostRuntime) -> Result<(), Fail> {
-    play_values(
-        &rt,
-        "
+    },
+    Case {
+        name: "triads in the order of their fields",
+        rows: "
         less 1 9 9 2 1 9 = true
         less 2 1 9 2 1 10 = true
         less 2 1 10 2 1 9 = false
         ",
-    )
-}
+    },
+    Case {
+        name: "bytes keep their list",
+        rows: "overwritten 0102 0304 = 0304 true",
+    },
+];
 
 #[test]
-fn bytes_keep_their_list(rt: HostRuntime) -> Result<(), Fail> {
-    play_values(&rt, "overwritten 0102 0304 = 0304 true")
+fn each_case(rt: HostRuntime) -> Result<(), Fail> {
+    for case in &CASES {
+        play_values(&rt, case)?;
+    }
+    Ok(())
 }

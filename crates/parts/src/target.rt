@@ -1,5 +1,5 @@
 //! Questions about the target: what its objects answer, and which connections end there.
-use crate::rows::{Pairs, Part, Words, play};
+use crate::rows::{Case, Pairs, Part, Words, play};
 use cip_base::{Bytes, Timing, Triad};
 use cip_message::read_request;
 use cip_open::{OpenFields, OpenView};
@@ -185,6 +185,6 @@ impl Part for Asked {
 }
 
 /// Plays rows that ask a target.
-pub fn play_target(alloc: Global, target: Target, rows: &str) -> Result<(), Fail> {
-    play(alloc, Asked { alloc, target }, rows)
+pub fn play_target(alloc: Global, target: Target, case: &Case) -> Result<(), Fail> {
+    play(alloc, Asked { alloc, target }, case)
 }

@@ -1,5 +1,5 @@
 //! A clock at its first and last times, and the deadlines that are set by it.
-use crate::rows::{Part, Words, play};
+use crate::rows::{Case, Part, Words, play};
 use cip_base::Ms;
 use cip_clock::{Clock, LAST};
 use std::alloc::Global;
@@ -64,46 +64,45 @@ impl Part for Times {
     }
 }
 
-fn play_times(rt: &HostRuntime, rows: &str) -> Result<(), Fail> {
+fn play_times(rt: &HostRuntime, case: &Case) -> Result<(), Fail> {
     let alloc = rt.alloc();
     let clock = Clock::new(0);
-    play(alloc, Times { alloc, clock }, rows)
+    play(alloc, Times { alloc, clock }, case)
 }
 
-#[test]
-fn a_clock_counts_to_its_last_time(rt: HostRuntime) -> Result<(), Fail> {
-    play_times(
-        &rt,
-        "
+const CASES: [Case; 3] = [
+    Case {
+        name: "a clock counts to its last time",
+        rows: "
         # 65,535 ms before the last time.
         clock 9223372036789240807 = 9223372036789240807
         advance 65535 = 9223372036854775807
         advance 65535 = ClockFull: the clock is full
         now = 9223372036854775807
         ",
-    )
-}
-
-#[test]
-fn deadlines_are_in_microseconds(rt: HostRuntime) -> Result<(), Fail> {
-    play_times(
-        &rt,
-        "
+    },
+    Case {
+        name: "deadlines are in microseconds",
+        rows: "
         clock 7 = 7
         after_ticks 7 250 = 32000007
         after_rpi 10000 0 = 40007
         after_rpi 10000 7 = 5120007
         ",
-    )
-}
-
-#[test]
-fn the_fault_prints_its_text(rt: HostRuntime) -> Result<(), Fail> {
-    play_times(
-        &rt,
-        "
+    },
+    Case {
+        name: "the fault prints its text",
+        rows: "
         clock 9223372036854775807 = 9223372036854775807
         advance 1 = ClockFull: the clock is full
         ",
-    )
+    },
+];
+
+#[test]
+fn each_case(rt: HostRuntime) -> Result<(), Fail> {
+    for case in &CASES {
+        play_times(&rt, case)?;
+    }
+    Ok(())
 }

@@ -1,5 +1,5 @@
 //! The table of requests that wait, on worked values and with its room refused.
-use crate::rows::{Numbers, Pairs, Part, Words, play};
+use crate::rows::{Case, Numbers, Pairs, Part, TableCase, Words, play};
 use cip_base::{Address, NoMemory, PortNumber, count_of};
 use cip_pending::{AddFault, Entry, Kind, PendingTable, UpSide};
 use std::alloc::Global;
@@ -186,23 +186,23 @@ impl Part for Waiting {
     }
 }
 
-// Plays rows on a table of so much room, whose numbers begin here.
-fn play_waiting(rt: &HostRuntime, room: usize, first: u32, rows: &str) -> Result<(), Fail> {
+fn play_waiting(rt: &HostRuntime, given: &TableCase) -> Result<(), Fail> {
+    let TableCase { room, first, case } = *given;
     if count_of(first) == 0 {
         return Err(Fail::new("counts begin at 1"));
     }
     let alloc = rt.alloc();
     let table = PendingTable::with_room(alloc, room, first)?;
-    play(alloc, Waiting { alloc, table }, rows)
+    play(alloc, Waiting { alloc, table }, &case)
 }
 
-#[test]
-fn numbers_end_and_never_come_back(rt: HostRuntime) -> Result<(), Fail> {
-    play_waiting(
-        &rt,
-        2,
-        0xFFFF_FFFE,
-        "
+const CASES: [TableCase; 6] = [
+    TableCase {
+        room: 2,
+        first: 0xFFFF_FFFE,
+        case: Case {
+            name: "numbers end and never come back",
+            rows: "
         last = 4294967293
         can_add = yes
         add 1 10 = 4294967294
@@ -216,17 +216,15 @@ fn numbers_end_and_never_come_back(rt: HostRuntime) -> Result<(), Fail> {
         can_add = NumbersSpent
         last = 4294967295
         ",
-    )
-}
-
-// Counts end at 65,535, and go on only in the next incarnation.
-#[test]
-fn a_reset_begins_the_next_incarnation(rt: HostRuntime) -> Result<(), Fail> {
-    play_waiting(
-        &rt,
-        2,
-        0xFFFE,
-        "
+        },
+    },
+    // Counts end at 65,535, and go on only in the next incarnation.
+    TableCase {
+        room: 2,
+        first: 0xFFFE,
+        case: Case {
+            name: "a reset begins the next incarnation",
+            rows: "
         add 1 10 = 65534
         add 2 5 = 65535
         take 65534 2 05 = op 1 to 2 05 due 10 words 4 unconnected
@@ -245,17 +243,15 @@ fn a_reset_begins_the_next_incarnation(rt: HostRuntime) -> Result<(), Fail> {
         last = 131072
         add 6 10 = 131073
         ",
-    )
-}
-
-// FFFE_0001 is the incarnation before the last.
-#[test]
-fn no_reset_follows_the_last_incarnation(rt: HostRuntime) -> Result<(), Fail> {
-    play_waiting(
-        &rt,
-        1,
-        0xFFFE_0001,
-        "
+        },
+    },
+    // FFFE_0001 is the incarnation before the last.
+    TableCase {
+        room: 1,
+        first: 0xFFFE_0001,
+        case: Case {
+            name: "no reset follows the last incarnation",
+            rows: "
         add 1 10 = 4294836225
         reset = true
         last = 4294901760
@@ -264,16 +260,14 @@ fn no_reset_follows_the_last_incarnation(rt: HostRuntime) -> Result<(), Fail> {
         reset = false
         least = 4294901761
         ",
-    )
-}
-
-#[test]
-fn the_due_leave_in_rising_number(rt: HostRuntime) -> Result<(), Fail> {
-    play_waiting(
-        &rt,
-        3,
-        7,
-        "
+        },
+    },
+    TableCase {
+        room: 3,
+        first: 7,
+        case: Case {
+            name: "the due leave in rising number",
+            rows: "
         add 1 20 = 7
         add 2 30 = 8
         add 3 10 = 9
@@ -284,35 +278,40 @@ fn the_due_leave_in_rising_number(rt: HostRuntime) -> Result<(), Fail> {
         least = 8
         after 8 = none
         ",
-    )
-}
-
-#[test]
-fn copies_are_equal(rt: HostRuntime) -> Result<(), Fail> {
-    play_waiting(
-        &rt,
-        1,
-        1,
-        "
+        },
+    },
+    TableCase {
+        room: 1,
+        first: 1,
+        case: Case {
+            name: "copies are equal",
+            rows: "
         copy 1 00 9 2 05 40000 6 66 257 168496141 = 1 00 9 to 2 05 due 40000 words 6 opening 66 \
             257 168496141 true
         ",
-    )
-}
-
-#[test]
-fn faults_print_their_texts(rt: HostRuntime) -> Result<(), Fail> {
-    play_waiting(
-        &rt,
-        1,
-        0xFFFF_FFFF,
-        "
+        },
+    },
+    TableCase {
+        room: 1,
+        first: 0xFFFF_FFFF,
+        case: Case {
+            name: "faults print their texts",
+            rows: "
         add 1 10 = 4294967295
         add 1 10 = the table is full: op 1 to 2 05 due 10 words 4 unconnected
         take 4294967295 2 05 = op 1 to 2 05 due 10 words 4 unconnected
         add 1 10 = the numbers are spent: op 1 to 2 05 due 10 words 4 unconnected
         ",
-    )
+        },
+    },
+];
+
+#[test]
+fn each_case(rt: HostRuntime) -> Result<(), Fail> {
+    for case in &CASES {
+        play_waiting(&rt, case)?;
+    }
+    Ok(())
 }
 
 // More bytes than there are addresses: the allocator itself refuses them.

@@ -33,7 +33,7 @@ pub fn put_boxes(modules: &mut Vec<Box<dyn Module + Send>>, made: Vec<NewModule>
 }
 
 /// New modules of the topology, in its order.
-fn boxes(alloc: Global, topology: &Topology) -> Option<Vec<Box<dyn Module + Send>>> {
+pub fn boxes(alloc: Global, topology: &Topology) -> Option<Vec<Box<dyn Module + Send>>> {
     let made = new_modules(alloc, topology.configs()).ok()?;
     let mut modules = Vec::new(alloc);
     put_boxes(&mut modules, made)?;

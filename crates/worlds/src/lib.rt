@@ -1,4 +1,5 @@
-//! Tests of worlds: chassis in boxes, what they are given, and what then stands in the journal.
+//! Tests of topology files, of worlds (chassis in boxes, what they are given, and what then stands in
+//! the journal), and of modules on threads.
 #![tactic(auto)]
 
 #[cfg(test)]
@@ -13,6 +14,10 @@ mod given;
 mod journals;
 #[cfg(test)]
 mod runs;
+#[cfg(test)]
+mod threads;
+#[cfg(test)]
+mod topologies;
 #[cfg(test)]
 mod trails;
 #[cfg(test)]

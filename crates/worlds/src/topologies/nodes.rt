@@ -1,17 +1,10 @@
 //! What a loaded chassis says: its links and modules, and where addresses lead.
+use crate::boxes::chassis;
 use cip_base::{Address, ModuleId, PortNumber};
 use cip_module::{LegalAddresses, ModuleKind};
-use cip_topology::{CHASSIS, Topology, load};
-use std::alloc::Global;
+use cip_topology::Topology;
 use std::process::Abort;
 use std::test::Fail;
-
-fn chassis(alloc: Global) -> Result<Topology, Fail> {
-    match load(alloc, CHASSIS) {
-        Ok(topology) => Ok(topology),
-        Err(fault) => Err(Fail::new(format_args!("{fault}"))),
-    }
-}
 
 // The module that a port of a module reaches by an address of one byte.
 fn node(topology: &Topology, from: usize, port: u16, address: u8) -> Option<usize> {
@@ -158,6 +151,6 @@ fn play_chassis(rt: &impl Abort, topology: &Topology) -> Result<(), Fail> {
 
 #[test]
 fn the_chassis_as_it_is_loaded(rt: HostRuntime) -> Result<(), Fail> {
-    let topology = chassis(rt.alloc())?;
+    let topology = chassis(rt.alloc()).ok_or("no chassis")?;
     play_chassis(&rt, &topology)
 }

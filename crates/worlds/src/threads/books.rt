@@ -1,6 +1,6 @@
 //! The book by itself, call by call.
-use crate::boxes::{boxed, chassis};
-use crate::given::{A, B, S, sends};
+use crate::boxes::{boxes, chassis};
+use crate::threads::given::{A, B, S, sends};
 use cip_base::ModuleId;
 use cip_module::{Event, Module, Output};
 use cip_threads::{BookState, CommitFault, Handed, feeds_fit};
@@ -28,7 +28,7 @@ fn answer(state: &mut BookState, m: ModuleId) -> Option<Given> {
 
 // A book of the chassis in which the scanner is to send one request.
 fn book(alloc: Global, turns: usize) -> Result<BookState, Fail> {
-    let topology = chassis(alloc)?;
+    let topology = chassis(alloc).ok_or("no chassis")?;
     let feeds = sends(alloc, &[S])?;
     if !feeds_fit(&topology, feeds.as_slice()) {
         return Err("no such module".into());
@@ -38,9 +38,9 @@ fn book(alloc: Global, turns: usize) -> Result<BookState, Fail> {
 
 // What the scanner of the chassis puts out for its first event.
 fn outputs_of(alloc: Global, event: Event) -> Result<Vec<Output>, Fail> {
-    let topology = chassis(alloc)?;
-    let config = topology.configs().first().ok_or("no scanner")?;
-    let mut scanner = boxed(alloc, config).ok_or("no memory")?;
+    let topology = chassis(alloc).ok_or("no chassis")?;
+    let mut modules = boxes(alloc, &topology).ok_or("no memory")?;
+    let scanner = modules.first_mut().ok_or("no scanner")?;
     Ok(scanner.step(event)?)
 }
 

@@ -1,5 +1,5 @@
 //! Modules of the tests' own that hold their first step, and hand their calls on.
-use crate::holds::Hold;
+use crate::threads::holds::Hold;
 use cip_base::NoMemory;
 use cip_module::{
     AdapterModule, Event, Module, ModuleConfig, ModuleKind, Output, PlainModule, StepFault, Tables,

@@ -1,8 +1,8 @@
 //! Steps and commits of several modules at once.
 use crate::boxes::boxes;
-use crate::given::{A, B, E, REPLY, S, S2, sends, ticks, two_scanners};
-use crate::held::held_boxes;
-use crate::holds::{Hold, HoldingGate};
+use crate::threads::given::{A, B, E, REPLY, S, S2, sends, ticks, two_scanners};
+use crate::threads::held::held_boxes;
+use crate::threads::holds::{Hold, HoldingGate};
 use cip_base::ModuleId;
 use cip_module::{Module, Output};
 use cip_threads::{Feed, Gate, OpenGate, Report, feeds_fit, run_threads};
@@ -83,7 +83,7 @@ fn see_ticks(rt: &impl Abort, report: &Report) {
 // The commits of two steps wait for one another.
 fn two_commits<R: Threads + Wait + Abort + Sync>(rt: &R, alloc: Global) -> Result<(), Fail> {
     let topology = two_scanners(alloc)?;
-    let modules = boxes(alloc, &topology)?;
+    let modules = boxes(alloc, &topology).ok_or("no memory")?;
     let feeds = sends(alloc, &[S, S2])?;
     let gate = HoldingGate {
         hold: Hold::new(2),

@@ -1,8 +1,7 @@
 //! Chassis, and what their modules are given.
 use crate::boxes::topology;
-use cip_base::{Bytes, ModuleId, Ms, Timing};
-use cip_module::Command;
-use cip_segment::read_path;
+use crate::given::{THROUGH_A_TO_B, ms, send as send_along};
+use cip_base::ModuleId;
 use cip_threads::Feed;
 use cip_topology::{CHASSIS, Topology};
 use std::alloc::Global;
@@ -18,12 +17,6 @@ pub const B: ModuleId = ModuleId(2);
 pub const E: ModuleId = ModuleId(3);
 
 pub const S2: ModuleId = ModuleId(4);
-
-/// Asks for the attribute 1 of the identity.
-pub const ASKED: [u8; 6] = [0x01, 0x02, 0x20, 0x01, 0x24, 0x01];
-
-/// From a scanner through the first bridge to the second.
-pub const THROUGH_A_TO_B: [u8; 4] = [0x02, 0x05, 0x01, 0x03];
 
 /// The identity of the second bridge.
 pub const REPLY: [u8; 21] = [
@@ -54,27 +47,18 @@ address = "02"
 /// The chassis with a second scanner.
 pub fn two_scanners(alloc: Global) -> Result<Topology, Fail> {
     let text = format!(in alloc; "{CHASSIS}{SECOND_SCANNER}")?;
-    topology(alloc, text.as_str())
+    Ok(topology(alloc, text.as_str()).ok_or("a faulty topology")?)
 }
 
-/// Sends the request ASKED unconnected through the first bridge to the second.
-pub fn send(alloc: Global) -> Result<Feed, Fail> {
-    let path = read_path(alloc, &THROUGH_A_TO_B)?;
-    let request = Bytes::of(Vec::from_slice(alloc, &ASKED)?);
-    Ok(Feed::Command(Command::Send {
-        op: 1,
-        timing: Timing {
-            tick: 0x07,
-            ticks: 0xFA,
-        },
-        path,
-        request,
-    }))
+// Asks the second bridge for its identity, through the first one.
+fn send(alloc: Global) -> Result<Feed, Fail> {
+    let command = send_along(alloc, 1, THROUGH_A_TO_B).ok_or("no command")?;
+    Ok(Feed::Command(command))
 }
 
-/// A millisecond.
-pub fn tick() -> Result<Feed, Fail> {
-    Ok(Feed::Tick(Ms::new(1).ok_or("no time")?))
+// A millisecond.
+fn tick() -> Result<Feed, Fail> {
+    Ok(Feed::Tick(ms(1).ok_or("no time")?))
 }
 
 /// The same send at each of these modules.
