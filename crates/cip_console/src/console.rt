@@ -2,66 +2,24 @@
 ghost use Rattle.std.specs.Prelude.{◌≡◌, ◌≢◌, ◌⊎◌, ◌+◌, ◌<◌, ◌≤◌, [], length, map, IfSome};
 ghost use Rattle.cip_threads.specs.Reports.{IsTellable};
 ghost use Rattle.cip_world.specs.Fresh.{IsNewFault};
-ghost use Rattle.cip_console.specs.Outcome.{Wrote, WroteOf};
+ghost use Rattle.cip_play.specs.Outcome.{Wrote, WroteOf};
 ghost use Rattle.cip_script.specs.Steps.{steps};
 ghost use Rattle.cip_transcript.specs.Show.{names_of};
-ghost use Rattle.cip_console.specs.declared.console.ConsoleFault.TheVariants.{NoMemory as Refused};
 
-use crate::playing::{PlayFault, flush, play, tell_waiting};
-use crate::source::{ReadFault, SCRIPT_LIMIT, Sink, Source, WriteFault, read_script};
-use cip_base::{Bytes, NoMemory};
+use crate::playing::play;
+use cip_base::Bytes;
 use cip_chain::TrailIndex;
 use cip_module::Module;
-use cip_script::{Mode, Numbered, ScriptFault, StepsFault, read_steps};
-use cip_threads::RunFault;
+use cip_play::{
+    ConsoleFault, PlayFault, ReadFault, SCRIPT_LIMIT, Sink, Source, WriteFault, flush, read_script,
+    tell_waiting,
+};
+use cip_script::{Mode, Numbered, StepsFault, read_steps};
 use cip_topology::Topology;
 use cip_transcript::names_of;
 use cip_world::{NewFault, Shown, World};
-use std::alloc::{AllocError, Global};
+use std::alloc::Global;
 use std::collections::VecDeque;
-use thiserror::Error;
-
-/// Why a script was not run to its end.
-#[derive(Clone, Copy, Debug, PartialEq, Eq, Error)]
-pub enum ConsoleFault {
-    /// The first faulty line, from 1, and its fault. Nothing was written, but for NoFrame and
-    /// ClockFull: these come in the run, after the transcript so far.
-    #[error("line {0}: {1}")]
-    Script(usize, ScriptFault),
-    /// The script can't be read, or has more than 1,048,576 bytes. Nothing was written.
-    #[error("the script can't be read")]
-    Read,
-    /// The writer failed or took no byte. A prefix of the transcript was written.
-    #[error("the transcript can't be written")]
-    Write,
-    /// An allocation was refused. A prefix of the transcript was written.
-    #[error("out of memory")]
-    NoMemory,
-    /// A run of modules on threads came to no end: no thread could be made, a clock is full, or a
-    /// thread and the journal differ. Nothing was written.
-    #[error("{0}")]
-    Run(RunFault),
-    /// The modules are not those of the topology, or not as at the beginning: Count, Config or
-    /// NotFresh. Nothing was written.
-    #[error("{0}")]
-    New(NewFault),
-}
-
-impl From<AllocError> for ConsoleFault {
-    ghost from_gives = { λ _ fault. fault ≡ Refused };
-
-    fn from(_refused: AllocError) -> ConsoleFault {
-        ConsoleFault::NoMemory
-    }
-}
-
-impl From<NoMemory> for ConsoleFault {
-    ghost from_gives = { λ _ fault. fault ≡ Refused };
-
-    fn from(_refused: NoMemory) -> ConsoleFault {
-        ConsoleFault::NoMemory
-    }
-}
 
 // All steps of a script, from the beginning on.
 fn run_steps<W: Sink>(
