@@ -296,7 +296,8 @@ const CASES: [TableCase; 6] = [
         ",
         },
     },
-    // Counts end at 65,535, and go on only in the next incarnation: then no triad, id or op is left.
+    // Counts end at 65,535, and go on only in the next incarnation: then no triad, id or op is
+    // left.
     TableCase {
         room: 2,
         first: 0xFFFD,

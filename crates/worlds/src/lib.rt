@@ -1,5 +1,5 @@
-//! Tests of topology files, of worlds (chassis in boxes, what they are given, and what then stands in
-//! the journal), and of modules on threads.
+//! Tests of topology files, of worlds (chassis in boxes, what they are given, and what then stands
+//! in the journal), and of modules on threads.
 #![tactic(auto)]
 
 #[cfg(test)]
