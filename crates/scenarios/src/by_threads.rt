@@ -1,28 +1,12 @@
 //! Scripts that modules on threads of their own play, and the options that ask for them.
-use crate::over_new::run_chassis_live;
-use cip_console::{
-    ConsoleFault, Options, OptionsFault, Out, Script, ScriptFault, Usage, read_options,
-};
-use std::alloc::Global;
-use std::sync::Wait;
+use crate::console_transcripts::SENT;
+use crate::outcomes::Wanted;
+use crate::over_new::{Change, plays_live};
+use cip_console::{ConsoleFault, Options, OptionsFault, ScriptFault, Usage, read_options};
+use std::alloc::{AllocError, Global};
 use std::test::Fail;
-use std::thread::Threads;
 
 const SEND: &str = "send S 1 0x07 0xFA 02050103 010220012401\n";
-
-const SENT: &str = "\
-0 S send 1
-  0 send 2 05 request 1 52022006240107F9060001022001240101000103
-1 A frame 0.0
-  0 send 1 03 request 1 010220012401
-2 B frame 1.0
-  0 send 1 00 reply 1 8100000001010C000200010300000B0B0000024252
-3 A frame 2.0
-  0 send 2 01 reply 1 8100000001010C000200010300000B0B0000024252
-4 S frame 3.0
-  0 done 1 8100000001010C000200010300000B0B0000024252
-quiet
-";
 
 const FIRST_TWO: &str = "\
 0 S send 1
@@ -32,114 +16,202 @@ const FIRST_TWO: &str = "\
 limit
 ";
 
-// What a script writes over the chassis, whose modules take so many events together at most.
-fn written<T: Threads + Wait + Sync>(
-    rt: &T,
-    alloc: Global,
-    script: &str,
+/// A script, how many events its modules take together at most, and what must come of it.
+#[derive(Clone, Copy)]
+struct Row {
+    name: &'static str,
+    script: &'static str,
     turns: usize,
-) -> Result<(Result<(), ConsoleFault>, Vec<u8>), Fail> {
-    let mut reader = Script {
-        rest: script.as_bytes(),
-    };
-    let mut writer = Out {
-        inner: Vec::new(alloc),
-    };
-    let result = run_chassis_live(rt, alloc, &mut reader, &mut writer, turns);
-    Ok((result, writer.inner))
+    wanted: Wanted,
 }
 
-fn writes<T: Threads + Wait + Sync>(
-    rt: &T,
-    alloc: Global,
-    script: &str,
-    turns: usize,
-    transcript: &str,
-) -> Result<(), Fail> {
-    let (outcome, text) = written(rt, alloc, script, turns)?;
-    outcome?;
-    let text = std::str::from_utf8(text.as_slice())?;
-    if text == transcript {
-        return Ok(());
-    }
-    Err(Fail::new(format_args!("wrote {text}")))
-}
+// A word that threads do not take.
+const REFUSED: Row = Row {
+    name: "words that threads do not take",
+    script: "",
+    turns: 100,
+    wanted: Wanted::Fault(ConsoleFault::Script(1, ScriptFault::NotWithThreads), ""),
+};
 
-fn refused<T: Threads + Wait + Sync>(
-    rt: &T,
-    alloc: Global,
-    script: &str,
-    line: usize,
-    fault: ScriptFault,
-) -> Result<bool, Fail> {
-    let (result, text) = written(rt, alloc, script, 100)?;
-    Ok(result == Err(ConsoleFault::Script(line, fault)) && text.is_empty())
-}
-
-#[test]
-fn a_send_by_threads(rt: HostRuntime) -> Result<(), Fail> {
-    let alloc = rt.alloc();
-    writes(&rt, alloc, SEND, 100, SENT)?;
-    writes(&rt, alloc, SEND, 5, SENT)?;
-    writes(&rt, alloc, SEND, 2, FIRST_TWO)?;
-    writes(&rt, alloc, SEND, 0, "limit\n")?;
-    writes(&rt, alloc, "# nothing\n", 100, "quiet\n")
-}
-
-#[test]
-fn words_that_threads_do_not_take(rt: HostRuntime) -> Result<(), Fail> {
-    let alloc = rt.alloc();
-    let after_send = "send S 1 0x07 0xFA 02050103 010220012401\nrun 10\n";
-    assert!(rt; refused(&rt, alloc, after_send, 2, ScriptFault::NotWithThreads)?);
-    assert!(rt; refused(&rt, alloc, "deliver 0.0", 1, ScriptFault::NotWithThreads)?);
-    assert!(rt; refused(&rt, alloc, "lose 0.0", 1, ScriptFault::NotWithThreads)?);
-    assert!(rt; refused(&rt, alloc, "tables S", 1, ScriptFault::NotWithThreads)?);
-    assert!(rt; refused(&rt, alloc, "trail S 1", 1, ScriptFault::NotWithThreads)?);
+const ROWS: [Row; 13] = [
+    Row {
+        name: "a send by threads",
+        script: SEND,
+        turns: 100,
+        wanted: Wanted::Whole(SENT),
+    },
+    Row {
+        name: "a send by threads, in as many turns as it takes",
+        script: SEND,
+        turns: 5,
+        wanted: Wanted::Whole(SENT),
+    },
+    Row {
+        name: "a send by threads, in two turns",
+        script: SEND,
+        turns: 2,
+        wanted: Wanted::Whole(FIRST_TWO),
+    },
+    Row {
+        name: "a send by threads, in no turn",
+        script: SEND,
+        turns: 0,
+        wanted: Wanted::Whole("limit\n"),
+    },
+    Row {
+        name: "nothing by threads",
+        script: "# nothing\n",
+        turns: 100,
+        wanted: Wanted::Whole("quiet\n"),
+    },
+    Row {
+        script: "send S 1 0x07 0xFA 02050103 010220012401\nrun 10\n",
+        wanted: Wanted::Fault(ConsoleFault::Script(2, ScriptFault::NotWithThreads), ""),
+        ..REFUSED
+    },
+    Row {
+        script: "deliver 0.0",
+        ..REFUSED
+    },
+    Row {
+        script: "lose 0.0",
+        ..REFUSED
+    },
+    Row {
+        script: "tables S",
+        ..REFUSED
+    },
+    Row {
+        script: "trail S 1",
+        ..REFUSED
+    },
     // before the count of the words, and behind an unknown word
-    assert!(rt; refused(&rt, alloc, "run 1 2", 1, ScriptFault::NotWithThreads)?);
-    assert!(rt; refused(&rt, alloc, "runs 1 2", 1, ScriptFault::UnknownWord)?);
-    assert!(rt; refused(&rt, alloc, "tick S", 1, ScriptFault::Count)?);
+    Row {
+        script: "run 1 2",
+        ..REFUSED
+    },
+    Row {
+        script: "runs 1 2",
+        wanted: Wanted::Fault(ConsoleFault::Script(1, ScriptFault::UnknownWord), ""),
+        ..REFUSED
+    },
+    Row {
+        script: "tick S",
+        wanted: Wanted::Fault(ConsoleFault::Script(1, ScriptFault::Count), ""),
+        ..REFUSED
+    },
+];
+
+#[test]
+fn scripts_by_threads(rt: HostRuntime) -> Result<(), Fail> {
+    for row in &ROWS {
+        let script = row.script.as_bytes();
+        if !plays_live(
+            &rt,
+            rt.alloc(),
+            script,
+            Change::Unchanged,
+            row.turns,
+            row.wanted,
+        ) {
+            return Err(Fail::new(format_args!("{}: {}", row.name, row.script)));
+        }
+    }
     Ok(())
 }
 
-fn options(alloc: Global, words: &[&str]) -> Result<Result<Options, OptionsFault>, Fail> {
+/// Words, and what they are read as: whether on threads, and in how many turns at most; None for a
+/// fault of usage.
+struct Reading {
+    name: &'static str,
+    words: &'static [&'static str],
+    run: Option<(bool, u32)>,
+}
+
+// Words of no run.
+const WRONG: Reading = Reading {
+    name: "turns out of their range",
+    words: &[],
+    run: None,
+};
+
+const READINGS: [Reading; 9] = [
+    Reading {
+        name: "options of a run by threads",
+        words: &["--threads", "--turns", "5"],
+        run: Some((true, 5)),
+    },
+    Reading {
+        name: "no options",
+        words: &[],
+        run: Some((false, 100_000)),
+    },
+    Reading {
+        name: "the most turns",
+        words: &["--turns", "1000000"],
+        run: Some((false, 1_000_000)),
+    },
+    Reading {
+        words: &["--turns", "0"],
+        ..WRONG
+    },
+    Reading {
+        words: &["--turns", "1000001"],
+        ..WRONG
+    },
+    Reading {
+        words: &["--threads", "--turns", "4294967296"],
+        ..WRONG
+    },
+    Reading {
+        words: &["--threads", "--turns", "-1"],
+        ..WRONG
+    },
+    Reading {
+        words: &["--threads", "--turns"],
+        ..WRONG
+    },
+    Reading {
+        words: &["--threads", "--threads"],
+        ..WRONG
+    },
+];
+
+fn owned(alloc: Global, words: &[&str]) -> Result<Vec<String>, AllocError> {
     let mut given = Vec::new(alloc);
     for word in words {
         given.push(String::from_str(alloc, word)?)?;
     }
-    Ok(read_options(alloc, given.as_slice()))
+    Ok(given)
 }
 
-fn is_usage(alloc: Global, words: &[&str]) -> Result<bool, Fail> {
-    match options(alloc, words)? {
-        Err(OptionsFault::Usage(Usage::Wrong)) => Ok(true),
-        _ => Ok(false),
+// Whether these are the options of such a run, over the chassis and with the script from the input.
+fn is_run(options: &Options, run: Option<(bool, u32)>) -> bool {
+    let Some((threads, turns)) = run else {
+        return false;
+    };
+    options.threads == threads
+        && options.turns == turns
+        && options.topology.is_none()
+        && options.script.is_none()
+}
+
+// Whether the words are read so.
+fn is_read(alloc: Global, words: &[String], run: Option<(bool, u32)>) -> bool {
+    match read_options(alloc, words) {
+        Ok(options) => is_run(&options, run),
+        Err(OptionsFault::Usage(Usage::Wrong)) => run.is_none(),
+        Err(_) => false,
     }
 }
 
 #[test]
 fn options_of_a_run_by_threads(rt: HostRuntime) -> Result<(), Fail> {
-    let alloc = rt.alloc();
-    let five = options(alloc, &["--threads", "--turns", "5"])??;
-    assert!(rt; five.threads);
-    assert_eq!(rt; five.turns, 5);
-    assert!(rt; five.topology.is_none() && five.script.is_none());
-    let none = options(alloc, &[])??;
-    assert!(rt; !none.threads);
-    assert_eq!(rt; none.turns, 100_000);
-    let most = options(alloc, &["--turns", "1000000"])??;
-    assert_eq!(rt; most.turns, 1_000_000);
-    Ok(())
-}
-
-#[test]
-fn turns_out_of_their_range(rt: HostRuntime) -> Result<(), Fail> {
-    let alloc = rt.alloc();
-    assert!(rt; is_usage(alloc, &["--turns", "0"])?);
-    assert!(rt; is_usage(alloc, &["--turns", "1000001"])?);
-    assert!(rt; is_usage(alloc, &["--threads", "--turns", "4294967296"])?);
-    assert!(rt; is_usage(alloc, &["--threads", "--turns", "-1"])?);
-    assert!(rt; is_usage(alloc, &["--threads", "--turns"])?);
-    assert!(rt; is_usage(alloc, &["--threads", "--threads"])?);
+    for row in &READINGS {
+        let words = owned(rt.alloc(), row.words)?;
+        if !is_read(rt.alloc(), words.as_slice(), row.run) {
+            return Err(Fail::new(format_args!("{}: {:?}", row.name, row.words)));
+        }
+    }
     Ok(())
 }

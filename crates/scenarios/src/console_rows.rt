@@ -1,15 +1,11 @@
-//! Scripts of every word over the chassis, and lines that their transcripts have, in this order.
-use crate::over_new::run_chassis;
-use cip_console::{ConsoleFault, Out, Script, ScriptFault};
-use std::alloc::Global;
-use std::test::Fail;
-
-/// A script, and lines of its transcript.
-struct Row {
-    name: &'static str,
-    script: &'static str,
-    lines: &'static [&'static str],
-}
+//! Scripts of every word over the chassis: lines that their transcripts have, in this order, and
+//! the first faults of others.
+use crate::console_transcripts::{
+    BAD_BYTES_AND_PATHS, BAD_NUMBERS_AND_NAMES, TRANSCRIPTS, UNKNOWN_WORDS_AND_WRONG_COUNTS,
+};
+use crate::outcomes::Wanted;
+use crate::playing::{Faulty, Row, first_other, first_taken};
+use cip_console::{ConsoleFault, ScriptFault};
 
 const ROWS: [Row; 20] = [
     Row {
@@ -29,7 +25,7 @@ tick E 40
 open S 3 0x07 0xFA 020501030207200424642C652C66 0x43 0 1 10000 0x4806 10000 0x4804
 run 10
 ",
-        lines: &[
+        wanted: Wanted::Lines(&[
             "  0 done 2 85000000",
             "quiet",
             "tables B now 0 id 65536 number 65536",
@@ -44,7 +40,7 @@ run 10
             "  0 send 1 00 reply 3 D40000000200010023000000430001010D0C0B0A10270000102700000000",
             "  0 done 3 D40000002400000012000000430001010D0C0B0A10270000102700000000",
             "quiet",
-        ],
+        ]),
     },
     Row {
         name: "a scanner resets itself under a connection",
@@ -56,13 +52,13 @@ enter S 1 0100AABBCCDD
 open S 1 0x07 0xFA 020501030207200424642C652C66 0x43 0 1 10000 0x4806 10000 0x4804
 chain S 1
 ",
-        lines: &[
+        wanted: Wanted::Lines(&[
             "  0 done 2 85000000",
             "  1 ended 1",
             "  0 refused NotOpen",
             "  0 refused OpUsed",
             "not open",
-        ],
+        ]),
     },
     Row {
         name: "a scanner resets itself while an open is under way",
@@ -71,12 +67,12 @@ open S 1 0x07 0xFA 020501030207200424642C652C66 0x42 0 1 10000 0x4806 10000 0x48
 send S 2 0x07 0xFA - 050220012401
 run 100
 ",
-        lines: &[
+        wanted: Wanted::Lines(&[
             "  0 done 2 85000000",
             "  1 ended 1",
             "  0 dropped Late",
             "quiet",
-        ],
+        ]),
     },
     Row {
         name: "a request of an odd length gets a pad behind it",
@@ -85,11 +81,11 @@ send S 1 0x07 0xFA 020501030207 1003200424643003AA
 run 100
 send S 2 0x07 0xFA 020501030207 1003200424643003AABB
 ",
-        lines: &[
+        wanted: Wanted::Lines(&[
             "  0 send 2 05 request 1 52022006240107F909001003200424643003AA00020001030207",
             "  0 done 1 90001500",
             "  0 send 2 05 request 2 52022006240107F90A001003200424643003AABB020001030207",
-        ],
+        ]),
     },
     Row {
         name: "nobody has the address that the bridge is to send to",
@@ -100,11 +96,11 @@ open S 2 0x07 0xFA 02050903200424642C652C66 0x42 0 1 10000 0x4806 10000 0x4804
 run 100
 tables S
 ",
-        lines: &[
+        wanted: Wanted::Lines(&[
             "  0 done 1 D40001011103420001010D0C0B0A0300",
             "  0 done 2 D40001011103420001010D0C0B0A0500",
             "tables S now 0 id 18 number 2",
-        ],
+        ]),
     },
     Row {
         name: "a request to nobody times out",
@@ -116,7 +112,7 @@ tick S 9
 tick S 1
 tables S
 ",
-        lines: &[
+        wanted: Wanted::Lines(&[
             "0 S send 1",
             "  0 send 2 09 request 1 010220012401",
             "quiet",
@@ -126,7 +122,7 @@ tables S
             "2 S tick 1",
             "  0 done 1 D2000101040201",
             "tables S now 10000 id 16 number 1",
-        ],
+        ]),
     },
     Row {
         name: "a path that leads back to the scanner",
@@ -136,7 +132,7 @@ run 10
 open S 2 0x07 0xFA 020502010205200424642C652C66 0x42 0 1 10000 0x4806 10000 0x4804
 run 10
 ",
-        lines: &["  0 done 2 D40001010001420001010D0C0B0A0500", "quiet"],
+        wanted: Wanted::Lines(&["  0 done 2 D40001010001420001010D0C0B0A0500", "quiet"]),
     },
     Row {
         name: "a connection, a datum down and one up, and its close",
@@ -156,7 +152,7 @@ run 100
 enter S 1 0100AABBCCDD
 close S 2 1 0x07 0xFA
 ",
-        lines: &[
+        wanted: Wanted::Lines(&[
             "0 S open 1",
             "  0 send 2 05 request 1 54022006240107F90000000011000000420001010D0C0B0A00000000102700\
                 000648102700000448010601030207200424642C652C66",
@@ -186,7 +182,7 @@ close S 2 1 0x07 0xFA
             "quiet",
             "  0 refused NotOpen",
             "  0 refused OpUsed",
-        ],
+        ]),
     },
     Row {
         name: "a close that is lost below the first bridge",
@@ -214,7 +210,7 @@ deliver 23.0
 deliver 24.0
 deliver 8.0
 ",
-        lines: &[
+        wanted: Wanted::Lines(&[
             "11 lost 10.0",
             "  0 done 3 D40001010001420001010D0C0B0A0500",
             "17 B tick 40",
@@ -224,7 +220,7 @@ deliver 8.0
             "  0 done 4 D40000002600000013000000420001010D0C0B0A10270000102700000000",
             "26 B frame 8.0",
             "  0 dropped UnknownId",
-        ],
+        ]),
     },
     Row {
         name: "a reply that comes after the time-out, and another request under the next number",
@@ -242,7 +238,7 @@ deliver 4.0
 deliver 8.0
 tick B 40
 ",
-        lines: &[
+        wanted: Wanted::Lines(&[
             "5 A tick 99",
             "  0 send 2 01 reply 1 D40001010402420001010D0C0B0A0600",
             "  0 send 1 03 request 2 010220012401",
@@ -252,7 +248,7 @@ tick B 40
             "  0 send 2 01 reply 2 8100000001010C000200010300000B0B0000024252",
             "11 B tick 40",
             "  0 expired 66 257 168496141",
-        ],
+        ]),
     },
     Row {
         name: "a watchdog at the end",
@@ -262,7 +258,7 @@ run 100
 tick E 39
 tick E 1
 ",
-        lines: &["7 E tick 39", "8 E tick 1", "  0 expired 66 257 168496141"],
+        wanted: Wanted::Lines(&["7 E tick 39", "8 E tick 1", "  0 expired 66 257 168496141"]),
     },
     Row {
         name: "a watchdog that a datum renews",
@@ -275,12 +271,12 @@ run 100
 tick E 39
 tick E 1
 ",
-        lines: &[
+        wanted: Wanted::Lines(&[
             "  0 consumed 66 257 168496141 101 0100AABBCCDD",
             "12 E tick 39",
             "13 E tick 1",
             "  0 expired 66 257 168496141",
-        ],
+        ]),
     },
     Row {
         name: "an output that another connection owns, and a triad that is in use",
@@ -294,12 +290,12 @@ open S 4 0x07 0xFA 020501030207200424642C652C66 0x44 0 1 10000 0x4806 10000 0x28
 open S 5 0x07 0xFA 020501030207200424642C652C66 0x45 0 3 10000 0x4806 10000 0x4804
 run 100
 ",
-        lines: &[
+        wanted: Wanted::Lines(&[
             "  0 done 2 D40001010601430001010D0C0B0A0400",
             "  0 done 3 D40001010001420001010D0C0B0A0700",
             "  0 done 4 D40001010801440001010D0C0B0A0700",
             "  0 done 5 D40001010301450001010D0C0B0A0400",
-        ],
+        ]),
     },
     Row {
         name: "a datum that comes twice is not written twice",
@@ -312,11 +308,11 @@ enter S 1 010011223344
 run 100
 tables E
 ",
-        lines: &[
+        wanted: Wanted::Lines(&[
             "  0 consumed 66 257 168496141 101 0100AABBCCDD",
             "  0 consumed 66 257 168496141 101 010011223344",
             "  assembly 101 AABBCCDD",
-        ],
+        ]),
     },
     Row {
         name: "an assembly that is set and produced",
@@ -329,7 +325,7 @@ set E 102 12
 set E 9 12
 produce E 9
 ",
-        lines: &[
+        wanted: Wanted::Lines(&[
             "0 E set 102",
             "8 E produce 102",
             "  0 send 2 01 data 49 01001234",
@@ -339,7 +335,7 @@ produce E 9
             "  0 refused NoInstance",
             "11 E produce 9",
             "  0 refused NoInstance",
-        ],
+        ]),
     },
     Row {
         name: "requests and connections that wait, as tables show them",
@@ -353,12 +349,12 @@ deliver 7.0
 tables A
 tables S
 ",
-        lines: &[
+        wanted: Wanted::Lines(&[
             "  pending 1 1 03 due 31872000 words 6 opening 66 257 168496141",
             "  pending 2 1 03 due 31872000 words 6 closing 66 257 168496141",
             "tables S now 0 id 17 number 2",
             "  pending 2 2 05 due 32000000 words 7 closing 66 257 168496141",
-        ],
+        ]),
     },
     Row {
         name: "the connection at its originator, and at its end",
@@ -368,7 +364,7 @@ run 100
 tables S
 tables E
 ",
-        lines: &[
+        wanted: Wanted::Lines(&[
             "tables S now 0 id 17 number 1",
             "  hop 66 257 168496141 up op 1 down 2 05 their 34 own 17 watch - 40000",
             "tables E now 0 id 65 number 0",
@@ -377,7 +373,7 @@ tables E
             "  assembly 101 00000000",
             "  assembly 102 0000",
             "  assembly 103 00000000",
-        ],
+        ]),
     },
     Row {
         name: "the trail of an open that a bridge refuses",
@@ -388,7 +384,7 @@ trail S 1
 trail S 7
 trail A 1
 ",
-        lines: &["trail 0 1", "trail", "trail"],
+        wanted: Wanted::Lines(&["trail 0 1", "trail", "trail"]),
     },
     Row {
         name: "the trail of an open that comes back to the scanner",
@@ -397,7 +393,7 @@ open S 1 0x07 0xFA 020502010205200424642C652C66 0x42 0 1 10000 0x4806 10000 0x48
 run 100
 trail S 1
 ",
-        lines: &["trail 0 1 2"],
+        wanted: Wanted::Lines(&["trail 0 1 2"]),
     },
     Row {
         name: "the trails of an open, of a request, of a close and of a refused command",
@@ -416,14 +412,14 @@ run 100
 trail S 3
 trail S 1
 ",
-        lines: &[
+        wanted: Wanted::Lines(&[
             "trail",
             "trail 0",
             "trail 0 1 2 3",
             "trail 8 9 10",
             "trail",
             "trail 0 1 2 3",
-        ],
+        ]),
     },
 ];
 
@@ -440,14 +436,14 @@ chain S 1
 chain A 1
 chain S 2
 ",
-        lines: &[
+        wanted: Wanted::Lines(&[
             "not open",
             "not open",
             "quiet",
             "chain S A B E 101 102",
             "not open",
             "not open",
-        ],
+        ]),
     },
     Row {
         name: "a chain that is broken where a bridge has heard nothing for too long",
@@ -458,12 +454,12 @@ tick B 40
 chain S 1
 chain A 1
 ",
-        lines: &[
+        wanted: Wanted::Lines(&[
             "7 B tick 40",
             "  0 expired 66 257 168496141",
             "broken B",
             "not open",
-        ],
+        ]),
     },
     Row {
         name: "a chain that is broken at its end, and then at its first bridge",
@@ -477,7 +473,7 @@ chain S 1
 tick S 40
 chain S 1
 ",
-        lines: &["broken E", "broken A", "not open"],
+        wanted: Wanted::Lines(&["broken E", "broken A", "not open"]),
     },
     Row {
         name: "a datum down the chain and one up, and data of a wrong size",
@@ -494,7 +490,7 @@ enter S 1 0100AABBCCDDEE
 produce E 102
 run 100
 ",
-        lines: &[
+        wanted: Wanted::Lines(&[
             "0 S open 1",
             "  0 send 2 05 request 1 54022006240107F90000000011000000420001010D0C0B0A00000000102700\
                 000648\
@@ -512,7 +508,7 @@ run 100
             "  0 send 1 00 data 33 01000000",
             "  0 send 2 01 data 17 01000000",
             "  0 arrived 1 01000000",
-        ],
+        ]),
     },
     Row {
         name: "the ids of a chain, and its replies on the way back",
@@ -520,12 +516,12 @@ run 100
 open S 1 0x07 0xFA 020501030207200424642C652C66 0x42 0 1 10000 0x4806 10000 0x4804
 run 100
 ",
-        lines: &[
+        wanted: Wanted::Lines(&[
             "  0 send 2 01 reply 1 D40000004100000031000000420001010D0C0B0A10270000102700000000",
             "  0 send 1 00 reply 1 D40000003200000021000000420001010D0C0B0A10270000102700000000",
             "  0 send 2 01 reply 1 D40000002200000011000000420001010D0C0B0A10270000102700000000",
             "  0 done 1 D40000002200000011000000420001010D0C0B0A10270000102700000000",
-        ],
+        ]),
     },
     Row {
         name: "a close that is lost half way, and a later connection of the same triad",
@@ -558,7 +554,7 @@ chain S 3
 deliver 8.0
 chain S 4
 ",
-        lines: &[
+        wanted: Wanted::Lines(&[
             "  0 send 1 03 data 50 0100AABBCCDD",
             "11 lost 10.0",
             "not open",
@@ -577,7 +573,7 @@ chain S 4
             "26 B frame 8.0",
             "  0 dropped UnknownId",
             "chain S A B E 103 102",
-        ],
+        ]),
     },
     Row {
         name: "one count twice, a close, and what stands after it",
@@ -595,7 +591,7 @@ chain S 1
 enter S 1 0200AABBCCDD
 close S 2 1 0x07 0xFA
 ",
-        lines: &[
+        wanted: Wanted::Lines(&[
             "  0 consumed 66 257 168496141 101 0100AABBCCDD",
             "  0 consumed 66 257 168496141 101 010011223344",
             "  assembly 101 AABBCCDD",
@@ -604,7 +600,7 @@ close S 2 1 0x07 0xFA
             "not open",
             "  0 refused NotOpen",
             "  0 refused OpUsed",
-        ],
+        ]),
     },
     Row {
         name: "a chain while its close is under way",
@@ -616,7 +612,7 @@ chain S 1
 run 1
 chain S 1
 ",
-        lines: &["7 S close 2", "not open", "8 A frame 7.0", "not open"],
+        wanted: Wanted::Lines(&["7 S close 2", "not open", "8 A frame 7.0", "not open"]),
     },
     Row {
         name: "limits of a run",
@@ -627,14 +623,14 @@ run 1
 run 3
 run 0
 ",
-        lines: &[
+        wanted: Wanted::Lines(&[
             "limit",
             "1 A frame 0.0",
             "limit",
             "4 S frame 3.0",
             "quiet",
             "quiet",
-        ],
+        ]),
     },
     Row {
         name: "spellings of a frame's name",
@@ -643,62 +639,41 @@ send S 1 0x07 0xFA 02050103 010220012401
 deliver 0x00.000
 lose 1.0x0
 ",
-        lines: &["1 A frame 0.0", "2 lost 1.0"],
+        wanted: Wanted::Lines(&["1 A frame 0.0", "2 lost 1.0"]),
     },
 ];
 
-// What a script writes, and how it ends.
-fn written(alloc: Global, script: &[u8]) -> (Result<(), ConsoleFault>, Vec<u8>) {
-    let mut reader = Script { rest: script };
-    let mut writer = Out {
-        inner: Vec::new(alloc),
-    };
-    let result = run_chassis(alloc, &mut reader, &mut writer);
-    (result, writer.inner)
-}
-
-// Whether the text has these lines, in this order.
-fn has_lines(text: &str, lines: &[&str]) -> bool {
-    let mut wanted = lines.iter();
-    let mut next = wanted.next();
-    for line in text.lines() {
-        if next == Some(&line) {
-            next = wanted.next();
-        }
-    }
-    next.is_none()
-}
-
-// That a script is run to its end, and writes its lines.
-fn plays(alloc: Global, row: &Row) -> Result<(), Fail> {
-    let (result, text) = written(alloc, row.script.as_bytes());
-    result?;
-    let text = std::str::from_utf8(text.as_slice())?;
-    if has_lines(text, row.lines) {
-        return Ok(());
-    }
-    Err(Fail::new(format_args!("{}: wrote {text}", row.name)))
-}
+// Where a run stops, all before that line is written, and nothing of it.
+const STOPPED: [Row; 2] = [
+    Row {
+        name: "a frame that does not wait",
+        script: "run 0\ndeliver 0.0\nrun 0\n",
+        wanted: Wanted::Fault(ConsoleFault::Script(2, ScriptFault::NoFrame), "quiet\n"),
+    },
+    Row {
+        name: "a frame that does not wait any more",
+        script: "send S 1 7 250 0205 010220012401\ndeliver 0.0\n\nlose 0.0\n",
+        wanted: Wanted::Fault(
+            ConsoleFault::Script(4, ScriptFault::NoFrame),
+            "\
+0 S send 1
+  0 send 2 05 request 1 010220012401
+1 A frame 0.0
+  0 send 2 01 reply 1 8100000001010C000100010300000A0A0000024152
+",
+        ),
+    },
+];
 
 #[test]
-fn scripts_of_every_word(rt: HostRuntime) -> Result<(), Fail> {
-    for row in &ROWS {
-        plays(rt.alloc(), row)?;
-    }
-    Ok(())
+fn scripts_of_every_word(rt: HostRuntime) {
+    assert_eq!(rt; first_other(rt.alloc(), &ROWS), None);
+    assert_eq!(rt; first_other(rt.alloc(), &CHAINED), None);
+    assert_eq!(rt; first_other(rt.alloc(), &STOPPED), None);
+    assert_eq!(rt; first_other(rt.alloc(), &TRANSCRIPTS), None);
 }
 
-#[test]
-fn scripts_with_chains(rt: HostRuntime) -> Result<(), Fail> {
-    for row in &CHAINED {
-        plays(rt.alloc(), row)?;
-    }
-    Ok(())
-}
-
-/// A faulty script, its first faulty line, and its fault.
-type Faulty = (&'static [u8], usize, ScriptFault);
-
+/// Faulty scripts of every word.
 const FAULTY: [Faulty; 30] = [
     (b"open S 1", 1, ScriptFault::Count),
     (b"close S 1 1 7", 1, ScriptFault::Count),
@@ -745,25 +720,12 @@ const FAULTY: [Faulty; 30] = [
 ];
 
 #[test]
-fn faults_of_every_word(rt: HostRuntime) -> Result<(), Fail> {
-    for (script, line, fault) in &FAULTY {
-        let (result, text) = written(rt.alloc(), script);
-        if result != Err(ConsoleFault::Script(*line, *fault)) || !text.is_empty() {
-            return Err(Fail::new(format_args!("{script:?}: {result:?}")));
-        }
-    }
-    Ok(())
-}
-
-// Where a run stops, all before that line is written, and nothing of it.
-#[test]
-fn a_frame_that_does_not_wait(rt: HostRuntime) -> Result<(), Fail> {
-    let script = b"run 0\ndeliver 0.0\nrun 0\n";
-    let (result, text) = written(rt.alloc(), script);
-    assert_eq!(&rt; result, Err(ConsoleFault::Script(2, ScriptFault::NoFrame)));
-    assert_eq!(&rt; text.as_slice(), b"quiet\n".as_slice());
-    let script = b"send S 1 7 250 0205 010220012401\ndeliver 0.0\n\nlose 0.0\n";
-    let (result, _) = written(rt.alloc(), script);
-    assert_eq!(&rt; result, Err(ConsoleFault::Script(4, ScriptFault::NoFrame)));
-    Ok(())
+fn faults_of_every_word(rt: HostRuntime) {
+    assert_eq!(rt; first_taken(rt.alloc(), &FAULTY), None);
+    assert_eq!(rt;
+        first_taken(rt.alloc(), &UNKNOWN_WORDS_AND_WRONG_COUNTS),
+        None
+    );
+    assert_eq!(rt; first_taken(rt.alloc(), &BAD_NUMBERS_AND_NAMES), None);
+    assert_eq!(rt; first_taken(rt.alloc(), &BAD_BYTES_AND_PATHS), None);
 }

@@ -2,7 +2,10 @@
 //! fault of a script. Each test passes too where one allocation, whichever, is refused.
 ghost use Rattle.std.specs.Prelude.{None};
 
+use crate::console_transcripts::{SEND, SENT};
+use crate::outcomes::{Wanted, is_front, is_wanted};
 use crate::over_new::run_chassis;
+use crate::playing::Faulty;
 use cip_console::{ConsoleFault, Out, Plain, SCRIPT_LIMIT, ScriptFault, Sink, Source};
 use std::alloc::Global;
 use std::io;
@@ -72,6 +75,19 @@ struct Trial {
     failing_write: usize,
 }
 
+/// The reader and the writer of a script.
+#[derive(Clone, Copy)]
+enum Over {
+    /// A reader and a writer that move so many bytes a call.
+    Pieces(usize, usize),
+    /// A reader of 16 bytes a call, which fails at this call.
+    FailingRead(usize),
+    /// A writer of 64 bytes a call, which fails at this call.
+    FailingWrite(usize),
+    /// Any reader and any writer, over memory.
+    Any,
+}
+
 const PLAIN: Trial = Trial {
     reads: 4096,
     failing_read: 0,
@@ -79,21 +95,30 @@ const PLAIN: Trial = Trial {
     failing_write: 0,
 };
 
-/// What the console answered, how much it wrote, and whether that is a prefix of the transcript.
+// No script and no transcript here has so many bytes.
+const AT_ONCE: Over = Over::Pieces(4096, 4096);
+
+/// Whether what had to come came, and whether it did not for want of memory alone: an allocation
+/// was refused, and what was written is the beginning of what had to be.
 #[derive(Clone, Copy)]
-struct Outcome {
-    result: Result<(), ConsoleFault>,
-    count: usize,
-    is_front: bool,
+struct Played {
+    is_wanted: bool,
+    is_refused: bool,
 }
 
-const REFUSED: Outcome = Outcome {
-    result: Err(ConsoleFault::NoMemory),
-    count: 0,
-    is_front: true,
+const REFUSED: Played = Played {
+    is_wanted: false,
+    is_refused: true,
 };
 
-fn once(alloc: Global, script: &[u8], whole: &[u8], trial: Trial) -> Outcome {
+fn compared(answer: Result<(), ConsoleFault>, text: &[u8], wanted: Wanted) -> Played {
+    Played {
+        is_wanted: is_wanted(answer, text, wanted),
+        is_refused: answer == Err(ConsoleFault::NoMemory) && is_front(text, wanted),
+    }
+}
+
+fn over_own(alloc: Global, script: &[u8], trial: Trial, wanted: Wanted) -> Played {
     let Ok(taken) = Vec::with_capacity(alloc, 1024) else {
         return REFUSED;
     };
@@ -109,268 +134,268 @@ fn once(alloc: Global, script: &[u8], whole: &[u8], trial: Trial) -> Outcome {
         calls: 0,
         failing: trial.failing_write,
     };
-    let result = run_chassis(alloc, &mut reader, &mut writer);
-    Outcome {
-        result,
-        count: writer.taken.len(),
-        is_front: whole.starts_with(writer.taken.as_slice()),
-    }
+    let answer = run_chassis(alloc, &mut reader, &mut writer);
+    compared(answer, writer.taken.as_slice(), wanted)
 }
 
-// Once more where an allocation was refused, and a prefix of the transcript was written.
-fn tried(alloc: Global, script: &[u8], whole: &[u8], trial: Trial) -> Outcome {
-    let first = once(alloc, script, whole, trial);
-    if first.result == Err(ConsoleFault::NoMemory) && first.is_front {
-        return once(alloc, script, whole, trial);
-    }
-    first
-}
-
-// Whether the whole transcript was written.
-fn is_written(alloc: Global, script: &[u8], whole: &[u8], trial: Trial) -> bool {
-    let outcome = tried(alloc, script, whole, trial);
-    outcome.result == Ok(()) && outcome.is_front && outcome.count == whole.len()
-}
-
-// Whether this was answered and nothing was written.
-fn is_unwritten(alloc: Global, script: &[u8], fault: ConsoleFault, trial: Trial) -> bool {
-    let outcome = tried(alloc, script, b"", trial);
-    outcome.result == Err(fault) && outcome.count == 0
-}
-
-// Whether a line of a script is the first faulty one.
-fn is_faulty(alloc: Global, script: &[u8], line: usize, fault: ScriptFault) -> bool {
-    is_unwritten(alloc, script, ConsoleFault::Script(line, fault), PLAIN)
-}
-
-// An Unconnected_Send to B by way of A.
-const SEND: &[u8] = b"send S 1 0x07 0xFA 02050103 010220012401\nrun 10\n";
-
-const SENT: &[u8] =
-    b"0 S send 1\n  0 send 2 05 request 1 52022006240107F9060001022001240101000103\n1 A frame \
-        0.0\n  0 send 1 03 request 1 010220012401\n2 B frame 1.0\n  0 send 1 00 reply 1 \
-        8100000001010C000200010300000B0B0000024252\n3 A frame 2.0\n  0 send 2 01 reply 1 \
-        8100000001010C000200010300000B0B0000024252\n4 S frame 3.0\n  0 done 1 \
-        8100000001010C000200010300000B0B0000024252\nquiet\n";
-
-#[test]
-fn an_unconnected_send(rt: HostRuntime) -> Result<(), Fail> {
-    assert!(rt; is_written(rt.alloc(), SEND, SENT, PLAIN));
-    Ok(())
-}
-
-#[test]
-fn ticks_of_two(rt: HostRuntime) -> Result<(), Fail> {
-    let script = b"send S 1 0x07 2 02050103 010220012401\r\nrun 10";
-    let whole =
-        b"0 S send 1\n  0 send 2 05 request 1 5202200624010701060001022001240101000103\n1 A frame \
-            0.0\n  0 send 2 01 reply 1 D2000101040201\n2 S frame 1.0\n  0 done 1 \
-            D2000101040201\nquiet\n";
-    assert!(rt; is_written(rt.alloc(), script, whole, PLAIN));
-    Ok(())
-}
-
-#[test]
-fn ticks_of_one_and_of_none(rt: HostRuntime) -> Result<(), Fail> {
-    let script = b"send S 1 0x07 1 02050103 010220012401\nsend S 2 0x07 0 02050103 010220012401\n";
-    let whole = b"0 S send 1\n  0 done 1 D2000101040202\n1 S send 2\n  0 done 2 D2000101040202\n";
-    assert!(rt; is_written(rt.alloc(), script, whole, PLAIN));
-    Ok(())
-}
-
-// No module of LAN has address 09: the frame stands in the transcript and never waits.
-#[test]
-fn a_frame_to_nobody(rt: HostRuntime) -> Result<(), Fail> {
-    let script = b"send S 1 7 250 0209 010220012401\nsend S 1 7 250 0209 010220012401\nrun 5\n";
-    let whole = b"0 S send 1\n  0 send 2 09 request 1 010220012401\n1 S send 1\n  0 refused \
-            OpUsed\nquiet\n";
-    assert!(rt; is_written(rt.alloc(), script, whole, PLAIN));
-    Ok(())
-}
-
-#[test]
-fn runs_of_none_and_of_one(rt: HostRuntime) -> Result<(), Fail> {
-    let script = b"run 0\nsend S 1 7 250 0205 0E03200124013007\nrun 0\nrun 1\nrun 1\nrun 1\n";
-    let whole =
-        b"quiet\n0 S send 1\n  0 send 2 05 request 1 0E03200124013007\nlimit\n1 A frame 0.0\n  0 \
-            send 2 01 reply 1 8E000000024152\nlimit\n2 S frame 1.0\n  0 done 1 \
-            8E000000024152\nquiet\nquiet\n";
-    assert!(rt; is_written(rt.alloc(), script, whole, PLAIN));
-    Ok(())
-}
-
-#[test]
-fn scripts_that_do_nothing(rt: HostRuntime) -> Result<(), Fail> {
-    assert!(rt; is_written(rt.alloc(), b"", b"", PLAIN));
-    assert!(rt; is_written(rt.alloc(), b"# nothing\n\n   \n", b"", PLAIN));
-    Ok(())
-}
-
-#[test]
-fn the_first_faulty_line(rt: HostRuntime) -> Result<(), Fail> {
-    let rows: [(&[u8], usize, ScriptFault); 22] = [
-        (b"# \xC3\xA9", 1, ScriptFault::NotText),
-        (b"opens S \xFF", 1, ScriptFault::NotText),
-        (b"opens S", 1, ScriptFault::UnknownWord),
-        (b"RUN 1", 1, ScriptFault::UnknownWord),
-        (b"run\t1", 1, ScriptFault::UnknownWord),
-        (b" # 1", 1, ScriptFault::UnknownWord),
-        (b"\r\n\nrun", 3, ScriptFault::Count),
-        (b"run 1 2", 1, ScriptFault::Count),
-        (b"run 1\nsend C x 7 7 -\nopen", 2, ScriptFault::Count),
-        (b"send C x 7 7 - - -", 1, ScriptFault::Count),
-        (b"send C x 7 7 - -", 1, ScriptFault::NoModule),
-        (b"send s 1 7 7 - -", 1, ScriptFault::NoModule),
-        (b"send S 4294967296 7 7 - -", 1, ScriptFault::BadNumber),
-        (b"send S 1 256 7 zz zz", 1, ScriptFault::BadNumber),
-        (b"send S 1 7 0x100 zz zz", 1, ScriptFault::BadNumber),
-        (b"run +1", 1, ScriptFault::BadNumber),
-        (b"run 0x", 1, ScriptFault::BadNumber),
-        (b"run 18446744073709551616", 1, ScriptFault::BadNumber),
-        (b"run 1\r", 1, ScriptFault::BadNumber),
-        (b"send S 1 7 7 0 zz", 1, ScriptFault::BadBytes),
-        (b"send S 1 7 7 0005 zz", 1, ScriptFault::BadPath),
-        (b"send S 1 7 7 - 0x01", 1, ScriptFault::BadBytes),
-    ];
-    for (script, line, fault) in rows {
-        assert!(rt;
-            is_faulty(rt.alloc(), script, line, fault),
-            "{line} {fault}"
-        );
-    }
-    Ok(())
-}
-
-// The transcript over any reader and any writer, and what was answered.
-fn over_any(alloc: Global) -> Outcome {
+fn over_any(alloc: Global, script: &[u8], wanted: Wanted) -> Played {
     let Ok(taken) = Vec::with_capacity(alloc, 1024) else {
         return REFUSED;
     };
-    let mut reader = Plain { inner: SEND };
+    let mut reader = Plain { inner: script };
     let mut writer = Out { inner: taken };
-    let result = run_chassis(alloc, &mut reader, &mut writer);
-    Outcome {
-        result,
-        count: writer.inner.len(),
-        is_front: SENT.starts_with(writer.inner.as_slice()),
-    }
+    let answer = run_chassis(alloc, &mut reader, &mut writer);
+    compared(answer, writer.inner.as_slice(), wanted)
 }
 
-#[test]
-fn any_reader_and_any_writer(rt: HostRuntime) -> Result<(), Fail> {
-    let outcome = over_any(rt.alloc());
-    assert!(rt; outcome.is_front);
-    if outcome.result != Err(ConsoleFault::NoMemory) {
-        assert_eq!(rt; outcome.result, Ok(()));
-        assert_eq!(rt; outcome.count, SENT.len());
-    }
-    Ok(())
-}
-
-#[test]
-fn a_byte_a_call(rt: HostRuntime) -> Result<(), Fail> {
-    let trial = Trial {
-        reads: 1,
-        writes: 1,
-        ..PLAIN
+fn once(alloc: Global, script: &[u8], over: Over, wanted: Wanted) -> Played {
+    let trial = match over {
+        Over::Any => return over_any(alloc, script, wanted),
+        Over::Pieces(reads, writes) => Trial {
+            reads,
+            writes,
+            ..PLAIN
+        },
+        Over::FailingRead(failing_read) => Trial {
+            reads: 16,
+            failing_read,
+            ..PLAIN
+        },
+        Over::FailingWrite(failing_write) => Trial {
+            writes: 64,
+            failing_write,
+            ..PLAIN
+        },
     };
-    assert!(rt; is_written(rt.alloc(), SEND, SENT, trial));
-    Ok(())
+    over_own(alloc, script, trial, wanted)
 }
+
+// Whether this comes of a script; once more where it does not for want of memory alone.
+fn plays(alloc: Global, script: &[u8], over: Over, wanted: Wanted) -> bool {
+    let first = once(alloc, script, over, wanted);
+    if first.is_refused {
+        return once(alloc, script, over, wanted).is_wanted;
+    }
+    first.is_wanted
+}
+
+/// A script, its reader and its writer, and what must come of it.
+#[derive(Clone, Copy)]
+struct Row {
+    name: &'static str,
+    script: &'static str,
+    over: Over,
+    wanted: Wanted,
+}
+
+// The send, its whole transcript, and nothing fails.
+const SEND_ROW: Row = Row {
+    name: "an unconnected send",
+    script: SEND,
+    over: AT_ONCE,
+    wanted: Wanted::Whole(SENT),
+};
+
+const ROWS: [Row; 22] = [
+    SEND_ROW,
+    Row {
+        name: "ticks of two",
+        script: "send S 1 0x07 2 02050103 010220012401\r\nrun 10",
+        wanted: Wanted::Whole(
+            "0 S send 1\n  0 send 2 05 request 1 \
+            5202200624010701060001022001240101000103\n1 A frame \
+            0.0\n  0 send 2 01 reply 1 D2000101040201\n2 S frame 1.0\n  0 done 1 \
+            D2000101040201\nquiet\n",
+        ),
+        ..SEND_ROW
+    },
+    Row {
+        name: "ticks of one and of none",
+        script: "send S 1 0x07 1 02050103 010220012401\nsend S 2 0x07 0 02050103 010220012401\n",
+        wanted: Wanted::Whole(
+            "0 S send 1\n  0 done 1 D2000101040202\n1 S send 2\n  0 done 2 D2000101040202\n",
+        ),
+        ..SEND_ROW
+    },
+    // No module of LAN has address 09: the frame stands in the transcript and never waits.
+    Row {
+        name: "a frame to nobody",
+        script: "send S 1 7 250 0209 010220012401\nsend S 1 7 250 0209 010220012401\nrun 5\n",
+        wanted: Wanted::Whole(
+            "0 S send 1\n  0 send 2 09 request 1 010220012401\n1 S send 1\n  0 refused \
+            OpUsed\nquiet\n",
+        ),
+        ..SEND_ROW
+    },
+    Row {
+        name: "runs of none and of one",
+        script: "run 0\nsend S 1 7 250 0205 0E03200124013007\nrun 0\nrun 1\nrun 1\nrun 1\n",
+        wanted: Wanted::Whole(
+            "quiet\n0 S send 1\n  0 send 2 05 request 1 0E03200124013007\nlimit\n1 A frame 0.0\n  \
+            0 send 2 01 reply 1 8E000000024152\nlimit\n2 S frame 1.0\n  0 done 1 \
+            8E000000024152\nquiet\nquiet\n",
+        ),
+        ..SEND_ROW
+    },
+    Row {
+        name: "scripts that do nothing: an empty one",
+        script: "",
+        wanted: Wanted::Whole(""),
+        ..SEND_ROW
+    },
+    Row {
+        name: "scripts that do nothing: a comment and empty lines",
+        script: "# nothing\n\n   \n",
+        wanted: Wanted::Whole(""),
+        ..SEND_ROW
+    },
+    Row {
+        name: "any reader and any writer",
+        over: Over::Any,
+        ..SEND_ROW
+    },
+    Row {
+        name: "a byte a call",
+        over: Over::Pieces(1, 1),
+        ..SEND_ROW
+    },
+    Row {
+        name: "a writer that takes none",
+        over: Over::Pieces(4096, 0),
+        wanted: Wanted::Fault(ConsoleFault::Write, ""),
+        ..SEND_ROW
+    },
+    Row {
+        name: "each read fails: the first",
+        over: Over::FailingRead(1),
+        wanted: Wanted::Fault(ConsoleFault::Read, ""),
+        ..SEND_ROW
+    },
+    Row {
+        name: "each read fails: the second",
+        over: Over::FailingRead(2),
+        wanted: Wanted::Fault(ConsoleFault::Read, ""),
+        ..SEND_ROW
+    },
+    Row {
+        name: "each read fails: the third",
+        over: Over::FailingRead(3),
+        wanted: Wanted::Fault(ConsoleFault::Read, ""),
+        ..SEND_ROW
+    },
+    Row {
+        name: "each read fails: the fourth",
+        over: Over::FailingRead(4),
+        wanted: Wanted::Fault(ConsoleFault::Read, ""),
+        ..SEND_ROW
+    },
+    Row {
+        name: "each read fails: the fifth never comes",
+        over: Over::FailingRead(5),
+        ..SEND_ROW
+    },
+    Row {
+        name: "each write fails: the first",
+        over: Over::FailingWrite(1),
+        wanted: Wanted::Cut(0, SENT),
+        ..SEND_ROW
+    },
+    Row {
+        name: "each write fails: the second",
+        over: Over::FailingWrite(2),
+        wanted: Wanted::Cut(64, SENT),
+        ..SEND_ROW
+    },
+    Row {
+        name: "each write fails: the third",
+        over: Over::FailingWrite(3),
+        wanted: Wanted::Cut(128, SENT),
+        ..SEND_ROW
+    },
+    Row {
+        name: "each write fails: the fourth",
+        over: Over::FailingWrite(4),
+        wanted: Wanted::Cut(192, SENT),
+        ..SEND_ROW
+    },
+    Row {
+        name: "each write fails: the fifth",
+        over: Over::FailingWrite(5),
+        wanted: Wanted::Cut(256, SENT),
+        ..SEND_ROW
+    },
+    Row {
+        name: "each write fails: the sixth",
+        over: Over::FailingWrite(6),
+        wanted: Wanted::Cut(320, SENT),
+        ..SEND_ROW
+    },
+    Row {
+        name: "each write fails: the seventh never comes",
+        over: Over::FailingWrite(7),
+        ..SEND_ROW
+    },
+];
 
 #[test]
-fn a_writer_that_takes_none(rt: HostRuntime) -> Result<(), Fail> {
-    let trial = Trial { writes: 0, ..PLAIN };
-    assert!(rt; is_unwritten(rt.alloc(), SEND, ConsoleFault::Write, trial));
-    Ok(())
-}
-
-// Whether a read fails after so many of 16 bytes.
-fn is_unread(alloc: Global, failing_read: usize) -> bool {
-    let trial = Trial {
-        reads: 16,
-        failing_read,
-        ..PLAIN
-    };
-    is_unwritten(alloc, SEND, ConsoleFault::Read, trial)
-}
-
-// The first read that never comes, after which the whole transcript is written; 0 where each of a
-// thousand fails.
-fn read_too_many(alloc: Global) -> usize {
-    for failing_read in 1..1000 {
-        if !is_unread(alloc, failing_read) {
-            return failing_read;
+fn scripts_over_streams(rt: HostRuntime) -> Result<(), Fail> {
+    for row in &ROWS {
+        if !plays(rt.alloc(), row.script.as_bytes(), row.over, row.wanted) {
+            return Err(Fail::new(format_args!("{}: something else", row.name)));
         }
     }
-    0
-}
-
-#[test]
-fn each_read_fails(rt: HostRuntime) -> Result<(), Fail> {
-    let failing_read = read_too_many(rt.alloc());
-    let trial = Trial {
-        reads: 16,
-        failing_read,
-        ..PLAIN
-    };
-    assert_eq!(rt; failing_read, 5);
-    assert!(rt; is_written(rt.alloc(), SEND, SENT, trial));
     Ok(())
 }
 
-// Whether a write fails after so many whole ones of 64 bytes.
-fn is_cut(alloc: Global, failing_write: usize) -> bool {
-    let trial = Trial {
-        writes: 64,
-        failing_write,
-        ..PLAIN
-    };
-    let outcome = tried(alloc, SEND, SENT, trial);
-    outcome.result == Err(ConsoleFault::Write) && outcome.is_front && outcome.count < SENT.len()
-}
+// Faulty scripts, with their first faulty lines.
+const FAULTY: [Faulty; 22] = [
+    (b"# \xC3\xA9", 1, ScriptFault::NotText),
+    (b"opens S \xFF", 1, ScriptFault::NotText),
+    (b"opens S", 1, ScriptFault::UnknownWord),
+    (b"RUN 1", 1, ScriptFault::UnknownWord),
+    (b"run\t1", 1, ScriptFault::UnknownWord),
+    (b" # 1", 1, ScriptFault::UnknownWord),
+    (b"\r\n\nrun", 3, ScriptFault::Count),
+    (b"run 1 2", 1, ScriptFault::Count),
+    (b"run 1\nsend C x 7 7 -\nopen", 2, ScriptFault::Count),
+    (b"send C x 7 7 - - -", 1, ScriptFault::Count),
+    (b"send C x 7 7 - -", 1, ScriptFault::NoModule),
+    (b"send s 1 7 7 - -", 1, ScriptFault::NoModule),
+    (b"send S 4294967296 7 7 - -", 1, ScriptFault::BadNumber),
+    (b"send S 1 256 7 zz zz", 1, ScriptFault::BadNumber),
+    (b"send S 1 7 0x100 zz zz", 1, ScriptFault::BadNumber),
+    (b"run +1", 1, ScriptFault::BadNumber),
+    (b"run 0x", 1, ScriptFault::BadNumber),
+    (b"run 18446744073709551616", 1, ScriptFault::BadNumber),
+    (b"run 1\r", 1, ScriptFault::BadNumber),
+    (b"send S 1 7 7 0 zz", 1, ScriptFault::BadBytes),
+    (b"send S 1 7 7 0005 zz", 1, ScriptFault::BadPath),
+    (b"send S 1 7 7 - 0x01", 1, ScriptFault::BadBytes),
+];
 
-// The first write that never comes, after which the whole transcript is written; 0 where each of a
-// thousand fails.
-fn write_too_many(alloc: Global) -> usize {
-    for failing_write in 1..1000 {
-        if !is_cut(alloc, failing_write) {
-            return failing_write;
+#[test]
+fn the_first_faulty_line(rt: HostRuntime) -> Result<(), Fail> {
+    for (script, line, fault) in &FAULTY {
+        let wanted = Wanted::Fault(ConsoleFault::Script(*line, *fault), "");
+        if !plays(rt.alloc(), script, AT_ONCE, wanted) {
+            return Err(Fail::new(format_args!("{script:?}: not {line} {fault}")));
         }
     }
-    0
-}
-
-#[test]
-fn each_write_fails(rt: HostRuntime) -> Result<(), Fail> {
-    let failing_write = write_too_many(rt.alloc());
-    let trial = Trial {
-        writes: 64,
-        failing_write,
-        ..PLAIN
-    };
-    assert_eq!(rt; failing_write, SENT.len().div_ceil(64) + 1);
-    assert!(rt; is_written(rt.alloc(), SEND, SENT, trial));
     Ok(())
 }
 
-// Whether a script of so many empty lines does nothing; None where the allocation for it is
+// Whether this comes of a script of so many empty lines; true where the allocation for it is
 // refused.
-fn does_nothing(alloc: Global, count: usize) -> Option<Outcome> {
-    let Ok(script) = vec![in alloc; b'\n'; count] else {
-        return None;
-    };
-    Some(tried(alloc, script.as_slice(), b"", PLAIN))
+fn plays_empty_lines(alloc: Global, count: usize, wanted: Wanted) -> bool {
+    match vec![in alloc; b'\n'; count] {
+        Ok(script) => plays(alloc, script.as_slice(), AT_ONCE, wanted),
+        Err(_) => true,
+    }
 }
 
 #[test]
-fn a_script_that_is_too_long(rt: HostRuntime) -> Result<(), Fail> {
-    if let Some(outcome) = does_nothing(rt.alloc(), SCRIPT_LIMIT + 1) {
-        assert_eq!(rt; outcome.result, Err(ConsoleFault::Read));
-        assert_eq!(rt; outcome.count, 0);
-    }
-    if let Some(outcome) = does_nothing(rt.alloc(), SCRIPT_LIMIT) {
-        assert_eq!(rt; outcome.result, Ok(()));
-    }
-    Ok(())
+fn a_script_that_is_too_long(rt: HostRuntime) {
+    let too_long = Wanted::Fault(ConsoleFault::Read, "");
+    assert!(rt; plays_empty_lines(rt.alloc(), SCRIPT_LIMIT + 1, too_long));
+    assert!(rt; plays_empty_lines(rt.alloc(), SCRIPT_LIMIT, Wanted::Whole("")));
 }

@@ -1,6 +1,7 @@
 //! What is told of faulty lines: the word that was found, and what is allowed there.
 use crate::over_new::run_chassis;
-use cip_console::{ConsoleFault, Out, Script, explain};
+use cip_console::{ConsoleFault, Out, Script, ScriptFault, explain};
+use std::alloc::Global;
 use std::test::Fail;
 
 /// A script, and what is told of its first faulty line.
@@ -99,22 +100,31 @@ const TOLD: [Explained; 25] = [
     ),
 ];
 
+// The first faulty line of a script, and its fault.
+fn first_fault(alloc: Global, script: &[u8]) -> Option<(usize, ScriptFault)> {
+    let mut reader = Script { rest: script };
+    let mut writer = Out {
+        inner: Vec::new(alloc),
+    };
+    match run_chassis(alloc, &mut reader, &mut writer) {
+        Err(ConsoleFault::Script(line, fault)) => Some((line, fault)),
+        _ => None,
+    }
+}
+
+// What is told of the first faulty line of a script.
+fn told(alloc: Global, script: &[u8]) -> Option<String> {
+    let (line, fault) = first_fault(alloc, script)?;
+    let explained = explain(alloc, script, line, fault).ok()?;
+    format!(in alloc; "{explained}").ok()
+}
+
 #[test]
 fn the_word_that_is_faulty_and_what_is_allowed(rt: HostRuntime) -> Result<(), Fail> {
-    let alloc = rt.alloc();
-    for (script, told) in &TOLD {
-        let mut reader = Script { rest: script };
-        let mut writer = Out {
-            inner: Vec::new(alloc),
-        };
-        let result = run_chassis(alloc, &mut reader, &mut writer);
-        let Err(ConsoleFault::Script(line, fault)) = result else {
-            return Err(Fail::new(format_args!("{told}: {result:?}")));
-        };
-        let explained = explain(alloc, script, line, fault)?;
-        let text = format!(in alloc; "{explained}")?;
-        if text.as_str() != *told {
-            return Err(Fail::new(format_args!("{text}, and not {told}")));
+    for (script, wanted) in &TOLD {
+        let text = told(rt.alloc(), script).ok_or(*wanted)?;
+        if text.as_str() != *wanted {
+            return Err(Fail::new(format_args!("{text}, and not {wanted}")));
         }
     }
     Ok(())

@@ -8,7 +8,6 @@ use std::test::Fail;
 use test_harness::{Harness, Kinds};
 
 /// A line, the room in which its bytes come, and that in which they go on.
-#[derive(Clone, Copy)]
 struct Row(&'static str, usize, usize);
 
 const ROWS: [Row; 13] = [
@@ -61,25 +60,30 @@ fn event_in_room(alloc: Global, event: &Event, room: usize) -> Option<Event> {
     }
 }
 
-// The bytes that go on by an output.
-fn bytes_of(output: Output) -> Option<Bytes> {
+// The event of a row's line, with its bytes in the room of the row.
+fn event_of(alloc: Global, harness: &Harness, row: &Row) -> Option<(usize, Event)> {
+    let (place, event) = harness.event(row.0)?;
+    Some((place, event_in_room(alloc, &event, row.1)?))
+}
+
+// The room in which bytes go on by an output.
+fn room_of(output: Output) -> Option<usize> {
     match output {
-        Output::Send { body, .. } => match body {
-            Body::Data { bytes, .. } => Some(bytes),
-            _ => None,
-        },
-        Output::Arrived { bytes, .. } => Some(bytes),
-        Output::Consumed { bytes, .. } => Some(bytes),
+        Output::Send {
+            body: Body::Data { bytes, .. },
+            ..
+        } => Some(bytes.into_vec().capacity()),
+        Output::Arrived { bytes, .. } => Some(bytes.into_vec().capacity()),
+        Output::Consumed { bytes, .. } => Some(bytes.into_vec().capacity()),
         _ => None,
     }
 }
 
 // The room in which the bytes of a row go on.
 fn room_after(alloc: Global, harness: &mut Harness, row: &Row) -> Option<usize> {
-    let (place, event) = harness.event(row.0)?;
-    let event = event_in_room(alloc, &event, row.1)?;
+    let (place, event) = event_of(alloc, harness, row)?;
     let mut outputs = harness.step(place, event)?.ok()?;
-    Some(bytes_of(outputs.pop()?)?.into_vec().capacity())
+    room_of(outputs.pop()?)
 }
 
 #[test]

@@ -15,7 +15,11 @@ mod explained_faults;
 #[cfg(test)]
 mod keeping_room;
 #[cfg(test)]
+mod outcomes;
+#[cfg(test)]
 mod over_new;
+#[cfg(test)]
+mod playing;
 #[cfg(test)]
 mod progress_lines;
 #[cfg(test)]

@@ -1,5 +1,6 @@
 //! Runs over boxes that are made here and handed in, also over boxes that are not those of the
 //! topology.
+use crate::outcomes::{Wanted, is_wanted};
 use cip_base::{ModuleId, Ms, NoMemory};
 use cip_console::{ConsoleFault, Out, Script, ScriptFault, Sink, Source, run, run_live};
 use cip_indexed::{NewModule, new_modules};
@@ -58,31 +59,11 @@ pub fn run_chassis<R: Source, W: Sink>(
     }
 }
 
-/// Runs a script over new modules of the chassis, each on a thread of its own.
-pub fn run_chassis_live<T: Threads + Wait + Sync>(
-    rt: &T,
-    alloc: Global,
-    reader: &mut Script<'_>,
-    writer: &mut Out<Vec<u8>>,
-    turns: usize,
-) -> Result<(), ConsoleFault> {
-    let Some(topology) = load(alloc, CHASSIS).ok() else {
-        return Err(ConsoleFault::NoMemory);
-    };
-    let modules = boxes(alloc, &topology)?;
-    run_live(
-        rt, alloc, reader, writer, topology, modules, turns, &OpenGate,
-    )
-}
-
-/// What is done to new modules of the chassis before they are handed in, and the answer.
-struct Row {
-    change: Change,
-    fault: NewFault,
-}
-
+/// What is done to new modules of the chassis before they are handed in.
 #[derive(Clone, Copy)]
-enum Change {
+pub enum Change {
+    /// Nothing.
+    Unchanged,
     /// The last one is not handed in.
     OneLess,
     /// The scanner and the first bridge are handed in in each other's place.
@@ -91,27 +72,57 @@ enum Change {
     Ticked,
 }
 
-const ROWS: [Row; 3] = [
+/// What is done to new modules of the chassis, a script, and what must come of it.
+struct Row {
+    name: &'static str,
+    change: Change,
+    script: &'static str,
+    wanted: Wanted,
+}
+
+// New comes only behind a script without a fault.
+const ROWS: [Row; 6] = [
     Row {
+        name: "boxes of which one is missing",
         change: Change::OneLess,
-        fault: NewFault::Count,
+        script: "tick S 1\n",
+        wanted: Wanted::Fault(ConsoleFault::New(NewFault::Count), ""),
     },
     Row {
+        name: "boxes of which two are exchanged",
         change: Change::Exchanged,
-        fault: NewFault::Config(ModuleId(0)),
+        script: "tick S 1\n",
+        wanted: Wanted::Fault(ConsoleFault::New(NewFault::Config(ModuleId(0))), ""),
     },
     Row {
+        name: "boxes of which one is not new",
         change: Change::Ticked,
-        fault: NewFault::NotFresh(ModuleId(1)),
+        script: "tick S 1\n",
+        wanted: Wanted::Fault(ConsoleFault::New(NewFault::NotFresh(ModuleId(1))), ""),
+    },
+    Row {
+        name: "a faulty script and boxes of which one is missing",
+        change: Change::OneLess,
+        script: "tick S 1\nnext\n",
+        wanted: Wanted::Fault(ConsoleFault::Script(2, ScriptFault::UnknownWord), ""),
+    },
+    Row {
+        name: "a faulty script and boxes of which two are exchanged",
+        change: Change::Exchanged,
+        script: "tick S 1\nnext\n",
+        wanted: Wanted::Fault(ConsoleFault::Script(2, ScriptFault::UnknownWord), ""),
+    },
+    Row {
+        name: "a faulty script and boxes of which one is not new",
+        change: Change::Ticked,
+        script: "tick S 1\nnext\n",
+        wanted: Wanted::Fault(ConsoleFault::Script(2, ScriptFault::UnknownWord), ""),
     },
 ];
 
-fn chassis(alloc: Global) -> Result<Topology, Fail> {
-    Ok(load(alloc, CHASSIS).ok().ok_or("no chassis")?)
-}
-
-fn make_change(modules: &mut Vec<Box<dyn Module + Send>>, change: Change) -> Result<(), Fail> {
+fn make_change(modules: &mut Vec<Box<dyn Module + Send>>, change: Change) -> Option<()> {
     match change {
+        Change::Unchanged => {}
         Change::OneLess => {
             let _ = modules.pop();
         }
@@ -121,50 +132,58 @@ fn make_change(modules: &mut Vec<Box<dyn Module + Send>>, change: Change) -> Res
             }
         }
         Change::Ticked => {
-            let by = Ms::new(1).ok_or("no time")?;
-            let bridge = modules.get_mut(1).ok_or("no bridge")?;
+            let by = Ms::new(1)?;
+            let bridge = modules.get_mut(1)?;
             if bridge.step(Event::Tick(by)).is_err() {
-                return Err(Fail::new(format_args!("no step")));
+                return None;
             }
         }
     }
-    Ok(())
+    Some(())
 }
 
 fn changed(
     alloc: Global,
     topology: &Topology,
     change: Change,
-) -> Result<Vec<Box<dyn Module + Send>>, Fail> {
-    let mut modules = boxes(alloc, topology)?;
+) -> Option<Vec<Box<dyn Module + Send>>> {
+    let mut modules = boxes(alloc, topology).ok()?;
     make_change(&mut modules, change)?;
-    Ok(modules)
+    Some(modules)
 }
 
-// What is answered in turn, and how much is written.
-fn in_turn(alloc: Global, script: &[u8], change: Change) -> Result<Result<(), ConsoleFault>, Fail> {
-    let topology = chassis(alloc)?;
-    let modules = changed(alloc, &topology, change)?;
+/// Whether this comes of a script over modules of the chassis, which take their turns.
+pub fn plays(alloc: Global, script: &[u8], change: Change, wanted: Wanted) -> bool {
+    let Some(topology) = load(alloc, CHASSIS).ok() else {
+        return false;
+    };
+    let Some(modules) = changed(alloc, &topology, change) else {
+        return false;
+    };
     let mut reader = Script { rest: script };
     let mut writer = Out {
         inner: Vec::new(alloc),
     };
     let result = run(alloc, &mut reader, &mut writer, topology, modules);
-    if !writer.inner.is_empty() {
-        return Err(Fail::new(format_args!("something was written")));
-    }
-    Ok(result)
+    is_wanted(result, writer.inner.as_slice(), wanted)
 }
 
-// What is answered on threads.
-fn on_threads<T: Threads + Wait + Sync>(
+/// Whether this comes of a script over modules of the chassis, each on a thread of its own, which
+/// take so many events together at most.
+pub fn plays_live<T: Threads + Wait + Sync>(
     rt: &T,
     alloc: Global,
     script: &[u8],
     change: Change,
-) -> Result<Result<(), ConsoleFault>, Fail> {
-    let topology = chassis(alloc)?;
-    let modules = changed(alloc, &topology, change)?;
+    turns: usize,
+    wanted: Wanted,
+) -> bool {
+    let Some(topology) = load(alloc, CHASSIS).ok() else {
+        return false;
+    };
+    let Some(modules) = changed(alloc, &topology, change) else {
+        return false;
+    };
     let mut reader = Script { rest: script };
     let mut writer = Out {
         inner: Vec::new(alloc),
@@ -176,28 +195,22 @@ fn on_threads<T: Threads + Wait + Sync>(
         &mut writer,
         topology,
         modules,
-        100,
+        turns,
         &OpenGate,
     );
-    if !writer.inner.is_empty() {
-        return Err(Fail::new(format_args!("something was written")));
-    }
-    Ok(result)
+    is_wanted(result, writer.inner.as_slice(), wanted)
 }
 
-// New comes only behind a script without a fault.
 #[test]
 fn boxes_that_are_not_those_of_the_topology(rt: HostRuntime) -> Result<(), Fail> {
-    let alloc = rt.alloc();
-    let faulty = Err(ConsoleFault::Script(2, ScriptFault::UnknownWord));
     for row in &ROWS {
-        let new = Err(ConsoleFault::New(row.fault));
-        let script = b"tick S 1\n";
-        assert_eq!(rt; in_turn(alloc, script, row.change)?, new);
-        assert_eq!(rt; on_threads(&rt, alloc, script, row.change)?, new);
-        let script = b"tick S 1\nnext\n";
-        assert_eq!(rt; in_turn(alloc, script, row.change)?, faulty);
-        assert_eq!(rt; on_threads(&rt, alloc, script, row.change)?, faulty);
+        let script = row.script.as_bytes();
+        if !plays(rt.alloc(), script, row.change, row.wanted) {
+            return Err(Fail::new(format_args!("{}: in turn", row.name)));
+        }
+        if !plays_live(&rt, rt.alloc(), script, row.change, 100, row.wanted) {
+            return Err(Fail::new(format_args!("{}: on threads", row.name)));
+        }
     }
     Ok(())
 }

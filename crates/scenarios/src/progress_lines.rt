@@ -1,8 +1,6 @@
 //! What a screen beside a transcript shows of a long run, and when.
-ghost use Rattle.std.specs.Prelude.{None};
-
-use cip_console::{Line, Screen, Sink, Watched};
-use std::io;
+use cip_console::{Line, Out, Screen, Sink, Watched};
+use std::alloc::Global;
 use std::test::Fail;
 
 /// A screen with the times that it is asked for, and the lines that it shows.
@@ -31,23 +29,10 @@ impl Screen for Board<'_> {
     }
 }
 
-/// A writer that takes whatever it is given.
-#[derive(Drop)]
-struct Paper;
-
-impl Sink for Paper {
-    ghost contents = { λ _. None };
-
-    ghost has_refused = { λ _. Unit {0} };
-
-    fn write(&mut self, buf: &[u8]) -> io::Result<usize> {
-        Ok(buf.len())
-    }
-}
-
 /// A run that writes so many pieces and is asked behind each whether to tell how far it is; the
 /// times that are read, in milliseconds; and what the screen shows, one line over another.
 struct Watching {
+    name: &'static str,
     pieces: usize,
     times: &'static [u64],
     has_transcript: bool,
@@ -69,24 +54,28 @@ const LONG: &[u64] = &[999, 1000, 1010, 1109, 1110, 1110];
 
 const RUNS: [Watching; 4] = [
     Watching {
+        name: "nothing within the first second",
         pieces: 3,
         times: &[0, 500, 999],
         has_transcript: false,
         shown: &[],
     },
     Watching {
+        name: "a telling, and the next 100 ms later",
         pieces: 4,
         times: LONG,
         has_transcript: false,
         shown: &[SECOND, FOURTH, Line::Cleared],
     },
     Watching {
+        name: "the line is taken away before each piece of a transcript on the same screen",
         pieces: 4,
         times: LONG,
         has_transcript: true,
         shown: &[SECOND, Line::Cleared, FOURTH, Line::Cleared],
     },
     Watching {
+        name: "nothing within the first second beside a transcript",
         pieces: 1,
         times: &[999],
         has_transcript: true,
@@ -94,10 +83,12 @@ const RUNS: [Watching; 4] = [
     },
 ];
 
-// The lines that a run shows; false where an allocation for one is refused.
-fn watch(watching: &Watching, lines: &mut Vec<Line>) -> bool {
+// The lines that a run shows; false where an allocation for its text is refused.
+fn watch(alloc: Global, watching: &Watching, lines: &mut Vec<Line>) -> bool {
     let mut writer = Watched::of(
-        Paper,
+        Out {
+            inner: Vec::new(alloc),
+        },
         Board {
             times: watching.times,
             has_transcript: watching.has_transcript,
@@ -117,21 +108,36 @@ fn watch(watching: &Watching, lines: &mut Vec<Line>) -> bool {
     is_whole
 }
 
+// Whether a run shows its lines.
+fn shows(alloc: Global, watching: &Watching) -> bool {
+    match Vec::with_capacity(alloc, 8) {
+        Ok(mut lines) => watch(alloc, watching, &mut lines) && lines.as_slice() == watching.shown,
+        Err(_) => false,
+    }
+}
+
 #[test]
 fn lines_of_progress(rt: HostRuntime) -> Result<(), Fail> {
-    for watching in RUNS.iter() {
-        let mut lines = Vec::with_capacity(rt.alloc(), 8)?;
-        assert!(rt; watch(watching, &mut lines));
-        assert_eq!(rt; lines.as_slice(), watching.shown);
+    for watching in &RUNS {
+        if !shows(rt.alloc(), watching) {
+            return Err(Fail::new(format_args!("{}: something else", watching.name)));
+        }
     }
     Ok(())
 }
 
+const TEXTS: [(Line, &str); 2] = [
+    (SECOND, "\r2 entries done, 7 frames waiting\x1B[K"),
+    (Line::Cleared, "\r\x1B[K"),
+];
+
 #[test]
 fn the_text_of_a_line(rt: HostRuntime) -> Result<(), Fail> {
-    let told = format!(in rt.alloc(); "{SECOND}")?;
-    assert_eq!(rt; told.as_str(), "\r2 entries done, 7 frames waiting\x1B[K");
-    let cleared = format!(in rt.alloc(); "{}", Line::Cleared)?;
-    assert_eq!(rt; cleared.as_str(), "\r\x1B[K");
+    for (line, text) in &TEXTS {
+        let told = format!(in rt.alloc(); "{line}")?;
+        if told.as_str() != *text {
+            return Err(Fail::new(format_args!("{line:?}: {told}")));
+        }
+    }
     Ok(())
 }

@@ -1,13 +1,14 @@
 //! Whole transcripts over the chassis with its scanner and bridges of each kind: whatever they are,
 //! the same bytes.
+use crate::outcomes::has_lines;
 use crate::over_new::run_new;
 use cip_console::{Out, Script};
-use cip_topology::{CHASSIS, load};
+use cip_topology::{CHASSIS, Topology, load};
 use std::alloc::{AllocError, Global};
 use std::test::Fail;
 
 /// Of which kind the scanner and the bridges are. The adapter is one whatever they are.
-#[derive(Clone, Copy, Debug)]
+#[derive(Clone, Copy)]
 enum Kinds {
     /// Each is plain.
     Plain,
@@ -27,6 +28,11 @@ impl Kinds {
         }
     }
 }
+
+// The line of a plain module in a chassis file, and that of an indexed one.
+const PLAIN: &str = "kind = \"plain\"";
+
+const INDEXED: &str = "kind = \"indexed\"";
 
 /// A script, a line of the chassis file with what stands in its place, and the lines of the
 /// transcript that tell how it ends.
@@ -389,79 +395,84 @@ fn file_for(alloc: Global, row: &Row, kinds: Kinds) -> Result<String, AllocError
         if let Some(name) = line.strip_prefix("name = ") {
             is_indexed = kinds.is_indexed(name);
         }
-        if is_indexed && line == "kind = \"plain\"" {
-            text.push_str("kind = \"indexed\"")?;
+        let line = if is_indexed && line == PLAIN {
+            INDEXED
         } else if line == row.line {
-            text.push_str(row.instead)?;
+            row.instead
         } else {
-            text.push_str(line)?;
-        }
+            line
+        };
+        text.push_str(line)?;
         text.push_str("\n")?;
     }
     Ok(text)
 }
 
-// What the console writes of a row.
-fn written(alloc: Global, row: &Row, kinds: Kinds) -> Result<Vec<u8>, Fail> {
-    let file = file_for(alloc, row, kinds)?;
-    let topology = load(alloc, file.as_str()).ok().ok_or(row.name)?;
+fn topology_for(alloc: Global, row: &Row, kinds: Kinds) -> Option<Topology> {
+    let file = file_for(alloc, row, kinds).ok()?;
+    load(alloc, file.as_str()).ok()
+}
+
+// What the console writes of a row; None where it isn't run to its end.
+fn written(alloc: Global, row: &Row, kinds: Kinds) -> Option<Vec<u8>> {
+    let topology = topology_for(alloc, row, kinds)?;
     let mut reader = Script {
         rest: row.script.as_bytes(),
     };
     let mut writer = Out {
         inner: Vec::new(alloc),
     };
-    run_new(alloc, &mut reader, &mut writer, topology)?;
-    Ok(writer.inner)
+    match run_new(alloc, &mut reader, &mut writer, topology) {
+        Ok(()) => Some(writer.inner),
+        Err(_) => None,
+    }
 }
 
-// Whether the text has these lines, in this order.
-fn has_lines(text: &str, lines: &[&str]) -> bool {
-    let mut wanted = lines.iter();
-    let mut next = wanted.next();
-    for line in text.lines() {
-        if next == Some(&line) {
-            next = wanted.next();
-        }
+// Whether the console writes this of a row.
+fn writes(alloc: Global, row: &Row, kinds: Kinds, text: &[u8]) -> bool {
+    match written(alloc, row, kinds) {
+        Some(other) => other.as_slice() == text,
+        None => false,
     }
-    next.is_none()
 }
 
-fn same_of_each_kind(alloc: Global, row: &Row) -> Result<(), Fail> {
-    let plain = written(alloc, row, Kinds::Plain)?;
-    let text = std::str::from_utf8(plain.as_slice())?;
-    if !has_lines(text, row.lines) {
-        return Err(Fail::new(format_args!("{}: wrote {text}", row.name)));
-    }
-    for kinds in [Kinds::Indexed, Kinds::OneIndexed] {
-        let other = written(alloc, row, kinds)?;
-        if other.as_slice() != plain.as_slice() {
-            let other = std::str::from_utf8(other.as_slice())?;
-            return Err(Fail::new(format_args!("{}: {kinds:?} wrote {other}", row.name)));
+// Whether the transcript has the lines of a row, and is the same of modules of each kind.
+fn is_same_of_each_kind(alloc: Global, row: &Row) -> bool {
+    match written(alloc, row, Kinds::Plain) {
+        Some(plain) => {
+            has_lines(plain.as_slice(), row.lines)
+                && writes(alloc, row, Kinds::Indexed, plain.as_slice())
+                && writes(alloc, row, Kinds::OneIndexed, plain.as_slice())
         }
+        None => false,
     }
-    Ok(())
 }
 
 #[test]
 fn modules_of_each_kind_write_the_same_transcripts(rt: HostRuntime) -> Result<(), Fail> {
     for row in &ROWS {
-        same_of_each_kind(rt.alloc(), row)?;
+        if !is_same_of_each_kind(rt.alloc(), row) {
+            return Err(Fail::new(format_args!("{}: something else", row.name)));
+        }
     }
     Ok(())
 }
 
+// How many modules of a chassis file are indexed; None where the allocation for it is refused.
+fn indexed(alloc: Global, kinds: Kinds) -> Option<usize> {
+    let file = file_for(alloc, &CHASSIS_ROW, kinds).ok()?;
+    let mut count: usize = 0;
+    for line in file.lines() {
+        if line == INDEXED {
+            count = count.saturating_add(1);
+        }
+    }
+    Some(count)
+}
+
 #[test]
-fn the_files_differ_in_their_kinds_alone(rt: HostRuntime) -> Result<(), Fail> {
-    let plain = file_for(rt.alloc(), &CHASSIS_ROW, Kinds::Plain)?;
-    let indexed = file_for(rt.alloc(), &CHASSIS_ROW, Kinds::Indexed)?;
-    let one = file_for(rt.alloc(), &CHASSIS_ROW, Kinds::OneIndexed)?;
-    let changed = |file: &str| file
-        .lines()
-        .filter(|line| *line == "kind = \"indexed\"")
-        .count();
-    assert_eq!(&rt; changed(plain.as_str()), 0);
-    assert_eq!(&rt; changed(indexed.as_str()), 3);
-    assert_eq!(&rt; changed(one.as_str()), 1);
-    Ok(())
+fn the_files_differ_in_their_kinds_alone(rt: HostRuntime) {
+    assert_eq!(rt; indexed(rt.alloc(), Kinds::Plain), Some(0));
+    assert_eq!(rt; indexed(rt.alloc(), Kinds::Indexed), Some(3));
+    assert_eq!(rt; indexed(rt.alloc(), Kinds::OneIndexed), Some(1));
 }
