@@ -4,8 +4,8 @@ use Rattle.cip_hops.specs.declared.hop.Hop.{Hop}
 use Rattle.cip_hops.specs.declared.opening.HopDown.TheVariants.{Link as DownLink, End}
 use Rattle.cip_hops.specs.Hops.{hop_by_op}
 use Rattle.cip_laws.proofs.Triads.{own_triads}
-use Rattle.cip_topology.specs.Plan.{Plan}
-use Rattle.cip_topology.specs.Nodes.{node}
+use Rattle.cip_chassis.specs.Plan.{Plan}
+use Rattle.cip_chassis.specs.Nodes.{node}
 use Rattle.cip_world.specs.Chains.{Member, IsNextTo, GoesOnBy, last_of}
 use Rattle.cip_world.specs.Journals.{Journal, part}
 use Rattle.cip_world.specs.Runs.{IsRun, state_in}

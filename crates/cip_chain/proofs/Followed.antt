@@ -20,7 +20,7 @@ use Rattle.cip_hops.specs.Hops.{Hops, as_hop, is_hop, is_hop_by_op, hop_by_op}
 use Rattle.cip_hops.specs.Sides.{op_of}
 use Rattle.cip_hops.proofs.Steps.{triads_apart}
 use Rattle.cip_laws.proofs.Triads.{own_triads}
-use Rattle.cip_topology.specs.Plan.{Plan}
+use Rattle.cip_chassis.specs.Plan.{Plan}
 use Rattle.cip_world.specs.Chains.{Member, HasHop, IsNextTo, GoesToEnd, GoesOnBy, last_of}
 use Rattle.cip_world.specs.Journals.{Journal, part}
 use Rattle.cip_world.specs.Runs.{IsRun, state_in}

@@ -7,8 +7,8 @@ use Rattle.cip_hops.specs.declared.hop.Hop.{Hop}
 use Rattle.cip_hops.specs.declared.opening.HopDown.TheVariants.{Link as DownLink, End}
 use Rattle.cip_hops.specs.Hops.{Hops, hop_by_up, is_hop_by_up, is_id}
 use Rattle.cip_hops.specs.Sides.{up_is}
-use Rattle.cip_topology.specs.Plan.{Plan, IsTopology}
-use Rattle.cip_topology.specs.Nodes.{Way, across as goes}
+use Rattle.cip_chassis.specs.Plan.{Plan, IsTopology}
+use Rattle.cip_chassis.specs.Nodes.{Way, across as goes}
 use Rattle.cip_world.specs.Chains.{Member, HasHop, IsNextTo, GoesToEnd}
 use Rattle.cip_world.specs.Journals.{Journal}
 use Rattle.cip_world.specs.Mirrors.{IsMirrored}

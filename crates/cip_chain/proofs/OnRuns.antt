@@ -6,7 +6,7 @@ use Rattle.cip_hops.specs.declared.hop.Held.TheVariants.{Open}
 use Rattle.cip_hops.specs.declared.hop.Hop.{Hop}
 use Rattle.cip_hops.specs.declared.opening.HopDown.TheVariants.{Link as DownLink}
 use Rattle.cip_config.specs.declared.config.ModuleSettings.{ModuleSettings}
-use Rattle.cip_topology.specs.Plan.{Plan, IsTopology}
+use Rattle.cip_chassis.specs.Plan.{Plan, IsTopology}
 use Rattle.cip_world.specs.Chains.{Member, IsChain, last_of, AreDeliveries, AreKept, IsTakenBy}
 use Rattle.cip_world.specs.Entering.{before_entry, IsEntered}
 use Rattle.cip_world.specs.Journals.{Journal}

@@ -17,7 +17,7 @@ use Rattle.cip_module.specs.declared.tables.HopRow.{HopRow}
 use Rattle.cip_module.specs.Views.{hop_row_of}
 use Rattle.cip_module.proofs.Found.{found_own}
 use Rattle.cip_laws.proofs.Triads.{own_triads}
-use Rattle.cip_topology.specs.Plan.{Plan}
+use Rattle.cip_chassis.specs.Plan.{Plan}
 use Rattle.cip_world.specs.Chains.{HasHop}
 use Rattle.cip_world.specs.Journals.{Journal, part}
 use Rattle.cip_world.specs.Runs.{IsModule, IsRun, state_in}

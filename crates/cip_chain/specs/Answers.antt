@@ -4,7 +4,7 @@ use Rattle.cip_base.specs.Words.{OpNumber}
 use Rattle.cip_base.specs.declared.numbers.ModuleId.{ModuleId}
 use Rattle.cip_hops.specs.declared.opening.HopUp.TheVariants.{Local as UpLocal}
 use Rattle.cip_hops.specs.declared.hop.Hop.{Hop}
-use Rattle.cip_topology.specs.Plan.{Plan}
+use Rattle.cip_chassis.specs.Plan.{Plan}
 use Rattle.cip_world.specs.Chains.{Member, HasHop, IsNextTo, GoesToEnd, IsChain, last_of}
 use Rattle.cip_world.specs.Journals.{Journal}
 use Rattle.cip_chain.specs.declared.chains.ChainView.{ChainView}

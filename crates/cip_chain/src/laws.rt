@@ -1,6 +1,6 @@
 //! What holds of the answers of `chain`.
 ghost use Rattle.std.specs.Prelude.{ℕ};
-ghost use Rattle.cip_topology.specs.Plan.{Plan};
+ghost use Rattle.cip_chassis.specs.Plan.{Plan};
 ghost use Rattle.cip_world.specs.Journals.{Journal};
 ghost use Rattle.cip_world.specs.Runs.{IsRun};
 ghost use Rattle.cip_chain.specs.Answers.{IsView, IsBroken};

@@ -2,7 +2,7 @@
 ghost use Rattle.std.specs.Prelude.{◌≡◌, ℕ, List, reverse};
 ghost use Rattle.cip_base.specs.declared.triad.Triad.{Triad};
 ghost use Rattle.cip_event.specs.declared.event.Output.TheVariants.{Consumed, Arrived};
-ghost use Rattle.cip_topology.specs.Plan.{Plan, IsTopology};
+ghost use Rattle.cip_chassis.specs.Plan.{Plan, IsTopology};
 ghost use Rattle.cip_world.specs.Entering.{HasOutput, ConsumedOf, ArrivedOf};
 ghost use Rattle.cip_world.specs.Journals.{brought_by};
 ghost use Rattle.cip_world.specs.Roots.{root_of};

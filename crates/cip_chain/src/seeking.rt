@@ -1,6 +1,6 @@
 //! Connections of modules, and what stands next to them.
 ghost use Rattle.std.specs.Prelude.{◌≡◌, IfOk, IfErr};
-ghost use Rattle.cip_topology.specs.Plan.{IsTopology};
+ghost use Rattle.cip_chassis.specs.Plan.{IsTopology};
 ghost use Rattle.cip_world.specs.Runs.{IsRun};
 ghost use Rattle.cip_hops.specs.declared.hop.Hop.{Hop};
 ghost use Rattle.cip_chain.specs.Found.{member, IsSeen, IsOpened, IsOpenedFault, IsNext};

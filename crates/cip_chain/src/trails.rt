@@ -1,7 +1,7 @@
 //! Where the request of a command went.
 ghost use Rattle.std.specs.Prelude.{◌≡◌, reverse, IfOk};
 ghost use Rattle.std.specs.List.{list_any};
-ghost use Rattle.cip_topology.specs.Plan.{Plan, IsTopology};
+ghost use Rattle.cip_chassis.specs.Plan.{Plan, IsTopology};
 ghost use Rattle.cip_world.specs.RepliesTell.{RepliesTell};
 ghost use Rattle.cip_world.specs.Runs.{IsRun};
 ghost use Rattle.cip_world.specs.TrailTells.{TrailTells};

@@ -1,7 +1,7 @@
 -- What was written of a script, by the answer.
 use Rattle.std.proofs.Common.{ℕ, List, Option, Ok, Err}
 use Rattle.std.proofs.KnownBytes.{Keeps-refl}
-use Rattle.cip_topology.specs.Plan.{Plan}
+use Rattle.cip_chassis.specs.Plan.{Plan}
 use Rattle.cip_script.specs.declared.steps.Mode.TheVariants.{InTurn}
 use Rattle.cip_play.specs.declared.fault.ConsoleFault.TheVariants.{Read, NoMemory}
 use Rattle.cip_play.specs.Outcome.{Steps, Front, WroteOf}

@@ -8,7 +8,7 @@ use Rattle.cip_script.specs.declared.steps.ScriptFault.{ScriptFault}
 use Rattle.cip_script.specs.declared.steps.Numbered.{Numbered}
 use Rattle.cip_play.specs.Known.{AppendsFront}
 use Rattle.cip_play.specs.Playing.{Prints, Played, Plays}
-use Rattle.cip_topology.specs.Plan.{Plan}
+use Rattle.cip_chassis.specs.Plan.{Plan}
 use Rattle.cip_world.specs.Journals.{Journal}
 use Rattle.cip_play.specs.Transcript.{Part, printed, continued, played, played_all, transcript, stop_after, stop_from, stop_of}
 use Rattle.cip_play.proofs.Prints.{prints_nothing, prints_then, front_more, front_then, prints_all}

@@ -1,7 +1,7 @@
 -- What the console did, by its answer.
 use Rattle.std.specs.Prelude.{◌≡◌, ℕ, List, Option, Some, None, Result, Ok, Err, IfSome}
 use Rattle.std.specs.Io.KnownBytes.{Keeps, Appends}
-use Rattle.cip_topology.specs.Plan.{Plan}
+use Rattle.cip_chassis.specs.Plan.{Plan}
 use Rattle.cip_script.specs.declared.steps.Mode.TheVariants.{InTurn}
 use Rattle.cip_script.specs.declared.steps.Numbered.{Numbered}
 use Rattle.cip_script.specs.declared.steps.ScriptFault.{ScriptFault}

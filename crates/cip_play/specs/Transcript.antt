@@ -10,7 +10,7 @@ use Rattle.cip_config.specs.declared.config.ModuleSettings.{ModuleSettings}
 use Rattle.cip_module.specs.declared.tables.Tables.{Tables}
 use Rattle.cip_module.specs.State.{State}
 use Rattle.cip_module.specs.Views.{row_of, hop_row_of, assemblies_of}
-use Rattle.cip_topology.specs.Plan.{Plan}
+use Rattle.cip_chassis.specs.Plan.{Plan}
 use Rattle.cip_world.specs.declared.journal.FrameName.{FrameName}
 use Rattle.cip_world.specs.declared.journal.Entry.TheVariants.{Lost}
 use Rattle.cip_world.specs.declared.journal.Input.{Input}

@@ -1,7 +1,7 @@
 -- What the line of an entry shows, before those of its outputs.
 use Rattle.std.specs.Prelude.{ℕ, ◌^◌, ◌==◌, if◌then◌else◌, List, length, Option, Some, None, codes}
 use Rattle.std.specs.Str.{bytes_eq}
-use Rattle.cip_topology.specs.Plan.{Plan}
+use Rattle.cip_chassis.specs.Plan.{Plan}
 use Rattle.cip_words.specs.Shown.{below, number_of}
 use Rattle.cip_read.specs.Fields.{◌>>=◌, nth, of_words, ms_of, frame_of, module_of}
 use Rattle.cip_read.specs.declared.line.CommandWord.{CommandWord}

@@ -1,7 +1,7 @@
 -- What a line of a transcript shows, where it is part of an entry.
 use Rattle.std.specs.Prelude.{◌≡◌, ℕ, ◌^◌, ◌==◌, ◌&&◌, Bool, nat_lt, if◌then◌else◌, List, length}
 use Rattle.std.specs.Prelude.{Option, Some, None, Result, Ok, Err, is_some}
-use Rattle.cip_topology.specs.Plan.{Plan}
+use Rattle.cip_chassis.specs.Plan.{Plan}
 use Rattle.cip_words.specs.Shown.{words_of, below, number_of}
 use Rattle.cip_read.specs.declared.fault.LineFault.{LineFault}
 use Rattle.cip_read.specs.declared.line.Line.{Line}

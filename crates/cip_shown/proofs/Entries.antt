@@ -4,7 +4,7 @@ use Rattle.std.specs.Prelude.{codes, decimal, All}
 use Rattle.std.specs.List.{slice_split}
 use Rattle.std.proofs.lemmas.List.Splits.{slice_split_at}
 use Rattle.cip_event.specs.declared.event.Output.{Output}
-use Rattle.cip_topology.specs.Plan.{Plan, IsTopology}
+use Rattle.cip_chassis.specs.Plan.{Plan, IsTopology}
 use Rattle.cip_read.specs.Lines.{line_of}
 use Rattle.cip_read.specs.declared.line.Line.{Line}
 use Rattle.cip_read.specs.declared.line.Line.TheVariants as lines

@@ -15,7 +15,7 @@ use Rattle.cip_base.specs.declared.numbers.ModuleId.{ModuleId}
 use Rattle.cip_config.specs.declared.config.ModuleSettings.{ModuleSettings}
 use Rattle.cip_config.specs.Config.{is_name, is_name_byte, is_settings}
 use Rattle.cip_event.specs.declared.event.Command.TheVariants as commands
-use Rattle.cip_topology.specs.Plan.{Plan, IsTopology}
+use Rattle.cip_chassis.specs.Plan.{Plan, IsTopology}
 use Rattle.cip_words.specs.Shown.{is_dot, below}
 use Rattle.cip_read.specs.Fields.{◌>>=◌, if_positive, frame_by, frame_of, module_of, ms_of}
 use Rattle.cip_read.specs.Heads.{given_of}

@@ -12,7 +12,7 @@ use Rattle.std.proofs.lemmas.List.Splits.{slice_split_at, slice_split-cons_no}
 use Rattle.std.proofs.lemmas.Option.{slice_get_cases, slice_get-map, slice_get_past}
 use Rattle.cip_base.specs.declared.numbers.ModuleId.{ModuleId}
 use Rattle.cip_config.specs.declared.config.ModuleSettings.{ModuleSettings}
-use Rattle.cip_topology.specs.Plan.{Plan, IsTopology}
+use Rattle.cip_chassis.specs.Plan.{Plan, IsTopology}
 use Rattle.cip_words.specs.Shown.{is_space, words_of, below, number_of}
 use Rattle.cip_words.proofs.Back.{not_digits}
 use Rattle.cip_read.specs.Lines.{words_line, line_of, is_indented, is_head}

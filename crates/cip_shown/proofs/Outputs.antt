@@ -12,7 +12,7 @@ use Rattle.cip_event.specs.declared.event.Refused.TheVariants.{OpUsed, NotOpen, 
 use Rattle.cip_event.specs.declared.event.Dropped.{Dropped as Drop}
 use Rattle.cip_event.specs.declared.event.Dropped.TheVariants.{Malformed, Late, UnknownId}
 use Rattle.cip_event.specs.declared.event.Dropped.TheVariants as dropped
-use Rattle.cip_topology.specs.Plan.{Plan}
+use Rattle.cip_chassis.specs.Plan.{Plan}
 use Rattle.cip_words.specs.Shown.{below, number_of}
 use Rattle.cip_words.proofs.Back.{number_back, bytes_back}
 use Rattle.cip_read.specs.Fields.{◌>>=◌, if_positive, if_address, port_of, address_of}

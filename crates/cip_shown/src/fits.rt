@@ -1,7 +1,7 @@
 //! What the types of the program hold.
 ghost use Rattle.std.specs.Prelude.{◌≡◌, ◌+◌, ◌<◌, ◌^◌, length, Some};
 ghost use Rattle.hex.specs.Hex.{IsBytes};
-ghost use Rattle.cip_topology.specs.Plan.{Plan, IsTopology};
+ghost use Rattle.cip_chassis.specs.Plan.{Plan, IsTopology};
 ghost use Rattle.cip_world.specs.declared.journal.Entry.{Entry};
 ghost use Rattle.cip_transcript.specs.Show.{entry_text, names_of};
 ghost use Rattle.cip_shown.specs.Back.{read_text, lines_shown};

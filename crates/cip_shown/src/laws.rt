@@ -1,6 +1,6 @@
 //! Reading what a transcript shows gives it back.
 ghost use Rattle.std.specs.Prelude.{◌≡◌, ℕ, ◌<◌, ◌^◌, List, Some};
-ghost use Rattle.cip_topology.specs.Plan.{Plan, IsTopology};
+ghost use Rattle.cip_chassis.specs.Plan.{Plan, IsTopology};
 ghost use Rattle.cip_world.specs.declared.journal.Entry.{Entry};
 ghost use Rattle.cip_transcript.specs.Show.{entry_text, names_of, trail_text, chain_text};
 ghost use Rattle.cip_transcript.specs.Chained.{Chained};

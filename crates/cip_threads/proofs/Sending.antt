@@ -9,8 +9,8 @@ use Rattle.cip_base.specs.declared.numbers.ModuleId.{ModuleId}
 use Rattle.cip_config.specs.declared.config.ModuleSettings.{ModuleSettings}
 use Rattle.cip_config.specs.declared.config.PortConfig.{PortConfig}
 use Rattle.cip_event.specs.declared.event.Output.{Output}
-use Rattle.cip_topology.specs.Plan.{Plan}
-use Rattle.cip_topology.specs.Nodes.{Way, Node, is_at, node_from, or_later, comes_in, leaves_by, own_port, across as goes}
+use Rattle.cip_chassis.specs.Plan.{Plan}
+use Rattle.cip_chassis.specs.Nodes.{Way, Node, is_at, node_from, or_later, comes_in, leaves_by, own_port, across as goes}
 use Rattle.cip_world.specs.declared.journal.FrameName.{FrameName}
 use Rattle.cip_world.specs.declared.journal.Input.{Input}
 use Rattle.cip_world.specs.declared.journal.Entry.{Entry}

@@ -1,7 +1,7 @@
 -- What a finished book leaves.
 use Rattle.std.specs.Prelude.{◌≡◌, ◌<◌, ◌≤◌, ℕ, List, [], ◌++◌, ◌+◌, length}
 use Rattle.cip_base.specs.declared.numbers.ModuleId.{ModuleId}
-use Rattle.cip_topology.specs.Plan.{Plan}
+use Rattle.cip_chassis.specs.Plan.{Plan}
 use Rattle.cip_world.specs.declared.journal.FrameName.{FrameName}
 use Rattle.cip_world.specs.declared.world.End.{End}
 use Rattle.cip_world.specs.declared.world.End.TheVariants.{Quiet, Limit}

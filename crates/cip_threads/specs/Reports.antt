@@ -6,7 +6,7 @@ use Rattle.cip_module.specs.declared.tables.Tables.{Tables}
 use Rattle.cip_laws.specs.Histories.{IsHistory}
 use Rattle.cip_module.specs.State.{State}
 use Rattle.cip_module.specs.Views.{ShowsState}
-use Rattle.cip_topology.specs.Plan.{Plan}
+use Rattle.cip_chassis.specs.Plan.{Plan}
 use Rattle.cip_world.specs.declared.fresh.NewFault.{NewFault}
 use Rattle.cip_world.specs.declared.fresh.NewFault.TheVariants as news
 use Rattle.cip_world.specs.declared.journal.FrameName.{FrameName}

@@ -1,7 +1,7 @@
 //! The frames that wait, and where they come in.
 ghost use Rattle.std.specs.Prelude.{◌≡◌, ◌<◌, ◌∷◌, ◌++◌, [], IfOk, IfSome, IfNone, OnOk, List};
 ghost use Rattle.std.specs.Prelude.{Some, true, drop, length, map, option_map, reverse};
-ghost use Rattle.cip_topology.specs.Nodes.{across};
+ghost use Rattle.cip_chassis.specs.Nodes.{across};
 ghost use Rattle.cip_world.specs.Coming.{flight, way_in};
 ghost use Rattle.cip_world.specs.Journals.{flight_of, frame_at};
 ghost use Rattle.cip_world.specs.declared.journal.FrameName.{FrameName as Name};

@@ -1,16 +1,16 @@
 -- The rules of a topology file, in the order in which they are looked at.
-use Rattle.std.specs.Prelude.{◌≡◌, ◌==◌, if◌then◌else◌, [], Result, Ok, Err}
+use Rattle.std.specs.Prelude.{◌==◌, if◌then◌else◌, [], Result, Ok, Err}
 use Rattle.toml.specs.Data.{Items, Members}
-use Rattle.cip_topology.specs.declared.key.Key.{Key}
-use Rattle.cip_topology.specs.declared.key.Key.TheVariants as key
-use Rattle.cip_topology.specs.declared.place.Place.TheVariants.{File}
-use Rattle.cip_topology.specs.declared.fault.LoadFault.{LoadFault}
-use Rattle.cip_topology.specs.declared.fault.LoadFault.TheVariants.{NotToml, Missing, NoMemory}
-use Rattle.cip_topology.specs.Plan.{Plan}
-use Rattle.cip_topology.specs.Keys.{Read, ◌>>=◌, value_at, array_of, item_count}
-use Rattle.cip_topology.specs.LinkTables.{links_after}
-use Rattle.cip_topology.specs.PortTables.{at_most}
-use Rattle.cip_topology.specs.ModuleTables.{modules_after}
+use Rattle.cip_tables.specs.declared.key.Key.{Key}
+use Rattle.cip_tables.specs.declared.key.Key.TheVariants as key
+use Rattle.cip_tables.specs.declared.place.Place.TheVariants.{File}
+use Rattle.cip_tables.specs.declared.fault.LoadFault.{LoadFault}
+use Rattle.cip_tables.specs.declared.fault.LoadFault.TheVariants.{NotToml, Missing, NoMemory}
+use Rattle.cip_chassis.specs.Plan.{Plan}
+use Rattle.cip_tables.specs.Keys.{Read, ◌>>=◌, value_at, array_of, item_count}
+use Rattle.cip_tables.specs.LinkTables.{links_after}
+use Rattle.cip_tables.specs.PortTables.{at_most}
+use Rattle.cip_tables.specs.ModuleTables.{modules_after}
 
 abbrev pub some_items : Key → Items → Read Items
 some_items k items = if item_count items == 0 then Err (Missing k File) else Ok items
@@ -32,19 +32,6 @@ topology_of m =
     (at_most File key.Link 32 links >>= λ few.
     (at_most File key.Module 64 modules >>= λ some.
     plan_with links modules)))
-
--- ---- what a call answers
-
--- a fault is the one that reading gives, unless memory ran out
-abbrev pub Fails : {A : Type 0} → LoadFault → Read A → Type 0
-Fails NoMemory read = Unit {0}
-Fails (NotToml syntax) read = ⊥
-Fails fault read = read ≡ Err fault
-
--- what a call returned, seen by view, is what reading gives
-abbrev pub Gives : {X A : Type 0} → (X → A) → Result X LoadFault → Read A → Type 0
-Gives view (Ok x) read = read ≡ Ok (view x)
-Gives view (Err fault) read = Fails fault read
 
 -- the answer to a text that is no TOML
 abbrev pub IsRefusal : {X : Type 0} → Result X LoadFault → Type 0

@@ -7,8 +7,8 @@ use Rattle.cip_event.specs.declared.event.Body.{Body}
 use Rattle.cip_event.specs.declared.event.Body.TheVariants.{Request, Reply, Data}
 use Rattle.cip_read.specs.declared.line.Given.{Given}
 use Rattle.cip_read.specs.declared.line.Given.TheVariants.{Command, Tick, Frame}
-use Rattle.cip_topology.specs.Plan.{Plan}
-use Rattle.cip_topology.specs.Nodes.{node}
+use Rattle.cip_chassis.specs.Plan.{Plan}
+use Rattle.cip_chassis.specs.Nodes.{node}
 use Rattle.cip_view.specs.declared.book.Sent.{Sent}
 use Rattle.cip_view.specs.declared.book.Step.{Step}
 use Rattle.cip_view.specs.declared.label.Kind.{Kind}

@@ -17,7 +17,7 @@ use Rattle.cip_laws.proofs.AskedBy.{Waits, taken_waits}
 use Rattle.cip_world.specs.declared.journal.Input.{Input}
 use Rattle.cip_world.specs.declared.journal.FrameName.{FrameName}
 use Rattle.cip_laws.specs.Histories.{next_state}
-use Rattle.cip_topology.specs.Nodes.{Way, across as goes}
+use Rattle.cip_chassis.specs.Nodes.{Way, across as goes}
 use Rattle.cip_world.specs.Journals.{Journal, Flight, part}
 use Rattle.cip_world.specs.Answers.{Answered}
 use Rattle.cip_world.specs.Runs.{IsModule, IsArrival, state_in, IsStepAt, IsRun}

@@ -20,7 +20,7 @@ use Rattle.cip_world.specs.declared.journal.Entry.{Entry}
 use Rattle.cip_world.specs.declared.journal.Entry.TheVariants.{Step, Lost}
 use Rattle.cip_world.specs.declared.journal.FrameName.{FrameName}
 use Rattle.cip_laws.specs.Histories.{Turn}
-use Rattle.cip_topology.specs.Nodes.{Way, across as goes}
+use Rattle.cip_chassis.specs.Nodes.{Way, across as goes}
 use Rattle.cip_world.specs.Journals.{Journal, Flight, frame_at, same_name, names, is_named, part}
 use Rattle.cip_world.specs.Runs.{IsArrival, IsGiven, IsStepAt, IsRun}
 use Rattle.cip_world.proofs.Chassis.{Chassis}

@@ -37,7 +37,7 @@ use Rattle.cip_laws.proofs.Births.{born_once}
 use Rattle.cip_laws.proofs.Triads.{HasOwnTriads, own_triads}
 use Rattle.cip_laws.proofs.Turns.{turned}
 use Rattle.cip_laws.proofs.Weighing.{one_place}
-use Rattle.cip_topology.specs.Nodes.{Way}
+use Rattle.cip_chassis.specs.Nodes.{Way}
 use Rattle.cip_world.specs.declared.journal.Entry.TheVariants.{Step}
 use Rattle.cip_world.specs.declared.journal.FrameName.{FrameName}
 use Rattle.cip_world.specs.declared.journal.Input.TheVariants as inputs

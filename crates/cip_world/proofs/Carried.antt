@@ -43,8 +43,8 @@ use Rattle.cip_laws.proofs.Births.{held_born, born_once}
 use Rattle.cip_laws.proofs.DataMet.{goes_down, goes_entered}
 use Rattle.cip_laws.proofs.Triads.{HasOwnTriads, own_triads}
 use Rattle.cip_laws.proofs.Turns.{Turned, turned}
-use Rattle.cip_topology.specs.Plan.{Plan}
-use Rattle.cip_topology.specs.Nodes.{Way, across as goes}
+use Rattle.cip_chassis.specs.Plan.{Plan}
+use Rattle.cip_chassis.specs.Nodes.{Way, across as goes}
 use Rattle.cip_world.specs.declared.journal.Entry.TheVariants.{Step}
 use Rattle.cip_world.specs.declared.journal.Input.{Input}
 use Rattle.cip_world.specs.declared.journal.Input.TheVariants as inputs

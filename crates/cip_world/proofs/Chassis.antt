@@ -1,8 +1,8 @@
 -- A topology whose ways lead back: who answers by the way by which a frame came in is heard by the way by which it went out.
 use Rattle.std.proofs.Common.{◌≡◌, Some}
-use Rattle.cip_topology.specs.Plan.{Plan, IsTopology}
-use Rattle.cip_topology.specs.Nodes.{Way, across as goes}
-use Rattle.cip_topology.proofs.WayBack.{leads_back}
+use Rattle.cip_chassis.specs.Plan.{Plan, IsTopology}
+use Rattle.cip_chassis.specs.Nodes.{Way, across as goes}
+use Rattle.cip_chassis.proofs.WayBack.{leads_back}
 
 pub record Chassis : Type 0 where
   pub plan : Plan

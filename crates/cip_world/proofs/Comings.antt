@@ -2,8 +2,8 @@
 use Rattle.std.proofs.Common.{◌≡◌, ℕ, Bool, true, false, List, length, Option, Some, None, refl, sym, ap, ◌∙◌}
 use Rattle.std.specs.Prelude.{◌↔◌, IsTrue, option_map, IfSome}
 use Rattle.std.specs.List.{list_any}
-use Rattle.cip_topology.specs.Plan.{Plan}
-use Rattle.cip_topology.specs.Nodes.{across as goes}
+use Rattle.cip_chassis.specs.Plan.{Plan}
+use Rattle.cip_chassis.specs.Nodes.{across as goes}
 use Rattle.cip_world.specs.declared.flight.Flying.{Flying}
 use Rattle.cip_world.specs.declared.flight.Coming.{Coming}
 use Rattle.cip_world.specs.declared.journal.FrameName.{FrameName}

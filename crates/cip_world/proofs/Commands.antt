@@ -35,7 +35,7 @@ use Rattle.cip_laws.proofs.AskedOpens.{asks_row, asks_as}
 use Rattle.cip_laws.proofs.GaveBy.{gave_by}
 use Rattle.cip_laws.proofs.GivenBy.{ended_by}
 use Rattle.cip_laws.proofs.Turns.{newest}
-use Rattle.cip_topology.specs.Plan.{Plan}
+use Rattle.cip_chassis.specs.Plan.{Plan}
 use Rattle.cip_world.specs.declared.journal.Entry.TheVariants.{Step, Lost}
 use Rattle.cip_world.specs.declared.journal.Input.{Input}
 use Rattle.cip_world.specs.declared.journal.Input.TheVariants as inputs

@@ -26,9 +26,9 @@ use Rattle.cip_laws.specs.Turns.{Has}
 use Rattle.cip_module.proofs.Found.{found_own}
 use Rattle.cip_module.proofs.Removed.{open_at}
 use Rattle.cip_laws.proofs.Triads.{own_triads}
-use Rattle.cip_topology.specs.Walk.{walk}
-use Rattle.cip_topology.proofs.Walks.{walk_ends}
-use Rattle.cip_topology.specs.Plan.{Plan}
+use Rattle.cip_chassis.specs.Walk.{walk}
+use Rattle.cip_chassis.proofs.Walks.{walk_ends}
+use Rattle.cip_chassis.specs.Plan.{Plan}
 use Rattle.cip_world.specs.declared.journal.Entry.{Entry}
 use Rattle.cip_world.specs.declared.journal.Entry.TheVariants.{Step}
 use Rattle.cip_world.specs.declared.journal.FrameName.{FrameName}

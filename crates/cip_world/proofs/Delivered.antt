@@ -5,9 +5,9 @@ use Rattle.std.proofs.lemmas.List.{length-map}
 use Rattle.cip_config.specs.declared.config.PortConfig.{PortConfig}
 use Rattle.cip_event.specs.declared.event.Body.{Body}
 use Rattle.cip_event.specs.declared.event.Event.TheVariants as events
-use Rattle.cip_topology.specs.Plan.{Plan}
-use Rattle.cip_topology.specs.Nodes.{Way, Node, own_port, node_from, comes_in, leaves_by, across as goes}
-use Rattle.cip_topology.proofs.WayBack.{node_is}
+use Rattle.cip_chassis.specs.Plan.{Plan}
+use Rattle.cip_chassis.specs.Nodes.{Way, Node, own_port, node_from, comes_in, leaves_by, across as goes}
+use Rattle.cip_chassis.proofs.WayBack.{node_is}
 use Rattle.cip_world.specs.declared.fault.WorldFault.{WorldFault}
 use Rattle.cip_world.specs.declared.fault.WorldFault.TheVariants.{NoModule, NoFrame, Step, NoMemory}
 use Rattle.cip_world.specs.declared.flight.Coming.{Coming}

@@ -22,8 +22,8 @@ use Rattle.cip_module.specs.Table.{asked_open, sent, words_of}
 use Rattle.cip_laws.specs.Tells.{asker, command_asker}
 use Rattle.cip_laws.specs.Turns.{Has, SomeTurn, Gave}
 use Rattle.cip_laws.proofs.AskedOpens.{asks_asker}
-use Rattle.cip_topology.specs.Plan.{Plan}
-use Rattle.cip_topology.proofs.Walks.{walk_ends}
+use Rattle.cip_chassis.specs.Plan.{Plan}
+use Rattle.cip_chassis.proofs.Walks.{walk_ends}
 use Rattle.cip_world.specs.Journals.{Journal, entry_at, part}
 use Rattle.cip_world.specs.Runs.{IsRun}
 use Rattle.cip_world.specs.StepsIn.{StepIn, state_before}

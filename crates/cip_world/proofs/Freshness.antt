@@ -9,7 +9,7 @@ use Rattle.cip_module.specs.Rooms.{HasRooms}
 use Rattle.cip_module.specs.State.{State, initial_state}
 use Rattle.cip_module.specs.Views.{ShowsState}
 use Rattle.cip_laws.proofs.Shown.{fresh}
-use Rattle.cip_topology.specs.Plan.{Plan}
+use Rattle.cip_chassis.specs.Plan.{Plan}
 use Rattle.cip_world.specs.Fresh.{AreFresh, DifferFirst}
 use Rattle.cip_world.specs.Journals.{Journal}
 use Rattle.cip_world.specs.Ledgers.{Told}

@@ -15,7 +15,7 @@ use Rattle.cip_module.specs.State.{State}
 use Rattle.cip_laws.specs.Tells.{Tells}
 use Rattle.cip_laws.proofs.Stands.{held_cases, same_self}
 use Rattle.cip_laws.proofs.Turns.{Turned, newest, by_places}
-use Rattle.cip_topology.specs.Plan.{Plan}
+use Rattle.cip_chassis.specs.Plan.{Plan}
 use Rattle.cip_world.specs.declared.journal.Entry.{Entry}
 use Rattle.cip_world.specs.declared.journal.Entry.TheVariants.{Step, Lost}
 use Rattle.cip_world.specs.Journals.{Journal, part}

@@ -20,10 +20,10 @@ use Rattle.cip_config.specs.Config.{port_of}
 use Rattle.cip_laws.specs.Histories.{Turn, state_after, IsHistory}
 use Rattle.cip_module.specs.OpenRows.{is_consumed}
 use Rattle.cip_module.specs.State.{State}
-use Rattle.cip_topology.specs.Plan.{Plan}
-use Rattle.cip_topology.specs.Nodes.{Node, Way, own_port, node_on, node_from, comes_in, leaves_by, node, across as goes}
-use Rattle.cip_topology.specs.Walk.{walk}
-use Rattle.cip_topology.proofs.Walks.{walk_goes}
+use Rattle.cip_chassis.specs.Plan.{Plan}
+use Rattle.cip_chassis.specs.Nodes.{Node, Way, own_port, node_on, node_from, comes_in, leaves_by, node, across as goes}
+use Rattle.cip_chassis.specs.Walk.{walk}
+use Rattle.cip_chassis.proofs.Walks.{walk_goes}
 use Rattle.cip_world.proofs.BornAs.{BornAs, GoesOn, EndsHere, Birth, held_as}
 use Rattle.cip_world.proofs.Successes.{past_elim}
 

@@ -18,7 +18,7 @@ use Rattle.cip_laws.specs.Turns.{Has}
 use Rattle.cip_laws.proofs.DataOnce.{frame_once, enter_once}
 use Rattle.cip_laws.proofs.Turns.{turned}
 use Rattle.cip_laws.proofs.Weighing.{one_place}
-use Rattle.cip_topology.specs.Plan.{Plan}
+use Rattle.cip_chassis.specs.Plan.{Plan}
 use Rattle.cip_world.specs.declared.journal.Entry.{Entry}
 use Rattle.cip_world.specs.declared.journal.Entry.TheVariants.{Step}
 use Rattle.cip_world.specs.declared.journal.FrameName.{FrameName}

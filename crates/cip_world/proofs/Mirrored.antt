@@ -21,7 +21,7 @@ use Rattle.cip_event.specs.declared.event.Output.TheVariants as outputs
 use Rattle.cip_laws.specs.Births.{Past, IsBirth}
 use Rattle.cip_laws.specs.Histories.{Turn, state_after, IsHistory}
 use Rattle.cip_world.specs.Mirrors.{IsOlder, Mirrors, IsMirrored}
-use Rattle.cip_topology.specs.Nodes.{Way, across as goes}
+use Rattle.cip_chassis.specs.Nodes.{Way, across as goes}
 use Rattle.cip_world.specs.Journals.{Journal, Flight, part}
 use Rattle.cip_world.specs.Runs.{IsModule, state_in, IsRun}
 use Rattle.cip_laws.specs.Weights.{is_request, weight_in, weight}

@@ -6,7 +6,7 @@ use Rattle.cip_event.specs.declared.event.Output.{Output}
 use Rattle.cip_laws.specs.Births.{Past}
 use Rattle.cip_laws.specs.Histories.{Turn}
 use Rattle.cip_laws.specs.Turns.{Has}
-use Rattle.cip_topology.specs.Plan.{Plan}
+use Rattle.cip_chassis.specs.Plan.{Plan}
 use Rattle.cip_world.specs.declared.journal.Entry.{Entry}
 use Rattle.cip_world.specs.declared.journal.Entry.TheVariants.{Step, Lost}
 use Rattle.cip_world.specs.declared.journal.FrameName.{FrameName}

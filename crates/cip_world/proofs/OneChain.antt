@@ -5,8 +5,8 @@ use Rattle.cip_hops.specs.declared.opening.HopDown.TheVariants.{Link as DownLink
 use Rattle.cip_hops.specs.declared.hop.Hop.{Hop}
 use Rattle.cip_hops.specs.declared.hop.Held.TheVariants.{Open}
 use Rattle.cip_hops.specs.Hops.{hop_by_op}
-use Rattle.cip_topology.specs.Plan.{Plan}
-use Rattle.cip_topology.specs.Nodes.{Way, across as goes}
+use Rattle.cip_chassis.specs.Plan.{Plan}
+use Rattle.cip_chassis.specs.Nodes.{Way, across as goes}
 use Rattle.cip_world.specs.Chains.{Member, HasHop, IsNextTo, GoesToEnd, GoesOnBy, IsChain}
 use Rattle.cip_world.specs.Journals.{Journal}
 use Rattle.cip_world.specs.Runs.{state_in}

@@ -37,10 +37,10 @@ use Rattle.cip_module.specs.Table.{words_of, accepted_bytes}
 use Rattle.cip_laws.specs.Tells.{PendingTimesOutAs}
 use Rattle.cip_laws.specs.Turns.{Has}
 use Rattle.cip_laws.proofs.Failures.{open_fails, link_fails}
-use Rattle.cip_topology.specs.Plan.{Plan}
-use Rattle.cip_topology.specs.Nodes.{Node, Way, own_port, node_on, node_from, comes_in, leaves_by, node, across as goes}
-use Rattle.cip_topology.specs.Walk.{walk}
-use Rattle.cip_topology.proofs.Walks.{walk_goes}
+use Rattle.cip_chassis.specs.Plan.{Plan}
+use Rattle.cip_chassis.specs.Nodes.{Node, Way, own_port, node_on, node_from, comes_in, leaves_by, node, across as goes}
+use Rattle.cip_chassis.specs.Walk.{walk}
+use Rattle.cip_chassis.proofs.Walks.{walk_goes}
 use Rattle.cip_world.specs.declared.journal.Entry.TheVariants.{Step}
 use Rattle.cip_world.specs.declared.journal.Input.{Input}
 use Rattle.cip_world.specs.declared.journal.Input.TheVariants as inputs

@@ -20,7 +20,7 @@ use Rattle.cip_module.specs.Table.{open_effects, refused_effects, asked_open, de
 use Rattle.cip_laws.specs.Turns.{Has}
 use Rattle.cip_module.proofs.Kept.{spent_now, spent_still}
 use Rattle.cip_laws.proofs.Turns.{Turned, newest}
-use Rattle.cip_topology.specs.Plan.{Plan}
+use Rattle.cip_chassis.specs.Plan.{Plan}
 use Rattle.cip_world.specs.declared.journal.Entry.{Entry}
 use Rattle.cip_world.specs.declared.journal.Entry.TheVariants.{Step, Lost}
 use Rattle.cip_world.specs.declared.journal.Input.TheVariants as inputs

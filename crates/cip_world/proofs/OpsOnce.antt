@@ -38,7 +38,7 @@ use Rattle.cip_module.specs.UnconnectedRows as unconnected
 use Rattle.cip_module.proofs.Kept.{spent_now, spent_still}
 use Rattle.cip_laws.proofs.Turns.{Turned, newest}
 use Rattle.cip_hops.specs.declared.opening.HopUp.TheVariants.{Local as UpLocal}
-use Rattle.cip_topology.specs.Plan.{Plan}
+use Rattle.cip_chassis.specs.Plan.{Plan}
 use Rattle.cip_world.specs.declared.journal.Entry.{Entry}
 use Rattle.cip_world.specs.declared.journal.Entry.TheVariants.{Step, Lost}
 use Rattle.cip_world.specs.declared.journal.Input.{Input}

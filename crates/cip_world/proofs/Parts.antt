@@ -13,7 +13,7 @@ use Rattle.cip_base.specs.declared.numbers.ModuleId.{ModuleId}
 use Rattle.cip_world.specs.declared.journal.Entry.{Entry}
 use Rattle.cip_world.specs.declared.journal.Entry.TheVariants.{Step, Lost}
 use Rattle.cip_laws.specs.Histories.{Turn, stepped, next_state, IsHistory}
-use Rattle.cip_topology.specs.Plan.{Plan}
+use Rattle.cip_chassis.specs.Plan.{Plan}
 use Rattle.cip_world.specs.Journals.{Journal, arrival, event_of, with_turn, part}
 use Rattle.cip_world.specs.Runs.{IsModule, state_in, IsGiven, IsStepAt, IsRun}
 use Rattle.cip_laws.specs.Weights.{weight}

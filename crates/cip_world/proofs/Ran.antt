@@ -9,7 +9,7 @@ use Rattle.cip_config.specs.declared.config.ModuleSettings.{ModuleSettings}
 use Rattle.cip_module.specs.declared.tables.Tables.{Tables}
 use Rattle.cip_module.specs.State.{State}
 use Rattle.cip_module.specs.Views.{ShowsState}
-use Rattle.cip_topology.specs.Plan.{Plan}
+use Rattle.cip_chassis.specs.Plan.{Plan}
 use Rattle.cip_world.specs.declared.journal.FrameName.{FrameName}
 use Rattle.cip_world.specs.Journals.{Journal, same_name}
 use Rattle.cip_world.specs.Ledgers.{Told}

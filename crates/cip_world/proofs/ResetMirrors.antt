@@ -15,7 +15,7 @@ use Rattle.cip_laws.specs.Histories.{Turn, state_after, IsHistory}
 use Rattle.cip_laws.proofs.Again.{none_by_up}
 use Rattle.cip_laws.proofs.Births.{past_range}
 use Rattle.cip_laws.proofs.Puts.{reborn_above}
-use Rattle.cip_topology.specs.Nodes.{Way, across as goes}
+use Rattle.cip_chassis.specs.Nodes.{Way, across as goes}
 use Rattle.cip_world.specs.declared.journal.Entry.{Entry}
 use Rattle.cip_world.specs.declared.journal.Entry.TheVariants.{Step, Lost}
 use Rattle.cip_world.specs.Journals.{Journal, part}

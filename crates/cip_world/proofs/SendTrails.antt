@@ -18,9 +18,9 @@ use Rattle.cip_module.specs.declared.refusals.LinkRefusal.TheVariants.{TicksSpen
 use Rattle.cip_module.specs.Effects.{Sending, here_answer, timed_out_bytes}
 use Rattle.cip_module.specs.Statuses.{link_status}
 use Rattle.cip_laws.specs.Turns.{Has}
-use Rattle.cip_topology.specs.Plan.{Plan}
-use Rattle.cip_topology.specs.Walk.{walk}
-use Rattle.cip_topology.proofs.Walks.{walk_ends}
+use Rattle.cip_chassis.specs.Plan.{Plan}
+use Rattle.cip_chassis.specs.Walk.{walk}
+use Rattle.cip_chassis.proofs.Walks.{walk_ends}
 use Rattle.cip_world.specs.Journals.{Journal}
 use Rattle.cip_world.specs.Runs.{IsRun}
 use Rattle.cip_world.specs.StepsIn.{StepIn, state_before}

@@ -15,7 +15,7 @@ use Rattle.cip_event.specs.declared.event.Output.TheVariants as outputs
 use Rattle.cip_module.specs.Produced.{reads_from}
 use Rattle.cip_laws.specs.Tells.{DatumCame, Produced}
 use Rattle.cip_laws.proofs.Triads.{own_triads}
-use Rattle.cip_topology.specs.Walk.{walk}
+use Rattle.cip_chassis.specs.Walk.{walk}
 use Rattle.cip_world.specs.declared.journal.Entry.TheVariants.{Step}
 use Rattle.cip_world.specs.declared.journal.FrameName.{FrameName}
 use Rattle.cip_world.specs.declared.journal.Input.{Input}

@@ -24,9 +24,9 @@ use Rattle.cip_laws.specs.Histories.{Turn, state_after, IsHistory}
 use Rattle.cip_laws.specs.Outputs.{is_data, DatumOf, GoesUp, Arrives, GoesDown, IsConsumed}
 use Rattle.cip_module.specs.State.{State}
 use Rattle.cip_laws.proofs.Births.{held_born, born_once}
-use Rattle.cip_topology.specs.Plan.{Plan}
-use Rattle.cip_topology.specs.Nodes.{Way, across as goes}
-use Rattle.cip_topology.specs.Walk.{walk}
+use Rattle.cip_chassis.specs.Plan.{Plan}
+use Rattle.cip_chassis.specs.Nodes.{Way, across as goes}
+use Rattle.cip_chassis.specs.Walk.{walk}
 use Rattle.cip_world.specs.declared.journal.Entry.TheVariants.{Step}
 use Rattle.cip_world.specs.declared.journal.FrameName.{FrameName}
 use Rattle.cip_world.specs.declared.journal.Input.{Input}

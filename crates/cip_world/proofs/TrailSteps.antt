@@ -7,7 +7,7 @@ use Rattle.cip_event.specs.declared.event.Body.TheVariants as bodies
 use Rattle.cip_event.specs.declared.event.Output.TheVariants as outputs
 use Rattle.cip_module.specs.Effects.{Sending}
 use Rattle.cip_laws.specs.Histories.{state_after}
-use Rattle.cip_topology.specs.Plan.{Plan}
+use Rattle.cip_chassis.specs.Plan.{Plan}
 use Rattle.cip_world.specs.declared.journal.Entry.{Entry}
 use Rattle.cip_world.specs.declared.journal.Entry.TheVariants.{Step, Lost}
 use Rattle.cip_world.specs.declared.journal.FrameName.{FrameName}

@@ -30,7 +30,7 @@ use Rattle.cip_laws.specs.Tells.{AsksOpen, ForwardsAs, BeginsAs, SentOn, ClosedO
 use Rattle.cip_laws.specs.Births.{opened_by, Past, IsBirth}
 use Rattle.cip_laws.specs.Histories.{Turn, state_after, IsHistory}
 use Rattle.cip_world.specs.Mirrors.{IsOlder}
-use Rattle.cip_topology.specs.Nodes.{Way, across as goes}
+use Rattle.cip_chassis.specs.Nodes.{Way, across as goes}
 use Rattle.cip_world.specs.Journals.{Journal, part}
 use Rattle.cip_world.specs.Runs.{IsModule, state_in, IsRun}
 use Rattle.cip_laws.specs.Turns.{Has, SomeTurn, Gave}

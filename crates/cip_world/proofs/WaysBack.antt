@@ -37,8 +37,8 @@ use Rattle.cip_laws.proofs.Standing.{all_stand}
 use Rattle.cip_laws.proofs.TellsAskers.{replies_asker, answers_asker, forwards_asker, begins_asker}
 use Rattle.cip_laws.proofs.Turns.{Turned}
 use Rattle.cip_module.proofs.Waiting.{waits_at}
-use Rattle.cip_topology.specs.Plan.{Plan}
-use Rattle.cip_topology.specs.Nodes.{Way, across as goes}
+use Rattle.cip_chassis.specs.Plan.{Plan}
+use Rattle.cip_chassis.specs.Nodes.{Way, across as goes}
 use Rattle.cip_world.specs.declared.journal.Entry.{Entry}
 use Rattle.cip_world.specs.declared.journal.Entry.TheVariants.{Step}
 use Rattle.cip_world.specs.declared.journal.FrameName.{FrameName}

@@ -20,8 +20,8 @@ use Rattle.cip_laws.specs.Turns.{Has}
 use Rattle.cip_laws.proofs.GaveBy.{gave_by}
 use Rattle.cip_laws.proofs.RequestBy.{request_by}
 use Rattle.cip_laws.proofs.Turns.{Turned}
-use Rattle.cip_topology.specs.Plan.{Plan}
-use Rattle.cip_topology.specs.Nodes.{Way, across as goes}
+use Rattle.cip_chassis.specs.Plan.{Plan}
+use Rattle.cip_chassis.specs.Nodes.{Way, across as goes}
 use Rattle.cip_world.specs.declared.journal.Entry.{Entry}
 use Rattle.cip_world.specs.declared.journal.Entry.TheVariants.{Step, Lost}
 use Rattle.cip_world.specs.declared.journal.FrameName.{FrameName}

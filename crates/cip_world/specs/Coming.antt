@@ -1,7 +1,7 @@
 -- Frames as the code finds them.
 use Rattle.std.specs.Prelude.{◌≡◌}
-use Rattle.cip_topology.specs.Plan.{Plan}
-use Rattle.cip_topology.specs.Nodes.{Way}
+use Rattle.cip_chassis.specs.Plan.{Plan}
+use Rattle.cip_chassis.specs.Nodes.{Way}
 use Rattle.cip_world.specs.declared.journal.FrameName.{FrameName}
 use Rattle.cip_world.specs.declared.flight.Flying.{Flying}
 use Rattle.cip_world.specs.declared.flight.Coming.{Coming}

@@ -40,8 +40,8 @@ use Rattle.cip_module.specs.Statuses.{link_status, open_status}
 use Rattle.cip_module.specs.Table.{up_side_of, words_of, asked_open}
 use Rattle.cip_laws.specs.Tells.{Came, AsksOpen, PendingTimesOutAs}
 use Rattle.cip_laws.specs.Turns.{Has, Gave}
-use Rattle.cip_topology.specs.Plan.{Plan}
-use Rattle.cip_topology.specs.Walk.{walk}
+use Rattle.cip_chassis.specs.Plan.{Plan}
+use Rattle.cip_chassis.specs.Walk.{walk}
 use Rattle.cip_world.specs.declared.journal.Entry.{Entry}
 use Rattle.cip_world.specs.declared.journal.Entry.TheVariants.{Step, Lost}
 use Rattle.cip_world.specs.Journals.{Journal, entry_at, event_of, part}

@@ -14,7 +14,7 @@ use Rattle.cip_module.specs.Steps.{IsStep}
 use Rattle.cip_module.specs.Table.{table_step}
 use Rattle.cip_module.specs.Views.{ShowsState}
 use Rattle.cip_module.specs.declared.tables.Tables.{Tables}
-use Rattle.cip_topology.specs.Plan.{Plan}
+use Rattle.cip_chassis.specs.Plan.{Plan}
 use Rattle.cip_world.specs.declared.fault.WorldFault.{WorldFault}
 use Rattle.cip_world.specs.declared.fault.WorldFault.TheVariants as faults
 use Rattle.cip_world.specs.declared.world.End.{End}

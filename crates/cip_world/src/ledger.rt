@@ -3,7 +3,7 @@ ghost use Rattle.std.specs.Prelude.{◌≡◌, ◌↔◌, ◌∷◌, ◌++◌, �
 ghost use Rattle.std.specs.Prelude.{reverse, is_some, option_map, slice_get, IsTrue, OnOk, IfOk};
 ghost use Rattle.std.specs.Prelude.{IfSome, IfNone, Some};
 ghost use Rattle.std.specs.List.{list_any};
-ghost use Rattle.cip_topology.specs.Nodes.{across};
+ghost use Rattle.cip_chassis.specs.Nodes.{across};
 ghost use Rattle.cip_world.specs.Journals.{named_by, flight_of, same_name, is_that};
 ghost use Rattle.cip_world.specs.Names.{AreRising};
 ghost use Rattle.cip_world.specs.Coming.{IsComing, flight, way_in};

@@ -27,8 +27,8 @@ use Rattle.cip_segment.specs.Scan.{bytes_at, padded_at, narrow_at, double_at, po
 use Rattle.cip_segment.specs.Scan.{other_at, logical_at, segment_at}
 use Rattle.cip_module.specs.Table.{asked_open, open_of}
 use Rattle.cip_target.specs.declared.identity.IdentityFields.{IdentityFields}
-use Rattle.cip_topology.specs.Plan.{Plan, IsTopology}
-use Rattle.cip_topology.specs.Walk.{Stop, walk, walk_within}
+use Rattle.cip_chassis.specs.Plan.{Plan, IsTopology}
+use Rattle.cip_chassis.specs.Walk.{Stop, walk, walk_within}
 use Rattle.cip_world.specs.declared.journal.Entry.TheVariants.{Step}
 use Rattle.cip_world.specs.declared.journal.Input.TheVariants.{Command}
 use Rattle.cip_world.specs.Journals.{Journal, entry_at, part}

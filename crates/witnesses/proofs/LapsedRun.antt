@@ -7,7 +7,7 @@ use Rattle.cip_hops.specs.declared.hop.Held.TheVariants.{Open}
 use Rattle.cip_config.specs.declared.config.ModuleSettings.{ModuleSettings}
 use Rattle.cip_event.specs.declared.event.Event.TheVariants as events
 use Rattle.cip_event.specs.declared.event.Output.TheVariants as outputs
-use Rattle.cip_topology.specs.Nodes.{Way, across}
+use Rattle.cip_chassis.specs.Nodes.{Way, across}
 use Rattle.cip_world.specs.Chains.{HasHop}
 use Rattle.cip_world.specs.Mirrors.{IsOlder, Mirrors, IsMirrored}
 use Rattle.cip_world.specs.Runs.{IsRun, state_in}

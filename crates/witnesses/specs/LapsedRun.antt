@@ -4,7 +4,7 @@ use Rattle.cip_hops.specs.declared.hop.Hop.{Hop}
 use Rattle.cip_hops.specs.declared.opening.HopUp.TheVariants.{Link as UpLink, Local as UpLocal}
 use Rattle.cip_hops.specs.declared.opening.HopDown.TheVariants.{Link as DownLink, End}
 use Rattle.cip_event.specs.declared.event.Output.TheVariants as outputs
-use Rattle.cip_topology.specs.Nodes.{Way}
+use Rattle.cip_chassis.specs.Nodes.{Way}
 use Rattle.cip_world.specs.declared.journal.Input.TheVariants.{Tick}
 use Rattle.cip_world.specs.declared.journal.Entry.TheVariants.{Step}
 use Rattle.cip_world.specs.Chains.{Member}

@@ -8,8 +8,8 @@ use Rattle.cip_config.specs.declared.config.PortConfig.{PortConfig}
 use Rattle.cip_config.specs.declared.config.LegalAddresses.{LegalAddresses}
 use Rattle.cip_config.specs.declared.config.LegalAddresses.TheVariants.{Byte}
 use Rattle.cip_event.specs.declared.event.OpenParams.{OpenParams}
-use Rattle.cip_topology.specs.Plan.{Plan}
-use Rattle.cip_topology.specs.declared.links.Link.{Link}
+use Rattle.cip_chassis.specs.Plan.{Plan}
+use Rattle.cip_chassis.specs.declared.links.Link.{Link}
 use Rattle.cip_world.specs.declared.journal.FrameName.{FrameName}
 
 abbrev pub identity : ℕ → ℕ → IdentityFields

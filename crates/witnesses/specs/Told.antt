@@ -7,7 +7,7 @@ use Rattle.cip_event.specs.declared.event.Dropped.TheVariants.{Late}
 use Rattle.cip_event.specs.declared.event.Event.TheVariants as events
 use Rattle.cip_event.specs.declared.event.Output.TheVariants as outputs
 use Rattle.cip_laws.specs.Turns.{Has}
-use Rattle.cip_topology.specs.Plan.{Plan}
+use Rattle.cip_chassis.specs.Plan.{Plan}
 use Rattle.cip_world.specs.Entering.{ArrivedOf, ConsumedOf}
 use Rattle.cip_world.specs.Journals.{Journal}
 use Rattle.cip_world.specs.StepsIn.{StepIn, state_before}

@@ -18,7 +18,7 @@ ghost use Rattle.cip_laws.specs.Births.{IsBirth};
 ghost use Rattle.cip_laws.specs.Resets.{ResetIn, made_again};
 ghost use Rattle.cip_laws.specs.Turns.{Gave, Has};
 ghost use Rattle.cip_laws.specs.Weights.{is_ended, is_reply, weight};
-ghost use Rattle.cip_topology.specs.Plan.{IsTopology};
+ghost use Rattle.cip_chassis.specs.Plan.{IsTopology};
 ghost use Rattle.cip_world.specs.declared.journal.Entry.TheVariants.{Step, Lost};
 ghost use Rattle.cip_world.specs.declared.journal.Input.TheVariants.{Command};
 ghost use Rattle.cip_world.specs.Answers.{Answered};

@@ -5,8 +5,8 @@ use Rattle.cip_hops.specs.declared.opening.HopDown.TheVariants.{Link as DownLink
 use Rattle.cip_hops.specs.Hops.{Hops, hop_by_up}
 use Rattle.cip_module.specs.declared.tables.HopRow.{HopRow}
 use Rattle.cip_module.specs.Views.{hop_row_of}
-use Rattle.cip_topology.specs.Plan.{Plan}
-use Rattle.cip_topology.specs.Nodes.{Way, across as goes}
+use Rattle.cip_chassis.specs.Plan.{Plan}
+use Rattle.cip_chassis.specs.Nodes.{Way, across as goes}
 use Rattle.cip_world.specs.Worlds.{looked_up}
 use Rattle.cip_chain.specs.Found.{member}
 use Rattle.cip_chain.proofs.Nexts.{ends, no_none, no_id, next_found, next_none}

@@ -1,7 +1,7 @@
 use Rattle.std.proofs.Common.{◌≡◌, ℕ, List, Vec, Global, Result, Ok, Err, sym, subst, reverse}
 use Rattle.std.specs.Prelude.{IfOk}
 use Rattle.cip_base.specs.declared.memory.NoMemory.{NoMemory}
-use Rattle.cip_topology.specs.Plan.{Plan}
+use Rattle.cip_chassis.specs.Plan.{Plan}
 use Rattle.cip_world.specs.Journals.{Journal}
 use Rattle.cip_world.specs.TrailTells.{TrailTells}
 use Rattle.cip_world.specs.Trails.{trail_of}

@@ -1,5 +1,5 @@
 use Rattle.std.proofs.Common.{◌≡◌, ◌∙◌, [], sym, subst, refl, Ok, Err}
-use Rattle.cip_topology.specs.Plan.{Plan}
+use Rattle.cip_chassis.specs.Plan.{Plan}
 use Rattle.cip_play.specs.declared.playing.PlayFault.{PlayFault}
 use Rattle.cip_play.specs.declared.playing.PlayFault.TheVariants.{Stopped, Write, NoMemory}
 use Rattle.cip_play.specs.Playing.{Prints, Plays}

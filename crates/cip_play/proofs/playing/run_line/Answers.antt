@@ -1,5 +1,5 @@
 use Rattle.std.proofs.Common.{◌∙◌, ◌++◌, ap, subst, Err}
-use Rattle.cip_topology.specs.Plan.{Plan}
+use Rattle.cip_chassis.specs.Plan.{Plan}
 use Rattle.cip_world.specs.Waiting.{waiting}
 use Rattle.cip_play.specs.declared.playing.PlayFault.{PlayFault}
 use Rattle.cip_play.specs.Known.{AppendsFront}

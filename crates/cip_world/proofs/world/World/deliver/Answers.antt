@@ -1,6 +1,6 @@
 use Rattle.std.proofs.Common.{subst}
 use Rattle.std.specs.Prelude.{IfOk, IfErr}
-use Rattle.cip_topology.specs.Plan.{Plan}
+use Rattle.cip_chassis.specs.Plan.{Plan}
 use Rattle.cip_world.specs.Journals.{Journal}
 use Rattle.cip_world.specs.Worlds.{AddsArrival, IsFrameFault}
 use Rattle.cip_world.proofs.world.World.deliver.Goals as goal

@@ -1,5 +1,5 @@
 use Rattle.std.proofs.Common.{◌≡◌, [], subst}
-use Rattle.cip_topology.specs.Plan.{Plan}
+use Rattle.cip_chassis.specs.Plan.{Plan}
 use Rattle.cip_world.specs.Journals.{Journal}
 use Rattle.cip_world.specs.Waiting.{waiting}
 use Rattle.cip_world.proofs.Ran.{none_first, first_waits}

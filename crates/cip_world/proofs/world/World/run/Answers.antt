@@ -1,5 +1,5 @@
 use Rattle.std.proofs.Common.{◌∙◌, subst, arith}
-use Rattle.cip_topology.specs.Plan.{Plan}
+use Rattle.cip_chassis.specs.Plan.{Plan}
 use Rattle.cip_world.specs.Worlds.{DeliversOne}
 use Rattle.cip_world.proofs.Ran.{one_more, one_further}
 use Rattle.cip_world.proofs.world.World.run.Goals as goal

@@ -1,0 +1,11 @@
+pub mod Entries
+pub mod Rules
+pub mod LinksKept
+pub mod PortsKept
+pub mod ModulesKept
+pub mod Indexed
+pub mod TopologyKept
+pub mod Written
+pub mod LinksWritten
+pub mod PortsWritten
+pub mod ModulesWritten

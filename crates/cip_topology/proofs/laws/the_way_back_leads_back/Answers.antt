@@ -1,5 +1,0 @@
-use Rattle.cip_topology.proofs.WayBack.{leads_back}
-use Rattle.cip_topology.proofs.laws.the_way_back_leads_back.Goals as goal
-
-pub returns : goal.returns
-returns c = leads_back
