@@ -5,7 +5,7 @@ ghost use Rattle.std.specs.Prelude.{None};
 use crate::console_transcripts::{SEND, SENT};
 use crate::outcomes::{Wanted, is_front, is_wanted};
 use crate::over_new::run_chassis;
-use crate::playing::Faulty;
+use crate::playing::{Faulty, shown};
 use cip_console::{ConsoleFault, Out, Plain, SCRIPT_LIMIT, ScriptFault, Sink, Source};
 use std::alloc::Global;
 use std::io;
@@ -378,7 +378,8 @@ fn the_first_faulty_line(rt: HostRuntime) -> Result<(), Fail> {
     for (script, line, fault) in &FAULTY {
         let wanted = Wanted::Fault(ConsoleFault::Script(*line, *fault), "");
         if !plays(rt.alloc(), script, AT_ONCE, wanted) {
-            return Err(Fail::new(format_args!("{script:?}: not {line} {fault}")));
+            let name = shown(script);
+            return Err(Fail::new(format_args!("{name}: not {line} {fault}")));
         }
     }
     Ok(())

@@ -113,7 +113,7 @@ fn first_fault(alloc: Global, script: &[u8]) -> Option<(usize, ScriptFault)> {
 }
 
 // What is told of the first faulty line of a script.
-fn told(alloc: Global, script: &[u8]) -> Option<String> {
+fn explanation(alloc: Global, script: &[u8]) -> Option<String> {
     let (line, fault) = first_fault(alloc, script)?;
     let explained = explain(alloc, script, line, fault).ok()?;
     format!(in alloc; "{explained}").ok()
@@ -122,7 +122,7 @@ fn told(alloc: Global, script: &[u8]) -> Option<String> {
 #[test]
 fn the_word_that_is_faulty_and_what_is_allowed(rt: HostRuntime) -> Result<(), Fail> {
     for (script, wanted) in &TOLD {
-        let text = told(rt.alloc(), script).ok_or(*wanted)?;
+        let text = explanation(rt.alloc(), script).ok_or(*wanted)?;
         if text.as_str() != *wanted {
             return Err(Fail::new(format_args!("{text}, and not {wanted}")));
         }

@@ -24,12 +24,17 @@ pub fn first_other(alloc: Global, rows: &[Row]) -> Option<&'static str> {
     None
 }
 
+/// A script of bytes, as it is told of.
+pub fn shown(script: &[u8]) -> &str {
+    std::str::from_utf8(script).unwrap_or("bytes that are no text")
+}
+
 /// The first script of which something else comes.
-pub fn first_taken(alloc: Global, rows: &[Faulty]) -> Option<&'static [u8]> {
+pub fn first_taken(alloc: Global, rows: &[Faulty]) -> Option<&'static str> {
     for (script, line, fault) in rows {
         let wanted = Wanted::Fault(ConsoleFault::Script(*line, *fault), "");
         if !plays(alloc, script, Change::Unchanged, wanted) {
-            return Some(*script);
+            return Some(shown(*script));
         }
     }
     None

@@ -459,7 +459,7 @@ fn modules_of_each_kind_write_the_same_transcripts(rt: HostRuntime) -> Result<()
 }
 
 // How many modules of a chassis file are indexed; None where the allocation for it is refused.
-fn indexed(alloc: Global, kinds: Kinds) -> Option<usize> {
+fn count_indexed(alloc: Global, kinds: Kinds) -> Option<usize> {
     let file = file_for(alloc, &CHASSIS_ROW, kinds).ok()?;
     let mut count: usize = 0;
     for line in file.lines() {
@@ -472,7 +472,7 @@ fn indexed(alloc: Global, kinds: Kinds) -> Option<usize> {
 
 #[test]
 fn the_files_differ_in_their_kinds_alone(rt: HostRuntime) {
-    assert_eq!(rt; indexed(rt.alloc(), Kinds::Plain), Some(0));
-    assert_eq!(rt; indexed(rt.alloc(), Kinds::Indexed), Some(3));
-    assert_eq!(rt; indexed(rt.alloc(), Kinds::OneIndexed), Some(1));
+    assert_eq!(rt; count_indexed(rt.alloc(), Kinds::Plain), Some(0));
+    assert_eq!(rt; count_indexed(rt.alloc(), Kinds::Indexed), Some(3));
+    assert_eq!(rt; count_indexed(rt.alloc(), Kinds::OneIndexed), Some(1));
 }
