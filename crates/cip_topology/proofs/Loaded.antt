@@ -3,7 +3,6 @@ use Rattle.std.proofs.Common.{◌≡◌, ℕ, ◌≤◌, false, eqb, List, [], l
 use Rattle.std.proofs.Common.{refl, sym, subst, arith, nat_lt}
 use Rattle.std.proofs.lemmas.Bool.Decides.{nat_tests}
 use Rattle.toml.specs.Data.{Members, array}
-use Rattle.cip_chassis.specs.declared.links.Link.{Link}
 use Rattle.cip_tables.specs.declared.key.Key.{Key}
 use Rattle.cip_tables.specs.declared.key.Key.TheVariants as key
 use Rattle.cip_tables.specs.declared.place.Place.TheVariants.{File}
