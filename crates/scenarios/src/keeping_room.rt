@@ -69,10 +69,10 @@ fn event_of(alloc: Global, harness: &Harness, row: &Row) -> Option<(usize, Event
 // The room in which bytes go on by an output.
 fn room_of(output: Output) -> Option<usize> {
     match output {
-        Output::Send {
-            body: Body::Data { bytes, .. },
-            ..
-        } => Some(bytes.into_vec().capacity()),
+        Output::Send { body, .. } => match body {
+            Body::Data { bytes, .. } => Some(bytes.into_vec().capacity()),
+            _ => None,
+        },
         Output::Arrived { bytes, .. } => Some(bytes.into_vec().capacity()),
         Output::Consumed { bytes, .. } => Some(bytes.into_vec().capacity()),
         _ => None,
