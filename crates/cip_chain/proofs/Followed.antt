@@ -15,7 +15,7 @@ use Rattle.cip_hops.specs.declared.hop.Held.{Held}
 use Rattle.cip_hops.specs.declared.hop.Held.TheVariants.{Opening as IsOpening, Open}
 use Rattle.cip_hops.specs.declared.opening.HopUp.TheVariants.{Local as UpLocal}
 use Rattle.cip_hops.specs.declared.hop.Hop.{Hop}
-use Rattle.cip_module.specs.declared.tables.HopRow.{HopRow}
+use Rattle.cip_routing.specs.declared.tables.HopRow.{HopRow}
 use Rattle.cip_hops.specs.Hops.{Hops, as_hop, is_hop, is_hop_by_op, hop_by_op}
 use Rattle.cip_hops.specs.Sides.{op_of}
 use Rattle.cip_hops.proofs.Steps.{triads_apart}

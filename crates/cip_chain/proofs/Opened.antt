@@ -13,9 +13,9 @@ use Rattle.cip_hops.specs.declared.opening.HopUp.TheVariants.{Link as UpLink, Lo
 use Rattle.cip_hops.specs.Hops.{Hops, as_hop, first_hop, hop_by_op, is_hop_by_op, is_id}
 use Rattle.cip_hops.specs.Sides.{op_of}
 use Rattle.cip_config.specs.declared.config.ModuleSettings.{ModuleSettings}
-use Rattle.cip_module.specs.declared.tables.HopRow.{HopRow}
-use Rattle.cip_module.specs.Views.{hop_row_of}
-use Rattle.cip_module.proofs.Found.{found_own}
+use Rattle.cip_routing.specs.declared.tables.HopRow.{HopRow}
+use Rattle.cip_routing.specs.Views.{hop_row_of}
+use Rattle.cip_routing.proofs.Found.{found_own}
 use Rattle.cip_laws.proofs.Triads.{own_triads}
 use Rattle.cip_chassis.specs.Plan.{Plan}
 use Rattle.cip_world.specs.Chains.{HasHop}

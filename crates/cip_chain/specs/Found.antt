@@ -4,7 +4,7 @@ use Rattle.cip_base.specs.Words.{ConnectionId, LinkAddress, OpNumber, PortIdenti
 use Rattle.cip_hops.specs.declared.opening.HopDown.TheVariants.{Link as DownLink}
 use Rattle.cip_hops.specs.declared.opening.HopUp.TheVariants.{Local as UpLocal}
 use Rattle.cip_hops.specs.declared.hop.Hop.{Hop}
-use Rattle.cip_module.specs.Views.{hop_row_of}
+use Rattle.cip_routing.specs.Views.{hop_row_of}
 use Rattle.cip_chassis.specs.Plan.{Plan}
 use Rattle.cip_chassis.specs.Nodes.{node}
 use Rattle.cip_world.specs.Chains.{Member, HasHop, IsNextTo, GoesToEnd}

@@ -8,7 +8,7 @@ ghost use Rattle.cip_chain.specs.Index.{IsIndexOf};
 
 use crate::trails::{first_request, is_refused, walk};
 use cip_base::{ModuleId, NoMemory};
-use cip_module::Command;
+use cip_routing::Command;
 use cip_world::{Entry, FrameName, Input};
 use std::alloc::Global;
 use std::collections::BTreeMap;

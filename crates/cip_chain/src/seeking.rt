@@ -9,7 +9,7 @@ ghost use Rattle.cip_chain.specs.Found.{IsNextFault};
 use crate::chains::ChainFault;
 use cip_base::ModuleId;
 use cip_hops::HopDown;
-use cip_module::HopRow;
+use cip_routing::HopRow;
 use cip_world::{Shown, World};
 
 // The row of a connection of a module.

@@ -11,7 +11,7 @@ ghost use Rattle.cip_world.specs.Trails.{trail_of};
 ghost use Rattle.cip_chain.specs.Seeking.{is_next, is_nothing, seeks};
 
 use cip_base::{ModuleId, NoMemory};
-use cip_module::{Body, Command, Output};
+use cip_routing::{Body, Command, Output};
 use cip_world::{Entry, FrameName, Input};
 use std::alloc::Global;
 

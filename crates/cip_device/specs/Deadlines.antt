@@ -3,10 +3,10 @@ use Rattle.std.specs.Prelude.{◌≡◌, ◌≢◌, ◌↔◌, ◌+◌, ◌*◌,
 use Rattle.std.specs.List.{list_any}
 use Rattle.cip_hops.specs.Hops.{is_past}
 use Rattle.cip_event.specs.declared.event.Event.TheVariants as events
-use Rattle.cip_module.specs.Deadlines.{is_any_due as is_due_at}
-use Rattle.cip_module.specs.Table.{table_step}
-use Rattle.cip_module.specs.declared.tables.HopRow.{HopRow}
-use Rattle.cip_module.specs.declared.tables.PendingRow.{PendingRow}
+use Rattle.cip_routing.specs.Deadlines.{is_any_due as is_due_at}
+use Rattle.cip_routing.specs.Table.{table_step}
+use Rattle.cip_routing.specs.declared.tables.HopRow.{HopRow}
+use Rattle.cip_routing.specs.declared.tables.PendingRow.{PendingRow}
 use Rattle.cip_device.specs.Shown.{Shown}
 use Rattle.cip_device.specs.Statuses.{IsDeadlineStatus}
 

@@ -1,8 +1,8 @@
 -- What C reads of a device.
 use Rattle.std.specs.Prelude.{◌≡◌, ◌↔◌, ◌<◌, ◌≤◌, ◌==◌, ℕ, Bool, find, length, take, Option, Some, None}
 use Rattle.cip_base.specs.Words.{Octets}
-use Rattle.cip_module.specs.declared.tables.AssemblyRow.{AssemblyRow}
-use Rattle.cip_module.specs.Views.{assemblies_of}
+use Rattle.cip_routing.specs.declared.tables.AssemblyRow.{AssemblyRow}
+use Rattle.cip_routing.specs.Views.{assemblies_of}
 use Rattle.cip_device.specs.Shown.{Shown}
 use Rattle.cip_device.specs.Statuses.{IsReadStatus}
 

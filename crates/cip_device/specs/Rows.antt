@@ -13,10 +13,10 @@ use Rattle.cip_pending.specs.declared.entry.Kind.{Kind}
 use Rattle.cip_pending.specs.declared.entry.Kind.TheVariants as kinds
 use Rattle.cip_pending.specs.declared.entry.UpSide.{UpSide}
 use Rattle.cip_pending.specs.declared.entry.UpSide.TheVariants as sides
-use Rattle.cip_module.specs.State.{State}
-use Rattle.cip_module.specs.Views.{hop_row_of, row_of}
-use Rattle.cip_module.specs.declared.tables.HopRow.{HopRow}
-use Rattle.cip_module.specs.declared.tables.PendingRow.{PendingRow}
+use Rattle.cip_routing.specs.State.{State}
+use Rattle.cip_routing.specs.Views.{hop_row_of, row_of}
+use Rattle.cip_routing.specs.declared.tables.HopRow.{HopRow}
+use Rattle.cip_routing.specs.declared.tables.PendingRow.{PendingRow}
 use Rattle.cip_device.specs.Shown.{Shown}
 use Rattle.cip_device.specs.Statuses.{IsTableStatus}
 use Rattle.cip_device.specs.declared.rows.CipConnectionRow.{CipConnectionRow}

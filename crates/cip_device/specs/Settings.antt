@@ -11,7 +11,7 @@ use Rattle.cip_config.specs.declared.config.ModuleKind.TheVariants.{Plain, Adapt
 use Rattle.cip_config.specs.declared.config.ModuleSettings.{ModuleSettings}
 use Rattle.cip_config.specs.declared.config.PortConfig.{PortConfig}
 use Rattle.cip_config.specs.Config.{is_settings}
-use Rattle.cip_module.specs.State.{initial_state}
+use Rattle.cip_routing.specs.State.{initial_state}
 use Rattle.cip_target.specs.Identity.{is_identity}
 use Rattle.cip_device.specs.Shown.{Shown}
 use Rattle.cip_device.specs.declared.settings.CipAssembly.{CipAssembly}

@@ -4,9 +4,9 @@ use Rattle.cip_config.specs.declared.config.ModuleSettings.{ModuleSettings}
 use Rattle.cip_event.specs.declared.event.Event.{Event}
 use Rattle.cip_event.specs.declared.event.Output.{Output}
 use Rattle.cip_indexed.specs.NewModules.{config_of_new, state_of_new}
-use Rattle.cip_module.specs.State.{State}
-use Rattle.cip_module.specs.Steps.{IsStep}
-use Rattle.cip_module.specs.Table.{table_step}
+use Rattle.cip_routing.specs.State.{State}
+use Rattle.cip_routing.specs.Steps.{IsStep}
+use Rattle.cip_routing.specs.Table.{table_step}
 use Rattle.cip_device.specs.declared.held.Held.{Held}
 use Rattle.cip_device.specs.Statuses.{IsStepStatus}
 

@@ -5,7 +5,7 @@ ghost use Rattle.cip_ends.specs.Ends.{first_reply, reply_in, reply_of};
 ghost use Rattle.cip_ends.specs.Ends.{HasNoEnd, HasOneDone, IsDoneAt, IsEndAt, IsReply};
 
 use cip_base::{Bytes, ModuleId, NoMemory};
-use cip_module::Output;
+use cip_routing::Output;
 use cip_world::Entry;
 use std::alloc::Global;
 use std::collections::BTreeMap;

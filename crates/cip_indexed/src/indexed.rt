@@ -3,14 +3,14 @@
 ghost use Rattle.std.specs.Prelude.{◌≡◌, ℕ, ◌<◌, [], IfOk};
 ghost use Rattle.cip_base.specs.Counts.{incarnation};
 ghost use Rattle.cip_hops.specs.Hops.{is_past};
-ghost use Rattle.cip_module.specs.Deadlines.{is_any_due};
+ghost use Rattle.cip_routing.specs.Deadlines.{is_any_due};
 ghost use Rattle.std.specs.Vec.{vec_capacity};
 ghost use Rattle.cip_config.specs.declared.config.ModuleKind.{ModuleKind as Kind};
 ghost use Rattle.cip_event.specs.declared.event.Body.TheVariants as bodies;
 ghost use Rattle.cip_event.specs.declared.event.Event.TheVariants as events;
 ghost use Rattle.cip_event.specs.declared.event.Command.TheVariants.{Enter};
-ghost use Rattle.cip_module.specs.State.{initial_state};
-ghost use Rattle.cip_module.specs.Steps.{IsStep, IsStepFault};
+ghost use Rattle.cip_routing.specs.State.{initial_state};
+ghost use Rattle.cip_routing.specs.Steps.{IsStep, IsStepFault};
 ghost use Rattle.cip_indexed.specs.Indexed.{config_of_indexed, state_of_indexed};
 
 use crate::edited::{put_out, sent};

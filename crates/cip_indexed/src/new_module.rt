@@ -1,6 +1,6 @@
 //! New modules, each in a box of its own kind.
 ghost use Rattle.std.specs.Prelude.{◌≡◌, IfOk, map};
-ghost use Rattle.cip_module.specs.State.{initial_state};
+ghost use Rattle.cip_routing.specs.State.{initial_state};
 ghost use Rattle.cip_indexed.specs.NewModules.{config_of_new, state_of_new};
 
 use crate::indexed::IndexedModule;

@@ -32,15 +32,15 @@ use Rattle.cip_target.proofs.Sizes.{put_sizes, written_sizes, answered_sizes}
 use Rattle.cip_config.specs.declared.config.ModuleSettings.{ModuleSettings}
 use Rattle.cip_event.specs.declared.event.Body.TheVariants as bodies
 use Rattle.cip_event.specs.declared.event.Output.TheVariants as outputs
-use Rattle.cip_module.specs.Effects.{Effect, Answers, Begins, Accepts, Finishes, Takes, PendingTimesOut, Removes, HopTimesOut, Renews, Counts, Writes, resets}
-use Rattle.cip_module.specs.Effects.{answered_state, abandoned, abandoned_if, removed, given_up, overwritten, apply, output_of, applied, outputs_of}
-use Rattle.cip_module.specs.Resets.{reset_state}
-use Rattle.cip_module.specs.State.{State, spent_with}
-use Rattle.cip_module.specs.Table.{with_spending}
+use Rattle.cip_routing.specs.Effects.{Effect, Answers, Begins, Accepts, Finishes, Takes, PendingTimesOut, Removes, HopTimesOut, Renews, Counts, Writes, resets}
+use Rattle.cip_routing.specs.Effects.{answered_state, abandoned, abandoned_if, removed, given_up, overwritten, apply, output_of, applied, outputs_of}
+use Rattle.cip_routing.specs.Resets.{reset_state}
+use Rattle.cip_routing.specs.State.{State, spent_with}
+use Rattle.cip_routing.specs.Table.{with_spending}
 use Rattle.cip_pending.specs.declared.entry.UpSide.{UpSide}
 use Rattle.cip_pending.specs.declared.entry.UpSide.TheVariants.{Link, Local}
-use Rattle.cip_module.proofs.Found.{found_own}
-use Rattle.cip_module.proofs.Removed.{open_at}
+use Rattle.cip_routing.proofs.Found.{found_own}
+use Rattle.cip_routing.proofs.Removed.{open_at}
 use Rattle.cip_laws.specs.Births.{HasId}
 use Rattle.cip_laws.specs.Histories.{Turn, state_after, IsHistory}
 use Rattle.cip_laws.specs.Resets.{ResetIn, made_again}

@@ -8,11 +8,11 @@ use Rattle.cip_event.specs.declared.event.Dropped.{Dropped}
 use Rattle.cip_event.specs.declared.event.Event.TheVariants as events
 use Rattle.cip_event.specs.declared.event.Output.{Output}
 use Rattle.cip_event.specs.declared.event.Output.TheVariants as outputs
-use Rattle.cip_module.specs.Effects.{outputs_of}
-use Rattle.cip_module.specs.ReplyRows.{ReplyRow, reply_row}
-use Rattle.cip_module.specs.ReplyRows as reply
-use Rattle.cip_module.specs.State.{State}
-use Rattle.cip_module.specs.Table.{reply_effects}
+use Rattle.cip_routing.specs.Effects.{outputs_of}
+use Rattle.cip_routing.specs.ReplyRows.{ReplyRow, reply_row}
+use Rattle.cip_routing.specs.ReplyRows as reply
+use Rattle.cip_routing.specs.State.{State}
+use Rattle.cip_routing.specs.Table.{reply_effects}
 use Rattle.cip_laws.specs.Tells.{AllTell, ReplyCame}
 use Rattle.cip_laws.specs.Weights.{came}
 use Rattle.cip_laws.specs.Turns.{Has}

@@ -12,9 +12,9 @@ use Rattle.cip_event.specs.declared.event.LargeParams.{LargeParams}
 use Rattle.cip_event.specs.Params.{widened}
 use Rattle.cip_event.specs.declared.event.Command.TheVariants as commands
 use Rattle.cip_event.specs.declared.event.Event.TheVariants as events
-use Rattle.cip_module.specs.CommandRows.{op_row}
-use Rattle.cip_module.specs.State.{State}
-use Rattle.cip_module.specs.Table.{open_of, asked_open, open_command_effects, command_effects}
+use Rattle.cip_routing.specs.CommandRows.{op_row}
+use Rattle.cip_routing.specs.State.{State}
+use Rattle.cip_routing.specs.Table.{open_of, asked_open, open_command_effects, command_effects}
 use Rattle.cip_laws.specs.Tells.{command_asker, command_row}
 
 module _ (i : IdentityFields) where

@@ -8,8 +8,8 @@ use Rattle.cip_event.specs.declared.event.Body.TheVariants as bodies
 use Rattle.cip_event.specs.declared.event.Event.{Event}
 use Rattle.cip_event.specs.declared.event.Output.{Output}
 use Rattle.cip_event.specs.declared.event.Output.TheVariants as outputs
-use Rattle.cip_module.specs.Effects.{Effect, Forwards, Begins, entry_for, kind_for, apply, output_of}
-use Rattle.cip_module.specs.State.{State}
+use Rattle.cip_routing.specs.Effects.{Effect, Forwards, Begins, entry_for, kind_for, apply, output_of}
+use Rattle.cip_routing.specs.State.{State}
 use Rattle.cip_laws.specs.Tells.{asker, Tells}
 use Rattle.cip_laws.proofs.TellsAskers.{forwards_asker, begins_asker}
 use Rattle.cip_laws.specs.Histories.{Turn, state_after, IsHistory}

@@ -16,9 +16,9 @@ use Rattle.cip_laws.specs.EffectLists.{gain, births, IsLight, IsBounded}
 use Rattle.cip_config.specs.declared.config.ModuleSettings.{ModuleSettings}
 use Rattle.cip_event.specs.declared.event.Event.{Event}
 use Rattle.cip_event.specs.declared.event.Output.{Output}
-use Rattle.cip_module.specs.Effects.{Effect, Answers, Begins, Accepts, apply, applied}
-use Rattle.cip_module.specs.State.{State}
-use Rattle.cip_module.specs.Table.{decide}
+use Rattle.cip_routing.specs.Effects.{Effect, Answers, Begins, Accepts, apply, applied}
+use Rattle.cip_routing.specs.State.{State}
+use Rattle.cip_routing.specs.Table.{decide}
 use Rattle.cip_laws.specs.Tells.{asker, Tells, AllTell}
 use Rattle.cip_laws.proofs.Tells.{decide_tells}
 use Rattle.cip_laws.proofs.TellsAskers.{begins_asker, open_asker, answers_asker}

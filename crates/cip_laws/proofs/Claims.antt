@@ -22,14 +22,14 @@ use Rattle.cip_message.specs.Request.{Request}
 use Rattle.cip_laws.specs.EffectLists.{takes_up}
 use Rattle.cip_config.specs.declared.config.ModuleSettings.{ModuleSettings}
 use Rattle.cip_event.specs.declared.event.Output.{Output}
-use Rattle.cip_module.specs.Effects.{Effect, Replies, Answers, Forwards, Begins, Finishes, Takes, PendingTimesOut, Passes, resets, here_answer, answered_state}
-use Rattle.cip_module.specs.Effects.{entry_for, apply, output_of, reply_up, replied, timed_out_reply, timed_out_bytes, datum_up, datum_down, datum_by, passed}
-use Rattle.cip_module.specs.Effects.{kind_for, succeeded_at}
-use Rattle.cip_module.specs.State.{State}
-use Rattle.cip_module.proofs.Fits.{numbers_apart}
+use Rattle.cip_routing.specs.Effects.{Effect, Replies, Answers, Forwards, Begins, Finishes, Takes, PendingTimesOut, Passes, resets, here_answer, answered_state}
+use Rattle.cip_routing.specs.Effects.{entry_for, apply, output_of, reply_up, replied, timed_out_reply, timed_out_bytes, datum_up, datum_down, datum_by, passed}
+use Rattle.cip_routing.specs.Effects.{kind_for, succeeded_at}
+use Rattle.cip_routing.specs.State.{State}
+use Rattle.cip_routing.proofs.Fits.{numbers_apart}
 use Rattle.cip_base.proofs.Points.{one_or_apart, gone_here, gone_apart}
 use Rattle.cip_laws.specs.Weights.{mark, same_up, replies_to, is_to, is_reply, weight_in}
-use Rattle.cip_module.specs.Resets.{reset_state}
+use Rattle.cip_routing.specs.Resets.{reset_state}
 use Rattle.cip_laws.proofs.Puts.{AreBelow, no_number}
 use Rattle.cip_laws.proofs.Weighing.{answered_alone}
 

@@ -10,16 +10,16 @@ use Rattle.cip_hops.specs.declared.hop.Hop.{Hop}
 use Rattle.cip_hops.specs.declared.hop.Side.TheVariants.{Up, Down}
 use Rattle.cip_hops.specs.Hops.{hop_at, hop_by_up, hop_by_down, hop_by_op, is_hop_by_up, is_hop_by_down, is_hop_by_op}
 use Rattle.cip_config.specs.declared.config.ModuleSettings.{ModuleSettings}
-use Rattle.cip_module.specs.CommandRows as command
+use Rattle.cip_routing.specs.CommandRows as command
 use Rattle.cip_event.specs.declared.event.Body.TheVariants as bodies
 use Rattle.cip_event.specs.declared.event.Command.TheVariants as commands
 use Rattle.cip_event.specs.declared.event.Event.TheVariants as events
 use Rattle.cip_event.specs.declared.event.Output.{Output}
 use Rattle.cip_config.specs.Config.{port_of}
-use Rattle.cip_module.specs.DataRows.{DataRow, UnknownId, WrongSize, Consumed, Repeated, is_last, below_row, above_row, id_row, data_row}
-use Rattle.cip_module.specs.Effects.{Effect, datum_by, passed, outputs_of}
-use Rattle.cip_module.specs.State.{State}
-use Rattle.cip_module.specs.Table.{datum_effects, entered_effects, enter_effects, refused_effects, decide}
+use Rattle.cip_routing.specs.DataRows.{DataRow, UnknownId, WrongSize, Consumed, Repeated, is_last, below_row, above_row, id_row, data_row}
+use Rattle.cip_routing.specs.Effects.{Effect, datum_by, passed, outputs_of}
+use Rattle.cip_routing.specs.State.{State}
+use Rattle.cip_routing.specs.Table.{datum_effects, entered_effects, enter_effects, refused_effects, decide}
 use Rattle.cip_laws.proofs.PassedBy.{found_own}
 use Rattle.cip_laws.proofs.Triads.{HasOwnTriads}
 

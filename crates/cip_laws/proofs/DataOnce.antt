@@ -14,21 +14,21 @@ use Rattle.cip_hops.specs.declared.hop.Side.{Side}
 use Rattle.cip_hops.specs.declared.hop.Side.TheVariants.{Up, Down}
 use Rattle.cip_hops.specs.Hops.{hop_at, hop_by_op}
 use Rattle.cip_config.specs.declared.config.ModuleSettings.{ModuleSettings}
-use Rattle.cip_module.specs.CommandRows.{CommandRow}
-use Rattle.cip_module.specs.CommandRows as command
+use Rattle.cip_routing.specs.CommandRows.{CommandRow}
+use Rattle.cip_routing.specs.CommandRows as command
 use Rattle.cip_event.specs.declared.event.Body.TheVariants as bodies
 use Rattle.cip_event.specs.declared.event.Command.TheVariants as commands
 use Rattle.cip_event.specs.declared.event.Event.TheVariants as events
 use Rattle.cip_event.specs.declared.event.Output.{Output}
-use Rattle.cip_module.specs.CommandRows.{enter_row}
-use Rattle.cip_module.specs.DataRows.{DataRow, data_row}
-use Rattle.cip_module.specs.DataRows as datum
+use Rattle.cip_routing.specs.CommandRows.{enter_row}
+use Rattle.cip_routing.specs.DataRows.{DataRow, data_row}
+use Rattle.cip_routing.specs.DataRows as datum
 use Rattle.cip_laws.specs.EffectLists.{gain}
-use Rattle.cip_module.specs.Effects.{Effect, Replies, Answers, Finishes, Takes, PendingTimesOut, Passes, here_answer, reply_up, replied, timed_out_reply}
-use Rattle.cip_module.specs.Effects.{timed_out_bytes, datum_up, datum_down, datum_by, passed, apply, output_of, outputs_of, succeeded_at}
+use Rattle.cip_routing.specs.Effects.{Effect, Replies, Answers, Finishes, Takes, PendingTimesOut, Passes, here_answer, reply_up, replied, timed_out_reply}
+use Rattle.cip_routing.specs.Effects.{timed_out_bytes, datum_up, datum_down, datum_by, passed, apply, output_of, outputs_of, succeeded_at}
 use Rattle.cip_laws.specs.Outputs.{is_datum, DatumOf, GoesUp, Arrives, GoesDown, IsConsumed, one_datum}
-use Rattle.cip_module.specs.State.{State}
-use Rattle.cip_module.specs.Table.{datum_effects, entered_effects, enter_effects, refused_effects, decide}
+use Rattle.cip_routing.specs.State.{State}
+use Rattle.cip_routing.specs.Table.{datum_effects, entered_effects, enter_effects, refused_effects, decide}
 use Rattle.cip_laws.specs.Weights.{mark, weight_in}
 use Rattle.cip_laws.proofs.PassedBy.{passes, counts_none}
 use Rattle.cip_laws.proofs.Weighing.{weight_in-append, answered_alone}

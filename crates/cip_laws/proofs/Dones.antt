@@ -11,14 +11,14 @@ use Rattle.cip_event.specs.declared.event.Body.TheVariants as bodies
 use Rattle.cip_event.specs.declared.event.Command.TheVariants as commands
 use Rattle.cip_event.specs.declared.event.Event.{Event}
 use Rattle.cip_event.specs.declared.event.Event.TheVariants as events
-use Rattle.cip_module.specs.CommandRows.{CommandRow}
-use Rattle.cip_module.specs.CommandRows as command
-use Rattle.cip_module.specs.CommandRows.{op_row, close_command_row, send_row}
-use Rattle.cip_module.specs.Effects.{Effect, Spends, apply, applied, outputs_of, Answers, resets}
-use Rattle.cip_module.specs.State.{State, is_spent, spent_with, initial_state}
-use Rattle.cip_module.specs.Table.{refused_effects, closed_effects, sent, decide}
+use Rattle.cip_routing.specs.CommandRows.{CommandRow}
+use Rattle.cip_routing.specs.CommandRows as command
+use Rattle.cip_routing.specs.CommandRows.{op_row, close_command_row, send_row}
+use Rattle.cip_routing.specs.Effects.{Effect, Spends, apply, applied, outputs_of, Answers, resets}
+use Rattle.cip_routing.specs.State.{State, is_spent, spent_with, initial_state}
+use Rattle.cip_routing.specs.Table.{refused_effects, closed_effects, sent, decide}
 use Rattle.cip_laws.specs.Tells.{AllTell}
-use Rattle.cip_module.proofs.Kept.{spent_now, spent_still}
+use Rattle.cip_routing.proofs.Kept.{spent_now, spent_still}
 use Rattle.cip_laws.specs.Histories.{Turn, state_after, IsHistory}
 use Rattle.cip_laws.specs.Weights.{mark, is_reply, is_asked_by, weight, weight_in}
 use Rattle.cip_laws.proofs.Claims.{waits_for, claims_each}

@@ -29,13 +29,13 @@ use Rattle.cip_hops.specs.Hops.{as_hop, opening_of}
 use Rattle.cip_config.specs.declared.config.ModuleSettings.{ModuleSettings}
 use Rattle.cip_event.specs.declared.event.Output.{Output}
 use Rattle.cip_event.specs.declared.event.Output.TheVariants as outputs
-use Rattle.cip_module.specs.Effects.{Effect, Spends, Replies, Answers, Forwards, Accepts, Removes, RefusesCommand, Drops, resets, here_answer, answered_state}
-use Rattle.cip_module.specs.Effects.{ended_by as told_ended, reply_up, apply, applied, output_of, outputs_of}
-use Rattle.cip_module.specs.Resets.{asking_op, opening_op, noted, all_noted, held_ops, waiting_ops, open_ops, all_ended}
-use Rattle.cip_module.specs.State.{State, is_spent, spent_with}
-use Rattle.cip_module.specs.Table.{up_side_of}
-use Rattle.cip_module.proofs.Fits.{numbers_apart}
-use Rattle.cip_module.proofs.Waiting.{waits_at}
+use Rattle.cip_routing.specs.Effects.{Effect, Spends, Replies, Answers, Forwards, Accepts, Removes, RefusesCommand, Drops, resets, here_answer, answered_state}
+use Rattle.cip_routing.specs.Effects.{ended_by as told_ended, reply_up, apply, applied, output_of, outputs_of}
+use Rattle.cip_routing.specs.Resets.{asking_op, opening_op, noted, all_noted, held_ops, waiting_ops, open_ops, all_ended}
+use Rattle.cip_routing.specs.State.{State, is_spent, spent_with}
+use Rattle.cip_routing.specs.Table.{up_side_of}
+use Rattle.cip_routing.proofs.Fits.{numbers_apart}
+use Rattle.cip_routing.proofs.Waiting.{waits_at}
 use Rattle.cip_laws.specs.Births.{Past}
 use Rattle.cip_laws.specs.Changes.{HeldCase, Stands, Begun, Ended, Finished, SameCore, OpenedBy}
 use Rattle.cip_laws.specs.EffectLists.{gain, takes_up, IsLight, IsBounded, IsStill}

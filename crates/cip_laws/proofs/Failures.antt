@@ -3,19 +3,19 @@ use Rattle.std.proofs.Common.{◌≡◌, arith}
 use Rattle.cip_target.specs.declared.ends.EndRefusal.{EndRefusal}
 use Rattle.cip_target.specs.declared.ends.EndRefusal.TheVariants as ends
 use Rattle.cip_target.specs.Ends.{end_status}
-use Rattle.cip_module.specs.declared.refusals.RequestRefusal.{RequestRefusal}
-use Rattle.cip_module.specs.declared.refusals.RequestRefusal.TheVariants as request
-use Rattle.cip_module.specs.declared.refusals.UnconnectedRefusal.{UnconnectedRefusal}
-use Rattle.cip_module.specs.declared.refusals.UnconnectedRefusal.TheVariants as unconnected
-use Rattle.cip_module.specs.declared.refusals.OpenRefusal.{OpenRefusal}
-use Rattle.cip_module.specs.declared.refusals.OpenRefusal.TheVariants as opens
-use Rattle.cip_module.specs.declared.refusals.CloseRefusal.{CloseRefusal}
-use Rattle.cip_module.specs.declared.refusals.CloseRefusal.TheVariants as closes
-use Rattle.cip_module.specs.declared.refusals.LinkRefusal.{LinkRefusal}
-use Rattle.cip_module.specs.declared.refusals.LinkRefusal.TheVariants.{NoSuchPort, LinkAddressNotLegal, TicksSpent, NoPendingLeft}
-use Rattle.cip_module.specs.declared.refusals.KeyPart.{KeyPart}
-use Rattle.cip_module.specs.declared.refusals.KeyPart.TheVariants.{VendorOrProduct, DeviceType, Revision}
-use Rattle.cip_module.specs.Statuses.{key_status, link_status, request_status, unconnected_status, open_status, close_status}
+use Rattle.cip_routing.specs.declared.refusals.RequestRefusal.{RequestRefusal}
+use Rattle.cip_routing.specs.declared.refusals.RequestRefusal.TheVariants as request
+use Rattle.cip_routing.specs.declared.refusals.UnconnectedRefusal.{UnconnectedRefusal}
+use Rattle.cip_routing.specs.declared.refusals.UnconnectedRefusal.TheVariants as unconnected
+use Rattle.cip_routing.specs.declared.refusals.OpenRefusal.{OpenRefusal}
+use Rattle.cip_routing.specs.declared.refusals.OpenRefusal.TheVariants as opens
+use Rattle.cip_routing.specs.declared.refusals.CloseRefusal.{CloseRefusal}
+use Rattle.cip_routing.specs.declared.refusals.CloseRefusal.TheVariants as closes
+use Rattle.cip_routing.specs.declared.refusals.LinkRefusal.{LinkRefusal}
+use Rattle.cip_routing.specs.declared.refusals.LinkRefusal.TheVariants.{NoSuchPort, LinkAddressNotLegal, TicksSpent, NoPendingLeft}
+use Rattle.cip_routing.specs.declared.refusals.KeyPart.{KeyPart}
+use Rattle.cip_routing.specs.declared.refusals.KeyPart.TheVariants.{VendorOrProduct, DeviceType, Revision}
+use Rattle.cip_routing.specs.Statuses.{key_status, link_status, request_status, unconnected_status, open_status, close_status}
 
 key_fails : (part : KeyPart) → (key_status part).general ≡ 0 → ⊥
 key_fails VendorOrProduct e = omega (arith, e)

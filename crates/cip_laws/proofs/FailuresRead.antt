@@ -9,18 +9,18 @@ use Rattle.cip_message.proofs.Failures.{failure_back}
 use Rattle.cip_message.proofs.Replies.{reply_back}
 use Rattle.cip_open.specs.Kinds.{open_reply_service, open_fixed_part}
 use Rattle.cip_open.proofs.Services.{reply_service_high}
-use Rattle.cip_module.specs.Answers.{failure_bytes, route_words_data, unconnected_failed, failed_at, open_failed, close_failed, failed_unread}
+use Rattle.cip_routing.specs.Answers.{failure_bytes, route_words_data, unconnected_failed, failed_at, open_failed, close_failed, failed_unread}
 use Rattle.std.proofs.lemmas.Bool.{lt-ltb, le-ltb}
 use Rattle.cip_message.specs.declared.fault.DataFault.{DataFault}
 use Rattle.cip_message.specs.declared.failure.ConnectionFailure.{ConnectionFailure}
 use Rattle.cip_open.specs.OpenAt.{open_triad_of, open_words_of}
 use Rattle.cip_open.specs.Failed.{open_failure_bytes}
 use Rattle.cip_pending.specs.Kinds.{opening_kind}
-use Rattle.cip_module.specs.Effects.{timed_out_bytes}
-use Rattle.cip_module.specs.Statuses.{link_status, open_status}
-use Rattle.cip_module.specs.declared.refusals.LinkRefusal.TheVariants.{TicksSpent}
-use Rattle.cip_module.specs.Table.{unread_open_bytes}
-use Rattle.cip_module.specs.OpenRows.{unread_row}
+use Rattle.cip_routing.specs.Effects.{timed_out_bytes}
+use Rattle.cip_routing.specs.Statuses.{link_status, open_status}
+use Rattle.cip_routing.specs.declared.refusals.LinkRefusal.TheVariants.{TicksSpent}
+use Rattle.cip_routing.specs.Table.{unread_open_bytes}
+use Rattle.cip_routing.specs.OpenRows.{unread_row}
 
 pub request_read : (service : ℕ) (status : Status) → reply_at (failure_bytes service status) ≡ Ok (reply_with (128 + service) status [])
 request_read service status = reply_back (reply_with (128 + service) status []) (omega arith)

@@ -18,15 +18,15 @@ use Rattle.cip_hops.specs.declared.opening.HopDown.{HopDown}
 use Rattle.cip_hops.specs.declared.opening.HopDown.TheVariants.{Link as DownLink, End}
 use Rattle.cip_hops.specs.Hops.{hop_at}
 use Rattle.cip_event.specs.declared.event.Output.TheVariants as outputs
-use Rattle.cip_module.specs.Resets.{held_ops, all_ended}
+use Rattle.cip_routing.specs.Resets.{held_ops, all_ended}
 use Rattle.cip_config.specs.declared.config.ModuleSettings.{ModuleSettings}
 use Rattle.cip_event.specs.declared.event.Event.{Event}
 use Rattle.cip_event.specs.declared.event.Output.{Output}
-use Rattle.cip_module.specs.Effects.{Effect, Replies, Answers, Forwards, Begins, Finishes, Takes, PendingTimesOut, HopTimesOut, Passes, RefusesCommand, Drops}
-use Rattle.cip_module.specs.Effects.{resets, here_answer, ended_by as told_ended, reply_up, replied, timed_out_reply, timed_out_bytes, datum_up, datum_down}
-use Rattle.cip_module.specs.Effects.{datum_by, passed, succeeded, waits_large, output_of, succeeded_at}
+use Rattle.cip_routing.specs.Effects.{Effect, Replies, Answers, Forwards, Begins, Finishes, Takes, PendingTimesOut, HopTimesOut, Passes, RefusesCommand, Drops}
+use Rattle.cip_routing.specs.Effects.{resets, here_answer, ended_by as told_ended, reply_up, replied, timed_out_reply, timed_out_bytes, datum_up, datum_down}
+use Rattle.cip_routing.specs.Effects.{datum_by, passed, succeeded, waits_large, output_of, succeeded_at}
 use Rattle.cip_laws.specs.Outputs.{RepliesBy, AtOnce, Here, Opened, Taken, Late, tells_end, EndedBy, ByTimeOut, ByReset, ByRefusal, ByDrop}
-use Rattle.cip_module.specs.State.{State}
+use Rattle.cip_routing.specs.State.{State}
 use Rattle.cip_laws.specs.Tells.{Tells}
 use Rattle.cip_laws.specs.Weights.{mark, same_up, is_reply, weight_in}
 use Rattle.cip_laws.specs.Turns.{Has}

@@ -12,15 +12,15 @@ use Rattle.cip_close.specs.Close.{Close, close_data, close_bytes}
 use Rattle.cip_pending.specs.Pendings.{Pendings}
 use Rattle.cip_target.specs.Object.{attribute_in, with_attribute, instance_in, object_of}
 use Rattle.cip_config.specs.declared.config.ModuleSettings.{ModuleSettings}
-use Rattle.cip_module.specs.declared.refusals.UnconnectedRefusal.TheVariants.{EmbeddedRequestNotAllowed}
-use Rattle.cip_module.specs.CommandRows as command
-use Rattle.cip_module.specs.CommandRows.{send_row}
-use Rattle.cip_module.specs.Object.{begins_with_manager}
-use Rattle.cip_module.specs.RequestRows.{UnknownPortOrTooLong, ForwardOpen, Target, is_malformed, read_row, manager_row, object_row, request_row}
-use Rattle.cip_module.specs.State.{State, is_spent}
-use Rattle.cip_module.specs.Table.{one_less, message_on}
-use Rattle.cip_module.specs.UnconnectedRows.{UnconnectedRow, embedded_row, route_row, unconnected_row}
-use Rattle.cip_module.specs.UnconnectedRows as unconnected
+use Rattle.cip_routing.specs.declared.refusals.UnconnectedRefusal.TheVariants.{EmbeddedRequestNotAllowed}
+use Rattle.cip_routing.specs.CommandRows as command
+use Rattle.cip_routing.specs.CommandRows.{send_row}
+use Rattle.cip_routing.specs.Object.{begins_with_manager}
+use Rattle.cip_routing.specs.RequestRows.{UnknownPortOrTooLong, ForwardOpen, Target, is_malformed, read_row, manager_row, object_row, request_row}
+use Rattle.cip_routing.specs.State.{State, is_spent}
+use Rattle.cip_routing.specs.Table.{one_less, message_on}
+use Rattle.cip_routing.specs.UnconnectedRows.{UnconnectedRow, embedded_row, route_row, unconnected_row}
+use Rattle.cip_routing.specs.UnconnectedRows as unconnected
 use Rattle.cip_laws.proofs.NextRows.{manager_object}
 
 -- the row of bytes, unless they come by no port or are too long

@@ -28,17 +28,18 @@ use Rattle.cip_event.specs.declared.event.Body.TheVariants as bodies
 use Rattle.cip_event.specs.declared.event.Event.{Event}
 use Rattle.cip_event.specs.declared.event.Output.{Output}
 use Rattle.cip_event.specs.declared.event.Output.TheVariants as outputs
-use Rattle.cip_module.specs.Effects.{Sending, Effect, Forwards, Begins, Accepts, Finishes, Takes, PendingTimesOut, Removes, HopTimesOut, Renews, Counts}
-use Rattle.cip_module.specs.Effects.{entry_for, kind_for, abandoned, abandoned_if, removed, given_up, ends_here, apply, output_of, applied, outputs_of, Answers}
-use Rattle.cip_module.specs.Effects.{resets, answered_state}
-use Rattle.cip_module.specs.State.{State}
+use Rattle.cip_routing.specs.Effects.{Sending, Effect, Forwards, Begins, Accepts, Finishes, Takes, PendingTimesOut, Removes, HopTimesOut, Renews, Counts}
+use Rattle.cip_routing.specs.Effects.{entry_for, kind_for, abandoned, abandoned_if, removed, given_up, ends_here, apply, output_of, applied, outputs_of}
+use Rattle.cip_routing.specs.Effects.{Answers}
+use Rattle.cip_routing.specs.Effects.{resets, answered_state}
+use Rattle.cip_routing.specs.State.{State}
 use Rattle.cip_laws.specs.Tells.{Tells, ForwardsAs, BeginsAs, AcceptsAs, FinishesAs, SentOn, ClosedOn}
-use Rattle.cip_module.proofs.Opens.{opens_for}
-use Rattle.cip_module.proofs.Fits.{numbers_apart}
+use Rattle.cip_routing.proofs.Opens.{opens_for}
+use Rattle.cip_routing.proofs.Fits.{numbers_apart}
 use Rattle.cip_base.proofs.Points.{put_here, put_apart, gone_apart}
-use Rattle.cip_module.proofs.Removed.{open_at}
+use Rattle.cip_routing.proofs.Removed.{open_at}
 use Rattle.cip_laws.proofs.TellsAskers.{begins_asker, open_asker}
-use Rattle.cip_module.proofs.Waiting.{waits_at}
+use Rattle.cip_routing.proofs.Waiting.{waits_at}
 use Rattle.cip_laws.specs.Births.{Past}
 use Rattle.cip_laws.specs.Histories.{Turn, state_after, IsHistory}
 use Rattle.cip_laws.specs.Turns.{Has}

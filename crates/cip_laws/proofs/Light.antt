@@ -29,22 +29,22 @@ use Rattle.cip_event.specs.declared.event.Event.{Event}
 use Rattle.cip_event.specs.declared.event.Event.TheVariants as events
 use Rattle.cip_event.specs.declared.event.Dropped.{Dropped}
 use Rattle.cip_event.specs.declared.event.Refused.{Refused}
-use Rattle.cip_module.specs.CommandRows.{CommandRow}
-use Rattle.cip_module.specs.CommandRows as command
-use Rattle.cip_module.specs.Effects.{Sending, Effect, Replies, Answers, Forwards, Begins, Accepts, Removes, RefusesCommand, Drops}
-use Rattle.cip_module.specs.CloseRows.{CloseRow, close_row}
-use Rattle.cip_module.specs.CloseRows as closes
-use Rattle.cip_module.specs.OpenRows.{OpenRow, open_row, opening_with}
-use Rattle.cip_module.specs.OpenRows as opens
-use Rattle.cip_module.specs.UnconnectedRows.{UnconnectedRow, unconnected_row}
-use Rattle.cip_module.specs.UnconnectedRows as unconnected
-use Rattle.cip_module.specs.RequestRows.{RequestRow, request_row}
-use Rattle.cip_module.specs.RequestRows as request
-use Rattle.cip_module.specs.CommandRows.{op_row, close_command_row, send_row}
-use Rattle.cip_module.specs.State.{State}
-use Rattle.cip_module.specs.Table.{up_side_of, send_below, unconnected_effects, unconnected_data_effects, open_below, open_effects, open_data_effects}
-use Rattle.cip_module.specs.Table.{close_effects, close_below, close_data_effects, request_effects, refused_effects, with_spending, send_effects}
-use Rattle.cip_module.specs.Table.{open_command_effects, closed_effects, close_command_effects, close_of, open_of, sent, decide}
+use Rattle.cip_routing.specs.CommandRows.{CommandRow}
+use Rattle.cip_routing.specs.CommandRows as command
+use Rattle.cip_routing.specs.Effects.{Sending, Effect, Replies, Answers, Forwards, Begins, Accepts, Removes, RefusesCommand, Drops}
+use Rattle.cip_routing.specs.CloseRows.{CloseRow, close_row}
+use Rattle.cip_routing.specs.CloseRows as closes
+use Rattle.cip_routing.specs.OpenRows.{OpenRow, open_row, opening_with}
+use Rattle.cip_routing.specs.OpenRows as opens
+use Rattle.cip_routing.specs.UnconnectedRows.{UnconnectedRow, unconnected_row}
+use Rattle.cip_routing.specs.UnconnectedRows as unconnected
+use Rattle.cip_routing.specs.RequestRows.{RequestRow, request_row}
+use Rattle.cip_routing.specs.RequestRows as request
+use Rattle.cip_routing.specs.CommandRows.{op_row, close_command_row, send_row}
+use Rattle.cip_routing.specs.State.{State}
+use Rattle.cip_routing.specs.Table.{up_side_of, send_below, unconnected_effects, unconnected_data_effects, open_below, open_effects, open_data_effects}
+use Rattle.cip_routing.specs.Table.{close_effects, close_below, close_data_effects, request_effects, refused_effects, with_spending, send_effects}
+use Rattle.cip_routing.specs.Table.{open_command_effects, closed_effects, close_command_effects, close_of, open_of, sent, decide}
 use Rattle.cip_laws.specs.Tells.{asker}
 use Rattle.cip_event.specs.Params.{widened}
 

@@ -11,8 +11,8 @@ use Rattle.cip_target.specs.Object.{object_of}
 use Rattle.cip_unconnected.specs.Unconnected.{Unconnected, unconnected_bytes, unconnected_data}
 use Rattle.cip_close.specs.Close.{Close, close_data, close_bytes}
 use Rattle.cip_config.specs.declared.config.ModuleSettings.{ModuleSettings}
-use Rattle.cip_module.specs.RequestRows.{RequestRow, UnknownPortOrTooLong, UnconnectedSend, ForwardOpen, ForwardClose, is_malformed, read_row, object_row}
-use Rattle.cip_module.specs.RequestRows.{unless_malformed, request_row}
+use Rattle.cip_routing.specs.RequestRows.{RequestRow, UnknownPortOrTooLong, UnconnectedSend, ForwardOpen, ForwardClose, is_malformed, read_row, object_row}
+use Rattle.cip_routing.specs.RequestRows.{unless_malformed, request_row}
 use Rattle.cip_open.specs.Kinds.{open_service}
 use Rattle.cip_open.proofs.Services.{service_low}
 

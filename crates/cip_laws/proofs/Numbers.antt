@@ -6,9 +6,9 @@ use Rattle.cip_message.specs.Request.{Request}
 use Rattle.cip_base.specs.Counts.{reborn}
 use Rattle.cip_laws.specs.EffectLists.{gain}
 use Rattle.cip_config.specs.declared.config.ModuleSettings.{ModuleSettings}
-use Rattle.cip_module.specs.Effects.{Effect, Replies, Answers, Forwards, Begins, Finishes, Takes, PendingTimesOut, Passes, resets, here_answer, answered_state}
-use Rattle.cip_module.specs.Effects.{apply, output_of, reply_up, replied, timed_out_reply, timed_out_bytes, datum_up, datum_down, datum_by, passed}
-use Rattle.cip_module.specs.Effects.{succeeded_at}
+use Rattle.cip_routing.specs.Effects.{Effect, Replies, Answers, Forwards, Begins, Finishes, Takes, PendingTimesOut, Passes, resets, here_answer, answered_state}
+use Rattle.cip_routing.specs.Effects.{apply, output_of, reply_up, replied, timed_out_reply, timed_out_bytes, datum_up, datum_down, datum_by, passed}
+use Rattle.cip_routing.specs.Effects.{succeeded_at}
 use Rattle.cip_pending.specs.declared.entry.Entry.{Entry}
 use Rattle.cip_pending.specs.declared.entry.UpSide.{UpSide}
 use Rattle.cip_pending.specs.declared.entry.UpSide.TheVariants.{Link, Local}
@@ -24,7 +24,7 @@ use Rattle.std.specs.FinMap as map
 use Rattle.cip_event.specs.declared.event.Body.TheVariants as bodies
 use Rattle.cip_event.specs.declared.event.Output.TheVariants as outputs
 use Rattle.cip_laws.specs.Changes.{numbers_drawn}
-use Rattle.cip_module.specs.State.{State, initial_state}
+use Rattle.cip_routing.specs.State.{State, initial_state}
 use Rattle.cip_laws.specs.Histories.{Turn, state_after, IsHistory}
 use Rattle.cip_laws.specs.Weights.{mark, is_request, weight_in, weight, came}
 use Rattle.cip_laws.specs.Turns.{Has}

@@ -9,8 +9,8 @@ use Rattle.cip_base.proofs.Lengths.{one_if}
 use Rattle.cip_hops.proofs.Counts.{tally-le, tally-remove}
 use Rattle.cip_laws.specs.EffectLists.{takes_up}
 use Rattle.cip_config.specs.declared.config.ModuleSettings.{ModuleSettings}
-use Rattle.cip_module.specs.State.{State, initial_state}
-use Rattle.cip_module.proofs.Fits.{numbers_apart}
+use Rattle.cip_routing.specs.State.{State, initial_state}
+use Rattle.cip_routing.proofs.Fits.{numbers_apart}
 use Rattle.cip_laws.specs.Histories.{Turn, state_after, IsHistory}
 use Rattle.cip_laws.specs.Weights.{same_up, is_reply, is_asked_by, weight, came}
 use Rattle.cip_laws.proofs.Claims.{waits_for, claims_each}

@@ -23,16 +23,16 @@ use Rattle.cip_event.specs.declared.event.Command.TheVariants as commands
 use Rattle.cip_event.specs.declared.event.Event.{Event}
 use Rattle.cip_event.specs.declared.event.Event.TheVariants as events
 use Rattle.cip_event.specs.declared.event.Output.{Output}
-use Rattle.cip_module.specs.CommandRows.{CommandRow}
-use Rattle.cip_module.specs.CommandRows as command
-use Rattle.cip_module.specs.CommandRows.{enter_row}
-use Rattle.cip_module.specs.DataRows.{DataRow, data_row}
-use Rattle.cip_module.specs.DataRows as datum
-use Rattle.cip_module.specs.Effects.{Effect, Replies, Answers, Forwards, Begins, Finishes, Takes, PendingTimesOut, HopTimesOut, Passes, RefusesCommand, Drops}
-use Rattle.cip_module.specs.Effects.{resets, here_answer, ended_by, reply_up, replied, timed_out_reply, timed_out_bytes, datum_by, passed, output_of, applied}
-use Rattle.cip_module.specs.Effects.{succeeded_at}
-use Rattle.cip_module.specs.State.{State}
-use Rattle.cip_module.specs.Table.{counts, datum_effects, enter_effects, entered_effects, refused_effects, decide}
+use Rattle.cip_routing.specs.CommandRows.{CommandRow}
+use Rattle.cip_routing.specs.CommandRows as command
+use Rattle.cip_routing.specs.CommandRows.{enter_row}
+use Rattle.cip_routing.specs.DataRows.{DataRow, data_row}
+use Rattle.cip_routing.specs.DataRows as datum
+use Rattle.cip_routing.specs.Effects.{Effect, Replies, Answers, Forwards, Begins, Finishes, Takes, PendingTimesOut, HopTimesOut, Passes, RefusesCommand, Drops}
+use Rattle.cip_routing.specs.Effects.{resets, here_answer, ended_by, reply_up, replied, timed_out_reply, timed_out_bytes, datum_by, passed, output_of, applied}
+use Rattle.cip_routing.specs.Effects.{succeeded_at}
+use Rattle.cip_routing.specs.State.{State}
+use Rattle.cip_routing.specs.Table.{counts, datum_effects, enter_effects, entered_effects, refused_effects, decide}
 use Rattle.cip_laws.specs.Tells.{PassesAs, PassedOn, Entered, Made}
 use Rattle.cip_laws.specs.Histories.{Turn, state_after, IsHistory}
 use Rattle.cip_laws.specs.Turns.{Has}
@@ -40,8 +40,8 @@ use Rattle.cip_laws.proofs.Births.{gain-append}
 use Rattle.cip_laws.proofs.Triads.{HasOwnTriads, own_triads}
 use Rattle.cip_laws.proofs.Turns.{Turned, newest}
 pub use Rattle.cip_laws.specs.Outputs.{is_data, is_datum, PassedBy}
-pub use Rattle.cip_module.proofs.Found.{found_own}
-use Rattle.cip_module.specs.Resets.{held_ops, all_ended}
+pub use Rattle.cip_routing.proofs.Found.{found_own}
+use Rattle.cip_routing.specs.Resets.{held_ops, all_ended}
 
 has_id : (id : ℕ) (own : Option ℕ) → is_id id own ≡ true → own ≡ Some id
 has_id id None t = absurd (cc)

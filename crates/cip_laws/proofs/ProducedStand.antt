@@ -11,10 +11,10 @@ use Rattle.cip_config.specs.declared.config.ModuleSettings.{ModuleSettings}
 use Rattle.cip_event.specs.declared.event.Command.TheVariants as commands
 use Rattle.cip_event.specs.declared.event.Event.TheVariants as events
 use Rattle.cip_laws.specs.EffectLists.{HasStood, IsMade, AreMade}
-use Rattle.cip_module.specs.Effects.{Effect, Passes, Counts, RefusesCommand, apply, applied}
-use Rattle.cip_module.specs.Produced.{reads_from, next_count, made_effects, held_effects, each_effects}
-use Rattle.cip_module.specs.State.{State}
-use Rattle.cip_module.specs.Table.{produce_effects, decide}
+use Rattle.cip_routing.specs.Effects.{Effect, Passes, Counts, RefusesCommand, apply, applied}
+use Rattle.cip_routing.specs.Produced.{reads_from, next_count, made_effects, held_effects, each_effects}
+use Rattle.cip_routing.specs.State.{State}
+use Rattle.cip_routing.specs.Table.{produce_effects, decide}
 use Rattle.cip_laws.proofs.Stands.{SameCore, same_self, Stood, HeldCase, Stands, Begun, Ended, Finished, held_cases}
 
 are_made : (es fs : List Effect) → AreMade es → AreMade fs → AreMade (es ++ fs)

@@ -12,10 +12,11 @@ use Rattle.cip_hops.specs.declared.hop.Held.{Held}
 use Rattle.cip_hops.specs.declared.hop.Held.TheVariants.{Opening as IsOpening, Open}
 use Rattle.cip_hops.specs.Hops.{Hops, as_hop, open_in, finished, begun, change_in, changed, touched, counted}
 use Rattle.cip_config.specs.declared.config.ModuleSettings.{ModuleSettings}
-use Rattle.cip_module.specs.Effects.{Effect, Answers, resets, answered_state, Forwards, Begins, Accepts, Finishes, Takes, PendingTimesOut, Removes, HopTimesOut}
-use Rattle.cip_module.specs.Effects.{Renews, Counts, entry_for, kind_for, abandoned, abandoned_if, removed, given_up, renewed, recounted, apply}
-use Rattle.cip_module.specs.State.{State}
-use Rattle.cip_module.proofs.Fits.{numbers_apart}
+use Rattle.cip_routing.specs.Effects.{Effect, Answers, resets, answered_state, Forwards, Begins, Accepts, Finishes, Takes, PendingTimesOut, Removes}
+use Rattle.cip_routing.specs.Effects.{HopTimesOut}
+use Rattle.cip_routing.specs.Effects.{Renews, Counts, entry_for, kind_for, abandoned, abandoned_if, removed, given_up, renewed, recounted, apply}
+use Rattle.cip_routing.specs.State.{State}
+use Rattle.cip_routing.proofs.Fits.{numbers_apart}
 use Rattle.cip_base.proofs.MapCases.{insert_cases, remove_cases}
 use Rattle.std.specs.Ordering.{nat_cmp}
 use Rattle.cip_base.specs.Counts.{reborn}

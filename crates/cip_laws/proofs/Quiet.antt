@@ -6,11 +6,11 @@ use Rattle.cip_config.specs.declared.config.ModuleSettings.{ModuleSettings}
 use Rattle.cip_event.specs.declared.event.Body.TheVariants as bodies
 use Rattle.cip_event.specs.declared.event.Event.{Event}
 use Rattle.cip_event.specs.declared.event.Event.TheVariants as events
-use Rattle.cip_module.specs.Effects.{Effect, Spends, Replies, Answers, Passes, Writes, RefusesCommand, Drops, apply, applied}
-use Rattle.cip_module.specs.ReplyRows.{ReplyRow, reply_row}
-use Rattle.cip_module.specs.ReplyRows as reply
-use Rattle.cip_module.specs.State.{State}
-use Rattle.cip_module.specs.Table.{decide, reply_effects}
+use Rattle.cip_routing.specs.Effects.{Effect, Spends, Replies, Answers, Passes, Writes, RefusesCommand, Drops, apply, applied}
+use Rattle.cip_routing.specs.ReplyRows.{ReplyRow, reply_row}
+use Rattle.cip_routing.specs.ReplyRows as reply
+use Rattle.cip_routing.specs.State.{State}
+use Rattle.cip_routing.specs.Table.{decide, reply_effects}
 use Rattle.cip_laws.specs.Tells.{asker}
 use Rattle.cip_laws.proofs.Births.{gain-append}
 use Rattle.cip_laws.proofs.Light.{light_once}

@@ -14,10 +14,11 @@ use Rattle.cip_event.specs.declared.event.Body.TheVariants as bodies
 use Rattle.cip_event.specs.declared.event.Event.{Event}
 use Rattle.cip_event.specs.declared.event.Output.{Output}
 use Rattle.cip_event.specs.declared.event.Output.TheVariants as outputs
-use Rattle.cip_module.specs.Effects.{Effect, Replies, Answers, Forwards, Begins, Accepts, Finishes, Takes, PendingTimesOut, HopTimesOut, Passes, RefusesCommand}
-use Rattle.cip_module.specs.Effects.{Drops, here_answer, reply_up, output_of, succeeded_at}
-use Rattle.cip_module.specs.OpenRows.{end_down}
-use Rattle.cip_module.specs.State.{State}
+use Rattle.cip_routing.specs.Effects.{Effect, Replies, Answers, Forwards, Begins, Accepts, Finishes, Takes, PendingTimesOut, HopTimesOut, Passes}
+use Rattle.cip_routing.specs.Effects.{RefusesCommand}
+use Rattle.cip_routing.specs.Effects.{Drops, here_answer, reply_up, output_of, succeeded_at}
+use Rattle.cip_routing.specs.OpenRows.{end_down}
+use Rattle.cip_routing.specs.State.{State}
 use Rattle.cip_laws.specs.Tells.{Tells, AllTell}
 use Rattle.cip_laws.specs.Births.{opened_by, or_else, first_opened, IsBirth}
 use Rattle.cip_laws.specs.Histories.{Turn, state_after, IsHistory}

@@ -1,8 +1,8 @@
 -- What is held has a number or an id below the next, and the next never falls.
 use Rattle.std.proofs.Common.{◌≡◌, ℕ, ◌+◌, ◌≤◌, List, [], ◌∷◌, ap, arith, Bool, true, false, refl}
 use Rattle.cip_config.specs.declared.config.ModuleSettings.{ModuleSettings}
-use Rattle.cip_module.specs.Effects.{Effect, apply, applied, Answers, resets, answered_state}
-use Rattle.cip_module.specs.State.{State}
+use Rattle.cip_routing.specs.Effects.{Effect, apply, applied, Answers, resets, answered_state}
+use Rattle.cip_routing.specs.State.{State}
 use Rattle.cip_laws.specs.Histories.{Turn, state_after, IsHistory}
 use Rattle.cip_laws.proofs.Puts.{numbers_drawn, next_number, drawn_ids, next_id}
 use Rattle.cip_laws.proofs.Turns.{newest}

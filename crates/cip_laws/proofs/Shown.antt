@@ -18,13 +18,13 @@ use Rattle.cip_hops.specs.declared.opening.OwnIds.{OwnIds}
 use Rattle.cip_hops.specs.Hops.{as_hop, as_opening, opening_at}
 use Rattle.cip_pending.specs.declared.entry.Entry.{Entry}
 use Rattle.cip_config.specs.declared.config.ModuleSettings.{ModuleSettings}
-use Rattle.cip_module.specs.declared.tables.HopRow.{HopRow}
-use Rattle.cip_module.specs.declared.tables.Tables.{Tables}
+use Rattle.cip_routing.specs.declared.tables.HopRow.{HopRow}
+use Rattle.cip_routing.specs.declared.tables.Tables.{Tables}
 use Rattle.cip_laws.specs.OwnTriads.{HasOwnTriads}
-use Rattle.cip_module.specs.Paired.{IsPaired}
-use Rattle.cip_module.specs.Rooms.{HasRooms}
-use Rattle.cip_module.specs.State.{State, initial_state}
-use Rattle.cip_module.specs.Views.{row_of, hop_row_of, assembly_row_of, ShowsState, SlotsAlike, LooksAlike, ShowsNone}
+use Rattle.cip_routing.specs.Paired.{IsPaired}
+use Rattle.cip_routing.specs.Rooms.{HasRooms}
+use Rattle.cip_routing.specs.State.{State, initial_state}
+use Rattle.cip_routing.specs.Views.{row_of, hop_row_of, assembly_row_of, ShowsState, SlotsAlike, LooksAlike, ShowsNone}
 use Rattle.cip_laws.proofs.TellsCommands.{each_stands}
 
 -- ---- lists of rows

@@ -6,10 +6,10 @@ use Rattle.cip_hops.specs.declared.hop.Side.TheVariants.{Up, Down}
 use Rattle.cip_config.specs.declared.config.ModuleSettings.{ModuleSettings}
 use Rattle.cip_event.specs.declared.event.Event.{Event}
 use Rattle.cip_laws.specs.EffectLists.{gain, IsLight, IsBounded, HasStood, Stands, AllStand}
-use Rattle.cip_module.specs.Effects.{Effect, Spends, Replies, Answers, Forwards, Begins, Accepts, Finishes, Takes, PendingTimesOut, Removes, HopTimesOut}
-use Rattle.cip_module.specs.Effects.{Renews, Passes, Counts, Writes, RefusesCommand, Drops, Advances, apply, applied}
-use Rattle.cip_module.specs.State.{State}
-use Rattle.cip_module.specs.Table.{decide}
+use Rattle.cip_routing.specs.Effects.{Effect, Spends, Replies, Answers, Forwards, Begins, Accepts, Finishes, Takes, PendingTimesOut, Removes, HopTimesOut}
+use Rattle.cip_routing.specs.Effects.{Renews, Passes, Counts, Writes, RefusesCommand, Drops, Advances, apply, applied}
+use Rattle.cip_routing.specs.State.{State}
+use Rattle.cip_routing.specs.Table.{decide}
 use Rattle.cip_laws.specs.Tells.{asker, Tells, AllTell, PassesAs, PassedOn, Entered, Made}
 use Rattle.cip_laws.proofs.Births.{gain-append}
 use Rattle.cip_laws.proofs.Light.{light_once}

@@ -23,11 +23,11 @@ use Rattle.cip_open.specs.Open.{Open as OpenRequest}
 use Rattle.cip_open.specs.Success.{OpenSuccess}
 use Rattle.cip_target.specs.declared.link.EndLink.{EndLink}
 use Rattle.cip_config.specs.declared.config.ModuleSettings.{ModuleSettings}
-use Rattle.cip_module.specs.Effects.{Effect, Begins, Accepts, Finishes, Takes, PendingTimesOut, Removes, HopTimesOut, Renews, Counts, abandoned, abandoned_if}
-use Rattle.cip_module.specs.Effects.{removed, given_up, renewed, recounted, ends_here, apply, Answers, resets, answered_state}
-use Rattle.cip_module.specs.State.{State}
+use Rattle.cip_routing.specs.Effects.{Effect, Begins, Accepts, Finishes, Takes, PendingTimesOut, Removes, HopTimesOut, Renews, Counts, abandoned, abandoned_if}
+use Rattle.cip_routing.specs.Effects.{removed, given_up, renewed, recounted, ends_here, apply, Answers, resets, answered_state}
+use Rattle.cip_routing.specs.State.{State}
 use Rattle.cip_base.proofs.Points.{put_here}
-use Rattle.cip_module.proofs.Removed.{open_at}
+use Rattle.cip_routing.proofs.Removed.{open_at}
 use Rattle.cip_base.proofs.MapCases.{insert_cases, remove_cases}
 pub use Rattle.cip_laws.specs.Changes.{SameCore, Stood, OpenedBy, HeldCase, Stands, Begun, Ended, Finished}
 use Rattle.cip_message.specs.Request.{Request}

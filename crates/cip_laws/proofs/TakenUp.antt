@@ -4,9 +4,9 @@ use Rattle.cip_pending.specs.declared.entry.UpSide.{UpSide}
 use Rattle.cip_laws.specs.EffectLists.{gain, takes_up, IsLight, IsBounded}
 use Rattle.cip_config.specs.declared.config.ModuleSettings.{ModuleSettings}
 use Rattle.cip_event.specs.declared.event.Event.{Event}
-use Rattle.cip_module.specs.Effects.{Effect, Replies, Answers, Forwards, Begins}
-use Rattle.cip_module.specs.State.{State}
-use Rattle.cip_module.specs.Table.{decide}
+use Rattle.cip_routing.specs.Effects.{Effect, Replies, Answers, Forwards, Begins}
+use Rattle.cip_routing.specs.State.{State}
+use Rattle.cip_routing.specs.Table.{decide}
 use Rattle.cip_laws.specs.Tells.{asker, Tells, AllTell}
 use Rattle.cip_laws.proofs.Tells.{decide_tells}
 use Rattle.cip_laws.proofs.TellsAskers.{replies_asker, answers_asker, forwards_asker, begins_asker}

@@ -6,9 +6,9 @@ use Rattle.cip_event.specs.declared.event.Body.{Body}
 use Rattle.cip_event.specs.declared.event.Body.TheVariants as bodies
 use Rattle.cip_event.specs.declared.event.Event.{Event}
 use Rattle.cip_event.specs.declared.event.Event.TheVariants as events
-use Rattle.cip_module.specs.Effects.{Effect}
-use Rattle.cip_module.specs.State.{State}
-use Rattle.cip_module.specs.Table.{frame_effects, command_effects, tick_effects, decide}
+use Rattle.cip_routing.specs.Effects.{Effect}
+use Rattle.cip_routing.specs.State.{State}
+use Rattle.cip_routing.specs.Table.{frame_effects, command_effects, tick_effects, decide}
 use Rattle.cip_laws.specs.Tells.{AllTell}
 use Rattle.cip_laws.proofs.TellsRequests.{requests_tell}
 use Rattle.cip_laws.proofs.TellsReplies.{replies_tell}

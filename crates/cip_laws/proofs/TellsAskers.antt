@@ -9,9 +9,9 @@ use Rattle.cip_pending.specs.declared.entry.Kind.{Kind}
 use Rattle.cip_hops.specs.declared.opening.Opening.{Opening}
 use Rattle.cip_config.specs.declared.config.ModuleSettings.{ModuleSettings}
 use Rattle.cip_event.specs.declared.event.Event.{Event}
-use Rattle.cip_module.specs.RequestRows.{RequestRow}
-use Rattle.cip_module.specs.Effects.{Sending}
-use Rattle.cip_module.specs.State.{State}
+use Rattle.cip_routing.specs.RequestRows.{RequestRow}
+use Rattle.cip_routing.specs.Effects.{Sending}
+use Rattle.cip_routing.specs.State.{State}
 use Rattle.cip_laws.proofs.AskedOpens.{asks_asker}
 use Rattle.cip_laws.specs.Tells.{asker, Came, AsksSend, AsksOpen, AsksClose, RepliesAs, RequestFails, SendUnread, SendFails, OpenUnread, OpenFails, OpenEnds}
 use Rattle.cip_laws.specs.Tells.{CloseUnread, CloseFails, CloseEnds, AnswersAs, Itself, Embedded, ForwardsAs, BeginsAs, SentOn, ClosedOn}

@@ -6,12 +6,12 @@ use Rattle.cip_close.specs.CloseAt.{close_at}
 use Rattle.cip_pending.specs.declared.entry.UpSide.{UpSide}
 use Rattle.cip_config.specs.declared.config.ModuleSettings.{ModuleSettings}
 use Rattle.cip_event.specs.declared.event.Event.{Event}
-use Rattle.cip_module.specs.CloseRows.{CloseRow, Refuses, Forwarded, ClosedAtTheEnd, close_row}
-use Rattle.cip_module.specs.RequestRows.{ForwardClose}
-use Rattle.cip_module.specs.State.{State}
-use Rattle.cip_module.specs.Table.{close_on, close_effects, close_data_effects}
+use Rattle.cip_routing.specs.CloseRows.{CloseRow, Refuses, Forwarded, ClosedAtTheEnd, close_row}
+use Rattle.cip_routing.specs.RequestRows.{ForwardClose}
+use Rattle.cip_routing.specs.State.{State}
+use Rattle.cip_routing.specs.Table.{close_on, close_effects, close_data_effects}
 use Rattle.cip_laws.specs.Tells.{Came, AsksClose, Closes, CloseUnread, CloseFails, CloseEnds, AllTell, ClosedOn}
-use Rattle.cip_module.proofs.ClosesForwarded.{close_stands, down_forwards}
+use Rattle.cip_routing.proofs.ClosesForwarded.{close_stands, down_forwards}
 
 -- ---- the group
 

@@ -28,16 +28,16 @@ use Rattle.cip_event.specs.declared.event.Command.{Command}
 use Rattle.cip_event.specs.declared.event.Command.TheVariants as commands
 use Rattle.cip_event.specs.declared.event.Refused.{Refused}
 use Rattle.cip_event.specs.declared.event.Refused.TheVariants as refused
-use Rattle.cip_module.specs.CommandRows.{CommandRow}
-use Rattle.cip_module.specs.CommandRows as rows
-use Rattle.cip_module.specs.CommandRows.{op_row, close_command_row, send_row, enter_row, set_row, produce_row}
-use Rattle.cip_module.specs.Effects.{Effect, Counts, Passes, Writes}
-use Rattle.cip_module.specs.Produced.{reads_from, made_effects, held_effects, each_effects, next_count}
-use Rattle.cip_module.specs.State.{State, is_spent}
-use Rattle.cip_module.specs.Table.{refused_effects, sent, asked_open, close_of, send_effects, open_command_effects, closed_effects, close_command_effects}
-use Rattle.cip_module.specs.Table.{entered_effects, enter_effects, produce_effects, command_effects}
+use Rattle.cip_routing.specs.CommandRows.{CommandRow}
+use Rattle.cip_routing.specs.CommandRows as rows
+use Rattle.cip_routing.specs.CommandRows.{op_row, close_command_row, send_row, enter_row, set_row, produce_row}
+use Rattle.cip_routing.specs.Effects.{Effect, Counts, Passes, Writes}
+use Rattle.cip_routing.specs.Produced.{reads_from, made_effects, held_effects, each_effects, next_count}
+use Rattle.cip_routing.specs.State.{State, is_spent}
+use Rattle.cip_routing.specs.Table.{refused_effects, sent, asked_open, close_of, send_effects, open_command_effects, closed_effects, close_command_effects}
+use Rattle.cip_routing.specs.Table.{entered_effects, enter_effects, produce_effects, command_effects}
 use Rattle.cip_laws.specs.Tells.{Entered, Made, CountedDown, Set, Produced, command_row, refused_by, RefusesAs, AllTell}
-use Rattle.cip_module.proofs.Conditions.{past}
+use Rattle.cip_routing.proofs.Conditions.{past}
 use Rattle.cip_laws.proofs.AskedOpens.{asks_asker, asks_row}
 use Rattle.cip_laws.proofs.TellsEach.{all_append}
 use Rattle.cip_laws.proofs.TellsSends.{sends_tell}

@@ -17,9 +17,9 @@ use Rattle.cip_event.specs.declared.event.Body.TheVariants.{Data}
 use Rattle.cip_event.specs.declared.event.Dropped.{Dropped}
 use Rattle.cip_event.specs.declared.event.Dropped.TheVariants as dropped
 use Rattle.cip_config.specs.Config.{port_of}
-use Rattle.cip_module.specs.DataRows.{DataRow, UnknownId, WrongSize, Repeated, Consumed, is_last, below_row, above_row, id_row, data_row}
-use Rattle.cip_module.specs.State.{State}
-use Rattle.cip_module.specs.Table.{datum_effects}
+use Rattle.cip_routing.specs.DataRows.{DataRow, UnknownId, WrongSize, Repeated, Consumed, is_last, below_row, above_row, id_row, data_row}
+use Rattle.cip_routing.specs.State.{State}
+use Rattle.cip_routing.specs.Table.{datum_effects}
 use Rattle.cip_laws.specs.Tells.{DatumCame, DatumWritten, PassedOn, CountedUp, Taken, RenewsAs, DropsAs, datum_dropped, AllTell}
 
 -- ---- from the device above

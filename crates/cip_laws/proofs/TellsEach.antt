@@ -2,8 +2,8 @@
 use Rattle.std.proofs.Common.{List, [], ◌∷◌, ◌++◌}
 use Rattle.cip_config.specs.declared.config.ModuleSettings.{ModuleSettings}
 use Rattle.cip_event.specs.declared.event.Event.{Event}
-use Rattle.cip_module.specs.Effects.{Effect}
-use Rattle.cip_module.specs.State.{State}
+use Rattle.cip_routing.specs.Effects.{Effect}
+use Rattle.cip_routing.specs.State.{State}
 use Rattle.cip_laws.specs.Tells.{AllTell}
 
 pub all_append : (config : ModuleSettings) (s : State) (event : Event) (es fs : List Effect) → AllTell config s event es → AllTell config s event fs

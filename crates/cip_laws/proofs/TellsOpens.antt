@@ -14,19 +14,19 @@ use Rattle.cip_target.specs.Ends.{EndRow, end_row}
 use Rattle.cip_target.specs.declared.ends.EndRefusal.TheVariants.{NotAnApplicationPath}
 use Rattle.cip_config.specs.declared.config.ModuleSettings.{ModuleSettings}
 use Rattle.cip_event.specs.declared.event.Event.{Event}
-use Rattle.cip_module.specs.declared.refusals.KeyPart.{KeyPart}
-use Rattle.cip_module.specs.declared.refusals.LinkRefusal.{LinkRefusal}
-use Rattle.cip_module.specs.declared.refusals.OpenRefusal.TheVariants.{NoRoomToPassOn, NotAccepted, NoRoomToEndHere}
-use Rattle.cip_module.specs.Keys.{leading_mismatch}
-use Rattle.cip_module.specs.Links.{link_refusal}
-use Rattle.cip_module.specs.OpenRows.{OpenRow, Refuses, Forwarded, Accepted, accepted_row, here_row, ids_if_forwarded, on_row, hop_row, key_row, open_row}
-use Rattle.cip_module.specs.OpenRows.{is_consumed}
-use Rattle.cip_module.specs.RequestRows.{ForwardOpen}
-use Rattle.cip_module.specs.State.{State}
-use Rattle.cip_module.specs.Table.{up_side_of, open_effects, open_data_effects}
+use Rattle.cip_routing.specs.declared.refusals.KeyPart.{KeyPart}
+use Rattle.cip_routing.specs.declared.refusals.LinkRefusal.{LinkRefusal}
+use Rattle.cip_routing.specs.declared.refusals.OpenRefusal.TheVariants.{NoRoomToPassOn, NotAccepted, NoRoomToEndHere}
+use Rattle.cip_routing.specs.Keys.{leading_mismatch}
+use Rattle.cip_routing.specs.Links.{link_refusal}
+use Rattle.cip_routing.specs.OpenRows.{OpenRow, Refuses, Forwarded, Accepted, accepted_row, here_row, ids_if_forwarded, on_row, hop_row, key_row, open_row}
+use Rattle.cip_routing.specs.OpenRows.{is_consumed}
+use Rattle.cip_routing.specs.RequestRows.{ForwardOpen}
+use Rattle.cip_routing.specs.State.{State}
+use Rattle.cip_routing.specs.Table.{up_side_of, open_effects, open_data_effects}
 use Rattle.cip_laws.specs.Tells.{Came, AsksOpen, OpenUnread, OpenFails, OpenEnds, AllTell, OpenCame}
-use Rattle.cip_module.proofs.Conditions.{past, past_not, none_is}
-use Rattle.cip_module.proofs.OpensForwarded.{past_all, open_forwards}
+use Rattle.cip_routing.proofs.Conditions.{past, past_not, none_is}
+use Rattle.cip_routing.proofs.OpensForwarded.{past_all, open_forwards}
 use Rattle.cip_open.proofs.ReadAgain.{large_read}
 
 -- ---- an open that ends here

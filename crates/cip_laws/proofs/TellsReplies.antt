@@ -22,14 +22,14 @@ use Rattle.cip_event.specs.declared.event.Event.TheVariants.{Frame}
 use Rattle.cip_event.specs.declared.event.Body.TheVariants as bodies
 use Rattle.cip_event.specs.declared.event.Dropped.{Dropped}
 use Rattle.cip_event.specs.declared.event.Dropped.TheVariants as dropped
-use Rattle.cip_module.specs.RequestRows.{is_malformed}
-use Rattle.cip_module.specs.ReplyRows.{ReplyRow, UnknownPortOrTooLong, Late, MalformedForItsKind, OpenSucceeded, PassedUp, triad_eq, is_own, opened_row}
-use Rattle.cip_module.specs.ReplyRows.{opening_row, open_kind_row, failure_row, kind_row, read_row, waiting_row, reply_row}
-use Rattle.cip_module.specs.State.{State}
-use Rattle.cip_module.specs.Table.{reply_effects}
+use Rattle.cip_routing.specs.RequestRows.{is_malformed}
+use Rattle.cip_routing.specs.ReplyRows.{ReplyRow, UnknownPortOrTooLong, Late, MalformedForItsKind, OpenSucceeded, PassedUp, triad_eq, is_own, opened_row}
+use Rattle.cip_routing.specs.ReplyRows.{opening_row, open_kind_row, failure_row, kind_row, read_row, waiting_row, reply_row}
+use Rattle.cip_routing.specs.State.{State}
+use Rattle.cip_routing.specs.Table.{reply_effects}
 use Rattle.cip_laws.specs.Tells.{DropsAs, reply_dropped, AllTell}
-use Rattle.cip_module.proofs.Conditions.{past, first_of}
-use Rattle.cip_module.proofs.Receiving.{opens_only}
+use Rattle.cip_routing.proofs.Conditions.{past, first_of}
+use Rattle.cip_routing.proofs.Receiving.{opens_only}
 
 -- ---- a success
 

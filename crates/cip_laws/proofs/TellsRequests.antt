@@ -8,10 +8,10 @@ use Rattle.cip_event.specs.declared.event.Event.TheVariants.{Frame}
 use Rattle.cip_event.specs.declared.event.Body.TheVariants.{Request}
 use Rattle.cip_event.specs.declared.event.Dropped.{Dropped}
 use Rattle.cip_event.specs.declared.event.Dropped.TheVariants.{Malformed}
-use Rattle.cip_module.specs.RequestRows.{RequestRow, UnknownPortOrTooLong, NotARequest, Refuses, UnconnectedSend, ForwardOpen, ForwardClose, Target}
-use Rattle.cip_module.specs.RequestRows.{request_row}
-use Rattle.cip_module.specs.State.{State}
-use Rattle.cip_module.specs.Table.{request_effects}
+use Rattle.cip_routing.specs.RequestRows.{RequestRow, UnknownPortOrTooLong, NotARequest, Refuses, UnconnectedSend, ForwardOpen, ForwardClose, Target}
+use Rattle.cip_routing.specs.RequestRows.{request_row}
+use Rattle.cip_routing.specs.State.{State}
+use Rattle.cip_routing.specs.Table.{request_effects}
 use Rattle.cip_laws.specs.Tells.{Came, DropsAs, request_dropped, RequestFails, Itself, AllTell}
 use Rattle.cip_laws.proofs.TellsSends.{send_tells}
 use Rattle.cip_laws.proofs.TellsOpens.{open_tells}

@@ -13,20 +13,20 @@ use Rattle.cip_pending.specs.declared.entry.UpSide.{UpSide}
 use Rattle.cip_pending.specs.Pendings.{Pendings, refusal}
 use Rattle.cip_config.specs.declared.config.ModuleSettings.{ModuleSettings}
 use Rattle.cip_event.specs.declared.event.Event.{Event}
-use Rattle.cip_module.specs.declared.refusals.KeyPart.{KeyPart}
-use Rattle.cip_module.specs.declared.refusals.LinkRefusal.{LinkRefusal}
-use Rattle.cip_module.specs.declared.refusals.UnconnectedRefusal.TheVariants.{EmbeddedRequestNotAllowed}
-use Rattle.cip_module.specs.Keys.{leading_mismatch}
-use Rattle.cip_module.specs.Object.{begins_with_manager}
-use Rattle.cip_module.specs.Links.{link_refusal}
-use Rattle.cip_module.specs.UnconnectedRows.{UnconnectedRow, Refuses, AnsweredHere, Forwarded, link_row, hop_row, key_row, route_row, embedded_row}
-use Rattle.cip_module.specs.UnconnectedRows.{unconnected_row}
-use Rattle.cip_module.specs.RequestRows.{UnconnectedSend}
-use Rattle.cip_module.specs.State.{State}
-use Rattle.cip_module.specs.Table.{unconnected_effects, unconnected_data_effects}
+use Rattle.cip_routing.specs.declared.refusals.KeyPart.{KeyPart}
+use Rattle.cip_routing.specs.declared.refusals.LinkRefusal.{LinkRefusal}
+use Rattle.cip_routing.specs.declared.refusals.UnconnectedRefusal.TheVariants.{EmbeddedRequestNotAllowed}
+use Rattle.cip_routing.specs.Keys.{leading_mismatch}
+use Rattle.cip_routing.specs.Object.{begins_with_manager}
+use Rattle.cip_routing.specs.Links.{link_refusal}
+use Rattle.cip_routing.specs.UnconnectedRows.{UnconnectedRow, Refuses, AnsweredHere, Forwarded, link_row, hop_row, key_row, route_row, embedded_row}
+use Rattle.cip_routing.specs.UnconnectedRows.{unconnected_row}
+use Rattle.cip_routing.specs.RequestRows.{UnconnectedSend}
+use Rattle.cip_routing.specs.State.{State}
+use Rattle.cip_routing.specs.Table.{unconnected_effects, unconnected_data_effects}
 use Rattle.cip_laws.specs.Tells.{Came, AsksSend, SendUnread, SendFails, Embedded, AllTell, SentOn}
-use Rattle.cip_module.proofs.Conditions.{past, first_of}
-use Rattle.cip_module.proofs.SendsForwarded.{sent_on}
+use Rattle.cip_routing.proofs.Conditions.{past, first_of}
+use Rattle.cip_routing.proofs.SendsForwarded.{sent_on}
 
 -- ---- what is answered here
 

@@ -12,10 +12,10 @@ use Rattle.cip_hops.proofs.Named.{is_open}
 use Rattle.cip_event.specs.declared.event.Event.{Event}
 use Rattle.cip_hops.specs.Hops.{AreOwnTriads}
 use Rattle.cip_laws.specs.OwnTriads.{HasOwnTriads}
-use Rattle.cip_module.specs.State.{State}
-use Rattle.cip_module.specs.Table.{other}
+use Rattle.cip_routing.specs.State.{State}
+use Rattle.cip_routing.specs.Table.{other}
 use Rattle.cip_laws.specs.Tells.{DatumCame, Produced, RenewsAs, HopTimesOutAs, PassesAs, PassedOn, Entered, Made, CountsAs, CountedUp, CountedDown}
-use Rattle.cip_module.proofs.Found.{found_own}
+use Rattle.cip_routing.proofs.Found.{found_own}
 
 held_stands : (h : Hops) (key : Triad) (hop : Hop) (x : Option Held) → AreOwnTriads h → map.get h.held key ≡ x → option_and_then as_hop x ≡ Some hop
     → hop.opening.triad ≡ key

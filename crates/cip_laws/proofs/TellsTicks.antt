@@ -17,8 +17,8 @@ use Rattle.cip_hops.specs.Hops.{as_hop, is_hop_due}
 use Rattle.cip_base.proofs.Views.{get-at}
 use Rattle.cip_config.specs.declared.config.ModuleSettings.{ModuleSettings}
 use Rattle.cip_event.specs.declared.event.Event.TheVariants.{Tick}
-use Rattle.cip_module.specs.State.{State}
-use Rattle.cip_module.specs.Table.{pending_times_out, pending_time_outs, hop_times_out, hop_time_outs, tick_effects}
+use Rattle.cip_routing.specs.State.{State}
+use Rattle.cip_routing.specs.Table.{pending_times_out, pending_time_outs, hop_times_out, hop_time_outs, tick_effects}
 use Rattle.cip_laws.specs.Tells.{PendingTimesOutAs, AllTell}
 use Rattle.cip_laws.proofs.TellsEach.{all_append}
 use Rattle.cip_laws.proofs.TellsCommands.{each_stands}

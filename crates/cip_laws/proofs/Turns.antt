@@ -3,9 +3,9 @@ use Rattle.std.proofs.Common.{◌≡◌, ◌∙◌, List, [], ◌∷◌, ◌++�
 use Rattle.cip_config.specs.declared.config.ModuleSettings.{ModuleSettings}
 use Rattle.cip_event.specs.declared.event.Event.{Event}
 use Rattle.cip_event.specs.declared.event.Output.{Output}
-use Rattle.cip_module.specs.Effects.{Effect, apply, output_of, applied, outputs_of}
-use Rattle.cip_module.specs.State.{State}
-use Rattle.cip_module.specs.Table.{Stepped, decide, after_effects, table_step}
+use Rattle.cip_routing.specs.Effects.{Effect, apply, output_of, applied, outputs_of}
+use Rattle.cip_routing.specs.State.{State}
+use Rattle.cip_routing.specs.Table.{Stepped, decide, after_effects, table_step}
 use Rattle.cip_laws.specs.Tells.{Tells, AllTell}
 use Rattle.cip_laws.proofs.Tells.{decide_tells}
 use Rattle.cip_laws.specs.Histories.{Turn, state_after, IsHistory}

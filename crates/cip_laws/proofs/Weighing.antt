@@ -9,10 +9,10 @@ use Rattle.cip_message.specs.Request.{Request}
 use Rattle.cip_message.specs.Reply.{reply_bytes}
 use Rattle.cip_pending.specs.declared.entry.UpSide.{UpSide}
 use Rattle.cip_event.specs.declared.event.Output.TheVariants as outputs
-use Rattle.cip_module.specs.Effects.{Effect, Answers, resets, here_answer, ended_by as told_ended, reply_up, apply, output_of, applied, outputs_of}
-use Rattle.cip_module.specs.Resets.{held_ops, all_ended}
-use Rattle.cip_module.specs.State.{State, initial_state}
-use Rattle.cip_module.specs.Table.{decide}
+use Rattle.cip_routing.specs.Effects.{Effect, Answers, resets, here_answer, ended_by as told_ended, reply_up, apply, output_of, applied, outputs_of}
+use Rattle.cip_routing.specs.Resets.{held_ops, all_ended}
+use Rattle.cip_routing.specs.State.{State, initial_state}
+use Rattle.cip_routing.specs.Table.{decide}
 use Rattle.cip_laws.specs.Histories.{Turn, state_after, IsHistory}
 use Rattle.cip_laws.specs.Weights.{weight_in, weight, came}
 use Rattle.cip_laws.specs.Turns.{Has, Gave}

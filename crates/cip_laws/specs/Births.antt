@@ -5,9 +5,9 @@ use Rattle.cip_hops.specs.declared.opening.OwnIds.{OwnIds}
 use Rattle.cip_hops.specs.Sides.{own_ids}
 use Rattle.cip_config.specs.declared.config.ModuleSettings.{ModuleSettings}
 use Rattle.cip_event.specs.declared.event.Event.{Event}
-use Rattle.cip_module.specs.Effects.{Effect, Begins, Accepts}
-use Rattle.cip_module.specs.State.{State}
-use Rattle.cip_module.specs.Table.{decide}
+use Rattle.cip_routing.specs.Effects.{Effect, Begins, Accepts}
+use Rattle.cip_routing.specs.State.{State}
+use Rattle.cip_routing.specs.Table.{decide}
 use Rattle.cip_laws.specs.Histories.{Turn, state_after}
 
 abbrev pub opened_by : Effect → Option Opening

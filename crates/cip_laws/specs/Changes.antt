@@ -16,8 +16,8 @@ use Rattle.cip_hops.specs.Sides.{own_ids, ids_drawn}
 use Rattle.cip_hops.specs.Hops.{Hops, opened}
 use Rattle.cip_target.specs.declared.link.EndLink.{EndLink}
 use Rattle.cip_config.specs.declared.config.ModuleSettings.{ModuleSettings}
-use Rattle.cip_module.specs.Effects.{Sending, Effect, Answers, resets, Forwards, Begins, Accepts, Finishes, entry_for, kind_for}
-use Rattle.cip_module.specs.State.{State}
+use Rattle.cip_routing.specs.Effects.{Sending, Effect, Answers, resets, Forwards, Begins, Accepts, Finishes, entry_for, kind_for}
+use Rattle.cip_routing.specs.State.{State}
 
 -- ---- the requests that wait
 

@@ -15,9 +15,9 @@ use Rattle.cip_config.specs.declared.config.ModuleSettings.{ModuleSettings}
 use Rattle.cip_event.specs.declared.event.Dropped.{Dropped}
 use Rattle.cip_event.specs.declared.event.Refused.{Refused}
 use Rattle.cip_laws.specs.Changes.{Stood}
-use Rattle.cip_module.specs.Effects.{Sending, Effect, Spends, Replies, Answers, Forwards, Begins, Accepts, Finishes, Takes, Removes, Passes, Counts, Writes}
-use Rattle.cip_module.specs.Effects.{RefusesCommand, Drops, applied}
-use Rattle.cip_module.specs.State.{State}
+use Rattle.cip_routing.specs.Effects.{Sending, Effect, Spends, Replies, Answers, Forwards, Begins, Accepts, Finishes, Takes, Removes, Passes, Counts, Writes}
+use Rattle.cip_routing.specs.Effects.{RefusesCommand, Drops, applied}
+use Rattle.cip_routing.specs.State.{State}
 use Rattle.cip_laws.specs.Weights.{mark, same_up}
 
 -- ---- weights of effects

@@ -19,9 +19,9 @@ use Rattle.cip_event.specs.declared.event.Body.TheVariants as bodies
 use Rattle.cip_event.specs.declared.event.Event.TheVariants as events
 use Rattle.cip_event.specs.declared.event.Output.TheVariants as outputs
 use Rattle.cip_laws.specs.Births.{Past}
-use Rattle.cip_module.specs.Effects.{Sending}
+use Rattle.cip_routing.specs.Effects.{Sending}
 use Rattle.cip_laws.specs.Histories.{Turn, state_after}
-use Rattle.cip_module.specs.State.{State}
+use Rattle.cip_routing.specs.State.{State}
 use Rattle.cip_laws.specs.Tells.{BeginsAs}
 use Rattle.cip_laws.specs.Turns.{Has}
 

@@ -27,16 +27,16 @@ use Rattle.cip_event.specs.declared.event.Event.{Event}
 use Rattle.cip_event.specs.declared.event.Output.{Output}
 use Rattle.cip_event.specs.declared.event.Output.TheVariants as outputs
 use Rattle.cip_event.specs.declared.event.Refused.{Refused}
-use Rattle.cip_module.specs.Effects.{Sending, Effect, Answers, Forwards, Begins, Finishes, Takes, PendingTimesOut, HopTimesOut, Passes, RefusesCommand, Drops}
-use Rattle.cip_module.specs.Effects.{resets, here_answer, timed_out_bytes, datum_by, succeeded, output_of, applied}
-use Rattle.cip_module.specs.OpenRows.{opening_with}
-use Rattle.cip_module.specs.State.{State}
-use Rattle.cip_module.specs.Table.{up_side_of}
+use Rattle.cip_routing.specs.Effects.{Sending, Effect, Answers, Forwards, Begins, Finishes, Takes, PendingTimesOut, HopTimesOut, Passes, RefusesCommand, Drops}
+use Rattle.cip_routing.specs.Effects.{resets, here_answer, timed_out_bytes, datum_by, succeeded, output_of, applied}
+use Rattle.cip_routing.specs.OpenRows.{opening_with}
+use Rattle.cip_routing.specs.State.{State}
+use Rattle.cip_routing.specs.Table.{up_side_of}
 use Rattle.cip_laws.specs.Tells.{Tells, AsksOpen, RepliesAs, AnswersAs, ForwardsAs, BeginsAs, HopTimesOutAs, RefusesAs, DropsAs}
 use Rattle.cip_laws.specs.Weights.{mark}
 use Rattle.cip_laws.specs.Turns.{Has}
 use Rattle.cip_pending.specs.Kinds.{is_large_kind}
-use Rattle.cip_module.specs.Resets.{held_ops, all_ended}
+use Rattle.cip_routing.specs.Resets.{held_ops, all_ended}
 
 -- the effect that gave an output, and those before it and after it
 pub record GaveBy (config : ModuleSettings) (s : State) (event : Event) (all : List Effect)

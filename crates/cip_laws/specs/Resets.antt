@@ -8,9 +8,9 @@ use Rattle.cip_pending.specs.declared.entry.UpSide.{UpSide}
 use Rattle.cip_pending.specs.declared.entry.UpSide.TheVariants.{Link, Local}
 use Rattle.cip_target.specs.Assemblies.{zeroed}
 use Rattle.cip_config.specs.declared.config.ModuleSettings.{ModuleSettings}
-use Rattle.cip_module.specs.Effects.{Answers, resets}
-use Rattle.cip_module.specs.State.{State, spent_with}
-use Rattle.cip_module.specs.Table.{decide, with_spending}
+use Rattle.cip_routing.specs.Effects.{Answers, resets}
+use Rattle.cip_routing.specs.State.{State, spent_with}
+use Rattle.cip_routing.specs.Table.{decide, with_spending}
 use Rattle.cip_laws.specs.Histories.{Turn, state_after}
 
 -- the module's own objects answer a request, which came in a frame or by a command, and read it

@@ -52,34 +52,34 @@ use Rattle.cip_event.specs.declared.event.Dropped.{Dropped}
 use Rattle.cip_event.specs.declared.event.Dropped.TheVariants as dropped
 use Rattle.cip_event.specs.declared.event.Refused.{Refused}
 use Rattle.cip_event.specs.declared.event.Refused.TheVariants as refused
-use Rattle.cip_module.specs.CommandRows.{CommandRow}
-use Rattle.cip_module.specs.CommandRows as command_rows
-use Rattle.cip_module.specs.declared.refusals.RequestRefusal.{RequestRefusal}
-use Rattle.cip_module.specs.declared.refusals.UnconnectedRefusal.{UnconnectedRefusal}
-use Rattle.cip_module.specs.declared.refusals.OpenRefusal.{OpenRefusal}
-use Rattle.cip_module.specs.declared.refusals.CloseRefusal.{CloseRefusal}
-use Rattle.cip_module.specs.Answers.{failure_bytes, unconnected_failure, open_failed, close_failed}
-use Rattle.cip_module.specs.Statuses.{request_status, open_status, close_status}
-use Rattle.cip_module.specs.RequestRows.{RequestRow, request_row}
-use Rattle.cip_module.specs.RequestRows as request
-use Rattle.cip_module.specs.UnconnectedRows.{unconnected_row}
-use Rattle.cip_module.specs.UnconnectedRows as unconnected
-use Rattle.cip_module.specs.OpenRows.{open_row, opening_with, end_down, ids_if_forwarded, is_consumed}
-use Rattle.cip_module.specs.OpenRows as opens
-use Rattle.cip_module.specs.CloseRows.{close_row, is_sender}
-use Rattle.cip_module.specs.CloseRows as closes
-use Rattle.cip_module.specs.ReplyRows.{ReplyRow, PassedUp, kind_row, reply_row}
-use Rattle.cip_module.specs.ReplyRows as reply
-use Rattle.cip_module.specs.DataRows.{DataRow, is_last, data_row}
-use Rattle.cip_module.specs.DataRows as datum
-use Rattle.cip_module.specs.CommandRows.{op_row, close_command_row, send_row, enter_row, set_row, produce_row}
-use Rattle.cip_module.specs.Produced.{reads_from, next_count, datum_bytes}
-use Rattle.cip_module.specs.Effects.{Sending, Effect, Spends, Replies, Answers, Forwards, Begins, Accepts, Finishes, Takes, PendingTimesOut, Removes}
-use Rattle.cip_module.specs.Effects.{HopTimesOut, Renews, Passes, Counts, Writes, RefusesCommand, Drops, Advances}
-use Rattle.cip_module.specs.Table.{wait_of, words_of, message_on, up_side_of, open_on, accepted_bytes, close_on, unread_open_bytes, unread_close_bytes, sent}
-use Rattle.cip_module.specs.Table.{asked_open, close_of, other}
-use Rattle.cip_module.specs.State.{State, is_spent}
-use Rattle.cip_module.specs.Links.{LeadsOn}
+use Rattle.cip_routing.specs.CommandRows.{CommandRow}
+use Rattle.cip_routing.specs.CommandRows as command_rows
+use Rattle.cip_routing.specs.declared.refusals.RequestRefusal.{RequestRefusal}
+use Rattle.cip_routing.specs.declared.refusals.UnconnectedRefusal.{UnconnectedRefusal}
+use Rattle.cip_routing.specs.declared.refusals.OpenRefusal.{OpenRefusal}
+use Rattle.cip_routing.specs.declared.refusals.CloseRefusal.{CloseRefusal}
+use Rattle.cip_routing.specs.Answers.{failure_bytes, unconnected_failure, open_failed, close_failed}
+use Rattle.cip_routing.specs.Statuses.{request_status, open_status, close_status}
+use Rattle.cip_routing.specs.RequestRows.{RequestRow, request_row}
+use Rattle.cip_routing.specs.RequestRows as request
+use Rattle.cip_routing.specs.UnconnectedRows.{unconnected_row}
+use Rattle.cip_routing.specs.UnconnectedRows as unconnected
+use Rattle.cip_routing.specs.OpenRows.{open_row, opening_with, end_down, ids_if_forwarded, is_consumed}
+use Rattle.cip_routing.specs.OpenRows as opens
+use Rattle.cip_routing.specs.CloseRows.{close_row, is_sender}
+use Rattle.cip_routing.specs.CloseRows as closes
+use Rattle.cip_routing.specs.ReplyRows.{ReplyRow, PassedUp, kind_row, reply_row}
+use Rattle.cip_routing.specs.ReplyRows as reply
+use Rattle.cip_routing.specs.DataRows.{DataRow, is_last, data_row}
+use Rattle.cip_routing.specs.DataRows as datum
+use Rattle.cip_routing.specs.CommandRows.{op_row, close_command_row, send_row, enter_row, set_row, produce_row}
+use Rattle.cip_routing.specs.Produced.{reads_from, next_count, datum_bytes}
+use Rattle.cip_routing.specs.Effects.{Sending, Effect, Spends, Replies, Answers, Forwards, Begins, Accepts, Finishes, Takes, PendingTimesOut, Removes}
+use Rattle.cip_routing.specs.Effects.{HopTimesOut, Renews, Passes, Counts, Writes, RefusesCommand, Drops, Advances}
+use Rattle.cip_routing.specs.Table.{wait_of, words_of, message_on, up_side_of, open_on, accepted_bytes, close_on, unread_open_bytes, unread_close_bytes, sent}
+use Rattle.cip_routing.specs.Table.{asked_open, close_of, other}
+use Rattle.cip_routing.specs.State.{State, is_spent}
+use Rattle.cip_routing.specs.Links.{LeadsOn}
 
 -- ---- what an event asks, and whom the reply goes to
 

@@ -1,12 +1,12 @@
 //! What the tables that a module shows tell of its state.
 ghost use Rattle.std.specs.Prelude.{◌≡◌};
 ghost use Rattle.cip_config.specs.declared.config.ModuleSettings.{ModuleSettings as Settings};
-ghost use Rattle.cip_module.specs.declared.tables.Tables.{Tables as Shown};
+ghost use Rattle.cip_routing.specs.declared.tables.Tables.{Tables as Shown};
 ghost use Rattle.cip_laws.specs.OwnTriads.{HasOwnTriads};
-ghost use Rattle.cip_module.specs.Paired.{IsPaired};
-ghost use Rattle.cip_module.specs.Rooms.{HasRooms};
-ghost use Rattle.cip_module.specs.State.{State, initial_state};
-ghost use Rattle.cip_module.specs.Views.{ShowsState, LooksAlike, ShowsNone};
+ghost use Rattle.cip_routing.specs.Paired.{IsPaired};
+ghost use Rattle.cip_routing.specs.Rooms.{HasRooms};
+ghost use Rattle.cip_routing.specs.State.{State, initial_state};
+ghost use Rattle.cip_routing.specs.Views.{ShowsState, LooksAlike, ShowsNone};
 
 /// Tables that look as at the beginning are those of the first state of the config alone, where the
 /// rooms are the config's and each connection that is opening waits for a reply.

@@ -33,13 +33,13 @@ use Rattle.cip_pending.specs.declared.entry.Kind.{Kind}
 use Rattle.cip_pending.specs.declared.entry.Kind.TheVariants.{Unconnected, Opening, OpeningLarge, Closing}
 use Rattle.cip_pending.specs.Kinds.{is_large_kind}
 use Rattle.cip_pending.specs.Pendings.{waiting_at}
-use Rattle.cip_module.specs.State.{State}
-use Rattle.cip_module.specs.Effects.{waits_large}
-use Rattle.cip_module.specs.ReplyRows.{ReplyRow, OpenSucceeded, triad_eq, is_own, failure_row, opened_row, closed_row, opening_row, open_kind_row, kind_row}
-use Rattle.cip_module.specs.ReplyRows.{waiting_row, reply_row}
-use Rattle.cip_module.specs.ReplyRows as replies
+use Rattle.cip_routing.specs.State.{State}
+use Rattle.cip_routing.specs.Effects.{waits_large}
+use Rattle.cip_routing.specs.ReplyRows.{ReplyRow, OpenSucceeded, triad_eq, is_own, failure_row, opened_row, closed_row, opening_row, open_kind_row, kind_row}
+use Rattle.cip_routing.specs.ReplyRows.{waiting_row, reply_row}
+use Rattle.cip_routing.specs.ReplyRows as replies
 use Rattle.cip_config.specs.declared.config.ModuleSettings.{ModuleSettings}
-use Rattle.cip_module.specs.RequestRows.{RequestRow, UnconnectedSend, ForwardOpen, ForwardClose, is_malformed, read_row, object_row, manager_row, request_row}
+use Rattle.cip_routing.specs.RequestRows.{RequestRow, UnconnectedSend, ForwardOpen, ForwardClose, is_malformed, read_row, object_row, manager_row, request_row}
 
 -- what a row of the Connection Manager says of the bytes
 abbrev pub SaysOf : List ℕ → RequestRow → Type 0

@@ -18,14 +18,14 @@ use Rattle.cip_hops.proofs.Named.{and_first, is_id_true}
 use Rattle.cip_hops.proofs.Touching.{held_open}
 use Rattle.cip_config.specs.declared.config.ModuleSettings.{ModuleSettings}
 use Rattle.cip_event.specs.declared.event.Output.{Output}
-use Rattle.cip_module.specs.declared.data.outputs.Writing.{Writing}
-use Rattle.cip_module.specs.DataRows.{DataRow, WrongSize, id_row, below_row, above_row, from_down_row}
-use Rattle.cip_module.specs.Effects.{Effect, Passes, Renews, applied, outputs_of, passed, datum_by, renewed}
+use Rattle.cip_routing.specs.declared.outputs.Writing.{Writing}
+use Rattle.cip_routing.specs.DataRows.{DataRow, WrongSize, id_row, below_row, above_row, from_down_row}
+use Rattle.cip_routing.specs.Effects.{Effect, Passes, Renews, applied, outputs_of, passed, datum_by, renewed}
 use Rattle.cip_module.specs.Code.Does.{HasDone}
-use Rattle.cip_module.specs.Code.Plans.{own_id, writing_row, written_effects}
-use Rattle.cip_module.specs.State.{State}
-use Rattle.cip_module.specs.Table.{datum_effects, other}
-use Rattle.cip_module.proofs.Found.{found_own}
+use Rattle.cip_routing.specs.Plans.{own_id, writing_row, written_effects}
+use Rattle.cip_routing.specs.State.{State}
+use Rattle.cip_routing.specs.Table.{datum_effects, other}
+use Rattle.cip_routing.proofs.Found.{found_own}
 
 -- ---- a connection found by an own id
 

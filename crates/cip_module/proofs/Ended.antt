@@ -13,13 +13,13 @@ use Rattle.cip_target.specs.Objects.{row_of, reads_reset, target_answer}
 use Rattle.cip_target.proofs.ReadsReset.{what_resets}
 use Rattle.cip_config.specs.declared.config.ModuleSettings.{ModuleSettings}
 use Rattle.cip_event.specs.declared.event.Output.{Output}
-use Rattle.cip_module.specs.Answers.{answered, failure_bytes}
-use Rattle.cip_module.specs.Statuses.{plain}
-use Rattle.cip_module.specs.Effects.{Answers, objects_of, resets, lacks_incarnation, here_answer, answered_state, ended_by, reply_up, applied, outputs_of}
-use Rattle.cip_module.specs.Resets.{can_reset, reset_state, held_ops, all_ended, asking_op, opening_op, noted, all_noted}
-use Rattle.cip_module.specs.State.{State, spent_with}
-use Rattle.cip_module.specs.Table.{unconnected_effects, with_spending}
-use Rattle.cip_module.specs.UnconnectedRows.{UnconnectedRow, Refuses, AnsweredHere, Forwarded}
+use Rattle.cip_routing.specs.Answers.{answered, failure_bytes}
+use Rattle.cip_routing.specs.Statuses.{plain}
+use Rattle.cip_routing.specs.Effects.{Answers, objects_of, resets, lacks_incarnation, here_answer, answered_state, ended_by, reply_up, applied, outputs_of}
+use Rattle.cip_routing.specs.Resets.{can_reset, reset_state, held_ops, all_ended, asking_op, opening_op, noted, all_noted}
+use Rattle.cip_routing.specs.State.{State, spent_with}
+use Rattle.cip_routing.specs.Table.{unconnected_effects, with_spending}
+use Rattle.cip_routing.specs.UnconnectedRows.{UnconnectedRow, Refuses, AnsweredHere, Forwarded}
 use Rattle.cip_module.specs.Code.Does.{Does, HasDone}
 
 abbrev pub waiting_in : List (ℕ × Entry) → List ℕ

@@ -19,18 +19,18 @@ use Rattle.cip_config.specs.declared.config.ModuleSettings.{ModuleSettings}
 use Rattle.cip_event.specs.declared.event.Output.{Output}
 use Rattle.cip_event.specs.declared.event.Output.TheVariants as outputs
 use Rattle.cip_event.specs.declared.event.Body.TheVariants as bodies
-use Rattle.cip_module.specs.DataRows.{DataRow, UnknownId, below_row, id_row, data_row}
+use Rattle.cip_routing.specs.DataRows.{DataRow, UnknownId, below_row, id_row, data_row}
 use Rattle.cip_config.specs.Config.{port_of}
-use Rattle.cip_module.specs.Effects.{Passes, Renews, datum_by, datum_up, datum_down}
+use Rattle.cip_routing.specs.Effects.{Passes, Renews, datum_by, datum_up, datum_down}
 use Rattle.cip_pending.specs.Pendings.{Pendings}
 use Rattle.cip_target.specs.Ends.{Ends}
 use Rattle.cip_module.specs.Code.Does.{HasDone}
-use Rattle.cip_module.specs.Code.Fit.{Fit}
-use Rattle.cip_module.specs.Code.Plans.{own_id}
-use Rattle.cip_module.specs.State.{State}
-use Rattle.cip_module.specs.Table.{datum_effects, other}
-use Rattle.cip_module.proofs.Kept.{fit_changed, touched_keeps}
-use Rattle.cip_module.proofs.Found.{found_held}
+use Rattle.cip_routing.specs.Fit.{Fit}
+use Rattle.cip_routing.specs.Plans.{own_id}
+use Rattle.cip_routing.specs.State.{State}
+use Rattle.cip_routing.specs.Table.{datum_effects, other}
+use Rattle.cip_routing.proofs.Kept.{fit_changed, touched_keeps}
+use Rattle.cip_routing.proofs.Found.{found_held}
 use Rattle.cip_module.proofs.DatumRows.{up_named, down_named, renewed_is, up_row, down_row, above_effects, passed_on, by_row}
 
 abbrev pub sent_on : Onward → List ℕ → Output

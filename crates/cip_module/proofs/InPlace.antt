@@ -41,32 +41,32 @@ use Rattle.cip_module.specs.declared.reaction.Reaction.{Reaction}
 use Rattle.cip_module.specs.declared.reaction.Reaction.TheVariants as reactions
 use Rattle.cip_module.specs.declared.reaction.Edit.{Edit}
 use Rattle.cip_module.specs.declared.reaction.Edit.TheVariants.{AsTheyCame, Unwrapped, SentOn, OpenedOn, ClosedOn, SuccessUp}
-use Rattle.cip_module.specs.Effects.{Effect, Forwards, Begins, Removes, Finishes, Takes, given_up, success_up, succeeded, waits_large, replied, reply_up}
-use Rattle.cip_module.specs.Effects.{applied, outputs_of}
-use Rattle.cip_module.specs.OpenRows as opens
-use Rattle.cip_module.specs.OpenRows.{OpenRow, open_row, opening_with}
-use Rattle.cip_module.specs.CloseRows as closes
-use Rattle.cip_module.specs.CloseRows.{CloseRow, close_row}
-use Rattle.cip_module.specs.UnconnectedRows as unconnected
-use Rattle.cip_module.specs.UnconnectedRows.{UnconnectedRow, unconnected_row}
-use Rattle.cip_module.specs.RequestRows.{is_malformed}
-use Rattle.cip_module.specs.ReplyRows.{ReplyRow, UnknownPortOrTooLong, OpenSucceeded, PassedUp, read_row, waiting_row, reply_row}
+use Rattle.cip_routing.specs.Effects.{Effect, Forwards, Begins, Removes, Finishes, Takes, given_up, success_up, succeeded, waits_large, replied, reply_up}
+use Rattle.cip_routing.specs.Effects.{applied, outputs_of}
+use Rattle.cip_routing.specs.OpenRows as opens
+use Rattle.cip_routing.specs.OpenRows.{OpenRow, open_row, opening_with}
+use Rattle.cip_routing.specs.CloseRows as closes
+use Rattle.cip_routing.specs.CloseRows.{CloseRow, close_row}
+use Rattle.cip_routing.specs.UnconnectedRows as unconnected
+use Rattle.cip_routing.specs.UnconnectedRows.{UnconnectedRow, unconnected_row}
+use Rattle.cip_routing.specs.RequestRows.{is_malformed}
+use Rattle.cip_routing.specs.ReplyRows.{ReplyRow, UnknownPortOrTooLong, OpenSucceeded, PassedUp, read_row, waiting_row, reply_row}
 use Rattle.cip_event.specs.Filled.{filled}
 use Rattle.cip_module.specs.Reactions.{Becomes, PutsOut}
-use Rattle.cip_module.specs.Steps.{IsStep}
-use Rattle.cip_module.specs.State.{State}
-use Rattle.cip_module.specs.Table.{up_side_of, send_below, open_below, close_below, unconnected_effects, open_effects, close_effects, reply_effects}
-use Rattle.cip_module.specs.Table.{with_spending, decide, after_effects, Stepped}
-use Rattle.cip_module.specs.Links.{LeadsOn}
+use Rattle.cip_routing.specs.Steps.{IsStep}
+use Rattle.cip_routing.specs.State.{State}
+use Rattle.cip_routing.specs.Table.{up_side_of, send_below, open_below, close_below, unconnected_effects, open_effects, close_effects, reply_effects}
+use Rattle.cip_routing.specs.Table.{with_spending, decide, after_effects, Stepped}
+use Rattle.cip_routing.specs.Links.{LeadsOn}
 use Rattle.cip_module.specs.declared.device.Device.{Device}
 use Rattle.cip_module.specs.Code.Device.{state_of_device}
 use Rattle.cip_module.specs.Code.Does.{Does, HasDone}
 use Rattle.cip_module.specs.Code.Reacts.{with_bytes, send_edit, outgoing_of, IsMade, reaction_of, SendCame, OpenCame, CloseCame, Reacted, Reacts, ReactsWhole}
 use Rattle.cip_module.proofs.CameIn.{SaysSuccess, success_came}
-use Rattle.cip_module.proofs.Waiting.{waits_at}
-use Rattle.cip_module.proofs.SendsForwarded.{sent_on}
-use Rattle.cip_module.proofs.OpensForwarded.{open_forwards}
-use Rattle.cip_module.proofs.ClosesForwarded.{close_forwards}
+use Rattle.cip_routing.proofs.Waiting.{waits_at}
+use Rattle.cip_routing.proofs.SendsForwarded.{sent_on}
+use Rattle.cip_routing.proofs.OpensForwarded.{open_forwards}
+use Rattle.cip_routing.proofs.ClosesForwarded.{close_forwards}
 
 -- ---- the bytes that go on
 

@@ -28,14 +28,14 @@ use Rattle.cip_target.specs.Assemblies.{config_with}
 use Rattle.cip_config.specs.declared.config.ModuleSettings.{ModuleSettings}
 use Rattle.cip_event.specs.declared.event.Output.{Output}
 use Rattle.cip_module.specs.Code.Does.{Does}
-use Rattle.cip_module.specs.Effects.{Effect, Counts, Passes, recounted, ends_here, passed, datum_up, applied, outputs_of}
-use Rattle.cip_module.specs.Produced.{reads_from, next_count, made_effects, held_effects, each_effects}
+use Rattle.cip_routing.specs.Effects.{Effect, Counts, Passes, recounted, ends_here, passed, datum_up, applied, outputs_of}
+use Rattle.cip_routing.specs.Produced.{reads_from, next_count, made_effects, held_effects, each_effects}
 use Rattle.cip_module.specs.Code.Made.{made_of, takes_from, made_all, count_for, counted_by, counted_all, open_hops}
-use Rattle.cip_module.specs.State.{State}
-use Rattle.cip_module.specs.Table.{produce_effects}
-use Rattle.cip_module.proofs.Fits.{triad_or_not}
+use Rattle.cip_routing.specs.State.{State}
+use Rattle.cip_routing.specs.Table.{produce_effects}
+use Rattle.cip_routing.proofs.Fits.{triad_or_not}
 use Rattle.cip_base.proofs.Points.{put_here, put_apart}
-use Rattle.cip_module.proofs.Walks.{triad_at, open_in, opens_above, AreNamed, within_named, hop_walks, hop_walked, hop_fewer, opens_all}
+use Rattle.cip_routing.proofs.Walks.{triad_at, open_in, opens_above, AreNamed, within_named, hop_walks, hop_walked, hop_fewer, opens_all}
 
 -- ---- what is made, in turn
 

@@ -14,16 +14,16 @@ use Rattle.cip_hops.specs.Hops.{Hops, IsOpFree, refusal}
 use Rattle.cip_segment.specs.Reading.{segments_of}
 use Rattle.cip_config.specs.declared.config.ModuleSettings.{ModuleSettings}
 use Rattle.cip_module.specs.declared.device.Device.{Device}
-use Rattle.cip_module.specs.declared.refusals.OpenRefusal.{OpenRefusal}
-use Rattle.cip_module.specs.declared.refusals.OpenRefusal.TheVariants.{ConnectionTypeNotSupported, RpiOfZero, TriadInUse}
-use Rattle.cip_module.specs.Effects.{applied}
-use Rattle.cip_module.specs.Keys.{leading_mismatch}
+use Rattle.cip_routing.specs.declared.refusals.OpenRefusal.{OpenRefusal}
+use Rattle.cip_routing.specs.declared.refusals.OpenRefusal.TheVariants.{ConnectionTypeNotSupported, RpiOfZero, TriadInUse}
+use Rattle.cip_routing.specs.Effects.{applied}
+use Rattle.cip_routing.specs.Keys.{leading_mismatch}
 use Rattle.cip_module.specs.Code.Device.{state_of_device}
-use Rattle.cip_module.specs.OpenRows.{OpenRow, Refuses, open_row, opening_with, ids_if_forwarded, is_supported, is_supported_direction, key_row}
+use Rattle.cip_routing.specs.OpenRows.{OpenRow, Refuses, open_row, opening_with, ids_if_forwarded, is_supported, is_supported_direction, key_row}
 use Rattle.cip_module.specs.Code.Ready.{IsReady, CanSpend}
-use Rattle.cip_module.specs.State.{State, is_spent}
-use Rattle.cip_module.specs.Table.{up_side_of, with_spending}
-use Rattle.cip_module.proofs.Kept.{spent_now}
+use Rattle.cip_routing.specs.State.{State, is_spent}
+use Rattle.cip_routing.specs.Table.{up_side_of, with_spending}
+use Rattle.cip_routing.proofs.Kept.{spent_now}
 use Rattle.cip_module.proofs.Spending.{new_op, no_op}
 
 ready_by : (old new : Device) (up : UpSide) (id port : ℕ) (address : List ℕ) (o : Open)

@@ -25,12 +25,12 @@ use Rattle.cip_target.specs.declared.ends.EndRefusal.TheVariants.{NotAnApplicati
 use Rattle.cip_target.specs.declared.ends.EndRefusal.TheVariants.{OutputOwned}
 use Rattle.cip_target.specs.Ends.{EndRow, sized_row, application_row, end_row, is_configuration, are_sizes, class_of, link_of}
 use Rattle.cip_target.specs.declared.link.EndLink.{EndLink}
-use Rattle.cip_module.specs.OpenRows.{Refuses, Accepted, writes_to, is_consumed, accepted_row, here_row}
-use Rattle.cip_module.specs.declared.refusals.OpenRefusal.TheVariants.{NotAccepted, NoRoomToEndHere}
-use Rattle.cip_module.specs.State.{State}
+use Rattle.cip_routing.specs.OpenRows.{Refuses, Accepted, writes_to, is_consumed, accepted_row, here_row}
+use Rattle.cip_routing.specs.declared.refusals.OpenRefusal.TheVariants.{NotAccepted, NoRoomToEndHere}
+use Rattle.cip_routing.specs.State.{State}
 use Rattle.cip_hops.specs.declared.opening.HopUp.{HopUp}
 use Rattle.cip_hops.specs.Sides.{up_is_link}
-use Rattle.cip_module.specs.Code.Fit.{writes_of, AreOwned}
+use Rattle.cip_routing.specs.Fit.{writes_of, AreOwned}
 
 abbrev pub writes_it : ℕ → Hop → Bool
 writes_it i hop = writes_to i hop.opening.down

@@ -11,11 +11,11 @@ use Rattle.cip_hops.specs.declared.hop.Hop.{Hop}
 use Rattle.cip_hops.specs.Hops.{hop_at}
 use Rattle.cip_config.specs.declared.config.ModuleSettings.{ModuleSettings}
 use Rattle.cip_event.specs.declared.event.Output.{Output}
-use Rattle.cip_module.specs.CommandRows.{OpUsed, WrongSize, Taken}
-use Rattle.cip_module.specs.OpenRows.{open_row}
-use Rattle.cip_module.specs.Effects.{Effect, Passes, datum_by, datum_down, passed}
+use Rattle.cip_routing.specs.CommandRows.{OpUsed, WrongSize, Taken}
+use Rattle.cip_routing.specs.OpenRows.{open_row}
+use Rattle.cip_routing.specs.Effects.{Effect, Passes, datum_by, datum_down, passed}
 use Rattle.cip_event.specs.Filled.{filled}
-use Rattle.cip_module.specs.Table.{with_spending, refused_effects, open_effects, open_command_effects, enter_effects}
+use Rattle.cip_routing.specs.Table.{with_spending, refused_effects, open_effects, open_command_effects, enter_effects}
 use Rattle.cip_module.specs.declared.device.Device.{Device}
 use Rattle.cip_module.specs.declared.making.Making.TheVariants.{Anew}
 use Rattle.cip_module.specs.declared.reaction.Reaction.{Reaction}
@@ -23,7 +23,7 @@ use Rattle.cip_module.specs.declared.reaction.Reaction.TheVariants as reactions
 use Rattle.cip_module.specs.Code.Device.{state_of_device}
 use Rattle.cip_module.specs.Code.Does.{Does, HasDone, Handled}
 use Rattle.cip_module.specs.Code.Reacts.{Reacts, ReactsWhole}
-use Rattle.cip_module.specs.State.{State, is_spent}
+use Rattle.cip_routing.specs.State.{State, is_spent}
 
 -- a datum of the connection that was found
 pub enters : (config : ModuleSettings) (s : State) (hop : Hop) (bytes : List ℕ) (out : Output) → length bytes ≡ hop.opening.ot_size

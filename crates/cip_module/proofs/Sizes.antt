@@ -14,9 +14,9 @@ use Rattle.cip_target.specs.Ends.{Ends, ends_after, consumed}
 use Rattle.cip_target.specs.Rows.{TargetRow, target_row, assemblies_after, Refused, Read, Written, Reset}
 use Rattle.cip_target.proofs.Writes.{IsThere, target_there}
 use Rattle.cip_config.specs.declared.config.ModuleSettings.{ModuleSettings}
-use Rattle.cip_module.specs.Code.Fit.{Fit}
+use Rattle.cip_routing.specs.Fit.{Fit}
 use Rattle.cip_base.proofs.Points.{one_or_apart, put_here, put_apart}
-use Rattle.cip_module.proofs.Fits.{numbers_apart}
+use Rattle.cip_routing.proofs.Fits.{numbers_apart}
 
 pub insert_sizes : (m : AssemblyMap) (i : ℕ) (held d : List ℕ) → map.get m i ≡ Some held → length d ≡ length held → (j : ℕ)
     → size_in (map.insert m i d) j ≡ size_in m j

@@ -27,15 +27,15 @@ use Rattle.cip_hops.proofs.Steps.{triads_apart}
 use Rattle.cip_base.proofs.Views.{found-gives, find-only, tied_name}
 use Rattle.cip_config.specs.declared.config.ModuleSettings.{ModuleSettings}
 use Rattle.cip_event.specs.declared.event.Output.{Output}
-use Rattle.cip_module.specs.Effects.{Effect, PendingTimesOut, HopTimesOut, apply, applied, output_of, outputs_of, timed_out_reply, abandoned_if, given_up}
-use Rattle.cip_module.specs.Effects.{given_up_of}
+use Rattle.cip_routing.specs.Effects.{Effect, PendingTimesOut, HopTimesOut, apply, applied, output_of, outputs_of, timed_out_reply, abandoned_if, given_up}
+use Rattle.cip_routing.specs.Effects.{given_up_of}
 use Rattle.cip_module.specs.Code.Does.{Does}
-use Rattle.cip_module.specs.Table.{pending_times_out, pending_time_outs, hop_times_out, hop_time_outs, tick_effects}
+use Rattle.cip_routing.specs.Table.{pending_times_out, pending_time_outs, hop_times_out, hop_time_outs, tick_effects}
 use Rattle.cip_module.specs.Code.Ticks.{TickGives, shown, pendings_timed_out, hop_timed_out, hops_timed_out, pending_time_out, hop_time_out}
 use Rattle.cip_module.specs.declared.tick.steps.TickFault.{TickFault}
-use Rattle.cip_module.specs.State.{State}
-use Rattle.cip_module.proofs.Found.{found_held}
-use Rattle.cip_module.proofs.Walks.{none_left, opens, due_open, first_open}
+use Rattle.cip_routing.specs.State.{State}
+use Rattle.cip_routing.proofs.Found.{found_held}
+use Rattle.cip_routing.proofs.Walks.{none_left, opens, due_open, first_open}
 
 -- ---- effects, and then others
 

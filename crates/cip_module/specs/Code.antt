@@ -5,8 +5,6 @@ pub mod Commands
 pub mod Reacts
 pub mod Device
 pub mod Ready
-pub mod Fit
 pub mod Decisions
-pub mod Plans
 pub mod Made
 pub mod Ticks

@@ -3,20 +3,18 @@ ghost use Rattle.std.specs.Prelude.{◌≡◌, ◌||◌, ℕ, IfOk};
 ghost use Rattle.std.specs.Option.{option_map};
 ghost use Rattle.cip_base.specs.Counts.{incarnation};
 ghost use Rattle.cip_hops.specs.Hops.{hop_by_op, hop_by_up, is_past};
-ghost use Rattle.cip_module.specs.Deadlines.{is_any_due};
+ghost use Rattle.cip_routing.specs.Deadlines.{is_any_due};
 ghost use Rattle.cip_target.specs.Ends.{fresh};
 ghost use Rattle.cip_config.specs.declared.config.ModuleSettings.{ModuleSettings as Settings};
-ghost use Rattle.cip_module.specs.Views.{hop_row_of};
-ghost use Rattle.cip_module.specs.Code.Fit.{Fit};
+ghost use Rattle.cip_routing.specs.Views.{hop_row_of};
+ghost use Rattle.cip_routing.specs.Fit.{Fit};
 
-use crate::show::hop_row;
-use crate::spent::SpentOps;
-use crate::tables::HopRow;
 use cip_base::{Address, NoMemory, PortNumber};
 use cip_clock::Clock;
 use cip_config::ModuleConfig;
 use cip_hops::{Hop, HopTable};
 use cip_pending::PendingTable;
+use cip_routing::{HopRow, SpentOps, hop_row};
 use cip_target::Target;
 use std::alloc::Global;
 
@@ -68,7 +66,7 @@ fn earlier(first: Option<u64>, second: Option<u64>) -> Option<u64>
 }
 
 impl Device {
-    ghost use Rattle.cip_module.specs.State.{initial_state};
+    ghost use Rattle.cip_routing.specs.State.{initial_state};
     ghost use Rattle.cip_module.specs.Code.Device.{config_of_device, state_of_device};
 
     /// A module in the initial state of its config; NoMemory where an allocation is refused.

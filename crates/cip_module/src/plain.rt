@@ -3,17 +3,16 @@
 ghost use Rattle.std.specs.Prelude.{◌≡◌, ℕ, IfOk};
 ghost use Rattle.cip_base.specs.Counts.{incarnation};
 ghost use Rattle.cip_hops.specs.Hops.{is_past};
-ghost use Rattle.cip_module.specs.Deadlines.{is_any_due};
+ghost use Rattle.cip_routing.specs.Deadlines.{is_any_due};
 ghost use Rattle.cip_config.specs.declared.config.ModuleKind.{ModuleKind as Kind};
-ghost use Rattle.cip_module.specs.State.{initial_state};
+ghost use Rattle.cip_routing.specs.State.{initial_state};
 ghost use Rattle.cip_module.specs.Code.Device.{config_of_plain, state_of_plain};
 
-use crate::contract::{Module, StepFault};
 use crate::device::Device;
-use crate::tables::{HopRow, Tables};
 use cip_base::{Address, NoMemory, PortNumber};
 use cip_config::{ModuleConfig, ModuleKind};
 use cip_event::{Event, Output};
+use cip_routing::{HopRow, Module, StepFault, Tables};
 use std::alloc::Global;
 
 /// A module that originates, routes and answers. It decodes each request and reply and writes what

@@ -1,4 +1,3 @@
 //! The reply group.
 
-pub(crate) mod rows;
 pub(crate) mod steps;

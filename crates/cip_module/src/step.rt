@@ -1,8 +1,8 @@
 //! The step of a module of any kind.
 ghost use Rattle.std.specs.Prelude.{◌≡◌, ◌↔◌, None, IfOk, IfSome, IsTrue, OnErr};
 ghost use Rattle.cip_module.specs.Code.Ticks.{IsMessage, IsLeftWhole, IsSingle};
-ghost use Rattle.cip_module.specs.Steps.{IsStep, IsStepFault};
-ghost use Rattle.cip_module.specs.Table.{command_effects, frame_effects};
+ghost use Rattle.cip_routing.specs.Steps.{IsStep, IsStepFault};
+ghost use Rattle.cip_routing.specs.Table.{command_effects, frame_effects};
 ghost use Rattle.cip_module.specs.Code.Device.{state_of_device};
 ghost use Rattle.cip_module.specs.Code.Reacts.{ReactsWhole};
 ghost use Rattle.cip_event.specs.Filled.{bytes_in};
@@ -12,14 +12,13 @@ ghost use Rattle.cip_event.specs.declared.event.Event.TheVariants as events;
 ghost use Rattle.cip_event.specs.declared.event.Output.TheVariants as outputs;
 ghost use Rattle.cip_event.specs.declared.event.Command.TheVariants.{Enter};
 
-use crate::contract::StepFault;
-use crate::data::room::fitted;
 use crate::device::Device;
 use crate::making::Making;
 use crate::reaction::{Edit, Reaction};
 use crate::tick::steps::TickFault;
 use cip_base::{Address, Bytes, NoMemory, PortNumber};
 use cip_event::{Body, Command, Event, Output};
+use cip_routing::{StepFault, fitted};
 use cip_unconnected::UnconnectedView;
 
 // Whether an event is a message, or a command but an Enter.

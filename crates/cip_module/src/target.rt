@@ -6,21 +6,18 @@ ghost use Rattle.cip_message.specs.Request.{Request as Asked};
 ghost use Rattle.cip_target.specs.Objects.{reads_reset};
 ghost use Rattle.cip_module.specs.Code.Device.{state_of_device};
 ghost use Rattle.cip_module.specs.Code.Reacts.{ReactsWhole};
-ghost use Rattle.cip_module.specs.Effects.{Answers, objects_of};
-ghost use Rattle.cip_module.specs.Resets.{can_reset, waiting_ops, open_ops, all_noted, held_ops};
-ghost use Rattle.cip_module.specs.Resets.{all_ended};
+ghost use Rattle.cip_routing.specs.Effects.{Answers, objects_of};
+ghost use Rattle.cip_routing.specs.Resets.{can_reset, waiting_ops, open_ops, all_noted, held_ops};
+ghost use Rattle.cip_routing.specs.Resets.{all_ended};
 
-use crate::answers::{answered, failure};
 use crate::device::Device;
-use crate::messages::reply_to;
 use crate::reaction::Reaction;
-use crate::refusals::plain_status;
-use crate::spent::SpentOps;
 use cip_base::NoMemory;
 use cip_event::Output;
 use cip_hops::{HopTable, HopUp};
 use cip_message::RequestView;
 use cip_pending::{PendingTable, UpSide};
+use cip_routing::{SpentOps, answered, failure, plain_status, reply_to};
 
 // The Identity object's service Reset.
 const RESET: u8 = 0x05;

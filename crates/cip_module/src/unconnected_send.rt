@@ -1,4 +1,3 @@
 //! The unconnected send group.
 
-pub(crate) mod rows;
 pub(crate) mod steps;

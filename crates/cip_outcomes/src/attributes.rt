@@ -3,7 +3,7 @@
 use crate::refusals::command_in;
 use cip_base::{Bytes, ModuleId};
 use cip_message::{ReplyView, read_request};
-use cip_module::Command;
+use cip_routing::Command;
 use cip_target::{ObjectPath, object_path};
 use cip_world::Entry;
 

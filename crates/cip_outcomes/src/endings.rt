@@ -2,7 +2,7 @@
 
 use crate::refusals::command_in;
 use cip_base::{ModuleId, Triad};
-use cip_module::{Command, Dropped, Output};
+use cip_routing::{Command, Dropped, Output};
 use cip_topology::Topology;
 use cip_world::{Entry, FrameName, Input};
 

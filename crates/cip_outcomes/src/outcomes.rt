@@ -2,8 +2,8 @@
 
 use cip_base::{Bytes, ModuleId, Status};
 use cip_message::read_reply;
-use cip_module::Output;
 use cip_names::status_name;
+use cip_routing::Output;
 use cip_world::Entry;
 use std::fmt;
 

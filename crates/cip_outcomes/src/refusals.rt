@@ -4,7 +4,7 @@ use crate::naming::{OpName, Order, Subject, module_name};
 use crate::ops::Ops;
 use cip_base::{ModuleId, NoMemory};
 use cip_config::ModuleSettings;
-use cip_module::{Command, Output, Refused};
+use cip_routing::{Command, Output, Refused};
 use cip_topology::Topology;
 use cip_world::{Entry, Input, Shown, World};
 use std::fmt;

@@ -5,7 +5,7 @@ use crate::counts::Counted;
 use crate::naming::{OpName, Order, Place};
 use crate::outcomes::{Code, Pairs};
 use cip_base::Bytes;
-use cip_module::{Dropped, Refused};
+use cip_routing::{Dropped, Refused};
 use cip_script::Frames;
 use cip_topology::Excerpt;
 use cip_world::FrameName;

@@ -4,7 +4,7 @@ use Rattle.std.specs.Prelude.{option_map, option_and_then, slice_get}
 use Rattle.cip_base.specs.declared.numbers.ModuleId.{ModuleId}
 use Rattle.cip_config.specs.declared.config.ModuleSettings.{ModuleSettings}
 use Rattle.cip_event.specs.declared.event.Event.{Event}
-use Rattle.cip_module.specs.Table.{Stepped, table_step}
+use Rattle.cip_routing.specs.Table.{Stepped, table_step}
 use Rattle.cip_chassis.specs.Nodes.{Way, across}
 use Rattle.cip_chassis.specs.Plan.{Plan}
 use Rattle.cip_world.specs.declared.journal.Entry.TheVariants.{Step, Lost}

@@ -5,9 +5,9 @@ use Rattle.std.specs.Prelude.{slice_get}
 use Rattle.cip_base.specs.declared.numbers.ModuleId.{ModuleId}
 use Rattle.cip_config.specs.declared.config.ModuleSettings.{ModuleSettings}
 use Rattle.cip_event.specs.declared.event.Event.{Event}
-use Rattle.cip_module.specs.declared.tables.Tables.{Tables}
-use Rattle.cip_module.specs.State.{State}
-use Rattle.cip_module.specs.Views.{ShowsState}
+use Rattle.cip_routing.specs.declared.tables.Tables.{Tables}
+use Rattle.cip_routing.specs.State.{State}
+use Rattle.cip_routing.specs.Views.{ShowsState}
 use Rattle.cip_chassis.specs.Plan.{Plan}
 use Rattle.cip_chassis.specs.Nodes.{Way, across}
 use Rattle.cip_world.specs.declared.fault.WorldFault.{WorldFault}

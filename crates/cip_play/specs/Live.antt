@@ -3,7 +3,7 @@ use Rattle.std.specs.Prelude.{◌≡◌, ◌⊎◌, ℕ, ◌+◌, List, [], ◌�
 use Rattle.std.specs.Prelude.{IfSome, codes, length, nat_lt, if◌then◌else◌, reverse}
 use Rattle.std.specs.Io.KnownBytes.{Keeps, Appends}
 use Rattle.cip_base.specs.declared.numbers.ModuleId.{ModuleId}
-use Rattle.cip_module.specs.declared.tables.Tables.{Tables}
+use Rattle.cip_routing.specs.declared.tables.Tables.{Tables}
 use Rattle.cip_chassis.specs.Plan.{Plan}
 use Rattle.cip_world.specs.declared.journal.Entry.{Entry}
 use Rattle.cip_world.specs.declared.journal.FrameName.{FrameName}

@@ -7,9 +7,9 @@ use Rattle.cip_hops.specs.Hops.{as_hop}
 use Rattle.cip_base.specs.declared.numbers.ModuleId.{ModuleId}
 use Rattle.cip_event.specs.declared.event.Command.{Command}
 use Rattle.cip_config.specs.declared.config.ModuleSettings.{ModuleSettings}
-use Rattle.cip_module.specs.declared.tables.Tables.{Tables}
-use Rattle.cip_module.specs.State.{State}
-use Rattle.cip_module.specs.Views.{row_of, hop_row_of, assemblies_of}
+use Rattle.cip_routing.specs.declared.tables.Tables.{Tables}
+use Rattle.cip_routing.specs.State.{State}
+use Rattle.cip_routing.specs.Views.{row_of, hop_row_of, assemblies_of}
 use Rattle.cip_chassis.specs.Plan.{Plan}
 use Rattle.cip_world.specs.declared.journal.FrameName.{FrameName}
 use Rattle.cip_world.specs.declared.journal.Entry.TheVariants.{Lost}

@@ -15,7 +15,7 @@ use crate::fault::ConsoleFault;
 use crate::playing::{FULL, flush};
 use crate::source::{ReadFault, SCRIPT_LIMIT, Sink, Source, WriteFault, read_script};
 use cip_base::{Bytes, ModuleId, NoMemory};
-use cip_module::Module;
+use cip_routing::Module;
 use cip_script::{Mode, Numbered, ScriptFault, Step, StepsFault, read_steps};
 use cip_threads::{Feed, Gate, RunFault, run_threads};
 use cip_topology::Topology;

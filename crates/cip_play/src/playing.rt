@@ -13,7 +13,7 @@ ghost use Rattle.cip_play.specs.Transcript.{ran, tabled, trailed, chained};
 use crate::source::{Sink, WriteFault, write_text};
 use cip_base::{Bytes, ModuleId, Ms, NoMemory};
 use cip_chain::TrailIndex;
-use cip_module::Command;
+use cip_routing::Command;
 use cip_script::ScriptFault;
 use cip_transcript::{name_in, put, put_chain_of, put_entry, put_tables, put_trail};
 use cip_world::{Entry, FrameName, Shown, World, WorldFault};

@@ -4,7 +4,7 @@ use Rattle.std.proofs.Common.{sym, subst, length, arith, ◌<◌, ◌+◌, ◌�
 use Rattle.std.specs.Prelude.{slice_get}
 use Rattle.cip_base.specs.declared.numbers.ModuleId.{ModuleId}
 use Rattle.cip_config.specs.declared.config.ModuleSettings.{ModuleSettings}
-use Rattle.cip_module.specs.declared.tables.Tables.{Tables}
+use Rattle.cip_routing.specs.declared.tables.Tables.{Tables}
 use Rattle.cip_chassis.specs.Plan.{Plan}
 use Rattle.cip_world.specs.declared.journal.FrameName.{FrameName}
 use Rattle.cip_world.specs.declared.world.End.{End}

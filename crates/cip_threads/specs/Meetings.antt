@@ -2,8 +2,8 @@
 use Rattle.std.specs.Prelude.{◌≡◌, ◌≤◌, ℕ, List, Option, Some, None, get_or, length, reverse, take}
 use Rattle.cip_config.specs.declared.config.ModuleSettings.{ModuleSettings}
 use Rattle.cip_laws.specs.Histories.{Turn, IsHistory, state_after}
-use Rattle.cip_module.specs.declared.tables.Tables.{Tables}
-use Rattle.cip_module.specs.Views.{ShowsState}
+use Rattle.cip_routing.specs.declared.tables.Tables.{Tables}
+use Rattle.cip_routing.specs.Views.{ShowsState}
 use Rattle.cip_world.specs.Journals.{Journal, part}
 use Rattle.cip_threads.specs.declared.views.TakenTurn.{TakenTurn}
 use Rattle.cip_threads.specs.declared.message.Followed.{Followed}

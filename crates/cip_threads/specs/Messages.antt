@@ -2,8 +2,8 @@
 use Rattle.std.specs.Prelude.{◌≡◌, List, map}
 use Rattle.cip_config.specs.declared.config.ModuleSettings.{ModuleSettings}
 use Rattle.cip_laws.specs.Histories.{Turn, IsHistory, state_after}
-use Rattle.cip_module.specs.State.{State}
-use Rattle.cip_module.specs.Views.{ShowsState}
+use Rattle.cip_routing.specs.State.{State}
+use Rattle.cip_routing.specs.Views.{ShowsState}
 use Rattle.cip_threads.specs.declared.views.TakenTurn.{TakenTurn}
 use Rattle.cip_threads.specs.declared.views.MessageView.{MessageView}
 

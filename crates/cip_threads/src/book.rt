@@ -1,7 +1,7 @@
 //! The one lock.
 use crate::state::{BookState, CommitFault, Handed};
 use cip_base::{ModuleId, NoMemory};
-use cip_module::{Event, Output};
+use cip_routing::{Event, Output};
 use std::sync::{Condvar, Mutex, Wait};
 
 /// What a call of `take` gives a module's worker.

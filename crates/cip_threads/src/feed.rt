@@ -4,7 +4,7 @@ ghost use Rattle.cip_threads.specs.Feeds.{input_of, event_of};
 
 use crate::same::is_same_command;
 use cip_base::{Ms, NoMemory};
-use cip_module::{Command, Event};
+use cip_routing::{Command, Event};
 use cip_world::Input;
 use std::alloc::Global;
 

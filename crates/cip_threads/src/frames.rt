@@ -10,7 +10,7 @@ ghost use Rattle.cip_threads.specs.Queues.{queue_at};
 
 use crate::queues::first_in;
 use cip_base::{Address, ModuleId, NoMemory, PortNumber};
-use cip_module::{Event, Output};
+use cip_routing::{Event, Output};
 use cip_topology::Topology;
 use cip_world::{Coming, Entry, Flying, FrameName, frame_at};
 use std::alloc::Global;

@@ -8,7 +8,7 @@ ghost use Rattle.cip_hops.specs.declared.hop.Hop.{Hop};
 ghost use Rattle.cip_hops.specs.declared.opening.HopDown.TheVariants.{Link as DownLink};
 ghost use Rattle.cip_config.specs.declared.config.ModuleSettings.{ModuleSettings as Settings};
 ghost use Rattle.cip_event.specs.declared.event.Output.TheVariants.{Arrived, Consumed};
-ghost use Rattle.cip_module.specs.declared.tables.Tables.{Tables};
+ghost use Rattle.cip_routing.specs.declared.tables.Tables.{Tables};
 ghost use Rattle.cip_chassis.specs.Plan.{Plan, IsTopology};
 ghost use Rattle.cip_world.specs.Chains.{Member, IsChain, last_of, AreDeliveries, AreKept};
 ghost use Rattle.cip_world.specs.Chains.{IsTakenBy};

@@ -2,7 +2,7 @@
 ghost use Rattle.std.specs.Prelude.{◌≡◌, ◌<◌, ◌+◌, ◌∷◌, IfSome, IsTrue, Some, length, reverse};
 ghost use Rattle.std.specs.Prelude.{take, vec_len};
 ghost use Rattle.cip_laws.specs.Histories.{IsHistory, state_after};
-ghost use Rattle.cip_module.specs.Views.{ShowsState};
+ghost use Rattle.cip_routing.specs.Views.{ShowsState};
 ghost use Rattle.cip_world.specs.declared.journal.Entry.TheVariants.{Step};
 ghost use Rattle.cip_threads.specs.Messages.{turns_of};
 ghost use Rattle.cip_threads.specs.Meetings.{AreMet, IsEnded, IsMet};
@@ -10,7 +10,7 @@ ghost use Rattle.cip_threads.specs.Meetings.{AreMet, IsEnded, IsMet};
 use crate::same::is_step_of;
 use crate::views::{MessageView, TakenTurn};
 use cip_base::ModuleId;
-use cip_module::{ModuleConfig, Tables};
+use cip_routing::{ModuleConfig, Tables};
 use cip_world::{Entry, Input, Outputs};
 use std::marker::Model;
 

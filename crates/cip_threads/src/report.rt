@@ -3,7 +3,7 @@ use crate::feed::Feed;
 use crate::lists::Items;
 use cip_base::ModuleId;
 use cip_clock::ClockFull;
-use cip_module::Tables;
+use cip_routing::Tables;
 use cip_world::{End, Entry, FrameName, NewFault};
 use thiserror::Error;
 

@@ -19,7 +19,7 @@ use crate::state::{BookState, Finished, copy_feeds};
 use crate::worker::{Ended, Post, Shared};
 use cip_base::{ModuleId, NoMemory};
 use cip_clock::{ClockFull, LAST};
-use cip_module::{Module, ModuleConfig, Tables};
+use cip_routing::{Module, ModuleConfig, Tables};
 use cip_topology::Topology;
 use cip_world::{Entry, NewFault, check_fresh};
 use crossbeam_channel::{Receiver, unbounded};

@@ -4,7 +4,7 @@ ghost use Rattle.cip_world.specs.Journals.{Flight, event_of, frame_at};
 
 use crate::views::TakenTurn;
 use cip_base::{Bytes, Timing};
-use cip_module::{Body, Command, Event, LargeParams, OpenParams, Output};
+use cip_routing::{Body, Command, Event, LargeParams, OpenParams, Output};
 use cip_segment::Path;
 use cip_world::{Entry, FrameName, Input, Outputs, frame_at};
 

@@ -2,7 +2,7 @@
 use crate::feed::Feed;
 use crate::lists::Items;
 use cip_base::ModuleId;
-use cip_module::{Event, ModuleConfig, Tables};
+use cip_routing::{Event, ModuleConfig, Tables};
 use cip_topology::Topology;
 use cip_world::{Entry, FrameName, Input, Outputs};
 

@@ -1,6 +1,6 @@
 //! The worker of one module.
 ghost use Rattle.std.specs.Prelude.{◌≡◌, ◌↔◌, IfOk, IfNone, OnOk, IsTrue, Some, reverse};
-ghost use Rattle.cip_module.specs.State.{initial_state};
+ghost use Rattle.cip_routing.specs.State.{initial_state};
 ghost use Rattle.cip_threads.specs.Messages.{Leads};
 
 use crate::book::{Book, Taken};
@@ -9,7 +9,7 @@ use crate::message::Message;
 use crate::state::CommitFault;
 use crate::views::TakenTurn;
 use cip_base::{ModuleId, NoMemory};
-use cip_module::{Event, Module, Output, StepFault};
+use cip_routing::{Event, Module, Output, StepFault};
 use cip_world::{Outputs, is_fresh};
 use crossbeam_channel::Sender;
 use std::alloc::Global;

@@ -13,8 +13,8 @@ use Rattle.cip_hops.specs.declared.opening.HopDown.{HopDown}
 use Rattle.cip_hops.specs.declared.opening.HopDown.TheVariants.{Link as DownLink, End}
 use Rattle.cip_hops.specs.Hops.{as_hop, hop_at, hop_by_op, is_hop_by_op}
 use Rattle.cip_config.specs.declared.config.ModuleSettings.{ModuleSettings}
-use Rattle.cip_module.specs.State.{State}
-use Rattle.cip_module.proofs.Found.{found_own}
+use Rattle.cip_routing.specs.State.{State}
+use Rattle.cip_routing.proofs.Found.{found_own}
 use Rattle.cip_laws.proofs.Triads.{own_triads}
 use Rattle.cip_chassis.specs.Plan.{Plan}
 use Rattle.cip_world.specs.Chains.{Member, HasHop, IsNextTo, GoesToEnd, GoesOnBy, last_of}

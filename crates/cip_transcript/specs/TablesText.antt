@@ -6,10 +6,10 @@ use Rattle.cip_hops.specs.declared.opening.HopUp.{HopUp}
 use Rattle.cip_hops.specs.declared.opening.HopUp.TheVariants as ups
 use Rattle.cip_hops.specs.declared.opening.HopDown.{HopDown}
 use Rattle.cip_hops.specs.declared.opening.HopDown.TheVariants as downs
-use Rattle.cip_module.specs.declared.tables.PendingRow.{PendingRow}
-use Rattle.cip_module.specs.declared.tables.HopRow.{HopRow}
-use Rattle.cip_module.specs.declared.tables.AssemblyRow.{AssemblyRow}
-use Rattle.cip_module.specs.declared.tables.Tables.{Tables}
+use Rattle.cip_routing.specs.declared.tables.PendingRow.{PendingRow}
+use Rattle.cip_routing.specs.declared.tables.HopRow.{HopRow}
+use Rattle.cip_routing.specs.declared.tables.AssemblyRow.{AssemblyRow}
+use Rattle.cip_routing.specs.declared.tables.Tables.{Tables}
 use Rattle.cip_transcript.specs.Show.{bytes_text, optional_text, triad_text}
 
 -- what was sent on, a connection by its triad

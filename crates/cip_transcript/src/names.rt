@@ -3,7 +3,7 @@ ghost use Rattle.std.specs.Prelude.{◌≡◌, IfOk};
 ghost use Rattle.cip_transcript.specs.Show.{names_of};
 
 use cip_base::{Bytes, NoMemory};
-use cip_module::ModuleConfig;
+use cip_routing::ModuleConfig;
 use cip_topology::Topology;
 use std::alloc::Global;
 

@@ -10,7 +10,7 @@ ghost use Rattle.cip_transcript.specs.Show.{chain_text, head_text, lost_text, en
 use crate::pieces::{put, put_bytes, put_number};
 use cip_base::{Address, Bytes, ModuleId, NoMemory, PortNumber, Triad};
 use cip_chain::ChainView;
-use cip_module::{Body, Command, Dropped, Output, Refused};
+use cip_routing::{Body, Command, Dropped, Output, Refused};
 use cip_text::line::{ROOM, byte, number, number_then, pairs, put_front, room_for, word};
 use cip_world::{Entry, FrameName, Input};
 

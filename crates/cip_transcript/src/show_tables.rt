@@ -9,8 +9,8 @@ use crate::pieces::{put, put_bytes, put_number, put_optional};
 use crate::show::put_triad;
 use cip_base::{Address, NoMemory, PortNumber};
 use cip_hops::{HopDown, HopUp};
-use cip_module::{AssemblyRow, HopRow, PendingRow, Tables};
 use cip_pending::Kind;
+use cip_routing::{AssemblyRow, HopRow, PendingRow, Tables};
 
 fn put_kind(text: &mut Vec<u8>, kind: &Kind) -> Result<(), NoMemory>
     ensures { OnOk result (text.new.items ≡ text.old.items ++ kind_text kind.now) }

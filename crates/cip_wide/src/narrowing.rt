@@ -14,8 +14,8 @@ use crate::outages::{Loss, Outage, Outages, losses_since};
 use crate::plain::{NewOp, Plain, plain_line};
 use cip_base::{Bytes, NoMemory};
 use cip_ends::Ends;
-use cip_module::Module;
 use cip_outcomes::{Ops, is_refused, module_text, nearest, refusal_of};
+use cip_routing::Module;
 use cip_script::{
     Mode, PlayFault, ScriptFault, Step, StepsFault, explain, play_step, read_steps, usage_of,
 };

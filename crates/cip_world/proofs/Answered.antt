@@ -12,7 +12,7 @@ use Rattle.cip_event.specs.declared.event.Event.TheVariants as events
 use Rattle.cip_event.specs.declared.event.Output.{Output}
 use Rattle.cip_event.specs.declared.event.Output.TheVariants as outputs
 use Rattle.cip_event.specs.declared.event.Body.{Body}
-use Rattle.cip_module.specs.Table.{table_step}
+use Rattle.cip_routing.specs.Table.{table_step}
 use Rattle.cip_laws.proofs.AskedBy.{Waits, taken_waits}
 use Rattle.cip_world.specs.declared.journal.Input.{Input}
 use Rattle.cip_world.specs.declared.journal.FrameName.{FrameName}

@@ -29,9 +29,9 @@ use Rattle.cip_event.specs.declared.event.Output.TheVariants as outputs
 use Rattle.cip_laws.specs.Births.{Past, IsBirth}
 use Rattle.cip_laws.specs.Histories.{IsHistory}
 use Rattle.cip_laws.specs.Outputs.{DatumOf, GoesUp, Arrives, GoesDown, IsConsumed}
-use Rattle.cip_module.specs.Produced.{reads_from}
-use Rattle.cip_module.specs.State.{State}
-use Rattle.cip_module.specs.Table.{table_step}
+use Rattle.cip_routing.specs.Produced.{reads_from}
+use Rattle.cip_routing.specs.State.{State}
+use Rattle.cip_routing.specs.Table.{table_step}
 use Rattle.cip_laws.specs.Weights.{mark, weight_in}
 use Rattle.cip_laws.proofs.Births.{born_once}
 use Rattle.cip_laws.proofs.Triads.{HasOwnTriads, own_triads}

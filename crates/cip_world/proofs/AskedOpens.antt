@@ -4,7 +4,7 @@ use Rattle.std.proofs.lemmas.Bool.{eq-eqb}
 use Rattle.cip_open.specs.Open.{Open}
 use Rattle.cip_target.specs.declared.identity.IdentityFields.{IdentityFields}
 use Rattle.cip_event.specs.declared.event.Command.{Command}
-use Rattle.cip_module.specs.Table.{asked_open, words_of}
+use Rattle.cip_routing.specs.Table.{asked_open, words_of}
 use Rattle.cip_laws.proofs.AskedOpens.{each_open}
 use Rattle.cip_world.specs.TrailTells.{command_words}
 use Rattle.cip_world.specs.Trails.{opens_or_sends}

@@ -12,9 +12,9 @@ use Rattle.cip_target.specs.declared.link.EndLink.{EndLink}
 use Rattle.cip_config.specs.declared.config.ModuleSettings.{ModuleSettings}
 use Rattle.cip_event.specs.declared.event.Event.{Event}
 use Rattle.cip_laws.specs.Births.{opened_by, or_else, first_opened, Past, IsBirth}
-use Rattle.cip_module.specs.Effects.{Effect, Sending, Begins, Accepts}
+use Rattle.cip_routing.specs.Effects.{Effect, Sending, Begins, Accepts}
 use Rattle.cip_laws.specs.Histories.{Turn, state_after, IsHistory}
-use Rattle.cip_module.specs.State.{State}
+use Rattle.cip_routing.specs.State.{State}
 use Rattle.cip_laws.specs.Tells.{Tells, AllTell, BeginsAs, AcceptsAs}
 use Rattle.cip_laws.proofs.Births.{held_born}
 use Rattle.cip_laws.proofs.Turns.{newest}

@@ -25,7 +25,7 @@ use Rattle.cip_hops.specs.Sides.{up_is}
 use Rattle.cip_hops.specs.Hops.{as_hop, is_hop, is_id, is_hop_by_up, hop_by_up, hop_by_op}
 use Rattle.cip_hops.proofs.Steps.{triads_apart}
 use Rattle.cip_config.specs.declared.config.ModuleSettings.{ModuleSettings}
-use Rattle.cip_module.specs.CommandRows as rows
+use Rattle.cip_routing.specs.CommandRows as rows
 use Rattle.cip_event.specs.declared.event.Body.{Body}
 use Rattle.cip_event.specs.declared.event.Body.TheVariants as bodies
 use Rattle.cip_event.specs.declared.event.Command.TheVariants as commands
@@ -35,9 +35,9 @@ use Rattle.cip_event.specs.declared.event.Output.TheVariants as outputs
 use Rattle.cip_event.specs.declared.event.Refused.TheVariants as refused
 use Rattle.cip_laws.specs.Changes.{SameCore}
 use Rattle.cip_config.specs.Config.{port_of}
-use Rattle.cip_module.specs.Effects.{outputs_of, datum_down, datum_by}
-use Rattle.cip_module.specs.State.{State}
-use Rattle.cip_module.specs.Table.{refused_effects, entered_effects, enter_effects, table_step}
+use Rattle.cip_routing.specs.Effects.{outputs_of, datum_down, datum_by}
+use Rattle.cip_routing.specs.State.{State}
+use Rattle.cip_routing.specs.Table.{refused_effects, entered_effects, enter_effects, table_step}
 use Rattle.cip_laws.specs.Turns.{Has}
 use Rattle.cip_laws.proofs.Births.{held_born, born_once}
 use Rattle.cip_laws.proofs.DataMet.{goes_down, goes_entered}

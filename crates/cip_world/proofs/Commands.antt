@@ -14,7 +14,7 @@ use Rattle.cip_hops.specs.declared.hop.Hop.{Hop}
 use Rattle.cip_hops.specs.Hops.{opening_of, ids_of, hop_by_op}
 use Rattle.cip_target.specs.declared.identity.IdentityFields.{IdentityFields}
 use Rattle.cip_config.specs.declared.config.ModuleSettings.{ModuleSettings}
-use Rattle.cip_module.specs.CommandRows as rows
+use Rattle.cip_routing.specs.CommandRows as rows
 use Rattle.cip_event.specs.declared.event.Command.{Command}
 use Rattle.cip_event.specs.declared.event.Command.TheVariants as commands
 use Rattle.cip_event.specs.declared.event.Event.{Event}
@@ -23,13 +23,13 @@ use Rattle.cip_event.specs.declared.event.Output.{Output}
 use Rattle.cip_event.specs.declared.event.Output.TheVariants as outputs
 use Rattle.cip_event.specs.declared.event.Refused.{Refused}
 use Rattle.cip_laws.specs.Births.{Past}
-use Rattle.cip_module.specs.CommandRows.{enter_row}
-use Rattle.cip_module.specs.Effects.{applied}
+use Rattle.cip_routing.specs.CommandRows.{enter_row}
+use Rattle.cip_routing.specs.Effects.{applied}
 use Rattle.cip_laws.specs.Histories.{Turn, state_after, IsHistory}
-use Rattle.cip_module.specs.OpenRows.{opening_with}
+use Rattle.cip_routing.specs.OpenRows.{opening_with}
 use Rattle.cip_laws.specs.Outputs.{EndedBy, ByTimeOut, ByReset, ByRefusal, ByDrop}
-use Rattle.cip_module.specs.State.{State, is_spent}
-use Rattle.cip_module.specs.Table.{up_side_of, asked_open}
+use Rattle.cip_routing.specs.State.{State, is_spent}
+use Rattle.cip_routing.specs.Table.{up_side_of, asked_open}
 use Rattle.cip_laws.specs.Tells.{AsksOpen, command_row, refused_by}
 use Rattle.cip_laws.proofs.AskedOpens.{asks_row, asks_as}
 use Rattle.cip_laws.proofs.GaveBy.{gave_by}

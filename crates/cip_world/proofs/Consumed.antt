@@ -21,10 +21,10 @@ use Rattle.cip_event.specs.declared.event.Output.{Output}
 use Rattle.cip_event.specs.declared.event.Output.TheVariants as outputs
 use Rattle.cip_laws.specs.Outputs.{is_datum, DatumOf, GoesUp, Arrives, GoesDown, IsConsumed}
 use Rattle.cip_laws.specs.Histories.{IsHistory}
-use Rattle.cip_module.specs.State.{State}
+use Rattle.cip_routing.specs.State.{State}
 use Rattle.cip_laws.specs.Turns.{Has}
-use Rattle.cip_module.proofs.Found.{found_own}
-use Rattle.cip_module.proofs.Removed.{open_at}
+use Rattle.cip_routing.proofs.Found.{found_own}
+use Rattle.cip_routing.proofs.Removed.{open_at}
 use Rattle.cip_laws.proofs.Triads.{own_triads}
 use Rattle.cip_chassis.specs.Walk.{walk}
 use Rattle.cip_chassis.proofs.Walks.{walk_ends}

@@ -18,7 +18,7 @@ use Rattle.cip_event.specs.declared.event.Event.TheVariants as events
 use Rattle.cip_event.specs.declared.event.Output.TheVariants as outputs
 use Rattle.cip_laws.specs.Births.{Past}
 use Rattle.cip_laws.specs.Histories.{Turn}
-use Rattle.cip_module.specs.Table.{asked_open, sent, words_of}
+use Rattle.cip_routing.specs.Table.{asked_open, sent, words_of}
 use Rattle.cip_laws.specs.Tells.{asker, command_asker}
 use Rattle.cip_laws.specs.Turns.{Has, SomeTurn, Gave}
 use Rattle.cip_laws.proofs.AskedOpens.{asks_asker}

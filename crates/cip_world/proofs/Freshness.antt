@@ -3,11 +3,11 @@ use Rattle.std.proofs.Common.{◌≡◌, ℕ, zero, suc, ◌≤◌, Bool, List, 
 use Rattle.std.specs.Prelude.{slice_get, IfOk, ◌↔◌, IsTrue}
 use Rattle.std.proofs.lemmas.List.{length-map}
 use Rattle.cip_config.specs.declared.config.ModuleSettings.{ModuleSettings}
-use Rattle.cip_module.specs.declared.tables.Tables.{Tables}
-use Rattle.cip_module.specs.Paired.{IsPaired}
-use Rattle.cip_module.specs.Rooms.{HasRooms}
-use Rattle.cip_module.specs.State.{State, initial_state}
-use Rattle.cip_module.specs.Views.{ShowsState}
+use Rattle.cip_routing.specs.declared.tables.Tables.{Tables}
+use Rattle.cip_routing.specs.Paired.{IsPaired}
+use Rattle.cip_routing.specs.Rooms.{HasRooms}
+use Rattle.cip_routing.specs.State.{State, initial_state}
+use Rattle.cip_routing.specs.Views.{ShowsState}
 use Rattle.cip_laws.proofs.Shown.{fresh}
 use Rattle.cip_chassis.specs.Plan.{Plan}
 use Rattle.cip_world.specs.Fresh.{AreFresh, DifferFirst}

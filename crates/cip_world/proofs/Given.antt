@@ -25,19 +25,19 @@ use Rattle.cip_event.specs.declared.event.Event.TheVariants as events
 use Rattle.cip_event.specs.declared.event.Output.{Output}
 use Rattle.cip_laws.specs.Changes.{SameCore}
 use Rattle.cip_laws.specs.EffectLists.{Stands}
-use Rattle.cip_module.specs.Effects.{Passes, applied, datum_up, datum_by}
+use Rattle.cip_routing.specs.Effects.{Passes, applied, datum_up, datum_by}
 use Rattle.cip_laws.specs.Histories.{Turn, state_after, IsHistory}
 use Rattle.cip_laws.specs.Outputs.{GaveBy, is_datum, PassedBy, DatumOf}
-use Rattle.cip_module.specs.Produced.{datum_bytes}
-use Rattle.cip_module.specs.State.{State}
-use Rattle.cip_module.specs.Table.{other}
+use Rattle.cip_routing.specs.Produced.{datum_bytes}
+use Rattle.cip_routing.specs.State.{State}
+use Rattle.cip_routing.specs.Table.{other}
 use Rattle.cip_laws.specs.Tells.{Tells, DatumCame, Produced, PassesAs, PassedOn, Entered, Made}
 use Rattle.cip_laws.specs.Turns.{Has}
 use Rattle.cip_laws.proofs.DataOnce.{datum_of}
-use Rattle.cip_module.proofs.Found.{found_own}
+use Rattle.cip_routing.proofs.Found.{found_own}
 use Rattle.cip_laws.proofs.GaveBy.{gave_by}
 use Rattle.cip_laws.proofs.PassedBy.{passed_by}
-use Rattle.cip_module.proofs.Removed.{open_at}
+use Rattle.cip_routing.proofs.Removed.{open_at}
 use Rattle.cip_laws.proofs.Standing.{all_stand}
 use Rattle.cip_laws.proofs.TellsStand.{passing, passes_stands}
 use Rattle.cip_laws.proofs.Triads.{HasOwnTriads, own_triads}

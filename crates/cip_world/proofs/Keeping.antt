@@ -9,9 +9,9 @@ use Rattle.cip_hops.specs.declared.hop.Held.TheVariants.{Opening as IsOpening, O
 use Rattle.cip_config.specs.declared.config.ModuleSettings.{ModuleSettings}
 use Rattle.cip_event.specs.declared.event.Output.{Output}
 use Rattle.cip_laws.specs.Changes.{SameCore, HeldCase, Stands, Begun, Ended, Finished}
-use Rattle.cip_module.specs.Effects.{Effect, apply, applied}
+use Rattle.cip_routing.specs.Effects.{Effect, apply, applied}
 use Rattle.cip_laws.specs.Histories.{Turn, state_after, IsHistory}
-use Rattle.cip_module.specs.State.{State}
+use Rattle.cip_routing.specs.State.{State}
 use Rattle.cip_laws.specs.Tells.{Tells}
 use Rattle.cip_laws.proofs.Stands.{held_cases, same_self}
 use Rattle.cip_laws.proofs.Turns.{Turned, newest, by_places}

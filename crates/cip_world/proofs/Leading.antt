@@ -18,8 +18,8 @@ use Rattle.cip_config.specs.declared.config.PortConfig.{PortConfig}
 use Rattle.cip_event.specs.declared.event.Event.{Event}
 use Rattle.cip_config.specs.Config.{port_of}
 use Rattle.cip_laws.specs.Histories.{Turn, state_after, IsHistory}
-use Rattle.cip_module.specs.OpenRows.{is_consumed}
-use Rattle.cip_module.specs.State.{State}
+use Rattle.cip_routing.specs.OpenRows.{is_consumed}
+use Rattle.cip_routing.specs.State.{State}
 use Rattle.cip_chassis.specs.Plan.{Plan}
 use Rattle.cip_chassis.specs.Nodes.{Node, Way, own_port, node_on, node_from, comes_in, leaves_by, node, across as goes}
 use Rattle.cip_chassis.specs.Walk.{walk}

@@ -11,8 +11,8 @@ use Rattle.cip_event.specs.declared.event.Event.{Event}
 use Rattle.cip_event.specs.declared.event.Event.TheVariants as events
 use Rattle.cip_event.specs.declared.event.Output.{Output}
 use Rattle.cip_laws.specs.Outputs.{is_data, is_datum, one_datum}
-use Rattle.cip_module.specs.State.{State}
-use Rattle.cip_module.specs.Table.{table_step}
+use Rattle.cip_routing.specs.State.{State}
+use Rattle.cip_routing.specs.Table.{table_step}
 use Rattle.cip_laws.specs.Weights.{mark, weight_in}
 use Rattle.cip_laws.specs.Turns.{Has}
 use Rattle.cip_laws.proofs.DataOnce.{frame_once, enter_once}

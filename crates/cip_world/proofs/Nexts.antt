@@ -5,7 +5,7 @@ use Rattle.cip_base.specs.declared.numbers.ModuleId.{ModuleId}
 use Rattle.cip_config.specs.declared.config.ModuleSettings.{ModuleSettings}
 use Rattle.cip_event.specs.declared.event.Event.{Event}
 use Rattle.cip_event.specs.declared.event.Output.{Output}
-use Rattle.cip_module.specs.Table.{Stepped, table_step}
+use Rattle.cip_routing.specs.Table.{Stepped, table_step}
 use Rattle.cip_chassis.specs.Plan.{Plan}
 use Rattle.cip_chassis.specs.Nodes.{across as goes}
 use Rattle.cip_world.specs.declared.journal.FrameName.{FrameName}

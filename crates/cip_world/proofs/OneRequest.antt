@@ -18,10 +18,10 @@ use Rattle.cip_config.specs.declared.config.ModuleSettings.{ModuleSettings}
 use Rattle.cip_event.specs.declared.event.Event.{Event}
 use Rattle.cip_event.specs.declared.event.Output.{Output}
 use Rattle.cip_laws.specs.EffectLists.{gain, IsLight, IsBounded}
-use Rattle.cip_module.specs.Effects.{Effect, Replies, Answers, Forwards, Begins, Finishes, Takes, PendingTimesOut, Passes, here_answer, reply_up, replied}
-use Rattle.cip_module.specs.Effects.{timed_out_reply, timed_out_bytes, datum_up, datum_down, passed, apply, output_of, outputs_of, succeeded_at}
-use Rattle.cip_module.specs.State.{State}
-use Rattle.cip_module.specs.Table.{decide}
+use Rattle.cip_routing.specs.Effects.{Effect, Replies, Answers, Forwards, Begins, Finishes, Takes, PendingTimesOut, Passes, here_answer, reply_up, replied}
+use Rattle.cip_routing.specs.Effects.{timed_out_reply, timed_out_bytes, datum_up, datum_down, passed, apply, output_of, outputs_of, succeeded_at}
+use Rattle.cip_routing.specs.State.{State}
+use Rattle.cip_routing.specs.Table.{decide}
 use Rattle.cip_laws.specs.Tells.{asker, Tells, AllTell}
 use Rattle.cip_laws.specs.Weights.{mark, weight_in}
 use Rattle.cip_laws.specs.Turns.{Has}

@@ -29,11 +29,11 @@ use Rattle.cip_event.specs.declared.event.Event.{Event}
 use Rattle.cip_event.specs.declared.event.Event.TheVariants as events
 use Rattle.cip_event.specs.declared.event.Output.{Output}
 use Rattle.cip_event.specs.declared.event.Output.TheVariants as outputs
-use Rattle.cip_module.specs.declared.refusals.LinkRefusal.TheVariants.{TicksSpent}
-use Rattle.cip_module.specs.Answers.{failed_at, open_failed}
-use Rattle.cip_module.specs.Effects.{Sending, timed_out_bytes, succeeded, success_up}
-use Rattle.cip_module.specs.Statuses.{link_status, open_status}
-use Rattle.cip_module.specs.Table.{words_of, accepted_bytes}
+use Rattle.cip_routing.specs.declared.refusals.LinkRefusal.TheVariants.{TicksSpent}
+use Rattle.cip_routing.specs.Answers.{failed_at, open_failed}
+use Rattle.cip_routing.specs.Effects.{Sending, timed_out_bytes, succeeded, success_up}
+use Rattle.cip_routing.specs.Statuses.{link_status, open_status}
+use Rattle.cip_routing.specs.Table.{words_of, accepted_bytes}
 use Rattle.cip_laws.specs.Tells.{PendingTimesOutAs}
 use Rattle.cip_laws.specs.Turns.{Has}
 use Rattle.cip_laws.proofs.Failures.{open_fails, link_fails}

@@ -5,20 +5,20 @@ use Rattle.cip_hops.specs.declared.opening.HopUp.TheVariants.{Local as UpLocal}
 use Rattle.cip_pending.specs.declared.entry.UpSide.TheVariants.{Local}
 use Rattle.cip_open.specs.Open.{Open as OpenRequest}
 use Rattle.cip_config.specs.declared.config.ModuleSettings.{ModuleSettings}
-use Rattle.cip_module.specs.CommandRows as rows
+use Rattle.cip_routing.specs.CommandRows as rows
 use Rattle.cip_event.specs.declared.event.Command.{Command}
 use Rattle.cip_event.specs.declared.event.Event.TheVariants as events
 use Rattle.cip_event.specs.declared.event.Output.{Output}
 use Rattle.cip_event.specs.declared.event.Output.TheVariants as outputs
 use Rattle.cip_event.specs.declared.event.Refused.TheVariants as refused
-use Rattle.cip_module.specs.Effects.{Effect, Spends, apply, applied, outputs_of, Answers, resets}
+use Rattle.cip_routing.specs.Effects.{Effect, Spends, apply, applied, outputs_of, Answers, resets}
 use Rattle.cip_laws.proofs.AskedOpens.{asks_effects, one_open}
 use Rattle.cip_laws.specs.Histories.{Turn, state_after, IsHistory}
-use Rattle.cip_module.specs.OpenRows.{open_row}
-use Rattle.cip_module.specs.State.{State, is_spent}
-use Rattle.cip_module.specs.Table.{open_effects, refused_effects, asked_open, decide}
+use Rattle.cip_routing.specs.OpenRows.{open_row}
+use Rattle.cip_routing.specs.State.{State, is_spent}
+use Rattle.cip_routing.specs.Table.{open_effects, refused_effects, asked_open, decide}
 use Rattle.cip_laws.specs.Turns.{Has}
-use Rattle.cip_module.proofs.Kept.{spent_now, spent_still}
+use Rattle.cip_routing.proofs.Kept.{spent_now, spent_still}
 use Rattle.cip_laws.proofs.Turns.{Turned, newest}
 use Rattle.cip_chassis.specs.Plan.{Plan}
 use Rattle.cip_world.specs.declared.journal.Entry.{Entry}

@@ -31,20 +31,20 @@ use Rattle.cip_event.specs.declared.event.Command.{Command}
 use Rattle.cip_event.specs.declared.event.Command.TheVariants as commands
 use Rattle.cip_event.specs.declared.event.Event.{Event}
 use Rattle.cip_event.specs.declared.event.Event.TheVariants as events
-use Rattle.cip_module.specs.declared.refusals.KeyPart.{KeyPart}
-use Rattle.cip_module.specs.declared.refusals.LinkRefusal.{LinkRefusal}
-use Rattle.cip_module.specs.declared.refusals.OpenRefusal.{OpenRefusal}
-use Rattle.cip_module.specs.declared.refusals.OpenRefusal.TheVariants.{ConnectionTypeNotSupported, RpiOfZero, TriadInUse, NoRoomToPassOn}
-use Rattle.cip_module.specs.Answers.{failed_at}
-use Rattle.cip_module.specs.Effects.{Sending, kind_for}
-use Rattle.cip_module.specs.Keys.{leading_mismatch}
-use Rattle.cip_module.specs.Links.{link_refusal, LeadsOn}
-use Rattle.cip_module.specs.OpenRows.{OpenRow, Refuses, Forwarded, Accepted, on_row, hop_row, key_row, is_supported, open_row, unread_row}
-use Rattle.cip_module.specs.RequestRows.{RequestRow, request_row}
-use Rattle.cip_module.specs.RequestRows as request
-use Rattle.cip_module.specs.State.{State}
-use Rattle.cip_module.specs.Statuses.{open_status}
-use Rattle.cip_module.specs.Table.{up_side_of, asked_open, open_on, words_of, unread_open_bytes, accepted_bytes}
+use Rattle.cip_routing.specs.declared.refusals.KeyPart.{KeyPart}
+use Rattle.cip_routing.specs.declared.refusals.LinkRefusal.{LinkRefusal}
+use Rattle.cip_routing.specs.declared.refusals.OpenRefusal.{OpenRefusal}
+use Rattle.cip_routing.specs.declared.refusals.OpenRefusal.TheVariants.{ConnectionTypeNotSupported, RpiOfZero, TriadInUse, NoRoomToPassOn}
+use Rattle.cip_routing.specs.Answers.{failed_at}
+use Rattle.cip_routing.specs.Effects.{Sending, kind_for}
+use Rattle.cip_routing.specs.Keys.{leading_mismatch}
+use Rattle.cip_routing.specs.Links.{link_refusal, LeadsOn}
+use Rattle.cip_routing.specs.OpenRows.{OpenRow, Refuses, Forwarded, Accepted, on_row, hop_row, key_row, is_supported, open_row, unread_row}
+use Rattle.cip_routing.specs.RequestRows.{RequestRow, request_row}
+use Rattle.cip_routing.specs.RequestRows as request
+use Rattle.cip_routing.specs.State.{State}
+use Rattle.cip_routing.specs.Statuses.{open_status}
+use Rattle.cip_routing.specs.Table.{up_side_of, asked_open, open_on, words_of, unread_open_bytes, accepted_bytes}
 use Rattle.cip_laws.specs.Tells.{Came, AsksSend, AsksOpen, AsksClose, RepliesAs, RequestFails, SendUnread, SendFails, OpenUnread, OpenFails, OpenEnds}
 use Rattle.cip_laws.specs.Tells.{CloseUnread, CloseFails, CloseEnds, AnswersAs, Itself, Embedded, ForwardsAs, SentOn, ClosedOn}
 use Rattle.cip_laws.proofs.AskedOpens.{no_open_event, one_open}

@@ -9,13 +9,13 @@ use Rattle.cip_base.specs.declared.timing.Timing.{Timing}
 use Rattle.cip_close.specs.Close.{Close}
 use Rattle.cip_hops.specs.declared.hop.Hop.{Hop}
 use Rattle.cip_hops.specs.Hops.{hop_by_op}
-use Rattle.cip_module.specs.CloseRows.{CloseRow, close_row}
-use Rattle.cip_module.specs.CloseRows as closes
+use Rattle.cip_routing.specs.CloseRows.{CloseRow, close_row}
+use Rattle.cip_routing.specs.CloseRows as closes
 use Rattle.cip_laws.specs.Tells.{command_asker}
 use Rattle.cip_unconnected.specs.Unconnected.{Unconnected, is_too_long}
 use Rattle.cip_open.specs.Open.{Open}
-use Rattle.cip_module.specs.CommandRows.{CommandRow}
-use Rattle.cip_module.specs.CommandRows as command
+use Rattle.cip_routing.specs.CommandRows.{CommandRow}
+use Rattle.cip_routing.specs.CommandRows as command
 use Rattle.cip_config.specs.declared.config.ModuleSettings.{ModuleSettings}
 use Rattle.cip_event.specs.declared.event.Command.{Command}
 use Rattle.cip_event.specs.declared.event.Command.TheVariants as commands
@@ -25,17 +25,17 @@ use Rattle.cip_event.specs.declared.event.Output.{Output}
 use Rattle.cip_event.specs.declared.event.Output.TheVariants as outputs
 use Rattle.cip_laws.specs.Turns.{Has}
 use Rattle.cip_event.specs.declared.event.Refused.{Refused}
-use Rattle.cip_module.specs.CommandRows.{op_row, send_row}
-use Rattle.cip_module.specs.Effects.{Effect, Spends, RefusesCommand, apply, applied, outputs_of, Answers, resets, ended_by}
+use Rattle.cip_routing.specs.CommandRows.{op_row, send_row}
+use Rattle.cip_routing.specs.Effects.{Effect, Spends, RefusesCommand, apply, applied, outputs_of, Answers, resets, ended_by}
 use Rattle.cip_laws.specs.Histories.{Turn, state_after, IsHistory}
-use Rattle.cip_module.specs.OpenRows.{OpenRow, open_row}
-use Rattle.cip_module.specs.OpenRows as opens
-use Rattle.cip_module.specs.State.{State, is_spent}
-use Rattle.cip_module.specs.Table.{decide, refused_effects, open_effects, close_effects, closed_effects, close_of, unconnected_effects, open_of, sent}
-use Rattle.cip_module.specs.Table.{open_command_effects}
-use Rattle.cip_module.specs.UnconnectedRows.{UnconnectedRow, unconnected_row}
-use Rattle.cip_module.specs.UnconnectedRows as unconnected
-use Rattle.cip_module.proofs.Kept.{spent_now, spent_still}
+use Rattle.cip_routing.specs.OpenRows.{OpenRow, open_row}
+use Rattle.cip_routing.specs.OpenRows as opens
+use Rattle.cip_routing.specs.State.{State, is_spent}
+use Rattle.cip_routing.specs.Table.{decide, refused_effects, open_effects, close_effects, closed_effects, close_of, unconnected_effects, open_of, sent}
+use Rattle.cip_routing.specs.Table.{open_command_effects}
+use Rattle.cip_routing.specs.UnconnectedRows.{UnconnectedRow, unconnected_row}
+use Rattle.cip_routing.specs.UnconnectedRows as unconnected
+use Rattle.cip_routing.proofs.Kept.{spent_now, spent_still}
 use Rattle.cip_laws.proofs.Turns.{Turned, newest}
 use Rattle.cip_hops.specs.declared.opening.HopUp.TheVariants.{Local as UpLocal}
 use Rattle.cip_chassis.specs.Plan.{Plan}
@@ -53,7 +53,7 @@ use Rattle.cip_world.proofs.Moments.{run_older, before_that}
 use Rattle.cip_world.proofs.Parts.{turn_of, part_here, part_step, step_here, same_module, run_history}
 use Rattle.cip_event.specs.Params.{widened}
 use Rattle.cip_laws.proofs.Puts.{answered_ops}
-use Rattle.cip_module.specs.Resets.{held_ops, all_ended}
+use Rattle.cip_routing.specs.Resets.{held_ops, all_ended}
 
 -- ---- one command
 

@@ -5,8 +5,8 @@ use Rattle.std.proofs.lemmas.Bool.{eqb-true, eq-eqb, cond-true}
 use Rattle.cip_config.specs.declared.config.ModuleSettings.{ModuleSettings}
 use Rattle.cip_event.specs.declared.event.Event.{Event}
 use Rattle.cip_event.specs.declared.event.Output.{Output}
-use Rattle.cip_module.specs.State.{State}
-use Rattle.cip_module.specs.Table.{Stepped, table_step}
+use Rattle.cip_routing.specs.State.{State}
+use Rattle.cip_routing.specs.Table.{Stepped, table_step}
 use Rattle.cip_world.specs.declared.journal.Input.{Input}
 use Rattle.cip_world.specs.declared.journal.Input.TheVariants.{Command, Tick, Frame}
 use Rattle.cip_base.specs.declared.numbers.ModuleId.{ModuleId}

@@ -30,13 +30,13 @@ use Rattle.cip_event.specs.declared.event.Event.TheVariants as events
 use Rattle.cip_event.specs.declared.event.Output.{Output}
 use Rattle.cip_event.specs.declared.event.Output.TheVariants as outputs
 use Rattle.cip_laws.specs.EffectLists.{HasStood}
-use Rattle.cip_module.specs.Effects.{Effect, Passes, Counts, datum_up, passed, apply, applied, outputs_of}
-use Rattle.cip_module.specs.Produced.{reads_from, next_count, made_effects, held_effects, each_effects}
-use Rattle.cip_module.specs.State.{State}
-use Rattle.cip_module.specs.Table.{decide, produce_effects}
+use Rattle.cip_routing.specs.Effects.{Effect, Passes, Counts, datum_up, passed, apply, applied, outputs_of}
+use Rattle.cip_routing.specs.Produced.{reads_from, next_count, made_effects, held_effects, each_effects}
+use Rattle.cip_routing.specs.State.{State}
+use Rattle.cip_routing.specs.Table.{decide, produce_effects}
 use Rattle.cip_laws.specs.Weights.{mark, weight_in}
 use Rattle.cip_laws.proofs.ProducedStand.{produced_stood}
-use Rattle.cip_module.proofs.Removed.{open_at}
+use Rattle.cip_routing.proofs.Removed.{open_at}
 use Rattle.cip_laws.proofs.Triads.{HasOwnTriads}
 use Rattle.cip_laws.proofs.Turns.{applied-append, outputs-append}
 use Rattle.cip_laws.proofs.Weighing.{weight_in-append}

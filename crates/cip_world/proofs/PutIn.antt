@@ -11,9 +11,9 @@ use Rattle.cip_event.specs.declared.event.Event.{Event}
 use Rattle.cip_event.specs.declared.event.Output.{Output}
 use Rattle.cip_event.specs.declared.event.Output.TheVariants as outputs
 use Rattle.cip_laws.specs.Births.{Past}
-use Rattle.cip_module.specs.Effects.{Sending, Effect, Forwards, Begins, entry_for, kind_for, apply, output_of, request_below}
+use Rattle.cip_routing.specs.Effects.{Sending, Effect, Forwards, Begins, entry_for, kind_for, apply, output_of, request_below}
 use Rattle.cip_laws.specs.Histories.{Turn, state_after, IsHistory}
-use Rattle.cip_module.specs.State.{State}
+use Rattle.cip_routing.specs.State.{State}
 use Rattle.cip_laws.specs.Tells.{asker, Tells, ForwardsAs, BeginsAs}
 use Rattle.cip_laws.specs.Turns.{Has}
 use Rattle.cip_laws.proofs.Asking.{has_left, has_right}

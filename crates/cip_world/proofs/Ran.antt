@@ -6,9 +6,9 @@ use Rattle.std.specs.Option.{option_and_then}
 use Rattle.cip_hops.specs.declared.hop.Hop.{Hop}
 use Rattle.cip_hops.specs.Hops.{Hops}
 use Rattle.cip_config.specs.declared.config.ModuleSettings.{ModuleSettings}
-use Rattle.cip_module.specs.declared.tables.Tables.{Tables}
-use Rattle.cip_module.specs.State.{State}
-use Rattle.cip_module.specs.Views.{ShowsState}
+use Rattle.cip_routing.specs.declared.tables.Tables.{Tables}
+use Rattle.cip_routing.specs.State.{State}
+use Rattle.cip_routing.specs.Views.{ShowsState}
 use Rattle.cip_chassis.specs.Plan.{Plan}
 use Rattle.cip_world.specs.declared.journal.FrameName.{FrameName}
 use Rattle.cip_world.specs.Journals.{Journal, same_name}

@@ -12,11 +12,11 @@ use Rattle.cip_event.specs.declared.event.Event.{Event}
 use Rattle.cip_event.specs.declared.event.Event.TheVariants as events
 use Rattle.cip_event.specs.declared.event.Output.{Output}
 use Rattle.cip_event.specs.declared.event.Output.TheVariants as outputs
-use Rattle.cip_module.specs.Effects.{applied, outputs_of, replied, reply_up, succeeded_at}
-use Rattle.cip_module.specs.ReplyRows.{ReplyRow, reply_row}
-use Rattle.cip_module.specs.ReplyRows as reply
-use Rattle.cip_module.specs.State.{State}
-use Rattle.cip_module.specs.Table.{Stepped, reply_effects, table_step}
+use Rattle.cip_routing.specs.Effects.{applied, outputs_of, replied, reply_up, succeeded_at}
+use Rattle.cip_routing.specs.ReplyRows.{ReplyRow, reply_row}
+use Rattle.cip_routing.specs.ReplyRows as reply
+use Rattle.cip_routing.specs.State.{State}
+use Rattle.cip_routing.specs.Table.{Stepped, reply_effects, table_step}
 use Rattle.cip_laws.specs.Turns.{Has}
 use Rattle.cip_laws.specs.Histories.{Turn, IsHistory}
 use Rattle.cip_laws.proofs.Dones.{done_once}

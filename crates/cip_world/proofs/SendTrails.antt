@@ -14,9 +14,9 @@ use Rattle.cip_pending.specs.Kinds.{opened_triad}
 use Rattle.cip_event.specs.declared.event.Body.TheVariants as bodies
 use Rattle.cip_event.specs.declared.event.Event.TheVariants as events
 use Rattle.cip_event.specs.declared.event.Output.{Output}
-use Rattle.cip_module.specs.declared.refusals.LinkRefusal.TheVariants.{TicksSpent}
-use Rattle.cip_module.specs.Effects.{Sending, here_answer, timed_out_bytes}
-use Rattle.cip_module.specs.Statuses.{link_status}
+use Rattle.cip_routing.specs.declared.refusals.LinkRefusal.TheVariants.{TicksSpent}
+use Rattle.cip_routing.specs.Effects.{Sending, here_answer, timed_out_bytes}
+use Rattle.cip_routing.specs.Statuses.{link_status}
 use Rattle.cip_laws.specs.Turns.{Has}
 use Rattle.cip_chassis.specs.Plan.{Plan}
 use Rattle.cip_chassis.specs.Walk.{walk}

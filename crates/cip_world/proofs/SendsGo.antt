@@ -34,25 +34,25 @@ use Rattle.cip_event.specs.declared.event.Body.TheVariants as bodies
 use Rattle.cip_event.specs.declared.event.Command.TheVariants as commands
 use Rattle.cip_event.specs.declared.event.Event.{Event}
 use Rattle.cip_event.specs.declared.event.Event.TheVariants as events
-use Rattle.cip_module.specs.declared.refusals.RequestRefusal.{RequestRefusal}
-use Rattle.cip_module.specs.declared.refusals.RequestRefusal.TheVariants.{PathFormNotSupported}
-use Rattle.cip_module.specs.Answers.{failure_bytes, unconnected_failed}
-use Rattle.cip_module.specs.Effects.{Sending, objects_of, here_answer}
-use Rattle.cip_module.specs.Object.{begins_with_manager}
-use Rattle.cip_module.specs.RequestRows.{RequestRow, is_malformed, object_row, manager_row, read_row, request_row}
-use Rattle.cip_module.specs.RequestRows as request
-use Rattle.cip_module.specs.State.{State}
-use Rattle.cip_module.specs.Statuses.{request_status, unconnected_status}
-use Rattle.cip_module.specs.Table.{sent, words_of}
+use Rattle.cip_routing.specs.declared.refusals.RequestRefusal.{RequestRefusal}
+use Rattle.cip_routing.specs.declared.refusals.RequestRefusal.TheVariants.{PathFormNotSupported}
+use Rattle.cip_routing.specs.Answers.{failure_bytes, unconnected_failed}
+use Rattle.cip_routing.specs.Effects.{Sending, objects_of, here_answer}
+use Rattle.cip_routing.specs.Object.{begins_with_manager}
+use Rattle.cip_routing.specs.RequestRows.{RequestRow, is_malformed, object_row, manager_row, read_row, request_row}
+use Rattle.cip_routing.specs.RequestRows as request
+use Rattle.cip_routing.specs.State.{State}
+use Rattle.cip_routing.specs.Statuses.{request_status, unconnected_status}
+use Rattle.cip_routing.specs.Table.{sent, words_of}
 use Rattle.cip_laws.specs.Tells.{Came, AsksSend, AsksOpen, AsksClose, RepliesAs, RequestFails, SendUnread, SendFails, OpenUnread, OpenFails, OpenEnds}
 use Rattle.cip_laws.specs.Tells.{CloseUnread, CloseFails, CloseEnds, AnswersAs, Itself, Embedded, ForwardsAs, SentOn, ClosedOn}
-use Rattle.cip_module.specs.Links.{LeadsOn}
-use Rattle.cip_module.specs.UnconnectedRows as unconnected
+use Rattle.cip_routing.specs.Links.{LeadsOn}
+use Rattle.cip_routing.specs.UnconnectedRows as unconnected
 use Rattle.cip_laws.proofs.AskedOpens.{no_open_event}
 use Rattle.cip_laws.proofs.GoesOn.{allowed}
 use Rattle.cip_laws.proofs.NextRows.{send_row_is}
 use Rattle.cip_world.proofs.PutIn.{SentFor, Forwarded, Begun}
-use Rattle.cip_module.specs.Resets.{can_reset}
+use Rattle.cip_routing.specs.Resets.{can_reset}
 
 frame_is : (p q : ℕ) (a b : List ℕ) (k n : ℕ) (c d : List ℕ) → events.Frame p a (bodies.Request k c) ≡ events.Frame q b (bodies.Request n d)
     → (p ≡ q) × (a ≡ b) × (k ≡ n) × (c ≡ d)

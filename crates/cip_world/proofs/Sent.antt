@@ -12,7 +12,7 @@ use Rattle.cip_event.specs.declared.event.Body.TheVariants as bodies
 use Rattle.cip_event.specs.declared.event.Command.TheVariants as commands
 use Rattle.cip_event.specs.declared.event.Output.{Output}
 use Rattle.cip_event.specs.declared.event.Output.TheVariants as outputs
-use Rattle.cip_module.specs.Produced.{reads_from}
+use Rattle.cip_routing.specs.Produced.{reads_from}
 use Rattle.cip_laws.specs.Tells.{DatumCame, Produced}
 use Rattle.cip_laws.proofs.Triads.{own_triads}
 use Rattle.cip_chassis.specs.Walk.{walk}

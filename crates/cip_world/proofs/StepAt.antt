@@ -6,11 +6,11 @@ use Rattle.std.proofs.Math.Seq.{map-set_same}
 use Rattle.cip_config.specs.declared.config.ModuleSettings.{ModuleSettings}
 use Rattle.cip_event.specs.declared.event.Event.{Event}
 use Rattle.cip_event.specs.declared.event.Output.{Output}
-use Rattle.cip_module.specs.declared.contract.StepFault.{StepFault}
-use Rattle.cip_module.specs.declared.contract.StepFault.TheVariants.{NoMemory, ClockFull}
+use Rattle.cip_routing.specs.declared.contract.StepFault.{StepFault}
+use Rattle.cip_routing.specs.declared.contract.StepFault.TheVariants.{NoMemory, ClockFull}
 use Rattle.std.specs.Prelude.{IfErr, OnErr}
-use Rattle.cip_module.specs.State.{State}
-use Rattle.cip_module.specs.Steps.{IsStep, IsStepFault}
+use Rattle.cip_routing.specs.State.{State}
+use Rattle.cip_routing.specs.Steps.{IsStep, IsStepFault}
 use Rattle.cip_world.specs.Worlds.{IsStepOf, IsFull}
 
 pub slice_get-map : {A B : Type 0} (f : A → B) (xs : List A) (i : ℕ) (x : A) → slice_get xs i ≡ Some x → slice_get (map f xs) i ≡ Some (f x)

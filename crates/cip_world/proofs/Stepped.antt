@@ -7,8 +7,8 @@ use Rattle.cip_config.specs.declared.config.ModuleSettings.{ModuleSettings}
 use Rattle.cip_event.specs.declared.event.Event.{Event}
 use Rattle.cip_event.specs.declared.event.Output.{Output}
 use Rattle.cip_laws.specs.Histories.{Turn, stepped, state_after}
-use Rattle.cip_module.specs.State.{State}
-use Rattle.cip_module.specs.Table.{Stepped, table_step}
+use Rattle.cip_routing.specs.State.{State}
+use Rattle.cip_routing.specs.Table.{Stepped, table_step}
 use Rattle.cip_chassis.specs.Plan.{Plan}
 use Rattle.cip_world.specs.declared.journal.Input.{Input}
 use Rattle.cip_world.specs.declared.journal.Entry.TheVariants.{Step, Lost}

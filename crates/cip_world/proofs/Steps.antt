@@ -22,7 +22,7 @@ use Rattle.cip_event.specs.declared.event.Output.TheVariants as outputs
 use Rattle.cip_laws.specs.Births.{Past, IsBirth, HasId}
 use Rattle.cip_laws.specs.Histories.{Turn, state_after, IsHistory}
 use Rattle.cip_laws.specs.Outputs.{is_data, DatumOf, GoesUp, Arrives, GoesDown, IsConsumed}
-use Rattle.cip_module.specs.State.{State}
+use Rattle.cip_routing.specs.State.{State}
 use Rattle.cip_laws.proofs.Births.{held_born, born_once}
 use Rattle.cip_chassis.specs.Plan.{Plan}
 use Rattle.cip_chassis.specs.Nodes.{Way, across as goes}

@@ -42,22 +42,22 @@ use Rattle.cip_event.specs.declared.event.Body.TheVariants as bodies
 use Rattle.cip_event.specs.declared.event.Event.{Event}
 use Rattle.cip_event.specs.declared.event.Event.TheVariants as events
 use Rattle.cip_event.specs.declared.event.Output.TheVariants as outputs
-use Rattle.cip_module.specs.declared.refusals.RequestRefusal.{RequestRefusal}
-use Rattle.cip_module.specs.declared.refusals.LinkRefusal.TheVariants.{TicksSpent}
-use Rattle.cip_module.specs.Answers.{failed_unread, failed_at, route_words_data}
-use Rattle.cip_module.specs.Effects.{Sending, Effect, Forwards, Begins, Finishes, Takes, entry_for, kind_for, timed_out_bytes, succeeded, success_up, applied}
-use Rattle.cip_module.specs.OpenRows.{opening_with, end_down, open_row}
-use Rattle.cip_module.specs.OpenRows as opens
-use Rattle.cip_module.specs.ReplyRows.{PassedUp, MalformedForItsKind, OpenSucceeded, kind_row, open_kind_row, opening_row, opened_row, failure_row, triad_eq}
-use Rattle.cip_module.specs.RequestRows.{RequestRow, request_row}
-use Rattle.cip_module.specs.RequestRows as request
-use Rattle.cip_module.specs.State.{State}
-use Rattle.cip_module.specs.Statuses.{open_status, link_status}
-use Rattle.cip_module.specs.Table.{up_side_of, open_effects, open_data_effects, accepted_bytes, request_effects, unread_open_bytes, words_of}
+use Rattle.cip_routing.specs.declared.refusals.RequestRefusal.{RequestRefusal}
+use Rattle.cip_routing.specs.declared.refusals.LinkRefusal.TheVariants.{TicksSpent}
+use Rattle.cip_routing.specs.Answers.{failed_unread, failed_at, route_words_data}
+use Rattle.cip_routing.specs.Effects.{Sending, Effect, Forwards, Begins, Finishes, Takes, entry_for, kind_for, timed_out_bytes, succeeded, success_up, applied}
+use Rattle.cip_routing.specs.OpenRows.{opening_with, end_down, open_row}
+use Rattle.cip_routing.specs.OpenRows as opens
+use Rattle.cip_routing.specs.ReplyRows.{PassedUp, MalformedForItsKind, OpenSucceeded, kind_row, open_kind_row, opening_row, opened_row, failure_row, triad_eq}
+use Rattle.cip_routing.specs.RequestRows.{RequestRow, request_row}
+use Rattle.cip_routing.specs.RequestRows as request
+use Rattle.cip_routing.specs.State.{State}
+use Rattle.cip_routing.specs.Statuses.{open_status, link_status}
+use Rattle.cip_routing.specs.Table.{up_side_of, open_effects, open_data_effects, accepted_bytes, request_effects, unread_open_bytes, words_of}
 use Rattle.cip_laws.specs.Tells.{Tells, Came, AsksSend, AsksOpen, AsksClose, RepliesAs, RequestFails, SendUnread, SendFails, OpenUnread, OpenFails, OpenEnds}
 use Rattle.cip_laws.specs.Tells.{CloseUnread, CloseFails, CloseEnds, AnswersAs, Itself, Embedded, ForwardsAs, FinishesAs, TakesAs, SentOn, ClosedOn}
-use Rattle.cip_module.proofs.Opens.{opens_for}
-use Rattle.cip_module.proofs.Waiting.{waits_at}
+use Rattle.cip_routing.proofs.Opens.{opens_for}
+use Rattle.cip_routing.proofs.Waiting.{waits_at}
 use Rattle.cip_laws.specs.Births.{first_opened, born, Past, IsBirth}
 use Rattle.cip_laws.specs.Histories.{Turn, state_after, IsHistory}
 use Rattle.cip_laws.specs.Turns.{Has, Gave}

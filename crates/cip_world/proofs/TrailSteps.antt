@@ -5,7 +5,7 @@ use Rattle.std.specs.Prelude.{option_map, option_and_then}
 use Rattle.std.proofs.lemmas.Bool.{and_from, eq-eqb}
 use Rattle.cip_event.specs.declared.event.Body.TheVariants as bodies
 use Rattle.cip_event.specs.declared.event.Output.TheVariants as outputs
-use Rattle.cip_module.specs.Effects.{Sending}
+use Rattle.cip_routing.specs.Effects.{Sending}
 use Rattle.cip_laws.specs.Histories.{state_after}
 use Rattle.cip_chassis.specs.Plan.{Plan}
 use Rattle.cip_world.specs.declared.journal.Entry.{Entry}

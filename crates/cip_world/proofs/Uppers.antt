@@ -22,10 +22,10 @@ use Rattle.cip_event.specs.declared.event.Event.{Event}
 use Rattle.cip_event.specs.declared.event.Event.TheVariants as events
 use Rattle.cip_event.specs.declared.event.Output.{Output}
 use Rattle.cip_event.specs.declared.event.Output.TheVariants as outputs
-use Rattle.cip_module.specs.Effects.{Sending, Effect, Begins, applied}
-use Rattle.cip_module.specs.RequestRows.{UnknownPortOrTooLong, ForwardOpen, request_row}
-use Rattle.cip_module.specs.State.{State}
-use Rattle.cip_module.specs.Table.{up_side_of}
+use Rattle.cip_routing.specs.Effects.{Sending, Effect, Begins, applied}
+use Rattle.cip_routing.specs.RequestRows.{UnknownPortOrTooLong, ForwardOpen, request_row}
+use Rattle.cip_routing.specs.State.{State}
+use Rattle.cip_routing.specs.Table.{up_side_of}
 use Rattle.cip_laws.specs.Tells.{AsksOpen, ForwardsAs, BeginsAs, SentOn, ClosedOn}
 use Rattle.cip_laws.specs.Births.{opened_by, Past, IsBirth}
 use Rattle.cip_laws.specs.Histories.{Turn, state_after, IsHistory}

@@ -23,11 +23,11 @@ use Rattle.cip_event.specs.declared.event.Event.TheVariants as events
 use Rattle.cip_event.specs.declared.event.Output.{Output}
 use Rattle.cip_event.specs.declared.event.Output.TheVariants as outputs
 use Rattle.cip_laws.specs.EffectLists.{Stands}
-use Rattle.cip_module.specs.Effects.{Sending, Effect, Answers, Finishes, Takes, here_answer, timed_out_bytes, succeeded, reply_up, apply, applied, Forwards}
-use Rattle.cip_module.specs.Effects.{Begins}
+use Rattle.cip_routing.specs.Effects.{Sending, Effect, Answers, Finishes, Takes, here_answer, timed_out_bytes, succeeded, reply_up, apply, applied, Forwards}
+use Rattle.cip_routing.specs.Effects.{Begins}
 use Rattle.cip_laws.specs.Histories.{state_after}
 use Rattle.cip_laws.specs.Outputs.{GaveBy, RepliesBy, AtOnce, Here, Opened, Taken, Late}
-use Rattle.cip_module.specs.State.{State}
+use Rattle.cip_routing.specs.State.{State}
 use Rattle.cip_laws.specs.Tells.{asker, Tells, AllTell, RepliesAs, AnswersAs, FinishesAs, TakesAs, PendingTimesOutAs}
 use Rattle.cip_laws.specs.Turns.{Has}
 use Rattle.cip_laws.proofs.GaveBy.{gave_by}
@@ -36,7 +36,7 @@ use Rattle.cip_laws.proofs.Puts.{puts, pending_cases}
 use Rattle.cip_laws.proofs.Standing.{all_stand}
 use Rattle.cip_laws.proofs.TellsAskers.{replies_asker, answers_asker, forwards_asker, begins_asker}
 use Rattle.cip_laws.proofs.Turns.{Turned}
-use Rattle.cip_module.proofs.Waiting.{waits_at}
+use Rattle.cip_routing.proofs.Waiting.{waits_at}
 use Rattle.cip_chassis.specs.Plan.{Plan}
 use Rattle.cip_chassis.specs.Nodes.{Way, across as goes}
 use Rattle.cip_world.specs.declared.journal.Entry.{Entry}

@@ -12,10 +12,10 @@ use Rattle.cip_event.specs.declared.event.Event.{Event}
 use Rattle.cip_event.specs.declared.event.Event.TheVariants as events
 use Rattle.cip_event.specs.declared.event.Output.{Output}
 use Rattle.cip_event.specs.declared.event.Output.TheVariants as outputs
-use Rattle.cip_module.specs.Effects.{Sending, kind_for, applied}
+use Rattle.cip_routing.specs.Effects.{Sending, kind_for, applied}
 use Rattle.cip_laws.specs.Histories.{state_after}
 use Rattle.cip_laws.specs.Outputs.{GaveBy, RequestBy, ByForward, ByBegin}
-use Rattle.cip_module.specs.Table.{words_of}
+use Rattle.cip_routing.specs.Table.{words_of}
 use Rattle.cip_laws.specs.Turns.{Has}
 use Rattle.cip_laws.proofs.GaveBy.{gave_by}
 use Rattle.cip_laws.proofs.RequestBy.{request_by}

@@ -19,7 +19,7 @@ use Rattle.cip_event.specs.declared.event.Command.{Command as Asked}
 use Rattle.cip_event.specs.declared.event.Output.{Output}
 use Rattle.cip_event.specs.declared.event.Output.TheVariants as outputs
 use Rattle.cip_event.specs.declared.event.Refused.{Refused}
-use Rattle.cip_module.specs.Table.{asked_open}
+use Rattle.cip_routing.specs.Table.{asked_open}
 use Rattle.cip_laws.specs.Turns.{Has}
 use Rattle.cip_chassis.specs.Plan.{Plan}
 use Rattle.cip_chassis.specs.Walk.{Stop, walk}

@@ -1,7 +1,7 @@
 -- Whether modules are those of a topology, and in their first states.
 use Rattle.std.specs.Prelude.{◌≡◌, ◌≢◌, ℕ, ◌<◌, List, length, map, take, slice_get}
 use Rattle.cip_config.specs.declared.config.ModuleSettings.{ModuleSettings}
-use Rattle.cip_module.specs.State.{State, initial_state}
+use Rattle.cip_routing.specs.State.{State, initial_state}
 use Rattle.cip_chassis.specs.Plan.{Plan}
 use Rattle.cip_world.specs.declared.fresh.NewFault.{NewFault}
 use Rattle.cip_world.specs.declared.fresh.NewFault.TheVariants.{Count, Config, NotFresh, NoMemory}

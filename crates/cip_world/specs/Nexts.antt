@@ -1,7 +1,7 @@
 -- The journal that follows one more event, as a function.
 use Rattle.std.specs.Prelude.{◌∷◌, Option, option_map, option_and_then, slice_get}
 use Rattle.cip_base.specs.declared.numbers.ModuleId.{ModuleId}
-use Rattle.cip_module.specs.Table.{Stepped, table_step}
+use Rattle.cip_routing.specs.Table.{Stepped, table_step}
 use Rattle.cip_chassis.specs.Plan.{Plan}
 use Rattle.cip_chassis.specs.Nodes.{Way, across}
 use Rattle.cip_world.specs.declared.journal.FrameName.{FrameName}

@@ -5,8 +5,8 @@ use Rattle.cip_event.specs.declared.event.Event.{Event}
 use Rattle.cip_event.specs.declared.event.Event.TheVariants as events
 use Rattle.cip_event.specs.declared.event.Output.{Output}
 use Rattle.cip_laws.specs.Histories.{state_after}
-use Rattle.cip_module.specs.State.{State}
-use Rattle.cip_module.specs.Table.{table_step}
+use Rattle.cip_routing.specs.State.{State}
+use Rattle.cip_routing.specs.Table.{table_step}
 use Rattle.cip_chassis.specs.Plan.{Plan}
 use Rattle.cip_chassis.specs.Nodes.{Way, across}
 use Rattle.cip_world.specs.declared.journal.FrameName.{FrameName}

@@ -30,14 +30,14 @@ use Rattle.cip_event.specs.declared.event.Command.TheVariants as commands
 use Rattle.cip_event.specs.declared.event.Event.{Event}
 use Rattle.cip_event.specs.declared.event.Event.TheVariants as events
 use Rattle.cip_event.specs.declared.event.Output.TheVariants as outputs
-use Rattle.cip_module.specs.declared.refusals.LinkRefusal.TheVariants.{TicksSpent}
-use Rattle.cip_module.specs.declared.refusals.OpenRefusal.{OpenRefusal}
-use Rattle.cip_module.specs.Effects.{here_answer}
-use Rattle.cip_module.specs.OpenRows.{Refuses, Accepted, open_row, unread_row}
-use Rattle.cip_module.specs.RequestRows.{ForwardOpen}
-use Rattle.cip_module.specs.State.{State}
-use Rattle.cip_module.specs.Statuses.{link_status, open_status}
-use Rattle.cip_module.specs.Table.{up_side_of, words_of, asked_open}
+use Rattle.cip_routing.specs.declared.refusals.LinkRefusal.TheVariants.{TicksSpent}
+use Rattle.cip_routing.specs.declared.refusals.OpenRefusal.{OpenRefusal}
+use Rattle.cip_routing.specs.Effects.{here_answer}
+use Rattle.cip_routing.specs.OpenRows.{Refuses, Accepted, open_row, unread_row}
+use Rattle.cip_routing.specs.RequestRows.{ForwardOpen}
+use Rattle.cip_routing.specs.State.{State}
+use Rattle.cip_routing.specs.Statuses.{link_status, open_status}
+use Rattle.cip_routing.specs.Table.{up_side_of, words_of, asked_open}
 use Rattle.cip_laws.specs.Tells.{Came, AsksOpen, PendingTimesOutAs}
 use Rattle.cip_laws.specs.Turns.{Has, Gave}
 use Rattle.cip_chassis.specs.Plan.{Plan}

@@ -5,15 +5,15 @@ use Rattle.cip_base.specs.declared.numbers.ModuleId.{ModuleId}
 use Rattle.cip_hops.specs.declared.hop.Hop.{Hop}
 use Rattle.cip_hops.specs.Hops.{Hops}
 use Rattle.cip_config.specs.declared.config.ModuleSettings.{ModuleSettings}
-use Rattle.cip_module.specs.declared.contract.StepFault.{StepFault}
-use Rattle.cip_module.specs.declared.contract.StepFault.TheVariants as steps
+use Rattle.cip_routing.specs.declared.contract.StepFault.{StepFault}
+use Rattle.cip_routing.specs.declared.contract.StepFault.TheVariants as steps
 use Rattle.cip_event.specs.declared.event.Event.{Event}
 use Rattle.cip_event.specs.declared.event.Output.{Output}
-use Rattle.cip_module.specs.State.{State}
-use Rattle.cip_module.specs.Steps.{IsStep}
-use Rattle.cip_module.specs.Table.{table_step}
-use Rattle.cip_module.specs.Views.{ShowsState}
-use Rattle.cip_module.specs.declared.tables.Tables.{Tables}
+use Rattle.cip_routing.specs.State.{State}
+use Rattle.cip_routing.specs.Steps.{IsStep}
+use Rattle.cip_routing.specs.Table.{table_step}
+use Rattle.cip_routing.specs.Views.{ShowsState}
+use Rattle.cip_routing.specs.declared.tables.Tables.{Tables}
 use Rattle.cip_chassis.specs.Plan.{Plan}
 use Rattle.cip_world.specs.declared.fault.WorldFault.{WorldFault}
 use Rattle.cip_world.specs.declared.fault.WorldFault.TheVariants as faults

@@ -5,7 +5,7 @@ ghost use Rattle.cip_world.specs.Coming.{flight};
 
 use crate::journal::{Entry, FrameName};
 use cip_base::{Address, ModuleId, PortNumber};
-use cip_module::{Body, Output};
+use cip_routing::{Body, Output};
 
 /// A frame that a module sent by a port to an address.
 #[derive(Clone, Copy)]

@@ -1,12 +1,12 @@
 //! Whether modules are those of a topology, and as at the beginning.
 ghost use Rattle.std.specs.Prelude.{◌≡◌, ◌↔◌, IfErr, IfNone, IfOk, IfSome, IsTrue, OnOk, length};
 ghost use Rattle.std.specs.Prelude.{map};
-ghost use Rattle.cip_module.specs.State.{initial_state};
+ghost use Rattle.cip_routing.specs.State.{initial_state};
 ghost use Rattle.cip_world.specs.Fresh.{AreFresh, DifferFirst, IsNewFault};
 ghost use Rattle.cip_world.specs.declared.fresh.NewFault.TheVariants.{NoMemory as NoNewMemory};
 
 use cip_base::{ModuleId, NoMemory};
-use cip_module::{Module, ModuleConfig};
+use cip_routing::{Module, ModuleConfig};
 use cip_topology::Topology;
 use std::alloc::Global;
 use thiserror::Error;

@@ -2,7 +2,7 @@
 ghost use Rattle.std.specs.Prelude.{◌≡◌};
 
 use cip_base::{Address, ModuleId, Ms, PortNumber};
-use cip_module::{Command, Output};
+use cip_routing::{Command, Output};
 use std::marker::Model;
 
 /// The name of a frame: the entry that sent it, and its place among that entry's outputs, both from

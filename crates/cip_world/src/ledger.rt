@@ -15,7 +15,7 @@ use crate::flight::{Coming, Flying, frame_at};
 use crate::journal::{Entry, FrameName, Input};
 use crate::names::Names;
 use cip_base::{ModuleId, NoMemory};
-use cip_module::Output;
+use cip_routing::Output;
 use cip_topology::Topology;
 use std::alloc::Global;
 use std::marker::Model;

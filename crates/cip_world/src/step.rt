@@ -2,7 +2,7 @@
 ghost use Rattle.std.specs.Prelude.{◌≡◌, ◌<◌, IfOk, IfErr, OnErr, map, vec_len};
 ghost use Rattle.cip_world.specs.Worlds.{IsStepOf, IsFull};
 
-use cip_module::{Event, Module, Output, StepFault};
+use cip_routing::{Event, Module, Output, StepFault};
 
 /// One step of the module at a place; the other modules stay as they are.
 pub(crate) fn step_at(

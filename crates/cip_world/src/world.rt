@@ -4,7 +4,7 @@ ghost use Rattle.std.specs.Prelude.{reverse, vec_len, IfOk, IfErr, IsTrue, OnOk,
 ghost use Rattle.cip_event.specs.declared.event.Event.TheVariants as events;
 ghost use Rattle.std.specs.Option.{option_map};
 ghost use Rattle.cip_hops.specs.Hops.{hop_by_op, hop_by_up};
-ghost use Rattle.cip_module.specs.Views.{ShowsState, hop_row_of};
+ghost use Rattle.cip_routing.specs.Views.{ShowsState, hop_row_of};
 ghost use Rattle.cip_world.specs.declared.journal.Input.TheVariants as inputs;
 ghost use Rattle.cip_world.specs.Runs.{IsGiven, IsRun, IsWaiting, state_in};
 ghost use Rattle.cip_world.specs.Waiting.{waiting};
@@ -19,7 +19,7 @@ use crate::ledger::Ledger;
 use crate::step::step_at;
 use cip_base::{Address, ModuleId, Ms, NoMemory, PortNumber};
 use cip_clock::ClockFull;
-use cip_module::{Command, Event, HopRow, Module, StepFault, Tables};
+use cip_routing::{Command, Event, HopRow, Module, StepFault, Tables};
 use cip_topology::Topology;
 use std::alloc::Global;
 

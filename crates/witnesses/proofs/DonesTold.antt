@@ -25,7 +25,7 @@ use Rattle.cip_open.specs.OpenAt.{open_at}
 use Rattle.cip_segment.specs.Reading.{segments_within, path_at, segments_of, behind, hop_of}
 use Rattle.cip_segment.specs.Scan.{bytes_at, padded_at, narrow_at, double_at, point_at, words_at as path_words_at, number_at, size_at, plain_port_at, port_at}
 use Rattle.cip_segment.specs.Scan.{other_at, logical_at, segment_at}
-use Rattle.cip_module.specs.Table.{asked_open, open_of}
+use Rattle.cip_routing.specs.Table.{asked_open, open_of}
 use Rattle.cip_target.specs.declared.identity.IdentityFields.{IdentityFields}
 use Rattle.cip_chassis.specs.Plan.{Plan, IsTopology}
 use Rattle.cip_chassis.specs.Walk.{Stop, walk, walk_within}

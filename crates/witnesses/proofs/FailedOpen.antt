@@ -4,7 +4,7 @@ use Rattle.cip_event.specs.declared.event.Command.TheVariants as commands
 use Rattle.cip_event.specs.declared.event.Event.TheVariants as events
 use Rattle.cip_event.specs.declared.event.Body.TheVariants as bodies
 use Rattle.cip_event.specs.declared.event.Output.TheVariants as outputs
-use Rattle.cip_module.specs.State.{initial_state}
+use Rattle.cip_routing.specs.State.{initial_state}
 use Rattle.cip_world.specs.Runs.{IsRun, state_in}
 use Rattle.witnesses.specs.Plans.{scanner, first_bridge, second_bridge, plant, params}
 use Rattle.witnesses.proofs.Maps.{Gives, none_waits, none_held, held_first, held_get, entry_get}
@@ -13,12 +13,12 @@ use Rattle.cip_message.specs.Counted.{counted_at, counted_path_at}
 use Rattle.cip_message.specs.Failure.{failure_at}
 use Rattle.cip_message.specs.ReplyAt.{reply_at}
 use Rattle.cip_message.specs.RequestAt.{request_at}
-use Rattle.cip_module.specs.CommandRows.{send_row}
-use Rattle.cip_module.specs.Links.{link_refusal}
-use Rattle.cip_module.specs.OpenRows.{open_row}
-use Rattle.cip_module.specs.ReplyRows.{reply_row}
-use Rattle.cip_module.specs.RequestRows.{request_row}
-use Rattle.cip_module.specs.UnconnectedRows.{unconnected_row}
+use Rattle.cip_routing.specs.CommandRows.{send_row}
+use Rattle.cip_routing.specs.Links.{link_refusal}
+use Rattle.cip_routing.specs.OpenRows.{open_row}
+use Rattle.cip_routing.specs.ReplyRows.{reply_row}
+use Rattle.cip_routing.specs.RequestRows.{request_row}
+use Rattle.cip_routing.specs.UnconnectedRows.{unconnected_row}
 use Rattle.cip_open.specs.OpenAt.{open_at}
 use Rattle.cip_open.specs.SuccessAt.{open_reply_at}
 use Rattle.cip_segment.specs.Reading.{behind, hop_of, path_at, segments_of, segments_within}

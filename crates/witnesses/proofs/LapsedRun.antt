@@ -20,12 +20,12 @@ use Rattle.cip_message.specs.ReplyAt.{reply_at}
 use Rattle.cip_message.specs.RequestAt.{request_at}
 use Rattle.cip_close.specs.CloseAt.{close_at}
 use Rattle.cip_close.specs.SuccessAt.{close_reply_at}
-use Rattle.cip_module.specs.CloseRows.{close_row}
-use Rattle.cip_module.specs.DataRows.{data_row}
-use Rattle.cip_module.specs.Links.{link_refusal}
-use Rattle.cip_module.specs.OpenRows.{open_row}
-use Rattle.cip_module.specs.ReplyRows.{reply_row}
-use Rattle.cip_module.specs.RequestRows.{request_row}
+use Rattle.cip_routing.specs.CloseRows.{close_row}
+use Rattle.cip_routing.specs.DataRows.{data_row}
+use Rattle.cip_routing.specs.Links.{link_refusal}
+use Rattle.cip_routing.specs.OpenRows.{open_row}
+use Rattle.cip_routing.specs.ReplyRows.{reply_row}
+use Rattle.cip_routing.specs.RequestRows.{request_row}
 use Rattle.cip_open.specs.OpenAt.{open_at}
 use Rattle.cip_open.specs.SuccessAt.{open_reply_at}
 use Rattle.cip_segment.specs.Reading.{segments_within, path_at, segments_of, behind, hop_of}

@@ -5,7 +5,7 @@ use Rattle.cip_event.specs.declared.event.Event.TheVariants as events
 use Rattle.cip_event.specs.declared.event.Body.TheVariants as bodies
 use Rattle.cip_event.specs.declared.event.Output.TheVariants as outputs
 use Rattle.cip_event.specs.declared.event.Dropped.TheVariants.{Late}
-use Rattle.cip_module.specs.State.{initial_state}
+use Rattle.cip_routing.specs.State.{initial_state}
 use Rattle.cip_world.specs.Runs.{IsRun, state_in}
 use Rattle.witnesses.specs.Plans.{scanner, adapter, cell, triad, params}
 use Rattle.witnesses.proofs.Maps.{Gives, none_waits, none_held, held_first, held_none, held_get, held_entries, held_gone, held_twice, pendings_none, bytes_get}
@@ -17,12 +17,12 @@ use Rattle.cip_message.specs.ReplyAt.{reply_at}
 use Rattle.cip_message.specs.RequestAt.{request_at}
 use Rattle.cip_close.specs.CloseAt.{close_at}
 use Rattle.cip_close.specs.SuccessAt.{close_reply_at}
-use Rattle.cip_module.specs.CloseRows.{close_row}
-use Rattle.cip_module.specs.DataRows.{data_row}
-use Rattle.cip_module.specs.Links.{link_refusal}
-use Rattle.cip_module.specs.OpenRows.{open_row}
-use Rattle.cip_module.specs.ReplyRows.{reply_row}
-use Rattle.cip_module.specs.RequestRows.{request_row}
+use Rattle.cip_routing.specs.CloseRows.{close_row}
+use Rattle.cip_routing.specs.DataRows.{data_row}
+use Rattle.cip_routing.specs.Links.{link_refusal}
+use Rattle.cip_routing.specs.OpenRows.{open_row}
+use Rattle.cip_routing.specs.ReplyRows.{reply_row}
+use Rattle.cip_routing.specs.RequestRows.{request_row}
 use Rattle.cip_open.specs.OpenAt.{open_at}
 use Rattle.cip_open.specs.SuccessAt.{open_reply_at}
 use Rattle.cip_segment.specs.Reading.{segments_within, path_at, segments_of, behind, hop_of}

@@ -13,7 +13,7 @@ ghost use Rattle.cip_config.specs.Config.{is_name, is_range, is_legal};
 ghost use Rattle.cip_event.specs.declared.event.Body.TheVariants.{Request};
 ghost use Rattle.cip_event.specs.declared.event.Command.TheVariants.{Close};
 ghost use Rattle.cip_event.specs.declared.event.Output.TheVariants.{Arrived, Consumed, Done, Send};
-ghost use Rattle.cip_module.specs.State.{initial_state};
+ghost use Rattle.cip_routing.specs.State.{initial_state};
 ghost use Rattle.cip_laws.specs.Births.{IsBirth};
 ghost use Rattle.cip_laws.specs.Resets.{ResetIn, made_again};
 ghost use Rattle.cip_laws.specs.Turns.{Gave, Has};

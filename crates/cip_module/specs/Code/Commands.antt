@@ -5,8 +5,8 @@ use Rattle.cip_unconnected.specs.Unconnected.{Unconnected, Fits}
 use Rattle.cip_hops.specs.declared.hop.Hop.{Hop}
 use Rattle.cip_event.specs.declared.event.Refused.{Refused}
 use Rattle.cip_event.specs.declared.event.Refused.TheVariants as refused
-use Rattle.cip_module.specs.CommandRows.{CommandRow, OpUsed, NotOpen, ReservedService, WrongSize, NoInstance, Taken}
-use Rattle.cip_module.specs.State.{State, is_spent}
+use Rattle.cip_routing.specs.CommandRows.{CommandRow, OpUsed, NotOpen, ReservedService, WrongSize, NoInstance, Taken}
+use Rattle.cip_routing.specs.State.{State, is_spent}
 
 -- the row of a command that is refused so
 abbrev pub row_of : Refused → CommandRow

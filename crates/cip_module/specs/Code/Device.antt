@@ -3,7 +3,7 @@ use Rattle.cip_config.specs.declared.config.ModuleSettings.{ModuleSettings}
 use Rattle.cip_module.specs.declared.device.Device.{Device}
 use Rattle.cip_module.specs.declared.plain.PlainModule.{PlainModule}
 use Rattle.cip_module.specs.declared.adapter.AdapterModule.{AdapterModule}
-use Rattle.cip_module.specs.State.{State}
+use Rattle.cip_routing.specs.State.{State}
 
 abbrev pub config_of_device : Device → ModuleSettings
 config_of_device m = m.config

@@ -5,8 +5,8 @@ use Rattle.cip_config.specs.declared.config.ModuleSettings.{ModuleSettings}
 use Rattle.cip_event.specs.declared.event.Output.{Output}
 use Rattle.cip_module.specs.declared.device.Device.{Device}
 use Rattle.cip_module.specs.Code.Device.{state_of_device}
-use Rattle.cip_module.specs.Effects.{Effect, applied, outputs_of}
-use Rattle.cip_module.specs.State.{State}
+use Rattle.cip_routing.specs.Effects.{Effect, applied, outputs_of}
+use Rattle.cip_routing.specs.State.{State}
 
 pub record Does (config : ModuleSettings) (s : State) (es : List Effect) (new : State)
     (outputs : List Output) : Type 0 where

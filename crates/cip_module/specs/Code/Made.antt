@@ -7,8 +7,8 @@ use Rattle.cip_hops.specs.declared.hop.Hop.{Hop}
 use Rattle.cip_hops.specs.declared.hop.Side.TheVariants.{Down}
 use Rattle.cip_hops.specs.Hops.{Hops, as_hop}
 use Rattle.cip_event.specs.declared.event.Output.{Output}
-use Rattle.cip_module.specs.Effects.{datum_up, recounted}
-use Rattle.cip_module.specs.Produced.{reads_from, next_count, datum_bytes}
+use Rattle.cip_routing.specs.Effects.{datum_up, recounted}
+use Rattle.cip_routing.specs.Produced.{reads_from, next_count, datum_bytes}
 
 abbrev pub made_of : Octets → Hop → Output
 made_of held hop = datum_up hop.opening.up (datum_bytes held hop)

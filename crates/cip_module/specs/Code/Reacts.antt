@@ -25,7 +25,7 @@ use Rattle.cip_module.specs.declared.reaction.Reaction.{Reaction}
 use Rattle.cip_module.specs.declared.reaction.Reaction.TheVariants as reactions
 use Rattle.cip_module.specs.Code.Device.{state_of_device}
 use Rattle.cip_module.specs.Code.Does.{Handled, IsUnchanged}
-use Rattle.cip_module.specs.Effects.{Effect, Sending}
+use Rattle.cip_routing.specs.Effects.{Effect, Sending}
 use Rattle.cip_event.specs.Filled.{filled}
 use Rattle.cip_module.specs.Reactions.{Becomes}
 

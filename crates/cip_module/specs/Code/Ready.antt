@@ -8,7 +8,7 @@ use Rattle.cip_hops.specs.declared.opening.Opening.{Opening}
 use Rattle.cip_hops.specs.Sides.{op_of, ids_drawn}
 use Rattle.cip_hops.specs.Hops.{IsOpFree, refusal}
 use Rattle.cip_module.specs.declared.device.Device.{Device}
-use Rattle.cip_module.specs.State.{is_spent}
+use Rattle.cip_routing.specs.State.{is_spent}
 
 -- its op, if it has one, is spent, and that of no other connection; there is room, and there are
 -- ids for it

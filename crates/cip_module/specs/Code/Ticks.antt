@@ -19,9 +19,9 @@ use Rattle.cip_config.specs.declared.config.ModuleSettings.{ModuleSettings}
 use Rattle.cip_module.specs.declared.tick.steps.TickFault.{TickFault}
 use Rattle.cip_module.specs.declared.tick.steps.TickFault.TheVariants.{OutOfMemory, Full}
 use Rattle.cip_module.specs.Code.Does.{Does}
-use Rattle.cip_module.specs.Effects.{Effect, reply_up, timed_out_bytes}
-use Rattle.cip_module.specs.State.{State}
-use Rattle.cip_module.specs.Table.{pending_times_out, hop_times_out, tick_effects}
+use Rattle.cip_routing.specs.Effects.{Effect, reply_up, timed_out_bytes}
+use Rattle.cip_routing.specs.State.{State}
+use Rattle.cip_routing.specs.Table.{pending_times_out, hop_times_out, tick_effects}
 
 -- that no answer came in time
 abbrev pub late_reply : Entry → Output

@@ -4,19 +4,17 @@ ghost use Rattle.std.specs.Option.{option_copied};
 ghost use Rattle.cip_segment.specs.Reading.{hop_of};
 ghost use Rattle.cip_close.specs.Reading.{close_of};
 ghost use Rattle.cip_hops.specs.declared.hop.Hop.{Hop as Hops};
-ghost use Rattle.cip_module.specs.CloseRows.{is_sender, below_row, down_row, triad_row, close_row};
-ghost use Rattle.cip_module.specs.CloseRows.{unread_row};
+ghost use Rattle.cip_routing.specs.CloseRows.{is_sender, below_row, down_row, triad_row, close_row};
 ghost use Rattle.cip_module.specs.Code.Decisions.{close_row_of, CloseLeads};
 ghost use Rattle.cip_module.specs.Code.Device.{state_of_device};
 
 use crate::device::Device;
-use crate::links::wait_refusal;
-use crate::refusals::CloseRefusal;
 use cip_base::{Address, PortNumber};
 use cip_close::{CLOSE_FIXED_PART, CloseView};
 use cip_hops::{Hop, HopDown, HopUp};
 use cip_message::DataFault;
 use cip_pending::{PendingTable, UpSide};
+use cip_routing::{CloseRefusal, wait_refusal};
 use cip_segment::{FirstHop, PathView, first_hop, rest};
 
 /// The row that answers a Forward_Close.
@@ -29,23 +27,6 @@ pub(crate) enum CloseDecision<'a> {
         rest: PathView<'a>,
     },
     ClosedAtTheEnd,
-}
-
-/// The row of data that cannot be read as a Forward_Close.
-pub(crate) fn unread_row(data_: &[u8], fault: DataFault) -> CloseRefusal
-    ensures { result ≡ unread_row data_.now fault }
-{
-    match fault {
-        DataFault::Short => {
-            if data_.len() < CLOSE_FIXED_PART {
-                CloseRefusal::CutInTheFixedPart
-            } else {
-                CloseRefusal::CutInThePath
-            }
-        }
-        DataFault::Long => CloseRefusal::BytesAfterThePath,
-        DataFault::Path(_) => CloseRefusal::PathUnreadable,
-    }
 }
 
 // Whether a request from there is from the connection's up side.
@@ -136,7 +117,7 @@ fn by_hop<'a>(
 
 impl Device {
     /// The row that answers a Forward_Close which was read (Volume 1, chapter 3, Forward_Close).
-    #[tactic(auto, unfolding(crate::specs::CloseRows::close_row))]
+    #[tactic(auto, unfolding(cip_routing::specs::CloseRows::close_row))]
     pub(crate) fn close_row<'a>(&self, sender: &UpSide, view: &CloseView<'a>) -> CloseDecision<'a>
         ensures row { close_row_of result
             ≡ close_row (state_of_device self.now) sender.now (close_of view.now) }

@@ -4,15 +4,15 @@ ghost use Rattle.std.specs.Prelude.{◌≡◌, ◌≤◌, ◌++◌, ◌∷◌, [
 ghost use Rattle.std.specs.FinMap as map;
 ghost use Rattle.cip_module.specs.Code.Does.{HandlesAs};
 ghost use Rattle.cip_module.specs.Code.Device.{state_of_device};
-ghost use Rattle.cip_module.specs.Produced.{reads_from, next_count, datum_bytes};
+ghost use Rattle.cip_routing.specs.Produced.{reads_from, next_count, datum_bytes};
 ghost use Rattle.cip_module.specs.Code.Made.{made_all, count_for, counted_all, open_hops};
-ghost use Rattle.cip_module.specs.Table.{produce_effects};
+ghost use Rattle.cip_routing.specs.Table.{produce_effects};
 
-use crate::data::outputs::datum_up;
 use crate::device::Device;
 use cip_base::{Bytes, MAX_DATUM, NoMemory};
 use cip_event::Output;
 use cip_hops::{Hop, HopDown, Side};
+use cip_routing::datum_up;
 use std::alloc::Global;
 
 // Whether a connection takes its data from this assembly.

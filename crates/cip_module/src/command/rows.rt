@@ -5,8 +5,8 @@ ghost use Rattle.cip_unconnected.specs.Unconnected.{unconnected_bytes};
 ghost use Rattle.cip_unconnected.specs.Reading.{unconnected_of};
 ghost use Rattle.cip_hops.specs.Hops.{hop_by_op};
 ghost use Rattle.cip_target.specs.Assemblies.{size_in};
-ghost use Rattle.cip_module.specs.CommandRows.{op_row, close_command_row, send_row, enter_row};
-ghost use Rattle.cip_module.specs.CommandRows.{set_row, produce_row};
+ghost use Rattle.cip_routing.specs.CommandRows.{op_row, close_command_row, send_row, enter_row};
+ghost use Rattle.cip_routing.specs.CommandRows.{set_row, produce_row};
 ghost use Rattle.cip_module.specs.Code.Commands.{Decides, IsNew, CanSend, CanEnter};
 ghost use Rattle.cip_module.specs.Code.Device.{state_of_device};
 
@@ -56,7 +56,7 @@ impl Device {
     }
 
     /// The row of a Send.
-    #[tactic(auto, unfolding(crate::specs::CommandRows::send_row))]
+    #[tactic(auto, unfolding(cip_routing::specs::CommandRows::send_row))]
     pub(crate) fn send_row(&self, op: u32, view: UnconnectedView<'_>) -> Result<(), Refused>
         ensures { Decides
             (λ u. CanSend (state_of_device self.now) op (unconnected_of view.entry))

@@ -4,20 +4,20 @@ ghost use Rattle.cip_hops.specs.Hops.{hop_by_up, hop_by_down};
 ghost use Rattle.cip_event.specs.declared.event.Body.TheVariants as bodies;
 ghost use Rattle.cip_event.specs.declared.event.Event.TheVariants as events;
 ghost use Rattle.cip_event.specs.declared.event.Output.TheVariants as outputs;
-ghost use Rattle.cip_module.specs.Effects.{applied};
-ghost use Rattle.cip_module.specs.DataRows.{id_row};
-ghost use Rattle.cip_module.specs.Steps.{IsStep};
-ghost use Rattle.cip_module.specs.Table.{datum_effects};
-ghost use Rattle.cip_module.specs.Code.Plans.{written_effects};
+ghost use Rattle.cip_routing.specs.Effects.{applied};
+ghost use Rattle.cip_routing.specs.DataRows.{id_row};
+ghost use Rattle.cip_routing.specs.Steps.{IsStep};
+ghost use Rattle.cip_routing.specs.Table.{datum_effects};
+ghost use Rattle.cip_routing.specs.Plans.{written_effects};
 ghost use Rattle.cip_module.specs.Code.Does.{Handled};
 ghost use Rattle.cip_module.specs.Code.Device.{state_of_device};
 
-use crate::data::outputs::{Writing, behind_count, datum_down, datum_up, written_of};
 use crate::device::Device;
 use cip_base::{Address, Bytes, PortNumber, Triad};
 use cip_config::port_of;
 use cip_event::{Dropped, Output};
 use cip_hops::{HopDown, Onward, Side};
+use cip_routing::{Writing, behind_count, datum_down, datum_up, written_of};
 
 impl Device {
     // An end writes a datum without its sequence count, and keeps the count.
@@ -100,7 +100,7 @@ impl Device {
     /// Where a datum goes on that comes in by this side of a connection. The new state is that of
     /// the routing table, and its one output is this datum, sent so. None where it does not go on
     /// from this side: nothing changes. It takes no memory.
-    #[tactic(auto, unfolding(crate::specs::DataRows::data_row))]
+    #[tactic(auto, unfolding(cip_routing::specs::DataRows::data_row))]
     #[inline(always)]
     pub fn pass_on(
         &mut self,
@@ -126,7 +126,7 @@ impl Device {
 
     /// A datum: the new state and the output are those of the routing table. What goes on has the
     /// bytes that came. It takes no memory.
-    #[tactic(auto, unfolding(crate::specs::DataRows::data_row))]
+    #[tactic(auto, unfolding(cip_routing::specs::DataRows::data_row))]
     #[inline(always)]
     pub fn take_datum(&mut self, port: PortNumber, from: &Address, id: u32, bytes: Bytes) -> Output
         ensures done { IsStep self.old.config (state_of_device self.old)

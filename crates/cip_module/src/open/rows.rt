@@ -4,21 +4,19 @@ ghost use Rattle.cip_segment.specs.Reading.{hop_of, segments_of};
 ghost use Rattle.cip_open.specs.Reading.{open_of};
 ghost use Rattle.cip_target.specs.Ends.{end_row, row_at};
 ghost use Rattle.cip_hops.specs.Sides.{up_is_link};
-ghost use Rattle.cip_module.specs.Keys.{leading_mismatch};
-ghost use Rattle.cip_module.specs.OpenRows.{is_supported_direction, is_supported, ids_if_forwarded};
-ghost use Rattle.cip_module.specs.OpenRows.{is_consumed, here_row, hop_row, key_row, open_row};
-ghost use Rattle.cip_module.specs.OpenRows.{unread_row};
+ghost use Rattle.cip_routing.specs.Keys.{leading_mismatch};
+ghost use Rattle.cip_routing.specs.OpenRows.{is_supported_direction, is_supported};
+ghost use Rattle.cip_routing.specs.OpenRows.{ids_if_forwarded};
+ghost use Rattle.cip_routing.specs.OpenRows.{is_consumed, here_row, hop_row, key_row, open_row};
 ghost use Rattle.cip_module.specs.Code.Decisions.{open_row_of, OpenLeads};
 ghost use Rattle.cip_module.specs.Code.Device.{state_of_device};
 
 use crate::device::Device;
-use crate::keys::leading_mismatch;
-use crate::links::link_refusal;
-use crate::refusals::OpenRefusal;
 use cip_base::{Address, PortNumber};
 use cip_hops::HopUp;
 use cip_message::DataFault;
 use cip_open::{ConnectionKind, OpenView, Params, open_fixed_part, open_params};
+use cip_routing::{OpenRefusal, leading_mismatch, link_refusal};
 use cip_segment::{FirstHop, PathView, first_hop, rest};
 use cip_target::{EndLink, EndRefusal};
 
@@ -55,23 +53,6 @@ fn ids_if_forwarded(up: &HopUp) -> u8
     ensures { result ≡ ids_if_forwarded up.now }
 {
     if up.is_link() { 2 } else { 1 }
-}
-
-/// The row of data that cannot be read as an open, large or not.
-pub(crate) fn unread_row(large: bool, data_: &[u8], fault: DataFault) -> OpenRefusal
-    ensures { result ≡ unread_row large data_.now fault }
-{
-    match fault {
-        DataFault::Short => {
-            if data_.len() < open_fixed_part(large) {
-                OpenRefusal::CutInTheFixedPart
-            } else {
-                OpenRefusal::CutInThePath
-            }
-        }
-        DataFault::Long => OpenRefusal::BytesAfterThePath,
-        DataFault::Path(_) => OpenRefusal::PathUnreadable,
-    }
 }
 
 impl Device {
@@ -161,7 +142,7 @@ impl Device {
 
     /// The row that answers an open which was read (Volume 1, chapter 3, Forward_Open and
     /// Large_Forward_Open).
-    #[tactic(auto, unfolding(crate::specs::OpenRows::open_row))]
+    #[tactic(auto, unfolding(cip_routing::specs::OpenRows::open_row))]
     pub(crate) fn open_row<'a>(&self, up: &HopUp, view: &OpenView<'a>) -> OpenDecision<'a>
         ensures row { open_row_of result ≡ open_row self.now.config
             (state_of_device self.now) up.now (open_of view.now) }

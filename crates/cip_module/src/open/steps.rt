@@ -12,21 +12,19 @@ ghost use Rattle.cip_pending.specs.Pendings.{refusal};
 ghost use Rattle.cip_hops.specs.Hops as hops;
 ghost use Rattle.cip_hops.specs.Sides.{up_is_link};
 ghost use Rattle.cip_target.specs.Ends.{row_at};
-ghost use Rattle.cip_module.specs.OpenRows.{open_row, opening_with, ids_if_forwarded, end_down};
-ghost use Rattle.cip_module.specs.OpenRows.{Accepted};
+ghost use Rattle.cip_routing.specs.OpenRows.{open_row, opening_with, ids_if_forwarded, end_down};
+ghost use Rattle.cip_routing.specs.OpenRows.{Accepted};
 ghost use Rattle.cip_hops.specs.declared.opening.HopDown.TheVariants.{Link as DownLink};
-ghost use Rattle.cip_module.specs.Effects.{Begins};
-ghost use Rattle.cip_module.specs.Table.{up_side_of, open_on, open_below, accepted_bytes};
-ghost use Rattle.cip_module.specs.Table.{open_effects, open_data_effects, with_spending};
+ghost use Rattle.cip_routing.specs.Effects.{Begins};
+ghost use Rattle.cip_routing.specs.Table.{up_side_of, open_on, open_below, accepted_bytes};
+ghost use Rattle.cip_routing.specs.Table.{open_effects, open_data_effects, with_spending};
 ghost use Rattle.cip_module.specs.Code.Reacts.{Reacts, OpenCame, outgoing_of, with_bytes};
 ghost use Rattle.cip_module.specs.Code.Ready.{CanSpend, IsAsked};
 ghost use Rattle.cip_module.specs.Code.Does.{Handles};
 ghost use Rattle.cip_module.specs.Code.Device.{state_of_device};
 
-use crate::answers::{open_failed, unread_open};
 use crate::device::Device;
 use crate::making::{Making, Outgoing};
-use crate::messages::reply_to;
 use crate::open::rows::OpenDecision;
 use crate::reaction::{Edit, Reaction};
 use cip_base::{Address, Bytes, NoMemory, PortNumber, Timing};
@@ -36,6 +34,7 @@ use cip_open::{
     OpenFields, OpenReply, OpenView, open_params, read_open_of, write_open, write_open_reply,
 };
 use cip_pending::{Entry, Kind, UpSide};
+use cip_routing::{open_failed, reply_to, unread_open};
 use cip_segment::{Path, PathView};
 use cip_target::EndLink;
 use std::alloc::Global;

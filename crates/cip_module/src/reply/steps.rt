@@ -3,22 +3,20 @@ ghost use Rattle.std.specs.Prelude.{◌≡◌, ◌≤◌, ◌%◌, ◌∷◌, []
 ghost use Rattle.std.specs.FinMap as map;
 ghost use Rattle.cip_open.specs.Reading.{success_of};
 ghost use Rattle.cip_open.specs.GoesOn.{success_with, IsOpenSuccess};
-ghost use Rattle.cip_module.specs.Effects.{succeeded};
-ghost use Rattle.cip_module.specs.ReplyRows.{reply_row};
+ghost use Rattle.cip_routing.specs.Effects.{succeeded};
+ghost use Rattle.cip_routing.specs.ReplyRows.{reply_row};
 ghost use Rattle.cip_module.specs.Code.Device.{state_of_device};
 ghost use Rattle.cip_module.specs.Code.Reacts.{Reacts, IsMade, outgoing_of};
-ghost use Rattle.cip_module.specs.Table.{reply_effects};
+ghost use Rattle.cip_routing.specs.Table.{reply_effects};
 
 use crate::device::Device;
 use crate::making::{Making, Outgoing};
-use crate::messages::reply_to;
 use crate::reaction::{Edit, Reaction};
-use crate::reply::rows::{ReplyDecision, reply_row};
-use crate::request::rows::is_malformed;
 use cip_base::{Address, Bytes, NoMemory, PortNumber, Triad};
 use cip_event::{Dropped, Output};
 use cip_hops::HopUp;
 use cip_open::{OpenReply, write_open_reply};
+use cip_routing::{ReplyDecision, is_malformed, reply_row, reply_to};
 use std::alloc::Global;
 
 // The success of an open, large or not, with these ids.
@@ -92,7 +90,7 @@ impl Device {
 
     /// A reply that came in by a port from an address. It takes no memory where its bytes are
     /// edited.
-    #[tactic(auto, unfolding(crate::specs::ReplyRows::reply_row))]
+    #[tactic(auto, unfolding(cip_routing::specs::ReplyRows::reply_row))]
     #[inline(always)]
     pub(crate) fn reply(
         &mut self,

@@ -2,20 +2,18 @@
 ghost use Rattle.std.specs.Prelude.{◌≡◌};
 ghost use Rattle.cip_pending.specs.declared.entry.UpSide.TheVariants.{Link};
 ghost use Rattle.cip_pending.specs.declared.entry.UpSide.{UpSide as UpSides};
-ghost use Rattle.cip_module.specs.RequestRows.{request_row};
+ghost use Rattle.cip_routing.specs.RequestRows.{request_row};
 ghost use Rattle.cip_module.specs.Code.Device.{state_of_device};
 ghost use Rattle.cip_module.specs.Code.Reacts.{Reacts};
-ghost use Rattle.cip_module.specs.Table.{request_effects};
+ghost use Rattle.cip_routing.specs.Table.{request_effects};
 
-use crate::answers::failure;
 use crate::device::Device;
 use crate::making::Making;
-use crate::messages::reply_to;
 use crate::reaction::Reaction;
-use crate::request::rows::{RequestDecision, request_row};
 use cip_base::{Address, NoMemory, PortNumber};
 use cip_event::{Dropped, Output};
 use cip_pending::UpSide;
+use cip_routing::{RequestDecision, failure, reply_to, request_row};
 
 impl Device {
     /// A request that came in by a port.

@@ -2,12 +2,11 @@
 ghost use Rattle.std.specs.Prelude.{◌≡◌, ◌++◌, IfOk, OnOk};
 ghost use Rattle.cip_module.specs.Code.Ticks.{late_reply, pendings_timed_out, hops_timed_out};
 
-use crate::answers::timed_out_failure;
-use crate::messages::reply_to;
 use cip_base::NoMemory;
 use cip_event::Output;
 use cip_hops::HopTable;
 use cip_pending::{Entry, PendingTable};
+use cip_routing::{reply_to, timed_out_failure};
 use std::alloc::Global;
 
 // What goes up when the time of a pending ran out.

@@ -2,8 +2,8 @@
 ghost use Rattle.std.specs.Prelude.{◌≡◌, ◌++◌, [], IsTrue};
 ghost use Rattle.cip_pending.specs.Pendings as pendings;
 ghost use Rattle.cip_hops.specs.Hops.{due};
-ghost use Rattle.cip_module.specs.Effects.{applied};
-ghost use Rattle.cip_module.specs.Table.{pending_time_outs, hop_time_outs};
+ghost use Rattle.cip_routing.specs.Effects.{applied};
+ghost use Rattle.cip_routing.specs.Table.{pending_time_outs, hop_time_outs};
 ghost use Rattle.cip_module.specs.Code.Ticks.{TickGives};
 ghost use Rattle.cip_module.specs.Code.Device.{state_of_device};
 

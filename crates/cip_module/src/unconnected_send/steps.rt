@@ -7,19 +7,19 @@ ghost use Rattle.cip_unconnected.specs.Unconnected.{Fits};
 ghost use Rattle.cip_unconnected.specs.UnconnectedAt.{unconnected_at};
 ghost use Rattle.cip_pending.specs.declared.entry.Kind.{Kind as Kinds};
 ghost use Rattle.cip_pending.specs.Pendings.{refusal};
-ghost use Rattle.cip_module.specs.Table.{message_on};
+ghost use Rattle.cip_routing.specs.Table.{message_on};
 ghost use Rattle.cip_module.specs.Code.Reacts.{Reacts, SendCame, outgoing_of, send_edit};
 ghost use Rattle.cip_module.specs.Code.Reacts.{with_bytes};
 
-use crate::answers::unconnected_failure;
 use crate::device::Device;
 use crate::making::{Making, Outgoing};
-use crate::messages::{message_anew, reply_to};
 use crate::reaction::{Edit, Reaction};
-use crate::unconnected_send::rows::{UnconnectedDecision, unconnected_row, unread_row};
 use cip_base::{Address, Bytes, MAX_MESSAGE, NoMemory, PortNumber};
 use cip_event::{Body, Output};
 use cip_pending::{Entry, Kind, UpSide};
+use cip_routing::{
+    UnconnectedDecision, message_anew, reply_to, unconnected_failure, unconnected_row, unread_row,
+};
 use cip_segment::PathView;
 use cip_unconnected::{UnconnectedView, read_unconnected, route_words};
 use std::alloc::Global;
@@ -49,8 +49,8 @@ fn message_on(
 
 impl Device {
     ghost use Rattle.cip_module.specs.Code.Does.{Handled};
-    ghost use Rattle.cip_module.specs.Effects.{Forwards};
-    ghost use Rattle.cip_module.specs.Table.{send_below};
+    ghost use Rattle.cip_routing.specs.Effects.{Forwards};
+    ghost use Rattle.cip_routing.specs.Table.{send_below};
 
     // An Unconnected_Send goes on as these bytes, under the next number.
     fn send_on(
@@ -91,8 +91,8 @@ impl Device {
 
 impl Device {
     ghost use Rattle.cip_module.specs.Code.Device.{state_of_device};
-    ghost use Rattle.cip_module.specs.UnconnectedRows.{unconnected_row};
-    ghost use Rattle.cip_module.specs.Table.{unconnected_effects, unconnected_data_effects};
+    ghost use Rattle.cip_routing.specs.UnconnectedRows.{unconnected_row};
+    ghost use Rattle.cip_routing.specs.Table.{unconnected_effects, unconnected_data_effects};
 
     /// An Unconnected_Send that was read.
     #[inline(always)]

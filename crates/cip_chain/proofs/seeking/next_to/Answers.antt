@@ -3,8 +3,8 @@ use Rattle.cip_hops.specs.declared.hop.Hop.{Hop}
 use Rattle.cip_hops.specs.declared.opening.HopDown.{HopDown}
 use Rattle.cip_hops.specs.declared.opening.HopDown.TheVariants.{Link as DownLink}
 use Rattle.cip_hops.specs.Hops.{Hops, hop_by_up}
-use Rattle.cip_module.specs.declared.tables.HopRow.{HopRow}
-use Rattle.cip_module.specs.Views.{hop_row_of}
+use Rattle.cip_routing.specs.declared.tables.HopRow.{HopRow}
+use Rattle.cip_routing.specs.Views.{hop_row_of}
 use Rattle.cip_chassis.specs.Plan.{Plan}
 use Rattle.cip_chassis.specs.Nodes.{Way, across as goes}
 use Rattle.cip_world.specs.Worlds.{looked_up}

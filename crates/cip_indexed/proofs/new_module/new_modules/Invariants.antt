@@ -1,5 +1,5 @@
 use Rattle.std.proofs.Common.{◌≡◌, map, take}
-use Rattle.cip_module.specs.State.{initial_state}
+use Rattle.cip_routing.specs.State.{initial_state}
 use Rattle.cip_indexed.specs.NewModules.{config_of_new, state_of_new}
 use Rattle.cip_indexed.proofs.new_module.new_modules.Given as goal
 

@@ -3,9 +3,9 @@ use Rattle.cip_base.specs.declared.triad.Triad.{Triad}
 use Rattle.cip_hops.specs.declared.hop.Hop.{Hop}
 use Rattle.cip_hops.specs.Hops.{first_after}
 use Rattle.cip_hops.specs.Sides.{op_of}
-use Rattle.cip_module.specs.Resets.{opening_op, all_noted}
+use Rattle.cip_routing.specs.Resets.{opening_op, all_noted}
 use Rattle.cip_module.proofs.Ended.{opened_in, noted_next, none_next}
-use Rattle.cip_module.proofs.Walks.{opens_above, opens_all, hop_walks, hop_walked, hop_fewer}
+use Rattle.cip_routing.proofs.Walks.{opens_above, opens_all, hop_walks, hop_walked, hop_fewer}
 use Rattle.cip_module.proofs.target.note_open.Goals as goal
 
 pub loop-hop-init : goal.loop-hop-init

@@ -1,7 +1,7 @@
 use Rattle.std.proofs.Common.{◌≡◌, length}
-use Rattle.cip_module.specs.Resets.{all_noted, open_ops}
+use Rattle.cip_routing.specs.Resets.{all_noted, open_ops}
 use Rattle.cip_module.proofs.Ended.{opened_in}
-use Rattle.cip_module.proofs.Walks.{opens_above}
+use Rattle.cip_routing.proofs.Walks.{opens_above}
 use Rattle.cip_module.proofs.target.note_open.Given as goal
 
 abbrev pub invariant-loop-hop : goal.invariant-loop-hop

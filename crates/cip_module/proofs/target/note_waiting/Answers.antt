@@ -1,9 +1,9 @@
 use Rattle.std.proofs.Common.{List, ℕ, Option, ap, sym, ◌∙◌, Some}
 use Rattle.std.specs.FinMap as finite
 use Rattle.cip_pending.specs.declared.entry.Entry.{Entry}
-use Rattle.cip_module.specs.Resets.{asking_op, all_noted}
+use Rattle.cip_routing.specs.Resets.{asking_op, all_noted}
 use Rattle.cip_module.proofs.Ended.{waiting_in, noted_next, none_next}
-use Rattle.cip_module.proofs.Walks.{above, walks, walked, fewer, all_left}
+use Rattle.cip_routing.proofs.Walks.{above, walks, walked, fewer, all_left}
 use Rattle.cip_module.proofs.target.note_waiting.Goals as goal
 
 abbrev asks : ℕ × Entry → Option ℕ

@@ -1,8 +1,8 @@
 use Rattle.std.proofs.Common.{◌≡◌, length}
 use Rattle.std.specs.FinMap as finite
-use Rattle.cip_module.specs.Resets.{all_noted, waiting_ops}
+use Rattle.cip_routing.specs.Resets.{all_noted, waiting_ops}
 use Rattle.cip_module.proofs.Ended.{waiting_in}
-use Rattle.cip_module.proofs.Walks.{above}
+use Rattle.cip_routing.proofs.Walks.{above}
 use Rattle.cip_module.proofs.target.note_waiting.Given as goal
 
 abbrev pub invariant-loop-number : goal.invariant-loop-number

@@ -1,6 +1,6 @@
 use Rattle.std.proofs.Common.{◌≡◌, ◌++◌}
 use Rattle.std.specs.Prelude.{drop}
-use Rattle.cip_module.specs.Resets.{all_ended}
+use Rattle.cip_routing.specs.Resets.{all_ended}
 use Rattle.cip_module.proofs.target.tell_ended.Given as goal
 
 abbrev pub invariant-loop-i : goal.invariant-loop-i

@@ -1,5 +1,5 @@
 use Rattle.std.proofs.Common.{◌≡◌, map, take}
-use Rattle.cip_module.specs.State.{initial_state}
+use Rattle.cip_routing.specs.State.{initial_state}
 use Rattle.cip_world.proofs.fresh.first_stale.Given as goal
 
 abbrev pub invariant-loop-m : goal.invariant-loop-m

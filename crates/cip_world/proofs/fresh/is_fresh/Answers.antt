@@ -1,8 +1,8 @@
 use Rattle.std.proofs.Common.{subst}
 use Rattle.std.specs.Prelude.{IfOk, IsTrue, ◌↔◌}
 use Rattle.cip_config.specs.declared.config.ModuleSettings.{ModuleSettings}
-use Rattle.cip_module.specs.State.{initial_state}
-use Rattle.cip_module.specs.Views.{ShowsState}
+use Rattle.cip_routing.specs.State.{initial_state}
+use Rattle.cip_routing.specs.Views.{ShowsState}
 use Rattle.cip_world.proofs.Freshness.{fresh_just}
 use Rattle.cip_world.proofs.fresh.is_fresh.Goals as goal
 

@@ -1,5 +1,5 @@
 use Rattle.std.proofs.Common.{None, Some, refl, ap, ◌∙◌}
-use Rattle.cip_module.specs.State.{State}
+use Rattle.cip_routing.specs.State.{State}
 use Rattle.cip_device.specs.Shown.{shown_of}
 use Rattle.cip_device.proofs.FirstDue.{at_rest, soonest, nothing_waits, something_waits}
 use Rattle.cip_device.proofs.held.Held.next_deadline.Goals as goal

@@ -3,7 +3,7 @@ use Rattle.cip_event.specs.declared.event.Command.TheVariants.{Enter}
 use Rattle.cip_event.specs.declared.event.Event.TheVariants as events
 use Rattle.cip_event.specs.declared.event.Output.{Output}
 use Rattle.cip_module.specs.Reactions.{PutsOut}
-use Rattle.cip_module.specs.Steps.{IsStep}
+use Rattle.cip_routing.specs.Steps.{IsStep}
 use Rattle.cip_indexed.specs.Indexed.{config_of_indexed, state_of_indexed}
 use Rattle.cip_indexed.proofs.Reacted.{put}
 use Rattle.cip_indexed.proofs.indexed.IndexedModule.enter.Goals as goal

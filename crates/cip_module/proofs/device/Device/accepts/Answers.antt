@@ -3,7 +3,7 @@ use Rattle.cip_open.specs.Reading.{open_of}
 use Rattle.cip_hops.specs.Hops.{Hops, opening_at, finished}
 use Rattle.cip_hops.specs.Sides.{ids_drawn}
 use Rattle.cip_module.proofs.Accepted.{begun_opens, fit_accepts}
-use Rattle.cip_module.proofs.Kept.{free_if}
+use Rattle.cip_routing.proofs.Kept.{free_if}
 use Rattle.cip_module.proofs.device.Device.accepts.Goals as goal
 
 pub finish-requires-clause-opening : goal.finish-requires-clause-opening

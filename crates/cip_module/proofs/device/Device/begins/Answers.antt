@@ -1,6 +1,6 @@
 use Rattle.std.proofs.Common.{ap, ◌∙◌, is_ok}
 use Rattle.cip_hops.specs.Hops.{begun, unless_refused}
-use Rattle.cip_module.proofs.Kept.{fit_begins}
+use Rattle.cip_routing.proofs.Kept.{fit_begins}
 use Rattle.cip_module.proofs.Spending.{if_true}
 use Rattle.cip_module.proofs.device.Device.begins.Goals as goal
 

@@ -2,10 +2,10 @@ use Rattle.std.proofs.Common.{List, sym, ap, ◌∙◌}
 use Rattle.std.specs.Prelude.{map}
 use Rattle.cip_hops.specs.declared.hop.Hop.{Hop}
 use Rattle.cip_config.specs.declared.config.ModuleSettings.{ModuleSettings}
-use Rattle.cip_module.specs.Effects.{applied}
+use Rattle.cip_routing.specs.Effects.{applied}
 use Rattle.cip_module.specs.Code.Device.{state_of_device}
-use Rattle.cip_module.specs.State.{State}
-use Rattle.cip_module.specs.Table.{pending_time_outs, hop_times_out, hop_time_outs}
+use Rattle.cip_routing.specs.State.{State}
+use Rattle.cip_routing.specs.Table.{pending_time_outs, hop_times_out, hop_time_outs}
 use Rattle.cip_module.proofs.TimeOuts.{applied_more}
 use Rattle.cip_module.proofs.device.Device.clear_due.Goals as goal
 

@@ -1,7 +1,7 @@
 use Rattle.std.proofs.Common.{sym, ap, ◌∙◌}
 use Rattle.cip_hops.specs.Hops.{first_due}
 use Rattle.cip_config.specs.declared.config.ModuleSettings.{ModuleSettings}
-use Rattle.cip_module.specs.Effects.{applied}
+use Rattle.cip_routing.specs.Effects.{applied}
 use Rattle.cip_module.specs.Code.Device.{state_of_device}
 use Rattle.cip_module.specs.Code.Ticks.{hop_time_out}
 use Rattle.cip_module.proofs.TimeOuts.{hop_time_outs_end}

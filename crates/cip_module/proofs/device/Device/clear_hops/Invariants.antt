@@ -1,8 +1,8 @@
 use Rattle.std.proofs.Common.{◌≡◌, length}
 use Rattle.cip_hops.specs.Hops.{due}
-use Rattle.cip_module.specs.Effects.{applied}
+use Rattle.cip_routing.specs.Effects.{applied}
 use Rattle.cip_module.specs.Code.Device.{state_of_device}
-use Rattle.cip_module.specs.Table.{hop_time_outs}
+use Rattle.cip_routing.specs.Table.{hop_time_outs}
 use Rattle.cip_module.proofs.device.Device.clear_hops.Given as goal
 
 abbrev pub invariant-loop : goal.invariant-loop

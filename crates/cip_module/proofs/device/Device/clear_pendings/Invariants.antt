@@ -1,9 +1,9 @@
 use Rattle.std.proofs.Common.{◌≡◌, length}
 use Rattle.cip_pending.specs.Pendings.{due}
 use Rattle.cip_hops.specs.Hops as hops
-use Rattle.cip_module.specs.Effects.{applied}
+use Rattle.cip_routing.specs.Effects.{applied}
 use Rattle.cip_module.specs.Code.Device.{state_of_device}
-use Rattle.cip_module.specs.Table.{pending_time_outs}
+use Rattle.cip_routing.specs.Table.{pending_time_outs}
 use Rattle.cip_module.proofs.device.Device.clear_pendings.Given as goal
 
 abbrev pub invariant-loop : goal.invariant-loop

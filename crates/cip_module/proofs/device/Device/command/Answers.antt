@@ -2,7 +2,7 @@ use Rattle.std.proofs.Common.{sym, subst}
 use Rattle.cip_event.specs.declared.event.Command.{Command}
 use Rattle.cip_module.specs.Code.Device.{state_of_device}
 use Rattle.cip_module.specs.Code.Reacts.{ReactsWhole}
-use Rattle.cip_module.specs.Table.{command_effects}
+use Rattle.cip_routing.specs.Table.{command_effects}
 use Rattle.cip_module.proofs.device.Device.command.Goals as goal
 
 pub returns-in-Close : goal.returns-in-Close

@@ -2,9 +2,9 @@ use Rattle.std.proofs.Common.{ℕ, Option, refl, ap, ◌∙◌, Some}
 use Rattle.cip_hops.specs.Hops.{first_after}
 use Rattle.cip_module.specs.Code.Device.{state_of_device}
 use Rattle.cip_module.specs.Code.Made.{counted_by}
-use Rattle.cip_module.specs.State.{State}
+use Rattle.cip_routing.specs.State.{State}
 use Rattle.cip_module.proofs.Made.{counted_from, counts_next, counts_all, counts_done, counts_fewer}
-use Rattle.cip_module.proofs.Walks.{hop_fewer}
+use Rattle.cip_routing.proofs.Walks.{hop_fewer}
 use Rattle.cip_module.proofs.device.Device.count_data.Goals as goal
 
 pub loop-hop-init : goal.loop-hop-init

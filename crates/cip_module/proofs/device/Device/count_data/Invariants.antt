@@ -4,7 +4,7 @@ use Rattle.cip_module.specs.declared.device.Device.{Device}
 use Rattle.cip_module.specs.Code.Device.{state_of_device}
 use Rattle.cip_module.specs.Code.Made.{counted_all, open_hops}
 use Rattle.cip_module.proofs.Made.{counted_from}
-use Rattle.cip_module.proofs.Walks.{opens_above}
+use Rattle.cip_routing.proofs.Walks.{opens_above}
 use Rattle.cip_module.proofs.device.Device.count_data.Given as goal
 
 -- what is left to count leads to where the whole leads

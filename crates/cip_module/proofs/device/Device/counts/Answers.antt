@@ -1,5 +1,5 @@
 use Rattle.cip_hops.specs.Hops.{counted}
-use Rattle.cip_module.proofs.Kept.{fit_changed, counted_keeps}
+use Rattle.cip_routing.proofs.Kept.{fit_changed, counted_keeps}
 use Rattle.cip_module.proofs.device.Device.counts.Goals as goal
 
 pub invariant_of-self : goal.invariant_of-self

@@ -2,9 +2,9 @@ use Rattle.std.proofs.Common.{◌≡◌, ◌++◌, ◌∷◌, [], List, Vec, Glo
 use Rattle.cip_hops.specs.declared.hop.Hop.{Hop}
 use Rattle.cip_hops.specs.Hops.{first_after}
 use Rattle.cip_event.specs.declared.event.Output.{Output}
-use Rattle.cip_module.specs.Effects.{datum_up}
+use Rattle.cip_routing.specs.Effects.{datum_up}
 use Rattle.cip_module.specs.Code.Made.{made_all}
-use Rattle.cip_module.proofs.Walks.{opens_above, hop_walks, hop_walked, hop_fewer, opens_all}
+use Rattle.cip_routing.proofs.Walks.{opens_above, hop_walks, hop_walked, hop_fewer, opens_all}
 use Rattle.cip_module.proofs.Made.{made_more, made_less, made_done}
 use Rattle.cip_module.proofs.device.Device.data_of.Goals.{then-reads_from+in_ok-bytes+in_ok-put, else-reads_from}
 use Rattle.cip_module.proofs.device.Device.data_of.Goals as goal

@@ -1,6 +1,6 @@
 use Rattle.std.proofs.Common.{◌≡◌, ◌++◌, length}
 use Rattle.cip_module.specs.Code.Made.{made_all, open_hops}
-use Rattle.cip_module.proofs.Walks.{opens_above}
+use Rattle.cip_routing.proofs.Walks.{opens_above}
 use Rattle.cip_module.proofs.device.Device.data_of.Given as goal
 
 abbrev pub invariant-loop-hop : goal.invariant-loop-hop

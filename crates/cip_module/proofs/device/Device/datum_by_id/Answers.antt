@@ -4,15 +4,15 @@ use Rattle.cip_hops.specs.declared.hop.Side.TheVariants.{Up, Down}
 use Rattle.cip_hops.specs.Hops.{hop_by_down, is_hop_by_up, is_hop_by_down}
 use Rattle.cip_config.specs.declared.config.ModuleSettings.{ModuleSettings}
 use Rattle.cip_event.specs.declared.event.Output.{Output}
-use Rattle.cip_module.specs.DataRows.{end_row}
-use Rattle.cip_module.specs.Effects.{Passes, Renews, applied, datum_down}
-use Rattle.cip_module.specs.State.{State}
-use Rattle.cip_module.specs.Table.{datum_effects}
+use Rattle.cip_routing.specs.DataRows.{end_row}
+use Rattle.cip_routing.specs.Effects.{Passes, Renews, applied, datum_down}
+use Rattle.cip_routing.specs.State.{State}
+use Rattle.cip_routing.specs.Table.{datum_effects}
 use Rattle.cip_module.specs.Code.Does.{HasDone}
 use Rattle.cip_module.specs.Code.Device.{state_of_device}
-use Rattle.cip_module.specs.Code.Plans.{writing_row, written_effects}
+use Rattle.cip_routing.specs.Plans.{writing_row, written_effects}
 use Rattle.cip_module.proofs.DatumRows.{up_named, down_named, up_row, down_row, above_effects, passed_on, ended, end_effects, by_row}
-use Rattle.cip_module.proofs.Found.{found_held}
+use Rattle.cip_routing.proofs.Found.{found_held}
 use Rattle.cip_module.proofs.device.Device.datum_by_id.Goals as goal
 
 pub renews-requires : goal.renews-requires

@@ -1,10 +1,10 @@
 use Rattle.std.proofs.Common.{Option, refl, sym, ap, subst, ◌∙◌, [], ◌∷◌}
 use Rattle.cip_hops.specs.declared.hop.Hop.{Hop}
 use Rattle.cip_hops.specs.Hops.{is_hop_by_op}
-use Rattle.cip_module.specs.Table.{enter_effects}
+use Rattle.cip_routing.specs.Table.{enter_effects}
 use Rattle.cip_module.specs.Code.Device.{state_of_device}
 use Rattle.cip_module.specs.Code.Does.{Does}
-use Rattle.cip_module.proofs.Found.{found_held}
+use Rattle.cip_routing.proofs.Found.{found_held}
 use Rattle.cip_event.specs.declared.event.Output.{Output}
 use Rattle.cip_event.specs.Filled.{filled}
 use Rattle.cip_module.proofs.Sends.{enters, down_filled}

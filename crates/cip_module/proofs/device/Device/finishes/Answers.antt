@@ -1,5 +1,5 @@
 use Rattle.std.proofs.Common.{sym}
-use Rattle.cip_module.proofs.Waiting.{awaited_at, fit_finished}
+use Rattle.cip_routing.proofs.Waiting.{awaited_at, fit_finished}
 use Rattle.cip_module.proofs.device.Device.finishes.Goals as goal
 
 pub finish-requires-clause-opening : goal.finish-requires-clause-opening

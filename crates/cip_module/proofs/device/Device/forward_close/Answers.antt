@@ -5,11 +5,11 @@ use Rattle.cip_close.specs.declared.request.TheConstants.{FORWARD_CLOSE}
 use Rattle.cip_close.specs.Close.{Close}
 use Rattle.cip_close.specs.Reading.{close_of}
 use Rattle.cip_pending.specs.declared.entry.UpSide.{UpSide}
-use Rattle.cip_module.specs.CloseRows.{close_row}
-use Rattle.cip_module.specs.Effects.{Effect}
+use Rattle.cip_routing.specs.CloseRows.{close_row}
+use Rattle.cip_routing.specs.Effects.{Effect}
 use Rattle.cip_module.specs.Code.Device.{state_of_device}
 use Rattle.cip_module.specs.Code.Reacts.{Reacts, CloseCame}
-use Rattle.cip_module.specs.Table.{close_effects, close_data_effects, with_spending}
+use Rattle.cip_routing.specs.Table.{close_effects, close_data_effects, with_spending}
 use Rattle.cip_module.proofs.InPlace.{narrowed}
 use Rattle.cip_module.proofs.Spending.{asked_alone}
 use Rattle.cip_module.proofs.device.Device.forward_close.Goals as goal

@@ -6,11 +6,11 @@ use Rattle.cip_open.specs.Open.{Open}
 use Rattle.cip_open.specs.OpenAt.{open_at}
 use Rattle.cip_open.proofs.ReadAgain.{large_read}
 use Rattle.cip_open.specs.Reading.{open_of}
-use Rattle.cip_module.specs.OpenRows.{open_row}
-use Rattle.cip_module.specs.Effects.{Effect}
+use Rattle.cip_routing.specs.OpenRows.{open_row}
+use Rattle.cip_routing.specs.Effects.{Effect}
 use Rattle.cip_module.specs.Code.Device.{state_of_device}
 use Rattle.cip_module.specs.Code.Reacts.{Reacts, OpenCame}
-use Rattle.cip_module.specs.Table.{up_side_of, open_effects, open_data_effects}
+use Rattle.cip_routing.specs.Table.{up_side_of, open_effects, open_data_effects}
 use Rattle.cip_module.proofs.InPlace.{narrowed}
 use Rattle.cip_module.proofs.Spending.{asked_alone}
 use Rattle.cip_module.proofs.device.Device.forward_open.Goals as goal

@@ -1,6 +1,6 @@
 use Rattle.std.proofs.Common.{ap, ◌∙◌, is_ok}
 use Rattle.cip_pending.specs.Pendings.{added, unless_refused}
-use Rattle.cip_module.proofs.Kept.{fit_forwards}
+use Rattle.cip_routing.proofs.Kept.{fit_forwards}
 use Rattle.cip_module.proofs.Spending.{if_true}
 use Rattle.cip_module.proofs.device.Device.forwards.Goals as goal
 

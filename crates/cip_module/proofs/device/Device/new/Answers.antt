@@ -3,7 +3,7 @@ use Rattle.cip_pending.specs.Pendings.{Pendings}
 use Rattle.cip_hops.specs.Hops.{Hops}
 use Rattle.cip_target.specs.Ends.{Ends}
 use Rattle.cip_config.specs.declared.config.ModuleSettings.{ModuleSettings}
-use Rattle.cip_module.proofs.Kept.{fresh_fit}
+use Rattle.cip_routing.proofs.Kept.{fresh_fit}
 use Rattle.cip_module.proofs.device.Device.new.Goals as goal
 
 pub invariant_of-result : goal.invariant_of-result

@@ -1,7 +1,7 @@
 use Rattle.std.proofs.Common.{◌+◌, ap, ◌∙◌}
 use Rattle.cip_open.specs.Reading.{open_of}
 use Rattle.cip_hops.specs.declared.opening.HopUp.{HopUp}
-use Rattle.cip_module.specs.OpenRows.{Forwarded, Accepted, open_row}
+use Rattle.cip_routing.specs.OpenRows.{Forwarded, Accepted, open_row}
 use Rattle.cip_module.specs.Code.Device.{state_of_device}
 use Rattle.cip_module.proofs.Opened.{multiplier_below}
 use Rattle.cip_module.proofs.InPlace.{opened}

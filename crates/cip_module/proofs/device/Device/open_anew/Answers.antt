@@ -1,5 +1,5 @@
 use Rattle.std.proofs.Common.{ap, ◌∙◌, List, ℕ}
-use Rattle.cip_module.specs.Table.{open_of}
+use Rattle.cip_routing.specs.Table.{open_of}
 use Rattle.cip_module.proofs.Sends.{opens}
 use Rattle.cip_module.proofs.device.Device.open_anew.Goals as goal
 

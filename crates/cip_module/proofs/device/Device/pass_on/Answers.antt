@@ -3,9 +3,9 @@ use Rattle.cip_hops.specs.Hops.{Hops}
 use Rattle.cip_hops.specs.Onwards.{hop_by, after_onward}
 use Rattle.cip_event.specs.declared.event.Body.TheVariants.{Data}
 use Rattle.cip_event.specs.declared.event.Event.TheVariants.{Frame}
-use Rattle.cip_module.specs.DataRows.{data_row}
+use Rattle.cip_routing.specs.DataRows.{data_row}
 use Rattle.cip_module.specs.Code.Device.{state_of_device}
-use Rattle.cip_module.specs.Table.{datum_effects}
+use Rattle.cip_routing.specs.Table.{datum_effects}
 use Rattle.cip_module.proofs.Forwards.{sent_on, goes_on, fit_on, if_some}
 use Rattle.cip_module.proofs.InPlace.{is_step}
 use Rattle.cip_module.proofs.device.Device.pass_on.Goals as goal

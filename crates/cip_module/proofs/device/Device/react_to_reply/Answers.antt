@@ -3,9 +3,9 @@ use Rattle.cip_base.specs.declared.memory.NoMemory.{NoMemory}
 use Rattle.cip_event.specs.declared.event.Body.TheVariants.{Reply}
 use Rattle.cip_event.specs.declared.event.Event.TheVariants.{Frame}
 use Rattle.cip_module.specs.declared.reaction.Reaction.{Reaction}
-use Rattle.cip_module.specs.ReplyRows.{reply_row}
+use Rattle.cip_routing.specs.ReplyRows.{reply_row}
 use Rattle.cip_module.specs.Code.Device.{state_of_device}
-use Rattle.cip_module.specs.Table.{reply_effects}
+use Rattle.cip_routing.specs.Table.{reply_effects}
 use Rattle.cip_module.proofs.InPlace.{stepped_on, kept_on}
 use Rattle.cip_module.proofs.device.Device.react_to_reply.Goals as goal
 

@@ -2,9 +2,9 @@ use Rattle.std.proofs.Common.{refl}
 use Rattle.cip_pending.specs.declared.entry.UpSide.TheVariants.{Link}
 use Rattle.cip_event.specs.declared.event.Body.TheVariants.{Request}
 use Rattle.cip_event.specs.declared.event.Event.TheVariants.{Frame}
-use Rattle.cip_module.specs.RequestRows.{request_row}
+use Rattle.cip_routing.specs.RequestRows.{request_row}
 use Rattle.cip_module.specs.Code.Device.{state_of_device}
-use Rattle.cip_module.specs.Table.{request_effects}
+use Rattle.cip_routing.specs.Table.{request_effects}
 use Rattle.cip_module.proofs.InPlace.{stepped_on, kept_on}
 use Rattle.cip_module.proofs.device.Device.react_to_request.Goals as goal
 

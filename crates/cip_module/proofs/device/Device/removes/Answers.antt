@@ -1,5 +1,5 @@
 use Rattle.std.proofs.Common.{sym}
-use Rattle.cip_module.proofs.Removed.{fit_gone}
+use Rattle.cip_routing.proofs.Removed.{fit_gone}
 use Rattle.cip_module.proofs.device.Device.removes.Goals as goal
 
 pub invariant_of-self : goal.invariant_of-self

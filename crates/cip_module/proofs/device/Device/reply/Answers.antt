@@ -1,7 +1,7 @@
 use Rattle.std.proofs.Common.{◌≡◌, false, sym, ap, ◌∙◌}
 use Rattle.cip_open.specs.Reading.{success_of}
 use Rattle.cip_config.specs.declared.config.ModuleSettings.{ModuleSettings}
-use Rattle.cip_module.specs.RequestRows.{is_malformed}
+use Rattle.cip_routing.specs.RequestRows.{is_malformed}
 use Rattle.cip_module.specs.Code.Device.{state_of_device}
 use Rattle.cip_module.proofs.InPlace.{row_is, finished_up, passed_up}
 use Rattle.cip_module.proofs.device.Device.reply.Goals as goal

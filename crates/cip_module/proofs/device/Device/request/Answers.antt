@@ -5,10 +5,10 @@ use Rattle.cip_open.specs.Kinds.{open_service}
 use Rattle.cip_close.specs.declared.request.TheConstants.{FORWARD_CLOSE}
 use Rattle.cip_pending.specs.declared.entry.UpSide.TheVariants.{Link}
 use Rattle.cip_config.specs.declared.config.ModuleSettings.{ModuleSettings}
-use Rattle.cip_module.specs.RequestRows.{RequestRow, UnconnectedSend, ForwardOpen, ForwardClose, request_row}
+use Rattle.cip_routing.specs.RequestRows.{RequestRow, UnconnectedSend, ForwardOpen, ForwardClose, request_row}
 use Rattle.cip_module.specs.Code.Device.{state_of_device}
 use Rattle.cip_module.specs.Code.Reacts.{Reacts}
-use Rattle.cip_module.specs.Table.{request_effects}
+use Rattle.cip_routing.specs.Table.{request_effects}
 use Rattle.cip_module.proofs.CameIn.{SaysOf, came_in}
 use Rattle.cip_module.proofs.InPlace.{narrowed}
 use Rattle.cip_module.proofs.device.Device.request.Goals as goal

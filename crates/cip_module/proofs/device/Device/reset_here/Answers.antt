@@ -1,7 +1,7 @@
 use Rattle.std.proofs.Common.{refl, sym, ap, ◌∙◌, []}
 use Rattle.cip_message.specs.Reading.{request_of}
-use Rattle.cip_module.specs.Answers.{answered, failure_bytes}
-use Rattle.cip_module.specs.Effects.{reply_up}
+use Rattle.cip_routing.specs.Answers.{answered, failure_bytes}
+use Rattle.cip_routing.specs.Effects.{reply_up}
 use Rattle.cip_module.specs.Code.Device.{state_of_device}
 use Rattle.cip_module.proofs.Ended.{conflicts, carried_out}
 use Rattle.cip_module.proofs.device.Device.reset_here.Goals as goal

@@ -2,7 +2,7 @@ use Rattle.std.proofs.Common.{ap, ◌∙◌}
 use Rattle.cip_pending.specs.Pendings.{Pendings}
 use Rattle.cip_hops.specs.Hops.{Hops}
 use Rattle.cip_target.specs.Ends.{Ends}
-use Rattle.cip_module.proofs.Kept.{fresh_fit}
+use Rattle.cip_routing.proofs.Kept.{fresh_fit}
 use Rattle.cip_module.proofs.device.Device.resets.Goals as goal
 
 pub invariant_of-self : goal.invariant_of-self

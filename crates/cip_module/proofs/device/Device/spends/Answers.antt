@@ -1,4 +1,4 @@
-use Rattle.cip_module.proofs.Kept.{fit_spent}
+use Rattle.cip_routing.proofs.Kept.{fit_spent}
 use Rattle.cip_module.proofs.device.Device.spends.Goals as goal
 
 pub invariant_of-self : goal.invariant_of-self

@@ -1,6 +1,6 @@
 use Rattle.std.proofs.Common.{sym}
-use Rattle.cip_module.proofs.Kept.{fit_gives_up}
-use Rattle.cip_module.proofs.Waiting.{waits_at}
+use Rattle.cip_routing.proofs.Kept.{fit_gives_up}
+use Rattle.cip_routing.proofs.Waiting.{waits_at}
 use Rattle.cip_module.proofs.device.Device.takes.Goals as goal
 
 pub invariant_of-self-2 : goal.invariant_of-self-2

@@ -3,10 +3,10 @@ use Rattle.cip_event.specs.declared.event.Output.{Output}
 use Rattle.cip_pending.specs.Pendings.{due}
 use Rattle.cip_hops.specs.Hops as hops
 use Rattle.cip_module.specs.Code.Does.{Does}
-use Rattle.cip_module.specs.Effects.{applied}
-use Rattle.cip_module.specs.State.{State}
+use Rattle.cip_routing.specs.Effects.{applied}
+use Rattle.cip_routing.specs.State.{State}
 use Rattle.cip_module.specs.Code.Device.{state_of_device}
-use Rattle.cip_module.specs.Table.{tick_effects, pending_time_outs, hop_time_outs}
+use Rattle.cip_routing.specs.Table.{tick_effects, pending_time_outs, hop_time_outs}
 use Rattle.cip_module.specs.Code.Ticks.{pendings_timed_out, hops_timed_out}
 use Rattle.cip_module.proofs.TimeOuts.{ticked, quiet_tick, gives_from}
 use Rattle.cip_module.proofs.device.Device.tick.Goals as goal

@@ -3,8 +3,8 @@ use Rattle.cip_hops.specs.Hops.{is_timed_out}
 use Rattle.cip_target.specs.Objects.{Objects}
 use Rattle.cip_module.specs.Code.Device.{state_of_device}
 use Rattle.cip_module.proofs.TimeOuts.{hop_time_out_is}
-use Rattle.cip_module.proofs.Found.{found_held}
-use Rattle.cip_module.proofs.Removed.{fit_gone}
+use Rattle.cip_routing.proofs.Found.{found_held}
+use Rattle.cip_routing.proofs.Removed.{fit_gone}
 use Rattle.cip_module.proofs.device.Device.time_out_hop.Goals as goal
 
 pub invariant_of-self : goal.invariant_of-self

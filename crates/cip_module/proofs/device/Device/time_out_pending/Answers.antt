@@ -2,7 +2,7 @@ use Rattle.std.proofs.Common.{sym, ap, ◌∙◌}
 use Rattle.cip_hops.specs.Hops as hops
 use Rattle.cip_module.specs.Code.Device.{state_of_device}
 use Rattle.cip_module.proofs.TimeOuts.{stands, pending_time_out_is, due_given_up}
-use Rattle.cip_module.proofs.Kept.{fit_gives_up}
+use Rattle.cip_routing.proofs.Kept.{fit_gives_up}
 use Rattle.cip_module.proofs.device.Device.time_out_pending.Goals as goal
 
 pub invariant_of-self : goal.invariant_of-self

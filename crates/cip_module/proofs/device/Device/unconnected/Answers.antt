@@ -1,7 +1,7 @@
 use Rattle.std.proofs.Common.{ap, ◌∙◌}
 use Rattle.cip_unconnected.specs.Reading.{unconnected_of}
 use Rattle.cip_config.specs.declared.config.ModuleSettings.{ModuleSettings}
-use Rattle.cip_module.specs.UnconnectedRows.{unconnected_row}
+use Rattle.cip_routing.specs.UnconnectedRows.{unconnected_row}
 use Rattle.cip_module.proofs.InPlace.{sent}
 use Rattle.cip_module.proofs.device.Device.unconnected.Goals as goal
 

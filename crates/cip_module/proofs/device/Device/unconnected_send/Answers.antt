@@ -4,10 +4,10 @@ use Rattle.cip_unconnected.specs.declared.unconnected.TheConstants.{UNCONNECTED_
 use Rattle.cip_unconnected.specs.Unconnected.{Unconnected}
 use Rattle.cip_unconnected.specs.Reading.{unconnected_of}
 use Rattle.cip_unconnected.specs.declared.fault.UnconnectedFault.{UnconnectedFault}
-use Rattle.cip_module.specs.UnconnectedRows.{unconnected_row}
+use Rattle.cip_routing.specs.UnconnectedRows.{unconnected_row}
 use Rattle.cip_module.specs.Code.Device.{state_of_device}
 use Rattle.cip_module.specs.Code.Reacts.{Reacts, SendCame}
-use Rattle.cip_module.specs.Table.{unconnected_effects, unconnected_data_effects}
+use Rattle.cip_routing.specs.Table.{unconnected_effects, unconnected_data_effects}
 use Rattle.cip_module.proofs.InPlace.{narrowed}
 use Rattle.cip_module.proofs.device.Device.unconnected_send.Goals as goal
 

@@ -5,7 +5,7 @@ use Rattle.cip_hops.specs.declared.hop.Hop.{Hop}
 use Rattle.cip_hops.specs.Hops.{is_timed_out, first_after}
 use Rattle.cip_event.specs.declared.event.Output.{Output}
 use Rattle.cip_module.specs.Code.Ticks.{hop_timed_out}
-use Rattle.cip_module.proofs.Walks.{opens_above, opens_all, due_open, hop_walks, hop_walked, hop_fewer}
+use Rattle.cip_routing.proofs.Walks.{opens_above, opens_all, due_open, hop_walks, hop_walked, hop_fewer}
 use Rattle.cip_module.proofs.tick.rows.hops_out.Goals as goal
 
 pub loop-hop-init : goal.loop-hop-init

@@ -2,7 +2,7 @@ use Rattle.std.proofs.Common.{◌≡◌, ◌++◌, length}
 use Rattle.std.specs.Prelude.{map, filter}
 use Rattle.cip_hops.specs.Hops.{is_timed_out}
 use Rattle.cip_module.specs.Code.Ticks.{hop_timed_out, hops_timed_out}
-use Rattle.cip_module.proofs.Walks.{opens_above}
+use Rattle.cip_routing.proofs.Walks.{opens_above}
 use Rattle.cip_module.proofs.tick.rows.hops_out.Given as goal
 
 abbrev pub invariant-loop-hop : goal.invariant-loop-hop

@@ -6,7 +6,7 @@ use Rattle.cip_pending.specs.declared.entry.Entry.{Entry}
 use Rattle.cip_pending.specs.Pendings.{is_due}
 use Rattle.cip_event.specs.declared.event.Output.{Output}
 use Rattle.cip_module.specs.Code.Ticks.{shown}
-use Rattle.cip_module.proofs.Walks.{above, walks, walked, fewer, all_left}
+use Rattle.cip_routing.proofs.Walks.{above, walks, walked, fewer, all_left}
 use Rattle.cip_module.proofs.tick.rows.pendings_out.Goals as goal
 
 pub loop-number-init : goal.loop-number-init

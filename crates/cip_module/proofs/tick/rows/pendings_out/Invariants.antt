@@ -3,7 +3,7 @@ use Rattle.std.specs.Prelude.{map, filter}
 use Rattle.std.specs.FinMap as finite
 use Rattle.cip_pending.specs.Pendings.{is_due}
 use Rattle.cip_module.specs.Code.Ticks.{shown, pendings_timed_out}
-use Rattle.cip_module.proofs.Walks.{above}
+use Rattle.cip_routing.proofs.Walks.{above}
 use Rattle.cip_module.proofs.tick.rows.pendings_out.Given as goal
 
 abbrev pub invariant-loop-number : goal.invariant-loop-number

@@ -1,0 +1,16 @@
+pub mod OpsLemmas
+pub mod Walks
+pub mod Found
+pub mod Fits
+pub mod Kept
+pub mod Removed
+pub mod KeysRead
+pub mod Waiting
+pub mod Receiving
+pub mod Conditions
+pub mod SendsForwarded
+pub mod OpensForwarded
+pub mod ClosesForwarded
+pub mod AtFirst
+pub mod RowsFound
+pub mod Opens
