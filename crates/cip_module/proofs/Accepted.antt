@@ -28,7 +28,7 @@ use Rattle.cip_target.specs.declared.link.EndLink.{EndLink}
 use Rattle.cip_target.proofs.Fitting.{FitsWith, fitting}
 use Rattle.cip_config.specs.declared.config.ModuleSettings.{ModuleSettings}
 use Rattle.cip_routing.specs.OpenRows.{writes_to, end_down}
-use Rattle.cip_routing.specs.Fit.{Fit, AreOwned, writes_of}
+use Rattle.cip_routing.specs.Code.Fit.{Fit, AreOwned, writes_of}
 use Rattle.cip_routing.specs.State.{is_spent}
 use Rattle.cip_base.proofs.Points.{one_or_apart, put_here, put_apart}
 use Rattle.cip_routing.proofs.Fits.{Becomes, becomes_put, spent_becomes, links_becomes, paired_becomes, numbers_apart, triad_or_not}

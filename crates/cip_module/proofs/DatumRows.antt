@@ -22,7 +22,7 @@ use Rattle.cip_routing.specs.declared.outputs.Writing.{Writing}
 use Rattle.cip_routing.specs.DataRows.{DataRow, WrongSize, id_row, below_row, above_row, from_down_row}
 use Rattle.cip_routing.specs.Effects.{Effect, Passes, Renews, applied, outputs_of, passed, datum_by, renewed}
 use Rattle.cip_module.specs.Code.Does.{HasDone}
-use Rattle.cip_routing.specs.Plans.{own_id, writing_row, written_effects}
+use Rattle.cip_routing.specs.Code.Plans.{own_id, writing_row, written_effects}
 use Rattle.cip_routing.specs.State.{State}
 use Rattle.cip_routing.specs.Table.{datum_effects, other}
 use Rattle.cip_routing.proofs.Found.{found_own}

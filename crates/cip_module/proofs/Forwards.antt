@@ -25,8 +25,8 @@ use Rattle.cip_routing.specs.Effects.{Passes, Renews, datum_by, datum_up, datum_
 use Rattle.cip_pending.specs.Pendings.{Pendings}
 use Rattle.cip_target.specs.Ends.{Ends}
 use Rattle.cip_module.specs.Code.Does.{HasDone}
-use Rattle.cip_routing.specs.Fit.{Fit}
-use Rattle.cip_routing.specs.Plans.{own_id}
+use Rattle.cip_routing.specs.Code.Fit.{Fit}
+use Rattle.cip_routing.specs.Code.Plans.{own_id}
 use Rattle.cip_routing.specs.State.{State}
 use Rattle.cip_routing.specs.Table.{datum_effects, other}
 use Rattle.cip_routing.proofs.Kept.{fit_changed, touched_keeps}

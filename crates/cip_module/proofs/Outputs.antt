@@ -30,7 +30,7 @@ use Rattle.cip_routing.specs.declared.refusals.OpenRefusal.TheVariants.{NotAccep
 use Rattle.cip_routing.specs.State.{State}
 use Rattle.cip_hops.specs.declared.opening.HopUp.{HopUp}
 use Rattle.cip_hops.specs.Sides.{up_is_link}
-use Rattle.cip_routing.specs.Fit.{writes_of, AreOwned}
+use Rattle.cip_routing.specs.Code.Fit.{writes_of, AreOwned}
 
 abbrev pub writes_it : ℕ → Hop → Bool
 writes_it i hop = writes_to i hop.opening.down

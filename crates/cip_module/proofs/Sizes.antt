@@ -14,7 +14,7 @@ use Rattle.cip_target.specs.Ends.{Ends, ends_after, consumed}
 use Rattle.cip_target.specs.Rows.{TargetRow, target_row, assemblies_after, Refused, Read, Written, Reset}
 use Rattle.cip_target.proofs.Writes.{IsThere, target_there}
 use Rattle.cip_config.specs.declared.config.ModuleSettings.{ModuleSettings}
-use Rattle.cip_routing.specs.Fit.{Fit}
+use Rattle.cip_routing.specs.Code.Fit.{Fit}
 use Rattle.cip_base.proofs.Points.{one_or_apart, put_here, put_apart}
 use Rattle.cip_routing.proofs.Fits.{numbers_apart}
 

@@ -7,7 +7,7 @@ use Rattle.cip_config.specs.declared.config.ModuleSettings.{ModuleSettings}
 use Rattle.cip_event.specs.declared.event.Output.{Output}
 use Rattle.cip_module.specs.Code.Does.{Does}
 use Rattle.cip_routing.specs.Effects.{Effect, applied}
-use Rattle.cip_routing.specs.Fit.{AreSpent}
+use Rattle.cip_routing.specs.Code.Fit.{AreSpent}
 use Rattle.cip_module.specs.Code.Ready.{IsAsked}
 use Rattle.cip_routing.specs.State.{State, is_spent, spent_with}
 use Rattle.cip_routing.specs.Table.{with_spending}

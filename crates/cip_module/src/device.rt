@@ -7,7 +7,7 @@ ghost use Rattle.cip_routing.specs.Deadlines.{is_any_due};
 ghost use Rattle.cip_target.specs.Ends.{fresh};
 ghost use Rattle.cip_config.specs.declared.config.ModuleSettings.{ModuleSettings as Settings};
 ghost use Rattle.cip_routing.specs.Views.{hop_row_of};
-ghost use Rattle.cip_routing.specs.Fit.{Fit};
+ghost use Rattle.cip_routing.specs.Code.Fit.{Fit};
 
 use cip_base::{Address, NoMemory, PortNumber};
 use cip_clock::Clock;

@@ -18,7 +18,7 @@ use Rattle.cip_hops.specs.Sides.{down_is_link}
 use Rattle.cip_hops.specs.Hops.{Hops, opening_at, as_opening, held_op_of}
 use Rattle.cip_target.specs.Assemblies.{AssemblyMap, Owners}
 use Rattle.cip_routing.specs.Paired.{IsAwaited, IsPaired, IsOther}
-use Rattle.cip_routing.specs.Fit.{writes_of, AreSpent, AreLinks, AreOwned}
+use Rattle.cip_routing.specs.Code.Fit.{writes_of, AreSpent, AreLinks, AreOwned}
 use Rattle.cip_routing.specs.State.{is_spent}
 use Rattle.cip_base.proofs.Points.{one_or_apart, put_here, put_apart, gone_here, gone_apart}
 

@@ -26,7 +26,7 @@ use Rattle.cip_hops.specs.Hops as hops
 use Rattle.cip_hops.proofs.Changes.{finished_is}
 use Rattle.cip_target.specs.Ends.{Ends}
 use Rattle.cip_config.specs.declared.config.ModuleSettings.{ModuleSettings}
-use Rattle.cip_routing.specs.Fit.{Fit, writes_of}
+use Rattle.cip_routing.specs.Code.Fit.{Fit, writes_of}
 use Rattle.cip_routing.specs.Effects.{abandoned, abandoned_if, given_up_of}
 use Rattle.cip_routing.specs.OpenRows.{writes_to}
 use Rattle.cip_routing.specs.Paired.{IsAwaited, IsOther}

@@ -17,7 +17,7 @@ use Rattle.cip_target.specs.Assemblies.{AssemblyMap, Owners, size_in}
 use Rattle.cip_target.specs.Ends.{Ends, released}
 use Rattle.cip_config.specs.declared.config.ModuleSettings.{ModuleSettings}
 use Rattle.cip_routing.specs.OpenRows.{writes_to}
-use Rattle.cip_routing.specs.Fit.{Fit, AreOwned, writes_of, given_back}
+use Rattle.cip_routing.specs.Code.Fit.{Fit, AreOwned, writes_of, given_back}
 use Rattle.cip_base.proofs.Points.{one_or_apart, gone_here, gone_apart}
 use Rattle.cip_routing.proofs.Fits.{Becomes, becomes_gone, spent_becomes, links_becomes, owned_becomes, paired_becomes, numbers_apart, triad_or_not}
 

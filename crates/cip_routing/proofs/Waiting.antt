@@ -11,7 +11,7 @@ use Rattle.cip_hops.specs.declared.hop.Held.TheVariants.{Opening as IsOpening, O
 use Rattle.cip_hops.specs.Hops.{Hops, as_opening, finished}
 use Rattle.cip_target.specs.Ends.{Ends}
 use Rattle.cip_config.specs.declared.config.ModuleSettings.{ModuleSettings}
-use Rattle.cip_routing.specs.Fit.{Fit}
+use Rattle.cip_routing.specs.Code.Fit.{Fit}
 use Rattle.cip_routing.specs.Paired.{IsAwaited}
 use Rattle.cip_routing.proofs.Kept.{fit_finishes}
 

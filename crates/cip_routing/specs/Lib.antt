@@ -21,6 +21,4 @@ pub mod Rooms
 pub mod Rising
 pub mod Views
 pub mod Deadlines
-pub mod Plans
-pub mod Fit
-pub mod Decisions
+pub mod Code

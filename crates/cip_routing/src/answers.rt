@@ -19,7 +19,8 @@ use cip_unconnected::UNCONNECTED_SEND;
 use std::alloc::Global;
 
 /// The reply of a service, which is below 80 and is answered with bit 7 set; NoMemory where an
-/// allocation is refused.
+/// allocation is refused. With a head of four bytes and one additional word the data fit into 1,400
+/// bytes.
 pub fn answered(alloc: Global, service: u8, status: Status, bytes: &[u8]) -> Result<Bytes, NoMemory>
     requires service { service < 128 }
     requires room { 6 + length bytes.now ≤ MAX_MESSAGE }
@@ -32,7 +33,8 @@ pub fn answered(alloc: Global, service: u8, status: Status, bytes: &[u8]) -> Res
     }
 }
 
-/// The failure of a request: its status, and no data; NoMemory where an allocation is refused.
+/// The failure of a request of a service below 80: its status, and no data; NoMemory where an
+/// allocation is refused.
 pub fn failure(alloc: Global, service: u8, status: Status) -> Result<Bytes, NoMemory>
     requires { service < 128 }
     ensures { IfOk result (λ b. b ≡ failure_bytes service status) }

@@ -40,7 +40,8 @@ pub fn reply_to(up: UpSide, bytes: Bytes) -> Output
 
 /// What goes on of an Unconnected_Send: the embedded request itself where no path is left, else an
 /// Unconnected_Send with what is left of its route and one tick less (Volume 1, chapter 3,
-/// Unconnected_Send); NoMemory where an allocation is refused.
+/// Unconnected_Send); NoMemory where an allocation is refused. The message fits as it came, what is
+/// left is no longer than its route, and it has two ticks at least.
 pub fn message_anew(
     alloc: Global,
     view: UnconnectedView<'_>,

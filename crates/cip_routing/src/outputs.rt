@@ -3,7 +3,7 @@ ghost use Rattle.std.specs.Prelude.{◌≡◌, drop};
 ghost use Rattle.cip_message.specs.Numbers.{word_in};
 ghost use Rattle.cip_routing.specs.Effects.{datum_up, datum_down};
 ghost use Rattle.cip_routing.specs.DataRows.{end_row};
-ghost use Rattle.cip_routing.specs.Plans.{writing_row};
+ghost use Rattle.cip_routing.specs.Code.Plans.{writing_row};
 
 use cip_base::Bytes;
 use cip_event::{Body, Output};

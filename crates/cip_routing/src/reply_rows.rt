@@ -11,7 +11,7 @@ ghost use Rattle.cip_routing.specs.ReplyRows.{opening_row, open_kind_row, closin
 ghost use Rattle.cip_routing.specs.ReplyRows.{read_row};
 ghost use Rattle.cip_base.specs.declared.triad.Triad.{Triad as Triads};
 ghost use Rattle.cip_pending.specs.Kinds.{opened_triad};
-ghost use Rattle.cip_routing.specs.Decisions.{reply_row_of, ReplyLeads};
+ghost use Rattle.cip_routing.specs.Code.Decisions.{reply_row_of, ReplyLeads};
 
 use cip_base::Triad;
 use cip_close::{FORWARD_CLOSE_REPLY, read_close_reply};

@@ -6,7 +6,7 @@ ghost use Rattle.cip_target.specs.Object.{object_of};
 ghost use Rattle.cip_routing.specs.Object.{begins_with_manager};
 ghost use Rattle.cip_routing.specs.RequestRows.{Refuses, is_malformed, manager_row, object_row};
 ghost use Rattle.cip_routing.specs.RequestRows.{request_row};
-ghost use Rattle.cip_routing.specs.Decisions.{request_row_of, RequestLeads};
+ghost use Rattle.cip_routing.specs.Code.Decisions.{request_row_of, RequestLeads};
 
 use crate::refusals::RequestRefusal;
 use cip_base::{MAX_MESSAGE, PortNumber};

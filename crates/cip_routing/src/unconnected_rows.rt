@@ -6,7 +6,7 @@ ghost use Rattle.cip_message.specs.Reading.{request_of};
 ghost use Rattle.cip_unconnected.specs.Reading.{unconnected_of};
 ghost use Rattle.cip_routing.specs.Keys.{leading_mismatch};
 ghost use Rattle.cip_routing.specs.UnconnectedRows.{hop_row, key_row, unconnected_row, unread_row};
-ghost use Rattle.cip_routing.specs.Decisions.{unconnected_row_of, Leads};
+ghost use Rattle.cip_routing.specs.Code.Decisions.{unconnected_row_of, Leads};
 
 use crate::keys::leading_mismatch;
 use crate::links::link_refusal;

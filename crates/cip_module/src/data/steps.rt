@@ -8,7 +8,7 @@ ghost use Rattle.cip_routing.specs.Effects.{applied};
 ghost use Rattle.cip_routing.specs.DataRows.{id_row};
 ghost use Rattle.cip_routing.specs.Steps.{IsStep};
 ghost use Rattle.cip_routing.specs.Table.{datum_effects};
-ghost use Rattle.cip_routing.specs.Plans.{written_effects};
+ghost use Rattle.cip_routing.specs.Code.Plans.{written_effects};
 ghost use Rattle.cip_module.specs.Code.Does.{Handled};
 ghost use Rattle.cip_module.specs.Code.Device.{state_of_device};
 

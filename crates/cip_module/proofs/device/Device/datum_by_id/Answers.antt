@@ -10,7 +10,7 @@ use Rattle.cip_routing.specs.State.{State}
 use Rattle.cip_routing.specs.Table.{datum_effects}
 use Rattle.cip_module.specs.Code.Does.{HasDone}
 use Rattle.cip_module.specs.Code.Device.{state_of_device}
-use Rattle.cip_routing.specs.Plans.{writing_row, written_effects}
+use Rattle.cip_routing.specs.Code.Plans.{writing_row, written_effects}
 use Rattle.cip_module.proofs.DatumRows.{up_named, down_named, up_row, down_row, above_effects, passed_on, ended, end_effects, by_row}
 use Rattle.cip_routing.proofs.Found.{found_held}
 use Rattle.cip_module.proofs.device.Device.datum_by_id.Goals as goal

@@ -4,7 +4,7 @@ use Rattle.cip_hops.specs.declared.hop.Side.TheVariants.{Up, Down}
 use Rattle.cip_hops.specs.Hops.{Hops, HasId, touched}
 use Rattle.cip_routing.specs.Effects.{renewed}
 use Rattle.cip_module.specs.Code.Device.{state_of_device}
-use Rattle.cip_routing.specs.Plans.{own_id}
+use Rattle.cip_routing.specs.Code.Plans.{own_id}
 use Rattle.cip_module.proofs.DatumRows.{renewed_is}
 use Rattle.cip_routing.proofs.Kept.{fit_changed, touched_keeps}
 use Rattle.cip_module.proofs.device.Device.renews.Goals as goal
