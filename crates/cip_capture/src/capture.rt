@@ -5,10 +5,10 @@ use crate::addresses::Hosts;
 use crate::blocks::{put_interface, put_names, put_packet, put_remark, put_section};
 use crate::packets::{CLIENT, MOST, SERVER, Segment, Way, datum, message, tcp_packet, udp_packet};
 use cip_base::{ModuleId, NoMemory, Triad};
+use cip_book::{Book, Ending, Kind, Sent, View};
 use cip_event::{Body, Output};
 use cip_read::{FrameName, Given, Line};
 use cip_topology::Topology;
-use cip_view::{Book, Ending, Kind, Sent, View};
 use std::alloc::Global;
 use std::collections::BTreeMap;
 

@@ -2,30 +2,23 @@
 ghost use Rattle.std.specs.Prelude.{◌≡◌, [], IfOk, string_bytes};
 
 use crate::cut::Cut;
-use crate::draw::put_svg;
 use crate::fold::fold;
 use crate::marks::mark_of;
-use crate::model::{Arrow, Cause, Fate, Look, Mark, Row};
-use crate::page::put_page;
 use crate::resets::{ends_in_reset, is_reset};
 use crate::ticks::{Round, Together, join};
 use cip_base::{ModuleId, NoMemory};
+use cip_book::{BodyText, Book, Ending, Kind, Sent, View};
+use cip_drawing::{Arrow, Cause, Chart, Fate, Look, Mark, Row, put_page, put_svg};
 use cip_event::{Body, Output};
 use cip_read::{CommandWord, FrameName, Given, Line};
 use cip_text::Draft;
 use cip_topology::Topology;
-use cip_view::{BodyText, Book, Ending, Kind, Sent, View};
 use std::alloc::Global;
 use std::collections::BTreeMap;
 
 /// The chart of a run, or of a part of it.
 pub struct ChartView<'a> {
-    pub(crate) topology: &'a Topology,
-    pub(crate) columns: Vec<Option<usize>>,
-    pub(crate) rows: Vec<Row>,
-    pub(crate) arrows: Vec<Arrow>,
-    pub(crate) marks: Vec<Mark>,
-    pub(crate) notes: Vec<String>,
+    chart: Chart<'a>,
     book: Book<'a>,
     cut: Cut,
     is_page: bool,
@@ -48,12 +41,7 @@ pub struct ChartView<'a> {
 impl Drop for ChartView<'_> {
     fn drop(self) {
         let ChartView {
-            topology: _,
-            columns: _,
-            rows: _,
-            arrows: _,
-            marks: _,
-            notes: _,
+            chart: _,
             book: _,
             cut: _,
             is_page: _,
@@ -81,12 +69,7 @@ impl<'a> ChartView<'a> {
     {
         let columns = cut.columns(alloc, topology.configs().len())?;
         Ok(ChartView {
-            topology,
-            columns,
-            rows: Vec::new(alloc),
-            arrows: Vec::new(alloc),
-            marks: Vec::new(alloc),
-            notes: Vec::new(alloc),
+            chart: Chart::new(alloc, topology, columns),
             book: Book::new(alloc, topology),
             cut,
             is_page,
@@ -101,15 +84,10 @@ impl<'a> ChartView<'a> {
         })
     }
 
-    /// The column of a module, where it is shown.
-    pub(crate) fn column(&self, id: ModuleId) -> Option<usize> {
-        self.columns.get(id.0).copied().flatten()
-    }
-
     // A row more.
     fn put_row(&mut self, row: Row) -> Result<usize, NoMemory> {
-        let place = self.rows.len();
-        self.rows.push(row)?;
+        let place = self.chart.rows.len();
+        self.chart.rows.push(row)?;
         self.row = Some(place);
         Ok(place)
     }
@@ -129,9 +107,9 @@ impl<'a> ChartView<'a> {
             _ => Round::none(),
         };
         let Round { modules, rows, .. } = self.round;
-        if modules == self.topology.configs().len() && 2 <= rows {
+        if modules == self.chart.topology.configs().len() && 2 <= rows {
             self.together.push(Together {
-                first: self.rows.len().saturating_sub(rows),
+                first: self.chart.rows.len().saturating_sub(rows),
                 count: rows,
             })?;
         }
@@ -165,7 +143,7 @@ impl<'a> ChartView<'a> {
     // The frame arrives that the entry under way was given.
     fn land(&mut self, name: FrameName, row: Option<usize>) -> Result<(), NoMemory> {
         if let Some(place) = self.flying.remove(&name) {
-            if let Some(arrow) = self.arrows.get_mut(place) {
+            if let Some(arrow) = self.chart.arrows.get_mut(place) {
                 arrow.fate = Fate::Arrived(row);
             }
             return Ok(());
@@ -185,9 +163,9 @@ impl<'a> ChartView<'a> {
         fate: Fate,
         says: Option<String>,
     ) -> Result<(), NoMemory> {
-        let alloc = *self.arrows.allocator();
+        let alloc = *self.chart.arrows.allocator();
         let to = match sent.to {
-            Some(to) => self.column(to),
+            Some(to) => self.chart.column(to),
             None => None,
         };
         let says = match says {
@@ -197,13 +175,13 @@ impl<'a> ChartView<'a> {
         let arrow = Arrow {
             name,
             sent: row,
-            from: self.column(sent.from),
+            from: self.chart.column(sent.from),
             to,
             label: sent.label,
             fate,
             says,
         };
-        self.arrows.push(arrow)?;
+        self.chart.arrows.push(arrow)?;
         Ok(())
     }
 
@@ -215,7 +193,7 @@ impl<'a> ChartView<'a> {
             Given::Tick(ms) => Some(self.tick(at, u64::from(ms))?),
             _ => None,
         };
-        let column = self.column(at);
+        let column = self.chart.column(at);
         if let Some(column) = column {
             if self.cut.has_entry(entry) {
                 let look = self.look_of(entry, column, given);
@@ -244,7 +222,7 @@ impl<'a> ChartView<'a> {
         if self.cut.has_entry(entry) {
             self.put_row(Row::new(entry, None, None))?;
         }
-        if let Some(arrow) = self.arrows.get_mut(place) {
+        if let Some(arrow) = self.chart.arrows.get_mut(place) {
             arrow.fate = Fate::Lost(self.row);
         }
         self.row = None;
@@ -256,7 +234,7 @@ impl<'a> ChartView<'a> {
         let Some(place) = self.row else {
             return;
         };
-        if let Some(row) = self.rows.get_mut(place) {
+        if let Some(row) = self.chart.rows.get_mut(place) {
             row.look = match (row.look, body) {
                 (Some(look), Some(Body::Data { id, .. })) => Some(Look {
                     id: *id,
@@ -298,7 +276,7 @@ impl<'a> ChartView<'a> {
             Some(_) => Fate::Waits,
             None => Fate::Nobody,
         };
-        let place = self.arrows.len();
+        let place = self.chart.arrows.len();
         self.put_arrow(name, self.row, sent, fate, Some(says))?;
         if sent.to.is_some() {
             self.flying.insert(name, place)?;
@@ -316,7 +294,7 @@ impl<'a> ChartView<'a> {
 
     // Whether the entry under way was given a command, so that its end is the module's own.
     fn is_told(&self) -> bool {
-        match self.row.and_then(|place| self.rows.get(place)) {
+        match self.row.and_then(|place| self.chart.rows.get(place)) {
             Some(row) => matches!(row.given, Some(Given::Command(..))),
             None => false,
         }
@@ -324,7 +302,7 @@ impl<'a> ChartView<'a> {
 
     // The module of the entry under way was reset.
     fn put_reset(&mut self) -> Result<(), NoMemory> {
-        let alloc = *self.marks.allocator();
+        let alloc = *self.chart.marks.allocator();
         let text = String::from_str(alloc, "reset")?;
         self.put_mark(text, true, true)
     }
@@ -332,7 +310,7 @@ impl<'a> ChartView<'a> {
     // Whether a frame of an entry that is not shown may come to a module that is.
     fn is_seen(&self, sent: &Sent) -> bool {
         match sent.to {
-            Some(to) => self.column(to).is_some() && self.entry <= self.cut.to,
+            Some(to) => self.chart.column(to).is_some() && self.entry <= self.cut.to,
             None => false,
         }
     }
@@ -341,13 +319,13 @@ impl<'a> ChartView<'a> {
         let Some(place) = self.row else {
             return Ok(());
         };
-        self.marks.push(Mark {
+        self.chart.marks.push(Mark {
             row: place,
             text,
             is_bad,
             is_reset,
         })?;
-        if let Some(row) = self.rows.get_mut(place) {
+        if let Some(row) = self.chart.rows.get_mut(place) {
             row.marks = row.marks.saturating_add(1);
         }
         Ok(())
@@ -380,7 +358,7 @@ impl<'a> ChartView<'a> {
             }
             _ => {
                 if let Some(place) = self.row {
-                    if let Some(row) = self.rows.get_mut(place) {
+                    if let Some(row) = self.chart.rows.get_mut(place) {
                         row.look = None;
                     }
                 }
@@ -402,13 +380,13 @@ impl<'a> ChartView<'a> {
         if ending.is_cut {
             let line = ending.lines.saturating_add(1);
             let note = format!(in alloc; "the transcript is cut within line {line}")?;
-            self.notes.push(note)?;
+            self.chart.notes.push(note)?;
         }
         for ((place, op), word) in self.book.ops() {
-            let name = cip_view::NameText(self.book.name(ModuleId(*place)));
-            let word = cip_view::command_word(*word);
+            let name = cip_book::NameText(self.book.name(ModuleId(*place)));
+            let word = cip_book::command_word(*word);
             let note = format!(in alloc; "still open at the end: {name} {word} {op}")?;
-            self.notes.push(note)?;
+            self.chart.notes.push(note)?;
         }
         Ok(())
     }
@@ -428,13 +406,13 @@ impl View for ChartView<'_> {
 
     fn end(&mut self, alloc: Global, _rest: &[u8], ending: Ending) -> Result<(), NoMemory> {
         self.put_notes(alloc, ending)?;
-        fold(&mut self.rows);
-        join(&mut self.rows, self.together.as_slice());
+        fold(&mut self.chart.rows);
+        join(&mut self.chart.rows, self.together.as_slice());
         let mut out = Draft::new(alloc);
         if self.is_page {
-            put_page(alloc, self, &mut out)?;
+            put_page(alloc, &self.chart, &mut out)?;
         } else {
-            put_svg(alloc, self, false, &mut out)?;
+            put_svg(alloc, &self.chart, false, &mut out)?;
         }
         self.out = out.into_string();
         Ok(())

@@ -1,5 +1,5 @@
 //! Repeats of cyclic data and of ticks, folded.
-use crate::model::{Cause, Fold, Look, Row};
+use cip_drawing::{Cause, Fold, Look, Row};
 
 // The most rows of a cycle that is folded.
 const LONGEST: usize = 48;

@@ -1,8 +1,8 @@
 //! What an entry does beside sending, as marks beside the lifeline.
 use cip_base::NoMemory;
+use cip_book::{drop_word, refusal_word};
 use cip_decode::decode_reply;
 use cip_event::Output;
-use cip_view::{drop_word, refusal_word};
 use std::alloc::{AllocError, Global};
 
 // The end of an op: how it ended.

@@ -1,8 +1,8 @@
 //! Which replies tell that a module was reset.
 ghost use Rattle.std.specs.Prelude.{◌≡◌, ◌==◌, ◌&&◌};
 
+use cip_book::{Kind, Label};
 use cip_decode::decode_reply;
-use cip_view::{Kind, Label};
 
 // The service of the reply to an Identity Reset.
 const RESET: u8 = 0x85;

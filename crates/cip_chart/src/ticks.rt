@@ -2,7 +2,7 @@
 ghost use Rattle.std.specs.Prelude.{◌≡◌};
 ghost use Rattle.cip_chart.specs.Rounds.{next_of, rows_with};
 
-use crate::model::Row;
+use cip_drawing::Row;
 
 /// The ticks of the modules from the first on, as far as they came one behind the other and by the
 /// same milliseconds.

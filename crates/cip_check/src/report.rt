@@ -13,7 +13,8 @@ pub struct Report {
 }
 
 impl Report {
-    pub(crate) fn new(alloc: Global) -> Report
+    /// Nothing was found yet.
+    pub fn new(alloc: Global) -> Report
         ensures { result.faults ≡ 0 }
     {
         Report {
@@ -34,12 +35,9 @@ impl Report {
         self.faults
     }
 
-    /// A line that tells a fault.
-    pub(crate) fn fault<T: fmt::Display>(
-        &mut self,
-        alloc: Global,
-        fault: &T,
-    ) -> Result<(), AllocError>
+    /// A line that tells a fault. AllocError where an allocation is refused: what was found before
+    /// stays.
+    pub fn fault<T: fmt::Display>(&mut self, alloc: Global, fault: &T) -> Result<(), AllocError>
         ensures told { IfOk result (λ _. 1 ≤ self.new.faults) }
         ensures more { self.old.faults ≤ self.new.faults }
     {

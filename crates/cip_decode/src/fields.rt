@@ -20,7 +20,7 @@ impl fmt::Display for TriadText {
 }
 
 /// The length of one time-out tick, in milliseconds.
-pub(crate) fn tick_length(timing: Timing) -> u32 {
+pub fn tick_length(timing: Timing) -> u32 {
     1u32 << (timing.tick % 16)
 }
 
@@ -37,7 +37,7 @@ impl fmt::Display for TimingText {
 }
 
 /// The name of a priority.
-pub(crate) fn priority_name(priority: Priority) -> &'static str {
+pub fn priority_name(priority: Priority) -> &'static str {
     match priority {
         Priority::Low => "low",
         Priority::High => "high",
@@ -47,7 +47,7 @@ pub(crate) fn priority_name(priority: Priority) -> &'static str {
 }
 
 /// The name of a connection type.
-pub(crate) fn kind_name(kind: ConnectionKind) -> &'static str {
+pub fn kind_name(kind: ConnectionKind) -> &'static str {
     match kind {
         ConnectionKind::Null => "null",
         ConnectionKind::Multicast => "multicast",
@@ -57,7 +57,7 @@ pub(crate) fn kind_name(kind: ConnectionKind) -> &'static str {
 }
 
 /// The name of a trigger, bits 6 to 4 of the transport byte.
-pub(crate) fn trigger_name(transport: u8) -> &'static str {
+pub fn trigger_name(transport: u8) -> &'static str {
     match transport / 16 % 8 {
         0 => "cyclic",
         1 => "change of state",
@@ -67,7 +67,7 @@ pub(crate) fn trigger_name(transport: u8) -> &'static str {
 }
 
 /// How many intervals a connection timeout multiplier means; None for a reserved one.
-pub(crate) fn intervals(multiplier: u8) -> Option<u16> {
+pub fn intervals(multiplier: u8) -> Option<u16> {
     match multiplier {
         0 => Some(4),
         1 => Some(8),

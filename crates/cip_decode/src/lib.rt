@@ -7,7 +7,6 @@ mod attributes;
 mod attributes_text;
 mod bytes;
 mod fields;
-mod json;
 mod put_json;
 mod reply;
 mod reply_text;
@@ -21,7 +20,7 @@ pub use attributes::{
 };
 pub use attributes_text::put_attributes_json;
 pub use bytes::Pairs;
-pub use json::{path_json, reply_json, request_json, triad_json};
+pub use fields::{intervals, kind_name, priority_name, tick_length, trigger_name};
 pub use put_json::{put_path_json, put_reply_json, put_request_json, put_triad_json};
 pub use reply::{Answer, Reply, decode_reply};
 pub use reply_text::StatusText;

@@ -1,5 +1,5 @@
-//! Messages as JSON behind a text: the bytes of what `request_json` and its like give, without the
-//! tree of values between. Members stand in alphabetical order.
+//! Messages as JSON behind a text: functions of the records that reading gave, without a tree of
+//! values between. Members stand in alphabetical order.
 use crate::fields::{intervals, kind_name, priority_name, tick_length, trigger_name};
 use crate::reply::{Answer, Reply};
 use crate::request::{Meaning, Request};
@@ -74,7 +74,7 @@ fn put_name(text: &mut Draft, before: &str, name: Option<&'static str>) -> Resul
     }
 }
 
-/// Puts what `triad_json` gives. NoMemory where an allocation is refused.
+/// Puts a triad: `serial`, `vendor`, `originator`. NoMemory where an allocation is refused.
 pub fn put_triad_json(text: &mut Draft, triad: Triad) -> Result<(), NoMemory> {
     text.put_count("{\"originator\":", u64::from(triad.originator))?;
     text.put_count(",\"serial\":", u64::from(triad.serial))?;
@@ -120,7 +120,7 @@ fn put_segment(text: &mut Draft, segment: SegmentView<'_>) -> Result<(), NoMemor
     }
 }
 
-/// Puts what `path_json` gives. NoMemory where an allocation is refused.
+/// Puts a path: an array with an object for each segment. NoMemory where an allocation is refused.
 pub fn put_path_json(text: &mut Draft, path: PathView<'_>) -> Result<(), NoMemory> {
     text.put("[")?;
     let mut rest = path;
@@ -257,7 +257,9 @@ fn put_meaning(text: &mut Draft, meaning: &Meaning<'_>) -> Result<(), NoMemory> 
     }
 }
 
-/// Puts what `request_json` gives. NoMemory where an allocation is refused.
+/// Puts a request: `code` and `service`, `path`, `data`, and in `means` what its data says: an
+/// object with `unconnected_send`, `open` or `close`, one with the fault in `unreadable`, or null.
+/// NoMemory where an allocation is refused.
 pub fn put_request_json(text: &mut Draft, request: &Request<'_>) -> Result<(), NoMemory> {
     let view = request.view;
     text.put_count("{\"code\":", u64::from(view.service))?;
@@ -342,7 +344,9 @@ fn put_service(text: &mut Draft, name: Option<&'static str>) -> Result<(), NoMem
     }
 }
 
-/// Puts what `reply_json` gives. NoMemory where an allocation is refused.
+/// Puts a reply: `code` and `service`, `status`, `data`, and in `means` what its data says: an
+/// object with `opened`, `closed` or `failed`, one with the fault in `unreadable`, or null. NoMemory
+/// where an allocation is refused.
 pub fn put_reply_json(text: &mut Draft, reply: &Reply<'_>) -> Result<(), NoMemory> {
     let view = reply.view;
     text.put_count("{\"code\":", u64::from(view.service))?;

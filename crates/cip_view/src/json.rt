@@ -2,13 +2,11 @@
 //! line. Members stand in alphabetical order.
 ghost use Rattle.std.specs.Prelude.{◌≡◌, [], string_bytes};
 
-use crate::book::{Book, Known, Sent};
-use crate::label::{NameText, put_label};
 use crate::note_json::put_note;
-use crate::past::Past;
-use crate::reasons::{drop_word, refusal_word};
-use crate::view::{Ending, View};
 use cip_base::{Address, ModuleId, NoMemory, PortNumber, Triad};
+use cip_book::{
+    Book, Ending, Known, NameText, Past, Sent, View, drop_word, put_label, refusal_word,
+};
 use cip_decode::{
     Attributes, AttributesView, answered_attributes, decode_reply, decode_request,
     put_attributes_json, put_reply_json, put_request_json, put_triad_json, set_instance,

@@ -1,12 +1,8 @@
 //! The lines that show no part of an entry, as JSON: the line in `note`, and what it says in
 //! members beside it.
-use crate::book::Book;
-use crate::label::NameText;
 use crate::notes::{NoteWords, chain_ops, trail_of};
-use crate::opens::only;
-use crate::past::Past;
-use crate::reasons::command_word;
 use cip_base::NoMemory;
+use cip_book::{Book, NameText, Past, command_word, only_op};
 use cip_read::Note;
 use cip_text::Draft;
 use std::alloc::Global;
@@ -111,7 +107,7 @@ fn put_chain(text: &mut Draft, past: &Past<'_>, words: &NoteWords<'_>) -> Result
     match words.at(0) {
         "chain" => {
             let ops = chain_ops(text.allocator(), past, words)?;
-            put_modules(text, words, only(ops.as_slice()))
+            put_modules(text, words, only_op(ops.as_slice()))
         }
         "not" => text.put("\"not open\""),
         _ => {

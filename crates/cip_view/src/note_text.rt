@@ -1,10 +1,7 @@
 //! The lines that show no part of an entry: what trails and chains mean, in words.
-use crate::book::Book;
-use crate::label::NameText;
 use crate::notes::{NoteWords, chain_ops, last_of, trail_of};
-use crate::opens::TOLD;
-use crate::past::Past;
 use cip_base::NoMemory;
+use cip_book::{Book, MAX_TOLD, NameText, Past};
 use cip_read::{CommandWord, Note};
 use std::alloc::Global;
 
@@ -62,7 +59,7 @@ fn before_op(k: usize, count: usize) -> &'static str {
 fn put_ops(out: &mut String, ops: &[u32]) -> Result<(), NoMemory> {
     for (k, op) in ops.iter().enumerate() {
         out.push_str(before_op(k, ops.len()))?;
-        if k < TOLD {
+        if k < MAX_TOLD {
             write!(*out, "{op}")?;
         } else {
             out.push_str("a later one")?;

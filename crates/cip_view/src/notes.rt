@@ -1,7 +1,7 @@
 //! The lines that show no part of an entry: the words that they have, and what trails and chains
 //! are of.
-use crate::past::Past;
 use cip_base::{ModuleId, NoMemory};
+use cip_book::Past;
 use cip_read::CommandWord;
 use cip_words::{number, number_u32, words};
 use std::alloc::Global;

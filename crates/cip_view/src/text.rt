@@ -1,14 +1,12 @@
 //! A transcript with what each message says on a line of its own below the entry.
 ghost use Rattle.std.specs.Prelude.{◌≡◌, [], string_bytes};
 
-use crate::book::{Book, Known, Sent};
-use crate::label::NameText;
 use crate::note_text::put_meaning;
-use crate::past::Past;
-use crate::reasons::{command_word, drop_reason, refusal_reason};
-use crate::says::{BodyText, DatumText, OfText, ReplyText};
-use crate::view::{Ending, View};
 use cip_base::{Address, ModuleId, NoMemory, PortNumber, Triad};
+use cip_book::{
+    BodyText, Book, DatumText, Ending, Known, NameText, OfText, Past, ReplyText, Sent, View,
+    command_word, drop_reason, refusal_reason,
+};
 use cip_decode::{
     Attributes, AttributesView, Pairs, Reply, answered_attributes, decode_reply, decode_request,
     set_instance,

@@ -7,9 +7,9 @@
 
 mod fault;
 
+use cip_book::{Pieces, View, feed, finish};
 use cip_read::Reader;
 use cip_topology::{CHASSIS, Topology, load};
-use cip_view::{Pieces, View, feed, finish};
 use fault::Fault;
 use std::alloc::Global;
 use std::io;

@@ -1,12 +1,13 @@
 //! The JSON view as it was when it made a tree of values for each entry, kept to compare with.
 ghost use Rattle.std.specs.Prelude.{◌≡◌, [], string_bytes};
 
+use crate::json::{reply_json, request_json, triad_json};
 use cip_base::{Address, ModuleId, NoMemory, PortNumber, Triad};
-use cip_decode::{Pairs, decode_reply, decode_request, reply_json, request_json, triad_json};
+use cip_book::{Book, Ending, Known, NameText, Sent, View, drop_word, refusal_word};
+use cip_decode::{Pairs, decode_reply, decode_request};
 use cip_event::{Body, Output};
 use cip_read::{CommandWord, FrameName, Given, Line};
 use cip_topology::Topology;
-use cip_view::{Book, Ending, Known, NameText, Sent, View, drop_word, refusal_word};
 use serde_json::{Value, json};
 use std::alloc::{AllocError, Global};
 

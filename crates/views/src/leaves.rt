@@ -1,7 +1,6 @@
 //! Statuses, services, bytes and names, each beside its form from before.
 use cip_decode::{
-    Pairs, PathText, Reply, Request, decode_reply, decode_request, put_reply_json,
-    put_request_json, reply_json, request_json,
+    Pairs, PathText, Reply, Request, decode_reply, decode_request, put_reply_json, put_request_json,
 };
 use cip_segment::{PathView, view_path};
 use cip_text::Draft;
@@ -10,6 +9,7 @@ use std::alloc::{AllocError, Global};
 use std::fmt;
 use std::process::Abort;
 use std::test::Fail;
+use tree_view::{reply_json, request_json};
 
 /// Bytes as upper-case pairs, as they were written one by one.
 #[derive(Clone, Copy)]

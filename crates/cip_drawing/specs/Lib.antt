@@ -1,0 +1,3 @@
+pub mod Bands
+pub mod Passed
+pub mod Sides

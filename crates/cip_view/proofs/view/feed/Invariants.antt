@@ -1,5 +1,0 @@
-use Rattle.std.proofs.Common.{length}
-use Rattle.cip_view.proofs.view.feed.Given as goal
-
-abbrev pub decreases-loop-end : goal.decreases-loop-end
-decreases-loop-end g l = length l.rest
