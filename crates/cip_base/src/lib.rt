@@ -1,5 +1,6 @@
 //! The small values that every layer shares: link addresses, port numbers, connection triads,
-//! times, statuses, electronic keys, lists of bytes, and the limits of a chassis.
+//! times, statuses, electronic keys, lists of bytes, beginnings of texts, and the limits of a
+//! chassis.
 #![tactic(auto)]
 
 ghost use Rattle.std.specs.Borrow.{ffalse};
@@ -9,6 +10,7 @@ use std::alloc::{AllocError, Allocator};
 mod address;
 mod bytes;
 mod counts;
+mod excerpt;
 mod fields;
 mod index;
 mod key;
@@ -23,6 +25,7 @@ mod triad;
 pub use address::{Address, AddressFault};
 pub use bytes::Bytes;
 pub use counts::{count_of, counts_given, incarnation, reborn};
+pub use excerpt::Excerpt;
 pub use fields::{put_double, put_word};
 pub use index::NumberIndex;
 pub use key::KeyFields;

@@ -6,10 +6,10 @@ ghost use Rattle.cip_book.specs.Books.{answered_under, answered, AsksBy};
 
 use crate::label::{Kind, Label, label_of};
 use cip_base::{Address, ModuleId, NoMemory, PortNumber, Triad};
+use cip_chassis::Topology;
 use cip_decode::{Answer, Attributes, Meaning, asked_attributes, decode_reply, decode_request};
 use cip_event::Body;
 use cip_read::{CommandWord, FrameName, Given};
-use cip_topology::Topology;
 use std::alloc::Global;
 use std::collections::BTreeMap;
 

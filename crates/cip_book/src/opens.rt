@@ -5,11 +5,11 @@ ghost use Rattle.cip_message.specs.ReplyAt.{reply_at};
 ghost use Rattle.cip_book.specs.Opens.{is_success, only_op, is_by};
 
 use cip_base::{Address, ModuleId, NoMemory, PortNumber, Triad};
+use cip_chassis::Topology;
 use cip_decode::{Meaning, decode_reply, decode_request};
 use cip_event::{Body, Output};
 use cip_read::{CommandWord, Given};
 use cip_segment::{PathView, SegmentView, split_first};
-use cip_topology::Topology;
 use std::alloc::Global;
 use std::collections::BTreeMap;
 

@@ -1,9 +1,9 @@
 //! What is kept of the entries that were read, to tell what trails and chains are of.
 use crate::opens::Opens;
 use cip_base::{ModuleId, NoMemory};
+use cip_chassis::Topology;
 use cip_event::Output;
 use cip_read::{CommandWord, Given};
-use cip_topology::Topology;
 use std::alloc::Global;
 
 /// How many entries are kept: the last ones.

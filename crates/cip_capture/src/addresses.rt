@@ -1,7 +1,7 @@
 //! The addresses that modules have in a capture.
 use cip_base::{ModuleId, NoMemory};
+use cip_chassis::Topology;
 use cip_config::ModuleConfig;
-use cip_topology::Topology;
 use std::alloc::Global;
 
 /// Who sends a packet, or whom it goes to.

@@ -1,7 +1,7 @@
 //! The blocks of a pcapng file. Numbers have the lowest byte first.
 use crate::addresses::Hosts;
 use cip_base::{ModuleId, NoMemory, put_double, put_word};
-use cip_topology::Topology;
+use cip_chassis::Topology;
 use std::alloc::Global;
 
 // The kinds of blocks.

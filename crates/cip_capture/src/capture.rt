@@ -6,9 +6,9 @@ use crate::blocks::{put_interface, put_names, put_packet, put_remark, put_sectio
 use crate::packets::{CLIENT, MOST, SERVER, Segment, Way, datum, message, tcp_packet, udp_packet};
 use cip_base::{ModuleId, NoMemory, Triad};
 use cip_book::{Book, Ending, Kind, Sent, View};
+use cip_chassis::Topology;
 use cip_event::{Body, Output};
 use cip_read::{FrameName, Given, Line};
-use cip_topology::Topology;
 use std::alloc::Global;
 use std::collections::BTreeMap;
 

@@ -11,7 +11,7 @@ use Rattle.cip_world.specs.Journals.{entry_at}
 use Rattle.cip_world.specs.Roots.{root_here, root_of}
 use Rattle.cip_world.proofs.StepAt.{at_place}
 use Rattle.cip_world.specs.Trails.{request_by, request_of, trail_of}
-use Rattle.cip_world.specs.declared.journal.FrameName.{FrameName}
+use Rattle.cip_event.specs.declared.frame.FrameName.{FrameName}
 use Rattle.cip_world.proofs.TrailGrows.{tip, arrived, goes_on, if_so, grows, no_trail, request_older}
 use Rattle.cip_chain.specs.declared.trails.Sought.{Sought}
 use Rattle.cip_chain.specs.declared.trails.Sought.TheVariants.{Command, Arrival, Nothing}

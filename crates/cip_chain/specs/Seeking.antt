@@ -1,7 +1,7 @@
 -- What a trail goes on by, as the code keeps it.
 use Rattle.std.specs.Prelude.{ℕ, Bool, true, false, Option, Some, None}
 use Rattle.cip_world.specs.declared.journal.Entry.{Entry}
-use Rattle.cip_world.specs.declared.journal.FrameName.{FrameName}
+use Rattle.cip_event.specs.declared.frame.FrameName.{FrameName}
 use Rattle.cip_world.specs.Journals.{Journal}
 use Rattle.cip_world.specs.Trails.{is_command, request_of, arrived_in}
 use Rattle.cip_chain.specs.declared.trails.Sought.{Sought}

@@ -8,11 +8,11 @@ use crate::resets::{ends_in_reset, is_reset};
 use crate::ticks::{Round, Together, join};
 use cip_base::{ModuleId, NoMemory};
 use cip_book::{BodyText, Book, Ending, Kind, Sent, View};
+use cip_chassis::Topology;
 use cip_drawing::{Arrow, Cause, Chart, Fate, Look, Mark, Row, put_page, put_svg};
 use cip_event::{Body, Output};
 use cip_read::{CommandWord, FrameName, Given, Line};
 use cip_text::Draft;
-use cip_topology::Topology;
 use std::alloc::Global;
 use std::collections::BTreeMap;
 

@@ -9,13 +9,13 @@ ghost use Rattle.cip_transcript.specs.Show.{names_of};
 use crate::playing::play;
 use cip_base::Bytes;
 use cip_chain::TrailIndex;
+use cip_chassis::Topology;
 use cip_play::{
     ConsoleFault, PlayFault, ReadFault, SCRIPT_LIMIT, Sink, Source, WriteFault, flush, read_script,
     tell_waiting,
 };
 use cip_routing::Module;
 use cip_script::{Mode, Numbered, StepsFault, read_steps};
-use cip_topology::Topology;
 use cip_transcript::names_of;
 use cip_world::{NewFault, Shown, World};
 use std::alloc::Global;

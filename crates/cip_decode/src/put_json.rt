@@ -345,8 +345,8 @@ fn put_service(text: &mut Draft, name: Option<&'static str>) -> Result<(), NoMem
 }
 
 /// Puts a reply: `code` and `service`, `status`, `data`, and in `means` what its data says: an
-/// object with `opened`, `closed` or `failed`, one with the fault in `unreadable`, or null. NoMemory
-/// where an allocation is refused.
+/// object with `opened`, `closed` or `failed`, one with the fault in `unreadable`, or null.
+/// NoMemory where an allocation is refused.
 pub fn put_reply_json(text: &mut Draft, reply: &Reply<'_>) -> Result<(), NoMemory> {
     let view = reply.view;
     text.put_count("{\"code\":", u64::from(view.service))?;

@@ -5,8 +5,8 @@ use crate::model::Chart;
 use crate::style;
 use cip_base::{Address, ModuleId, NoMemory};
 use cip_book::NameText;
+use cip_chassis::Topology;
 use cip_text::Draft;
-use cip_topology::Topology;
 
 /// Where the boxes of the modules begin.
 pub(crate) const TOP: u64 = 10;

@@ -1,8 +1,8 @@
 //! What a chart has: columns, rows, arrows and marks.
 use cip_base::ModuleId;
 use cip_book::Label;
+use cip_chassis::Topology;
 use cip_read::{FrameName, Given};
-use cip_topology::Topology;
 use std::alloc::Global;
 
 /// What the module of a row was given that may be folded.

@@ -4,7 +4,7 @@ ghost use Rattle.std.specs.Prelude.{IsTrue, OnErr, OnOk};
 ghost use Rattle.cip_ends.specs.Names.{HasNone, IsMeant, IsNewest, IsOf, key_of};
 
 use cip_base::{ModuleId, NoMemory};
-use cip_topology::Name;
+use cip_chassis::Name;
 use std::alloc::Global;
 use std::collections::BTreeMap;
 use std::marker::Model;

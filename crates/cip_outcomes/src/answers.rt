@@ -2,12 +2,12 @@
 
 use crate::outcomes::Code;
 use crate::refusals::assembly_size;
-use cip_base::ModuleId;
+use cip_base::{Excerpt, ModuleId};
+use cip_chassis::Topology;
 use cip_message::read_request;
 use cip_open::{FORWARD_OPEN, LARGE_FORWARD_OPEN, OpenView, open_params, read_open_of};
 use cip_routing::{Body, Output};
 use cip_segment::{PathView, SegmentView, split_first};
-use cip_topology::{Excerpt, Topology};
 use cip_world::{Entry, Input, World, frame_at};
 use std::fmt;
 

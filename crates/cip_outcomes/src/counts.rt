@@ -2,10 +2,10 @@
 
 use crate::refusals::{assembly_size, command_in};
 use cip_base::{Bytes, ModuleId, Triad};
+use cip_chassis::Topology;
 use cip_message::read_reply;
 use cip_open::{FORWARD_OPEN_REPLY, LARGE_FORWARD_OPEN_REPLY, read_open_reply};
 use cip_routing::{Body, Command, Output};
-use cip_topology::Topology;
 use cip_world::Entry;
 use std::fmt;
 

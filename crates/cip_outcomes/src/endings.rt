@@ -2,8 +2,8 @@
 
 use crate::refusals::command_in;
 use cip_base::{ModuleId, Triad};
+use cip_chassis::Topology;
 use cip_routing::{Command, Dropped, Output};
-use cip_topology::Topology;
 use cip_world::{Entry, FrameName, Input};
 
 // The connection serial number of a command that opens, with its op.

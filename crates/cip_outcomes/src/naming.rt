@@ -1,8 +1,8 @@
 //! How faults name ops, assemblies and commands.
 
 use crate::ops::Ops;
-use cip_base::ModuleId;
-use cip_topology::{Excerpt, Topology};
+use cip_base::{Excerpt, ModuleId};
+use cip_chassis::Topology;
 use std::fmt;
 
 /// A word of a line.

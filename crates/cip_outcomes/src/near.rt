@@ -1,6 +1,6 @@
 //! The name that a word is nearest to.
 
-use cip_topology::Excerpt;
+use cip_base::Excerpt;
 use std::alloc::{AllocError, Global};
 use std::fmt;
 use strsim::osa_distance;

@@ -1,8 +1,8 @@
 //! The ops of a script.
 
 use cip_base::{ModuleId, NoMemory};
+use cip_chassis::Name;
 use cip_ends::{Names, Op};
-use cip_topology::Name;
 use std::alloc::{AllocError, Global};
 
 /// The ops that were named, and the greatest number of an op that each module was given.

@@ -3,9 +3,9 @@
 use crate::naming::{OpName, Order, Subject, module_name};
 use crate::ops::Ops;
 use cip_base::{ModuleId, NoMemory};
+use cip_chassis::Topology;
 use cip_config::ModuleSettings;
 use cip_routing::{Command, Output, Refused};
-use cip_topology::Topology;
 use cip_world::{Entry, Input, Shown, World};
 use std::fmt;
 

@@ -8,7 +8,7 @@ use Rattle.cip_routing.specs.Table.{Stepped, table_step}
 use Rattle.cip_chassis.specs.Nodes.{Way, across}
 use Rattle.cip_chassis.specs.Plan.{Plan}
 use Rattle.cip_world.specs.declared.journal.Entry.TheVariants.{Step, Lost}
-use Rattle.cip_world.specs.declared.journal.FrameName.{FrameName}
+use Rattle.cip_event.specs.declared.frame.FrameName.{FrameName}
 use Rattle.cip_world.specs.declared.journal.Input.{Input}
 use Rattle.cip_world.specs.declared.journal.Input.TheVariants.{Command, Tick, Frame}
 use Rattle.cip_world.specs.Journals.{Journal, Flight, event_of, frame_at}

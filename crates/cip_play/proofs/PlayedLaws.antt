@@ -12,7 +12,7 @@ use Rattle.cip_chassis.specs.Plan.{Plan}
 use Rattle.cip_chassis.specs.Nodes.{Way, across}
 use Rattle.cip_world.specs.declared.fault.WorldFault.{WorldFault}
 use Rattle.cip_world.specs.declared.fault.WorldFault.TheVariants as faults
-use Rattle.cip_world.specs.declared.journal.FrameName.{FrameName}
+use Rattle.cip_event.specs.declared.frame.FrameName.{FrameName}
 use Rattle.cip_world.specs.declared.journal.Entry.TheVariants.{Lost}
 use Rattle.cip_world.specs.declared.journal.Input.{Input}
 use Rattle.cip_world.specs.declared.journal.Input.TheVariants as inputs

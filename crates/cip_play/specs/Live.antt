@@ -6,7 +6,7 @@ use Rattle.cip_base.specs.declared.numbers.ModuleId.{ModuleId}
 use Rattle.cip_routing.specs.declared.tables.Tables.{Tables}
 use Rattle.cip_chassis.specs.Plan.{Plan}
 use Rattle.cip_world.specs.declared.journal.Entry.{Entry}
-use Rattle.cip_world.specs.declared.journal.FrameName.{FrameName}
+use Rattle.cip_event.specs.declared.frame.FrameName.{FrameName}
 use Rattle.cip_world.specs.declared.world.End.{End}
 use Rattle.cip_world.specs.declared.world.End.TheVariants.{Quiet, Limit}
 use Rattle.cip_threads.specs.declared.feed.Feed.{Feed}

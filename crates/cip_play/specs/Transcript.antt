@@ -11,7 +11,7 @@ use Rattle.cip_routing.specs.declared.tables.Tables.{Tables}
 use Rattle.cip_routing.specs.State.{State}
 use Rattle.cip_routing.specs.Views.{row_of, hop_row_of, assemblies_of}
 use Rattle.cip_chassis.specs.Plan.{Plan}
-use Rattle.cip_world.specs.declared.journal.FrameName.{FrameName}
+use Rattle.cip_event.specs.declared.frame.FrameName.{FrameName}
 use Rattle.cip_world.specs.declared.journal.Entry.TheVariants.{Lost}
 use Rattle.cip_world.specs.declared.journal.Input.{Input}
 use Rattle.cip_world.specs.declared.journal.Input.TheVariants as inputs

@@ -1,7 +1,7 @@
 //! What holds of the text of every run.
 ghost use Rattle.std.specs.Prelude.{◌≡◌, ℕ, ◌++◌, ◌∷◌, [], List, reverse};
 ghost use Rattle.cip_world.specs.declared.journal.Entry.{Entry};
-ghost use Rattle.cip_world.specs.declared.journal.FrameName.{FrameName};
+ghost use Rattle.cip_event.specs.declared.frame.FrameName.{FrameName};
 ghost use Rattle.cip_world.specs.declared.world.End.TheVariants.{Quiet, Limit};
 ghost use Rattle.cip_play.specs.Live.{entries_text, last_text};
 ghost use Rattle.cip_play.specs.Transcript.{end_text, newest};

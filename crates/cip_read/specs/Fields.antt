@@ -5,7 +5,7 @@ use denote.Ref.{Bor}
 use Rattle.std.specs.List.{position, slice_split}
 use Rattle.std.specs.Str.{bytes_eq}
 use Rattle.cip_base.specs.declared.numbers.ModuleId.{ModuleId}
-use Rattle.cip_read.specs.declared.line.FrameName.{FrameName}
+use Rattle.cip_event.specs.declared.frame.FrameName.{FrameName}
 use Rattle.cip_chassis.specs.Plan.{Plan}
 use Rattle.cip_words.specs.Shown.{below, number_of, bytes_of, is_dot, two_of}
 use Rattle.cip_read.specs.declared.fault.LineFault.{LineFault}

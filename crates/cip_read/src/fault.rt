@@ -3,8 +3,7 @@ ghost use Rattle.std.specs.Prelude.{◌≡◌};
 ghost use Rattle.cip_read.specs.declared.fault.LineFault.TheVariants.{NoMemory as NoLineMemory};
 ghost use Rattle.cip_read.specs.declared.fault.ReadFault.TheVariants.{NoMemory as NoReadMemory};
 
-use cip_base::NoMemory;
-use cip_topology::Excerpt;
+use cip_base::{Excerpt, NoMemory};
 use std::alloc::AllocError;
 use thiserror::Error;
 

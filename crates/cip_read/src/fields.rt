@@ -7,9 +7,9 @@ ghost use Rattle.cip_read.specs.declared.fault.LineFault.TheVariants.{Word};
 ghost use Rattle.cip_read.specs.declared.fault.Expected.TheVariants.{Frame};
 
 use crate::fault::{Expected, LineFault};
-use crate::line::FrameName;
 use cip_base::{Address, Bytes, ModuleId, Ms, PortNumber};
-use cip_topology::Topology;
+use cip_chassis::Topology;
+use cip_event::FrameName;
 use cip_words::{bytes, halves, number, number_u16, number_u32};
 use std::alloc::Global;
 

@@ -7,7 +7,7 @@ ghost use Rattle.cip_read.specs.Lines.{Reads};
 use crate::fault::{Expected, LineFault};
 use crate::fields::{frame_at, module_at, ms_at, nth, u32_at, usize_at};
 use crate::line::{CommandWord, Given, Line};
-use cip_topology::Topology;
+use cip_chassis::Topology;
 
 // The word of a command, at place 2.
 fn command_of(word: &str) -> Result<CommandWord, LineFault>

@@ -9,6 +9,7 @@ mod notes;
 mod outputs;
 mod reader;
 
+pub use cip_event::FrameName;
 pub use fault::{Expected, LineFault, ReadFault};
-pub use line::{CommandWord, FrameName, Given, Line, Note};
+pub use line::{CommandWord, Given, Line, Note};
 pub use reader::{Reader, read_line};

@@ -1,14 +1,6 @@
 //! What a line of a transcript shows.
 use cip_base::ModuleId;
-use cip_event::Output;
-
-/// The name of a frame: the entry that sent it, and its place among that entry's outputs, both from
-/// 0. Frames are ordered by entry, then by place.
-#[derive(Clone, Copy, Debug, PartialEq, Eq, PartialOrd, Ord)]
-pub struct FrameName {
-    pub entry: usize,
-    pub output: usize,
-}
+use cip_event::{FrameName, Output};
 
 /// The word by which an entry's line names a command.
 #[derive(Clone, Copy, Debug, PartialEq, Eq)]

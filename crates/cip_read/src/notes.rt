@@ -3,7 +3,7 @@
 use crate::fault::{Expected, LineFault};
 use crate::fields::{bytes_at, module_at, nth, u16_at, u32_at, u64_at};
 use crate::line::Note;
-use cip_topology::Topology;
+use cip_chassis::Topology;
 use cip_words::number;
 use std::alloc::Global;
 

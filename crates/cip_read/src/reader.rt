@@ -13,7 +13,8 @@ use crate::heads::head_at;
 use crate::line::Line;
 use crate::notes::{note_at, row_at};
 use crate::outputs::output_at;
-use cip_topology::{Excerpt, Topology};
+use cip_base::Excerpt;
+use cip_chassis::Topology;
 use cip_words::{ascii, ascii_words, number, words};
 use std::alloc::Global;
 

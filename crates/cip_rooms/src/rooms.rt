@@ -1,4 +1,8 @@
 //! Rooms of modules that are too small for a script.
+ghost use Rattle.std.specs.Prelude.{◌≡◌};
+ghost use Rattle.cip_rooms.specs.Rooms.{Follows};
+ghost use Rattle.cip_script.specs.Steps.{steps};
+ghost use Rattle.cip_transcript.specs.Show.{names_of};
 
 use cip_base::{Bytes, ModuleId, NoMemory, Status};
 use cip_check::Report;
@@ -6,7 +10,8 @@ use cip_config::ModuleConfig;
 use cip_message::read_reply;
 use cip_pending::Kind;
 use cip_routing::{Body, Module, Output, Tables};
-use cip_script::{Mode, PlayFault, ScriptFault, Step, StepsFault, play_step, read_steps};
+use cip_script::{Mode, Numbered, ScriptFault, Step, StepsFault, read_steps};
+use cip_silent::{PlayFault, play_step};
 use cip_topology::{Key, Topology};
 use cip_transcript::names_of;
 use cip_world::{Entry, FrameName, Input, Shown, World, WorldFault, frame_at};
@@ -37,15 +42,6 @@ impl<T: Drop> From<AllocFailed<T>> for RoomsFault {
 impl From<NoMemory> for RoomsFault {
     fn from(_refused: NoMemory) -> RoomsFault {
         RoomsFault::NoMemory
-    }
-}
-
-impl From<StepsFault> for RoomsFault {
-    fn from(fault: StepsFault) -> RoomsFault {
-        match fault {
-            StepsFault::Script(line, fault) => RoomsFault::Script(line, fault),
-            StepsFault::NoMemory => RoomsFault::NoMemory,
-        }
     }
 }
 
@@ -277,14 +273,12 @@ fn play(
 fn play_all(
     alloc: Global,
     world: &mut World,
-    names: &[Bytes],
-    script: &[u8],
+    steps: Vec<Numbered>,
     watch: &mut Watch,
 ) -> Result<(), RoomsFault>
     requires stand { ⟦<World as Shown>⟧.stands world.old }
     ensures stand { ⟦<World as Shown>⟧.stands world.new }
 {
-    let steps = read_steps(alloc, Mode::InTurn, names, script)?;
     let mut left = VecDeque::from(steps);
     'steps: while let Some(numbered) = left.pop_front() {
         play(alloc, world, numbered.step, numbered.line, watch)?;
@@ -293,34 +287,28 @@ fn play_all(
 }
 
 // The same over a world, and what was found.
-fn watched(
-    alloc: Global,
-    world: &mut World,
-    names: &[Bytes],
-    script: &[u8],
-) -> Result<Report, RoomsFault>
+fn watched(alloc: Global, world: &mut World, steps: Vec<Numbered>) -> Result<Report, RoomsFault>
     requires stand { ⟦<World as Shown>⟧.stands world.old }
 {
     let mut watch = Watch {
         report: Report::new(alloc),
         told: Vec::new(alloc),
     };
-    play_all(alloc, world, names, script, &mut watch)?;
+    play_all(alloc, world, steps, &mut watch)?;
     Ok(watch.report)
 }
 
-// The same over the modules of a topology, whose names these are.
+// The same over the modules of a topology.
 fn watched_over(
     alloc: Global,
     topology: Topology,
     modules: Vec<Box<dyn Module + Send>>,
-    names: &[Bytes],
-    script: &[u8],
+    steps: Vec<Numbered>,
 ) -> Result<Report, RoomsFault> {
     match World::new(alloc, topology, modules) {
         Ok(world) => {
             let mut world = world;
-            watched(alloc, &mut world, names, script)
+            watched(alloc, &mut world, steps)
         }
         // Of new modules memory alone can be wanting.
         Err(_) => Err(RoomsFault::NoMemory),
@@ -329,16 +317,23 @@ fn watched_over(
 
 /// Plays a script over the modules of a topology, in its order and each as at its beginning, and
 /// tells of each module that refused a request since a room of it was full, or its numbers or ids
-/// were spent: where first, and which key of the file says so. Script is the line that is faulty or
-/// stops the run; NoMemory where an allocation is refused.
+/// were spent: where first, and which key of the file says so. Script is the first line that is
+/// faulty, before any is played, or the one that stops the run; NoMemory where an allocation is
+/// refused.
 pub fn small_rooms(
     alloc: Global,
     topology: Topology,
     modules: Vec<Box<dyn Module + Send>>,
     script: &[u8],
-) -> Result<Report, RoomsFault> {
+) -> Result<Report, RoomsFault>
+    ensures { Follows (steps Mode.InTurn (names_of topology) script.now) result }
+{
     match names_of(alloc, &topology) {
-        Ok(names) => watched_over(alloc, topology, modules, names.as_slice(), script),
+        Ok(names) => match read_steps(alloc, Mode::InTurn, names.as_slice(), script) {
+            Ok(steps) => watched_over(alloc, topology, modules, steps),
+            Err(StepsFault::Script(line, fault)) => Err(RoomsFault::Script(line, fault)),
+            Err(StepsFault::NoMemory) => Err(RoomsFault::NoMemory),
+        },
         Err(NoMemory) => Err(RoomsFault::NoMemory),
     }
 }

@@ -12,7 +12,7 @@ use Rattle.cip_base.specs.declared.timing.Timing.{Timing}
 use Rattle.cip_event.specs.declared.event.Command.TheVariants as commands
 use Rattle.cip_event.specs.declared.event.OpenParams.{OpenParams}
 use Rattle.cip_event.specs.declared.event.LargeParams.{LargeParams}
-use Rattle.cip_world.specs.declared.journal.FrameName.{FrameName}
+use Rattle.cip_event.specs.declared.frame.FrameName.{FrameName}
 use Rattle.cip_segment.specs.declared.segment.Segment.{Segment}
 use Rattle.cip_segment.specs.declared.fault.PathFault.{PathFault}
 use Rattle.cip_segment.specs.Reading.{path_at}

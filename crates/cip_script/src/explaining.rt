@@ -2,10 +2,9 @@
 
 use crate::steps::ScriptFault;
 use crate::text;
-use cip_base::NoMemory;
+use cip_base::{Excerpt, NoMemory};
 use cip_segment::{PathFault, view_path};
 use cip_tool::{HexFault, fault_place, hex_fault, number};
-use cip_topology::Excerpt;
 use cip_words::{ascii, lines};
 use std::alloc::Global;
 use thiserror::Error;

@@ -1,6 +1,6 @@
 //! The names of frames, to be shown.
 
-use cip_world::FrameName;
+use cip_event::FrameName;
 use std::fmt;
 
 // The most frames that are listed.

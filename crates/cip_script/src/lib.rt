@@ -3,12 +3,10 @@
 
 mod explaining;
 mod frames;
-mod silent;
 mod steps;
 mod text;
 mod words;
 
 pub use explaining::{Explained, WordFault, explain, usage_of};
 pub use frames::Frames;
-pub use silent::{PlayFault, play_step};
 pub use steps::{Mode, Numbered, ScriptFault, Step, StepsFault, read_steps};

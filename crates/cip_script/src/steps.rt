@@ -17,9 +17,8 @@ use crate::words::{
     number_usize, path_of, timing_of,
 };
 use cip_base::{Bytes, ModuleId, Ms};
-use cip_routing::{Command, LargeParams, OpenParams};
+use cip_event::{Command, FrameName, LargeParams, OpenParams};
 use cip_words::{ascii, first_line, lines};
-use cip_world::FrameName;
 use std::alloc::{AllocError, Global};
 use thiserror::Error;
 

@@ -10,9 +10,9 @@ ghost use Rattle.cip_segment.specs.Reading.{path_at};
 use crate::steps::{ScriptFault, StepFault};
 use crate::text;
 use cip_base::{Bytes, ModuleId, Ms, NoMemory, Timing};
+use cip_event::FrameName;
 use cip_segment::{Path, view_path};
 use cip_tool::number;
-use cip_world::FrameName;
 use std::alloc::{AllocError, Global};
 
 /// Whether the words are the same. Most that are not have other lengths or begin otherwise.

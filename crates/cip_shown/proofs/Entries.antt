@@ -11,7 +11,7 @@ use Rattle.cip_read.specs.declared.line.Line.TheVariants as lines
 use Rattle.cip_world.specs.declared.journal.Entry.{Entry}
 use Rattle.cip_world.specs.declared.journal.Entry.TheVariants as entries
 use Rattle.cip_transcript.specs.Show.{head_text, lost_text, input_text, frame_text, name_of, names_of, output_line, outputs_text, entry_text}
-use Rattle.cip_shown.specs.Back.{is_end, input_shown, name_shown, outputs_shown, lines_shown, read_lines, read_text, entries_text, entries_shown}
+use Rattle.cip_shown.specs.Back.{is_end, input_shown, outputs_shown, lines_shown, read_lines, read_text, entries_text, entries_shown}
 use Rattle.cip_shown.specs.Fits.{FitsOutputs, FitsEntry, FitsEntries}
 use Rattle.cip_shown.proofs.Words.{decimal_word, joined, joined_endless}
 use Rattle.cip_shown.proofs.Outputs.{line_words, line_joined, line_are_words, output_line_read}
@@ -62,7 +62,7 @@ entry_before t h k lt (entries.Step m input outputs) rest others fits r =
     (head_read t h k lt m fits.0 input fits.1) (outputs_before t 0 outputs rest others fits.2 r)
 entry_before t h k lt (entries.Lost f) rest others fits r =
     let line : List ℕ = joined (decimal k) (codes "lost" ∷ frame_text f ∷ []) in
-    with_end t (lost_text k f) line rest (lines.Lost k (name_shown f)) others (lost_joined k f)
+    with_end t (lost_text k f) line rest (lines.Lost k f) others (lost_joined k f)
     (joined_endless (decimal k) (codes "lost" ∷ frame_text f ∷ []) (decimal_word k lt) (refl, (frame_word f fits, tt)))
     (lost_read t k lt f fits) r
 

@@ -21,11 +21,11 @@ use Rattle.cip_read.specs.Fields.{◌>>=◌, if_positive, frame_by, frame_of, mo
 use Rattle.cip_read.specs.Heads.{given_of}
 use Rattle.cip_read.specs.Lines.{words_line, line_of}
 use Rattle.cip_read.specs.declared.line.Line.TheVariants as lines
-use Rattle.cip_world.specs.declared.journal.FrameName.{FrameName}
+use Rattle.cip_event.specs.declared.frame.FrameName.{FrameName}
 use Rattle.cip_world.specs.declared.journal.Input.{Input}
 use Rattle.cip_world.specs.declared.journal.Input.TheVariants as inputs
 use Rattle.cip_transcript.specs.Show.{head_text, lost_text, input_text, frame_text, name_of, names_of}
-use Rattle.cip_shown.specs.Back.{input_shown, name_shown}
+use Rattle.cip_shown.specs.Back.{input_shown}
 use Rattle.cip_shown.specs.Fits.{FitsInput, FitsName}
 use Rattle.cip_shown.proofs.Words.{IsWord, all_pass, is_high, decimal_word, decimal_no_dot, both_words, joined, joined_parted, three}
 use Rattle.cip_shown.proofs.Outputs.{n64, n32, n16, positive, number_word, small_word}
@@ -115,10 +115,10 @@ frame_parts f h =
     ∙ (slice_split_at is_dot (decimal f.entry) 46 (decimal f.output) (decimal_no_dot f.entry h.0) refl
     ∙ ap (λ l. decimal f.entry ∷ l) (slice_split_none is_dot (decimal f.output) (decimal_no_dot f.output h.1)))
 
-parts_back : (f : FrameName) → FitsName f → frame_by (decimal f.entry ∷ decimal f.output ∷ []) ≡ Some (name_shown f)
+parts_back : (f : FrameName) → FitsName f → frame_by (decimal f.entry ∷ decimal f.output ∷ []) ≡ Some f
 parts_back f h = rw (n64 f.entry h.0, n64 f.output h.1) refl
 
-pub frame_back : (f : FrameName) → FitsName f → frame_of (frame_text f) ≡ Some (name_shown f)
+pub frame_back : (f : FrameName) → FitsName f → frame_of (frame_text f) ≡ Some f
 frame_back f h = ap frame_by (frame_parts f h) ∙ parts_back f h
 
 ms_back : (ms : ℕ) → 1 ≤ ms → ms < 2 ^ 16 → ms_of (decimal ms) ≡ Some ms
@@ -219,7 +219,7 @@ step_read t h k lt m within input fits =
     rw (full k lt, n64 k lt, module_back t h m within, given_back input fits) refl
 
 loss_read : (t : Plan) (k : ℕ) → k < 2 ^ 64 → (f : FrameName) → FitsName f
-    → words_line t (decimal k ∷ codes "lost" ∷ frame_text f ∷ []) ≡ Some (lines.Lost k (name_shown f))
+    → words_line t (decimal k ∷ codes "lost" ∷ frame_text f ∷ []) ≡ Some (lines.Lost k f)
 loss_read t k lt f fits = rw (n64 k lt, frame_back f fits) refl
 
 pub head_read : (t : Plan) → IsTopology t → (k : ℕ) → k < 2 ^ 64 → (m : ModuleId) → m.0 < length t.modules → (input : Input) → FitsInput input
@@ -231,7 +231,7 @@ head_read t h k lt m within input fits =
     ∙ step_read t h k lt m within input fits
 
 pub lost_read : (t : Plan) (k : ℕ) → k < 2 ^ 64 → (f : FrameName) → FitsName f
-    → line_of t (joined (decimal k) (codes "lost" ∷ frame_text f ∷ [])) ≡ Some (lines.Lost k (name_shown f))
+    → line_of t (joined (decimal k) (codes "lost" ∷ frame_text f ∷ [])) ≡ Some (lines.Lost k f)
 unfolding line_of
 lost_read t k lt f fits =
     ap (words_line t) (joined_parted (decimal k) (codes "lost" ∷ frame_text f ∷ []) (decimal_word k lt) (refl, (frame_word f fits, tt)))

@@ -5,12 +5,10 @@ use Rattle.cip_event.specs.declared.event.Command.{Command}
 use Rattle.cip_event.specs.declared.event.Command.TheVariants as commands
 use Rattle.cip_event.specs.declared.event.Output.{Output}
 use Rattle.cip_chassis.specs.Plan.{Plan}
-use Rattle.cip_world.specs.declared.journal.FrameName.{FrameName}
 use Rattle.cip_world.specs.declared.journal.Input.{Input}
 use Rattle.cip_world.specs.declared.journal.Input.TheVariants as inputs
 use Rattle.cip_world.specs.declared.journal.Entry.{Entry}
 use Rattle.cip_world.specs.declared.journal.Entry.TheVariants as entries
-use Rattle.cip_read.specs.declared.line.FrameName.{FrameName as Name}
 use Rattle.cip_read.specs.declared.line.CommandWord.TheVariants as words
 use Rattle.cip_read.specs.declared.line.Given.{Given}
 use Rattle.cip_read.specs.declared.line.Given.TheVariants as givens
@@ -21,9 +19,6 @@ use Rattle.cip_read.specs.Lines.{line_of}
 use Rattle.cip_transcript.specs.Show.{entry_text}
 
 -- ---- what is shown
-
-abbrev pub name_shown : FrameName → Name
-name_shown f = record { entry = f.entry; output = f.output }
 
 -- of a command its word, and its op, the op of an open, or an instance
 abbrev pub command_shown : Command → Given
@@ -38,7 +33,7 @@ command_shown (commands.Send op timing path asked) = givens.Command words.Send o
 abbrev pub input_shown : Input → Given
 input_shown (inputs.Command command) = command_shown command
 input_shown (inputs.Tick ms) = givens.Tick ms
-input_shown (inputs.Frame port from f) = givens.Frame (name_shown f)
+input_shown (inputs.Frame port from f) = givens.Frame f
 
 -- outputs, each whole, the first of which has this number
 abbrev pub outputs_shown : ℕ → List Output → List Line
@@ -49,7 +44,7 @@ outputs_shown i (output ∷ more) = lines.Output i output ∷ outputs_shown (i +
 abbrev pub lines_shown : ℕ → Entry → List Line
 lines_shown k (entries.Step m input outputs) =
     lines.Step k m (input_shown input) ∷ outputs_shown 0 outputs
-lines_shown k (entries.Lost frame) = lines.Lost k (name_shown frame) ∷ []
+lines_shown k (entries.Lost frame) = lines.Lost k frame ∷ []
 
 -- entries one behind the other, the first of which has this number, as text and as lines
 abbrev pub entries_text : List (List ℕ) → ℕ → List Entry → List ℕ

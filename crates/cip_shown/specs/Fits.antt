@@ -13,7 +13,7 @@ use Rattle.cip_event.specs.declared.event.Output.TheVariants.{Send, Done, Refuse
 use Rattle.cip_event.specs.declared.event.Output.TheVariants.{Arrived, Expired, Ended, Dropped}
 use Rattle.cip_chassis.specs.Plan.{Plan}
 use Rattle.cip_transcript.specs.Chained.{Chained}
-use Rattle.cip_world.specs.declared.journal.FrameName.{FrameName}
+use Rattle.cip_event.specs.declared.frame.FrameName.{FrameName}
 use Rattle.cip_world.specs.declared.journal.Input.{Input}
 use Rattle.cip_world.specs.declared.journal.Input.TheVariants as inputs
 use Rattle.cip_world.specs.declared.journal.Entry.{Entry}

@@ -11,8 +11,8 @@ ghost use Rattle.cip_shown.specs.Fits.{IsAmong};
 
 use crate::laws::shown_entries_are_read;
 use cip_base::{Address, Bytes, Ms, PortNumber, Triad};
+use cip_chassis::Topology;
 use cip_event::{Body, Command, Output};
-use cip_topology::Topology;
 use cip_world::{Entry, FrameName, Input};
 
 fn slice_fits(bytes: &[u8])

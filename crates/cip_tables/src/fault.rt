@@ -2,10 +2,10 @@
 ghost use Rattle.std.specs.Prelude.{◌≡◌};
 ghost use Rattle.cip_tables.specs.declared.fault.LoadFault.TheVariants.{NoMemory};
 
-use crate::found::{Excerpt, Found};
+use crate::found::Found;
 use crate::key::{Allowed, Key};
 use crate::place::Place;
-use cip_base::{Address, MAX_ASSEMBLIES, MAX_PORTS};
+use cip_base::{Address, Excerpt, MAX_ASSEMBLIES, MAX_PORTS};
 use cip_chassis::{MAX_LINKS, MAX_MODULES, Name};
 use cip_config::LegalAddresses;
 use std::alloc::{AllocError, AllocFailed};

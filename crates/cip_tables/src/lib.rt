@@ -10,8 +10,9 @@ mod place;
 mod port_tables;
 mod values;
 
+pub use cip_base::Excerpt;
 pub use fault::{LoadFault, Syntax};
-pub use found::{Excerpt, Found};
+pub use found::Found;
 pub use key::Key;
 pub use link_tables::links;
 pub use module_tables::modules;

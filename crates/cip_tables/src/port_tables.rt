@@ -13,11 +13,11 @@ ghost use Rattle.cip_tables.specs.PortTables.{assemblies_at};
 ghost use Rattle.cip_tables.specs.Calls.{Gives};
 
 use crate::fault::LoadFault;
-use crate::found::{Excerpt, Found};
+use crate::found::Found;
 use crate::key::Key;
 use crate::place::Place;
 use crate::values::{address, items, number, table_of, text};
-use cip_base::{Address, MAX_ASSEMBLIES, MAX_DATUM, MAX_PORTS, PortNumber};
+use cip_base::{Address, Excerpt, MAX_ASSEMBLIES, MAX_DATUM, MAX_PORTS, PortNumber};
 use cip_chassis::{Link, Seats};
 use cip_config::{ModuleKind, PortConfig, is_legal};
 use cip_target::AssemblyConfig;

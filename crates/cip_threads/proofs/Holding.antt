@@ -2,7 +2,7 @@
 use Rattle.std.proofs.Common.{◌≡◌, ◌≢◌, ℕ, zero, suc, List, [], ◌∷◌, ◌++◌, Option, Some, None, Bool, true, false, not, ◌&&◌, ◌||◌, ◌⊎◌}
 use Rattle.std.proofs.Common.{inl, inr, refl, sym, is_some, length, arith, take, ◌<◌, ◌+◌, ◌∙◌, ap, get_or, set, replicate}
 use Rattle.std.proofs.lemmas.List.{take_more}
-use Rattle.cip_world.specs.declared.journal.FrameName.{FrameName}
+use Rattle.cip_event.specs.declared.frame.FrameName.{FrameName}
 use Rattle.cip_world.specs.declared.journal.Input.{Input}
 use Rattle.cip_world.specs.Journals.{brought_by, is_that}
 use Rattle.cip_threads.specs.Books.{hand_at, frame_in, is_held, one_if, count_hands}

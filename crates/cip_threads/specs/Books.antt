@@ -1,6 +1,6 @@
 -- What the book keeps: feeds and frames that wait, what each module has in hand, and the journal.
 use Rattle.std.specs.Prelude.{◌≡◌, ◌≤◌, ℕ, List, [], ◌∷◌, ◌++◌, Option, Some, None, Bool, false, not, ◌||◌, ◌+◌, length, get_or, filter}
-use Rattle.cip_world.specs.declared.journal.FrameName.{FrameName}
+use Rattle.cip_event.specs.declared.frame.FrameName.{FrameName}
 use Rattle.cip_world.specs.declared.journal.Input.{Input}
 use Rattle.cip_world.specs.Journals.{brought_by, is_that}
 use Rattle.cip_world.specs.Waiting.{waiting}

@@ -4,7 +4,7 @@ use Rattle.cip_base.specs.declared.numbers.ModuleId.{ModuleId}
 use Rattle.cip_event.specs.declared.event.Event.{Event}
 use Rattle.cip_event.specs.declared.event.Output.{Output}
 use Rattle.cip_chassis.specs.Plan.{Plan}
-use Rattle.cip_world.specs.declared.journal.FrameName.{FrameName}
+use Rattle.cip_event.specs.declared.frame.FrameName.{FrameName}
 use Rattle.cip_world.specs.declared.journal.Input.{Input}
 use Rattle.cip_world.specs.declared.journal.Input.TheVariants.{Frame}
 use Rattle.cip_world.specs.declared.journal.Entry.TheVariants.{Step}

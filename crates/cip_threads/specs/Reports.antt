@@ -9,7 +9,7 @@ use Rattle.cip_routing.specs.Views.{ShowsState}
 use Rattle.cip_chassis.specs.Plan.{Plan}
 use Rattle.cip_world.specs.declared.fresh.NewFault.{NewFault}
 use Rattle.cip_world.specs.declared.fresh.NewFault.TheVariants as news
-use Rattle.cip_world.specs.declared.journal.FrameName.{FrameName}
+use Rattle.cip_event.specs.declared.frame.FrameName.{FrameName}
 use Rattle.cip_world.specs.declared.world.End.{End}
 use Rattle.cip_world.specs.Fresh.{AreFresh, IsNewFault}
 use Rattle.cip_world.specs.Journals.{Journal, part}

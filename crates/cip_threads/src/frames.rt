@@ -4,14 +4,14 @@ ghost use Rattle.std.specs.Prelude.{Some, true, drop, length, map, option_map, r
 ghost use Rattle.cip_chassis.specs.Nodes.{across};
 ghost use Rattle.cip_world.specs.Coming.{flight, way_in};
 ghost use Rattle.cip_world.specs.Journals.{flight_of, frame_at};
-ghost use Rattle.cip_world.specs.declared.journal.FrameName.{FrameName as Name};
+ghost use Rattle.cip_event.specs.declared.frame.FrameName.{FrameName as Name};
 ghost use Rattle.cip_threads.specs.Flows.{Comes, goes_to, sends_of, sent_if, way_of};
 ghost use Rattle.cip_threads.specs.Queues.{queue_at};
 
 use crate::queues::first_in;
 use cip_base::{Address, ModuleId, NoMemory, PortNumber};
+use cip_chassis::Topology;
 use cip_routing::{Event, Output};
-use cip_topology::Topology;
 use cip_world::{Coming, Entry, Flying, FrameName, frame_at};
 use std::alloc::Global;
 use std::collections::VecDeque;

@@ -21,7 +21,7 @@ ghost use Rattle.cip_world.specs.Runs.{IsModule, IsRun, state_in};
 ghost use Rattle.cip_world.specs.TrailTells.{TrailTells};
 ghost use Rattle.cip_world.specs.Trails.{trail_of};
 ghost use Rattle.cip_world.specs.Waiting.{waiting};
-ghost use Rattle.cip_world.specs.declared.journal.FrameName.{FrameName};
+ghost use Rattle.cip_event.specs.declared.frame.FrameName.{FrameName};
 ghost use Rattle.cip_world.specs.declared.world.End.TheVariants.{Quiet, Limit};
 ghost use Rattle.cip_threads.specs.declared.feed.Feed.{Feed};
 ghost use Rattle.cip_threads.specs.Feeds.{feeds_of, fed};

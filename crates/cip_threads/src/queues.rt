@@ -4,7 +4,7 @@ ghost use Rattle.std.specs.Prelude.{IfSome, IfNone, IsTrue, IsFalse, OnOk, Some,
 ghost use Rattle.std.specs.Prelude.{length, map, replicate, set, vec_len};
 ghost use Rattle.std.specs.VecDeque.{deque_capacity, deque_len};
 ghost use Rattle.std.specs.declared.cmp.Ordering.TheVariants.{Less};
-ghost use Rattle.cip_world.specs.declared.journal.FrameName.{FrameName as Name};
+ghost use Rattle.cip_event.specs.declared.frame.FrameName.{FrameName as Name};
 ghost use Rattle.cip_world.specs.Names.{name_cmp};
 ghost use Rattle.cip_threads.specs.Feeds.{feeds_of};
 ghost use Rattle.cip_threads.specs.Queues.{queue_at, enqueue, count_all};

@@ -16,8 +16,8 @@ use crate::queues::{
 use crate::report::CompareFault;
 use crate::views::BookView;
 use cip_base::{ModuleId, NoMemory};
+use cip_chassis::Topology;
 use cip_routing::{Event, Output};
-use cip_topology::Topology;
 use cip_world::{End, Entry, FrameName, Input, Outputs};
 use std::alloc::Global;
 use std::collections::VecDeque;

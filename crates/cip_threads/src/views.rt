@@ -2,8 +2,8 @@
 use crate::feed::Feed;
 use crate::lists::Items;
 use cip_base::ModuleId;
+use cip_chassis::Topology;
 use cip_routing::{Event, ModuleConfig, Tables};
-use cip_topology::Topology;
 use cip_world::{Entry, FrameName, Input, Outputs};
 
 /// The book as contracts see it, with the newest entry first. No value of it is made.

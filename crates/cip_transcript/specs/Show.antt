@@ -19,7 +19,7 @@ use Rattle.cip_event.specs.declared.event.Dropped.TheVariants.{Malformed, Late, 
 use Rattle.cip_event.specs.declared.event.Dropped.TheVariants as dropped
 use Rattle.cip_text.specs.Texts.{pairs_text}
 use Rattle.cip_chassis.specs.Plan.{Plan}
-use Rattle.cip_world.specs.declared.journal.FrameName.{FrameName}
+use Rattle.cip_event.specs.declared.frame.FrameName.{FrameName}
 use Rattle.cip_world.specs.declared.journal.Input.{Input}
 use Rattle.cip_world.specs.declared.journal.Input.TheVariants as inputs
 use Rattle.cip_world.specs.declared.journal.Entry.{Entry}

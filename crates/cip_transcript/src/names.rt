@@ -3,8 +3,8 @@ ghost use Rattle.std.specs.Prelude.{◌≡◌, IfOk};
 ghost use Rattle.cip_transcript.specs.Show.{names_of};
 
 use cip_base::{Bytes, NoMemory};
+use cip_chassis::Topology;
 use cip_routing::ModuleConfig;
-use cip_topology::Topology;
 use std::alloc::Global;
 
 fn name_of(alloc: Global, config: &ModuleConfig) -> Result<Bytes, NoMemory>

@@ -7,6 +7,7 @@ use cip_base::{Address, ModuleId, NoMemory, PortNumber, Triad};
 use cip_book::{
     Book, Ending, Known, NameText, Past, Sent, View, drop_word, put_label, refusal_word,
 };
+use cip_chassis::Topology;
 use cip_decode::{
     Attributes, AttributesView, answered_attributes, decode_reply, decode_request,
     put_attributes_json, put_reply_json, put_request_json, put_triad_json, set_instance,
@@ -14,7 +15,6 @@ use cip_decode::{
 use cip_event::{Body, Output};
 use cip_read::{CommandWord, FrameName, Given, Line, Note};
 use cip_text::Draft;
-use cip_topology::Topology;
 use std::alloc::Global;
 use std::fmt;
 

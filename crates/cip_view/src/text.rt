@@ -7,13 +7,13 @@ use cip_book::{
     BodyText, Book, DatumText, Ending, Known, NameText, OfText, Past, ReplyText, Sent, View,
     command_word, drop_reason, refusal_reason,
 };
+use cip_chassis::Topology;
 use cip_decode::{
     Attributes, AttributesView, Pairs, Reply, answered_attributes, decode_reply, decode_request,
     set_instance,
 };
 use cip_event::{Body, Output};
 use cip_read::{FrameName, Given, Line};
-use cip_topology::Topology;
 use std::alloc::Global;
 
 /// The transcript as it is, and below each line of an output what its message says.

@@ -3,11 +3,11 @@
 use crate::fault::{LineError, unmet};
 use crate::reading::{Named, bytes_of, instance_of};
 use cip_base::{Bytes, ModuleId};
+use cip_chassis::Topology;
 use cip_outcomes::{
     Counted, Datum, Differing, OpName, Place, Unmet, module_name, newest_arrived, newest_consumed,
     standing_of,
 };
-use cip_topology::Topology;
 use cip_world::{Shown, World, WorldFault};
 use std::alloc::Global;
 

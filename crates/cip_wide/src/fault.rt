@@ -1,10 +1,9 @@
 //! Why a wide script is none, or does not come out as it expects.
 
-use cip_base::NoMemory;
+use cip_base::{Excerpt, NoMemory};
 use cip_outcomes::{Near, Refusal, Unmet, excerpt, nearest};
 use cip_script::{Explained, Frames};
 use cip_tool::{AnswerFault, HexFault};
-use cip_topology::Excerpt;
 use cip_world::FrameName;
 use std::alloc::{AllocError, AllocFailed, Global};
 use thiserror::Error;

@@ -2,9 +2,9 @@
 
 use crate::fault::{LineError, WordFault, wrong_count, wrong_word};
 use cip_base::{ModuleId, NoMemory, PortNumber};
+use cip_chassis::Topology;
 use cip_config::ModuleConfig;
 use cip_outcomes::nearest;
-use cip_topology::Topology;
 use cip_world::{Flying, FrameName, World, frame_at};
 use std::alloc::{AllocError, Global};
 

@@ -13,13 +13,12 @@ use crate::links::{frames_at, listed, module_names, side_of};
 use crate::outages::{Loss, Outage, Outages, losses_since};
 use crate::plain::{NewOp, Plain, plain_line};
 use cip_base::{Bytes, NoMemory};
+use cip_chassis::Topology;
 use cip_ends::Ends;
 use cip_outcomes::{Ops, is_refused, module_text, nearest, refusal_of};
 use cip_routing::Module;
-use cip_script::{
-    Mode, PlayFault, ScriptFault, Step, StepsFault, explain, play_step, read_steps, usage_of,
-};
-use cip_topology::Topology;
+use cip_script::{Mode, ScriptFault, Step, StepsFault, explain, read_steps, usage_of};
+use cip_silent::{PlayFault, play_step};
 use cip_transcript::names_of;
 use cip_world::{FrameName, Shown, World};
 use std::alloc::{AllocError, Global};

@@ -2,9 +2,9 @@
 
 use crate::links::{Side, link_of, link_word};
 use cip_base::NoMemory;
+use cip_chassis::Topology;
 use cip_outcomes::module_text;
 use cip_routing::Body;
-use cip_topology::Topology;
 use cip_world::{Flying, FrameName, World, frame_at};
 use std::alloc::{AllocError, Global};
 

@@ -2,9 +2,9 @@
 
 use crate::fault::{LineError, WordFault, wrong_path, wrong_word};
 use cip_base::ModuleId;
+use cip_chassis::{Name, Topology};
 use cip_outcomes::{Ops, name_of, nearest, next_count};
 use cip_tool::{hex_fault, number_u32, path_answer};
-use cip_topology::{Name, Topology};
 use cip_world::{Entry, World};
 use std::alloc::Global;
 

@@ -2,9 +2,9 @@
 
 use crate::fault::{LineError, WordFault, wrong_word};
 use cip_base::{Bytes, ModuleId};
+use cip_chassis::Topology;
 use cip_outcomes::{Code, Ops, name_of, nearest};
 use cip_tool::{HexFault, hex_fault, number_u16, number_u32};
-use cip_topology::Topology;
 use hex::FromHexError;
 use std::alloc::Global;
 

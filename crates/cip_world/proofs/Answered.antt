@@ -15,7 +15,7 @@ use Rattle.cip_event.specs.declared.event.Body.{Body}
 use Rattle.cip_routing.specs.Table.{table_step}
 use Rattle.cip_laws.proofs.AskedBy.{Waits, taken_waits}
 use Rattle.cip_world.specs.declared.journal.Input.{Input}
-use Rattle.cip_world.specs.declared.journal.FrameName.{FrameName}
+use Rattle.cip_event.specs.declared.frame.FrameName.{FrameName}
 use Rattle.cip_laws.specs.Histories.{next_state}
 use Rattle.cip_chassis.specs.Nodes.{Way, across as goes}
 use Rattle.cip_world.specs.Journals.{Journal, Flight, part}

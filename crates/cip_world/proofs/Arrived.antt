@@ -39,7 +39,7 @@ use Rattle.cip_laws.proofs.Turns.{turned}
 use Rattle.cip_laws.proofs.Weighing.{one_place}
 use Rattle.cip_chassis.specs.Nodes.{Way}
 use Rattle.cip_world.specs.declared.journal.Entry.TheVariants.{Step}
-use Rattle.cip_world.specs.declared.journal.FrameName.{FrameName}
+use Rattle.cip_event.specs.declared.frame.FrameName.{FrameName}
 use Rattle.cip_world.specs.declared.journal.Input.TheVariants as inputs
 use Rattle.cip_world.specs.Entering.{HasOutput, before_entry, ArrivedOf}
 use Rattle.cip_world.specs.Journals.{Journal, entry_at, part}

@@ -6,7 +6,7 @@ use Rattle.cip_chassis.specs.Plan.{Plan}
 use Rattle.cip_chassis.specs.Nodes.{across as goes}
 use Rattle.cip_world.specs.declared.flight.Flying.{Flying}
 use Rattle.cip_world.specs.declared.flight.Coming.{Coming}
-use Rattle.cip_world.specs.declared.journal.FrameName.{FrameName}
+use Rattle.cip_event.specs.declared.frame.FrameName.{FrameName}
 use Rattle.cip_world.specs.Coming.{flight, way_in, IsComing}
 use Rattle.cip_world.specs.Journals.{Journal, Flight, frame_at, same_name}
 use Rattle.cip_world.specs.Ledgers.{IsLedger, newest_outputs}

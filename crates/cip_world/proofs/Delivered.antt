@@ -11,7 +11,7 @@ use Rattle.cip_chassis.proofs.WayBack.{node_is}
 use Rattle.cip_world.specs.declared.fault.WorldFault.{WorldFault}
 use Rattle.cip_world.specs.declared.fault.WorldFault.TheVariants.{NoModule, NoFrame, Step, NoMemory}
 use Rattle.cip_world.specs.declared.flight.Coming.{Coming}
-use Rattle.cip_world.specs.declared.journal.FrameName.{FrameName}
+use Rattle.cip_event.specs.declared.frame.FrameName.{FrameName}
 use Rattle.cip_world.specs.Coming.{IsComing}
 use Rattle.cip_world.specs.Journals.{Journal}
 use Rattle.cip_world.specs.Runs.{IsArrival}

@@ -4,7 +4,7 @@ use Rattle.std.proofs.lemmas.Bool.{and_parts, eqb-true}
 use Rattle.std.proofs.lemmas.List.{reverse-append, append-nil}
 use Rattle.cip_event.specs.declared.event.Output.{Output}
 use Rattle.cip_chassis.specs.Plan.{Plan}
-use Rattle.cip_world.specs.declared.journal.FrameName.{FrameName}
+use Rattle.cip_event.specs.declared.frame.FrameName.{FrameName}
 use Rattle.cip_world.specs.declared.journal.Entry.{Entry}
 use Rattle.cip_world.specs.declared.journal.Entry.TheVariants.{Step, Lost}
 use Rattle.cip_world.specs.Journals.{Journal, named_by, is_that}

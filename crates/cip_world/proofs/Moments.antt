@@ -9,7 +9,7 @@ use Rattle.cip_laws.specs.Turns.{Has}
 use Rattle.cip_chassis.specs.Plan.{Plan}
 use Rattle.cip_world.specs.declared.journal.Entry.{Entry}
 use Rattle.cip_world.specs.declared.journal.Entry.TheVariants.{Step, Lost}
-use Rattle.cip_world.specs.declared.journal.FrameName.{FrameName}
+use Rattle.cip_event.specs.declared.frame.FrameName.{FrameName}
 use Rattle.cip_world.specs.declared.journal.Input.{Input}
 use Rattle.cip_world.specs.Journals.{Journal, Flight, sent_by, entry_at, frame_at, part}
 use Rattle.cip_world.specs.Mirrors.{IsOlder}

@@ -10,7 +10,7 @@ use Rattle.cip_routing.specs.declared.tables.Tables.{Tables}
 use Rattle.cip_routing.specs.State.{State}
 use Rattle.cip_routing.specs.Views.{ShowsState}
 use Rattle.cip_chassis.specs.Plan.{Plan}
-use Rattle.cip_world.specs.declared.journal.FrameName.{FrameName}
+use Rattle.cip_event.specs.declared.frame.FrameName.{FrameName}
 use Rattle.cip_world.specs.Journals.{Journal, same_name}
 use Rattle.cip_world.specs.Ledgers.{Told}
 use Rattle.cip_world.specs.Runs.{IsModule, IsWaiting, state_in}

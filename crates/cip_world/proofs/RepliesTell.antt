@@ -22,7 +22,7 @@ use Rattle.cip_laws.specs.Histories.{Turn, IsHistory}
 use Rattle.cip_laws.proofs.Dones.{done_once}
 use Rattle.cip_laws.proofs.EndsOnce.{ended_once, last_of}
 use Rattle.cip_chassis.specs.Plan.{Plan}
-use Rattle.cip_world.specs.declared.journal.FrameName.{FrameName}
+use Rattle.cip_event.specs.declared.frame.FrameName.{FrameName}
 use Rattle.cip_world.specs.declared.journal.Input.{Input}
 use Rattle.cip_world.specs.declared.journal.Input.TheVariants as inputs
 use Rattle.cip_world.specs.Journals.{Journal, part}

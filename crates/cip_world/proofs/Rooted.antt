@@ -2,7 +2,7 @@
 use Rattle.std.proofs.Common.{◌≡◌, ℕ, ◌<◌, true, false, cond, [], ◌∷◌, Some, refl, sym, ap, ◌∙◌, ◌⊎◌, inl, inr, arith, eqb, length}
 use Rattle.std.proofs.lemmas.Bool.{eqb-true, eq-eqb, ne_eqb}
 use Rattle.cip_world.specs.declared.journal.Entry.{Entry}
-use Rattle.cip_world.specs.declared.journal.FrameName.{FrameName}
+use Rattle.cip_event.specs.declared.frame.FrameName.{FrameName}
 use Rattle.cip_world.specs.Entering.{before_entry}
 use Rattle.cip_world.specs.Journals.{Journal, Flight, entry_at, frame_at}
 use Rattle.cip_world.specs.Mirrors.{IsOlder}

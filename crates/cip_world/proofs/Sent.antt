@@ -17,7 +17,7 @@ use Rattle.cip_laws.specs.Tells.{DatumCame, Produced}
 use Rattle.cip_laws.proofs.Triads.{own_triads}
 use Rattle.cip_chassis.specs.Walk.{walk}
 use Rattle.cip_world.specs.declared.journal.Entry.TheVariants.{Step}
-use Rattle.cip_world.specs.declared.journal.FrameName.{FrameName}
+use Rattle.cip_event.specs.declared.frame.FrameName.{FrameName}
 use Rattle.cip_world.specs.declared.journal.Input.{Input}
 use Rattle.cip_world.specs.declared.journal.Input.TheVariants as inputs
 use Rattle.cip_world.specs.Journals.{Journal, part}

@@ -10,7 +10,7 @@ use Rattle.std.specs.declared.cmp.Ordering.TheVariants.{Less, Equal, Greater}
 use Rattle.std.specs.FinMap.Entries as entries
 use Rattle.cip_base.proofs.Search.{search_premise}
 use Rattle.cip_base.proofs.Sorted.{find-gap, below-at, first, second, both, sorted_push}
-use Rattle.cip_world.specs.declared.journal.FrameName.{FrameName}
+use Rattle.cip_event.specs.declared.frame.FrameName.{FrameName}
 use Rattle.cip_world.specs.Journals.{same_name}
 use Rattle.cip_world.specs.Names.{name_cmp, AllBefore}
 use Rattle.cip_world.specs.Waiting.{or_none}

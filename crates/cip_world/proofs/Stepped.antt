@@ -12,7 +12,7 @@ use Rattle.cip_routing.specs.Table.{Stepped, table_step}
 use Rattle.cip_chassis.specs.Plan.{Plan}
 use Rattle.cip_world.specs.declared.journal.Input.{Input}
 use Rattle.cip_world.specs.declared.journal.Entry.TheVariants.{Step, Lost}
-use Rattle.cip_world.specs.declared.journal.FrameName.{FrameName}
+use Rattle.cip_event.specs.declared.frame.FrameName.{FrameName}
 use Rattle.cip_world.specs.Journals.{Journal, event_of, with_turn, part}
 use Rattle.cip_world.specs.Ledgers.{Told}
 use Rattle.cip_world.specs.Runs.{IsModule, state_in, IsGiven, IsStepAt}

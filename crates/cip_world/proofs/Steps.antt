@@ -28,7 +28,7 @@ use Rattle.cip_chassis.specs.Plan.{Plan}
 use Rattle.cip_chassis.specs.Nodes.{Way, across as goes}
 use Rattle.cip_chassis.specs.Walk.{walk}
 use Rattle.cip_world.specs.declared.journal.Entry.TheVariants.{Step}
-use Rattle.cip_world.specs.declared.journal.FrameName.{FrameName}
+use Rattle.cip_event.specs.declared.frame.FrameName.{FrameName}
 use Rattle.cip_world.specs.declared.journal.Input.{Input}
 use Rattle.cip_world.specs.Journals.{Journal, Flight, frame_at, part}
 use Rattle.cip_world.specs.Mirrors.{IsOlder}

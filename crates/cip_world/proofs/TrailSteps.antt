@@ -10,7 +10,7 @@ use Rattle.cip_laws.specs.Histories.{state_after}
 use Rattle.cip_chassis.specs.Plan.{Plan}
 use Rattle.cip_world.specs.declared.journal.Entry.{Entry}
 use Rattle.cip_world.specs.declared.journal.Entry.TheVariants.{Step, Lost}
-use Rattle.cip_world.specs.declared.journal.FrameName.{FrameName}
+use Rattle.cip_event.specs.declared.frame.FrameName.{FrameName}
 use Rattle.cip_world.specs.declared.journal.Input.{Input}
 use Rattle.cip_world.specs.Journals.{Journal, entry_at, same_name, is_that, brought_by, names, is_named, part}
 use Rattle.cip_world.specs.Mirrors.{IsOlder}

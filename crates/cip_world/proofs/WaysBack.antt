@@ -41,7 +41,7 @@ use Rattle.cip_chassis.specs.Plan.{Plan}
 use Rattle.cip_chassis.specs.Nodes.{Way, across as goes}
 use Rattle.cip_world.specs.declared.journal.Entry.{Entry}
 use Rattle.cip_world.specs.declared.journal.Entry.TheVariants.{Step}
-use Rattle.cip_world.specs.declared.journal.FrameName.{FrameName}
+use Rattle.cip_event.specs.declared.frame.FrameName.{FrameName}
 use Rattle.cip_world.specs.declared.journal.Input.TheVariants as inputs
 use Rattle.cip_world.specs.Journals.{Journal, Flight, flight_of, sent_by as frame_of, entry_at, frame_at, is_named, part}
 use Rattle.cip_world.specs.Mirrors.{IsOlder}

@@ -16,7 +16,7 @@ use Rattle.cip_laws.specs.Outputs.{is_data}
 use Rattle.cip_chassis.specs.Plan.{Plan}
 use Rattle.cip_chassis.specs.Nodes.{Way, across as goes}
 use Rattle.cip_world.specs.declared.journal.Entry.TheVariants.{Step}
-use Rattle.cip_world.specs.declared.journal.FrameName.{FrameName}
+use Rattle.cip_event.specs.declared.frame.FrameName.{FrameName}
 use Rattle.cip_world.specs.declared.journal.Input.TheVariants.{Frame}
 use Rattle.cip_world.specs.Entering.{HasOutput}
 use Rattle.cip_world.specs.Journals.{Journal, Flight, entry_at, frame_at}

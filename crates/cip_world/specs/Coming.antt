@@ -2,7 +2,7 @@
 use Rattle.std.specs.Prelude.{◌≡◌}
 use Rattle.cip_chassis.specs.Plan.{Plan}
 use Rattle.cip_chassis.specs.Nodes.{Way}
-use Rattle.cip_world.specs.declared.journal.FrameName.{FrameName}
+use Rattle.cip_event.specs.declared.frame.FrameName.{FrameName}
 use Rattle.cip_world.specs.declared.flight.Flying.{Flying}
 use Rattle.cip_world.specs.declared.flight.Coming.{Coming}
 use Rattle.cip_world.specs.Journals.{Journal, Flight}

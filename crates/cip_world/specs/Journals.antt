@@ -7,7 +7,7 @@ use Rattle.cip_event.specs.declared.event.Output.{Output}
 use Rattle.cip_event.specs.declared.event.Output.TheVariants as outputs
 use Rattle.cip_laws.specs.Histories.{Turn}
 use Rattle.cip_chassis.specs.Nodes.{Way}
-use Rattle.cip_world.specs.declared.journal.FrameName.{FrameName}
+use Rattle.cip_event.specs.declared.frame.FrameName.{FrameName}
 use Rattle.cip_world.specs.declared.journal.Input.{Input}
 use Rattle.cip_world.specs.declared.journal.Input.TheVariants.{Command, Tick, Frame}
 use Rattle.cip_world.specs.declared.journal.Entry.{Entry}

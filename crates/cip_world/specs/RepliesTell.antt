@@ -11,7 +11,7 @@ use Rattle.cip_laws.specs.Histories.{Turn}
 use Rattle.cip_laws.specs.Weights.{is_reply, is_ended, is_asked_by, weight, came}
 use Rattle.cip_laws.specs.Turns.{Has}
 use Rattle.cip_chassis.specs.Plan.{Plan}
-use Rattle.cip_world.specs.declared.journal.FrameName.{FrameName}
+use Rattle.cip_event.specs.declared.frame.FrameName.{FrameName}
 use Rattle.cip_world.specs.declared.journal.Input.TheVariants as inputs
 use Rattle.cip_world.specs.Answers.{Answered}
 use Rattle.cip_world.specs.Journals.{Journal, part}

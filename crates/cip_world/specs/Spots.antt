@@ -1,7 +1,7 @@
 -- Names in rising order, each with whether it waits still.
 use Rattle.std.specs.Prelude.{◌≡◌, ℕ, ◌<◌, Bool, false, not, Option, List, [], ◌∷◌, T, length, slice_index_or}
 use Rattle.std.specs.FinMap.Entries as entries
-use Rattle.cip_world.specs.declared.journal.FrameName.{FrameName}
+use Rattle.cip_event.specs.declared.frame.FrameName.{FrameName}
 use Rattle.cip_world.specs.Journals.{same_name}
 use Rattle.cip_world.specs.Names.{name_cmp}
 use Rattle.cip_world.specs.Waiting.{or_none}

@@ -19,7 +19,7 @@ use Rattle.cip_world.specs.declared.fault.WorldFault.{WorldFault}
 use Rattle.cip_world.specs.declared.fault.WorldFault.TheVariants as faults
 use Rattle.cip_world.specs.declared.world.End.{End}
 use Rattle.cip_world.specs.declared.world.End.TheVariants.{Quiet, Limit}
-use Rattle.cip_world.specs.declared.journal.FrameName.{FrameName}
+use Rattle.cip_event.specs.declared.frame.FrameName.{FrameName}
 use Rattle.cip_world.specs.declared.journal.Input.{Input}
 use Rattle.cip_world.specs.declared.journal.Input.TheVariants.{Frame}
 use Rattle.cip_world.specs.declared.journal.Entry.TheVariants.{Step, Lost}

@@ -3,8 +3,9 @@ ghost use Rattle.std.specs.Prelude.{◌≡◌, reverse, option_map, slice_get, O
 ghost use Rattle.cip_world.specs.Journals.{flight_of, sent_by, frame_at};
 ghost use Rattle.cip_world.specs.Coming.{flight};
 
-use crate::journal::{Entry, FrameName};
+use crate::journal::Entry;
 use cip_base::{Address, ModuleId, PortNumber};
+use cip_event::FrameName;
 use cip_routing::{Body, Output};
 
 /// A frame that a module sent by a port to an address.

@@ -6,8 +6,8 @@ ghost use Rattle.cip_world.specs.Fresh.{AreFresh, DifferFirst, IsNewFault};
 ghost use Rattle.cip_world.specs.declared.fresh.NewFault.TheVariants.{NoMemory as NoNewMemory};
 
 use cip_base::{ModuleId, NoMemory};
+use cip_chassis::Topology;
 use cip_routing::{Module, ModuleConfig};
-use cip_topology::Topology;
 use std::alloc::Global;
 use thiserror::Error;
 

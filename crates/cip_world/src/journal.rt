@@ -2,16 +2,8 @@
 ghost use Rattle.std.specs.Prelude.{◌≡◌};
 
 use cip_base::{Address, ModuleId, Ms, PortNumber};
-use cip_routing::{Command, Output};
+use cip_event::{Command, FrameName, Output};
 use std::marker::Model;
-
-/// The name of a frame: the entry that sent it, and its place among that entry's outputs, both from
-/// 0. Frames are ordered by entry, then by place.
-#[derive(Clone, Copy, Debug, PartialEq, Eq, PartialOrd, Ord)]
-pub struct FrameName {
-    pub entry: usize,
-    pub output: usize,
-}
 
 /// The outputs of one step, in order.
 #[derive(Drop)]

@@ -22,7 +22,7 @@ ghost use Rattle.cip_laws.specs.Histories.{IsHistory};
 ghost use Rattle.cip_laws.specs.Weights.{same_up, is_reply, is_asked_by, weight, came};
 ghost use Rattle.cip_chassis.specs.Plan.{Plan, IsTopology};
 ghost use Rattle.cip_chassis.specs.Nodes.{Way, across};
-ghost use Rattle.cip_world.specs.declared.journal.FrameName.{FrameName as Name};
+ghost use Rattle.cip_event.specs.declared.frame.FrameName.{FrameName as Name};
 ghost use Rattle.cip_world.specs.declared.journal.Entry.{Entry as Happened};
 ghost use Rattle.cip_world.specs.declared.journal.Entry.TheVariants.{Step, Lost};
 ghost use Rattle.cip_world.specs.declared.journal.Input.TheVariants as inputs;

@@ -12,11 +12,12 @@ ghost use Rattle.cip_world.specs.Waiting.{arrives, frames_of, waiting};
 ghost use Rattle.cip_world.specs.Ledgers.{IsLedger, IsNewest, newest_outputs};
 
 use crate::flight::{Coming, Flying, frame_at};
-use crate::journal::{Entry, FrameName, Input};
+use crate::journal::{Entry, Input};
 use crate::names::Names;
 use cip_base::{ModuleId, NoMemory};
+use cip_chassis::Topology;
+use cip_event::FrameName;
 use cip_routing::Output;
-use cip_topology::Topology;
 use std::alloc::Global;
 use std::marker::Model;
 

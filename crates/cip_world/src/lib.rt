@@ -11,10 +11,11 @@ mod names;
 mod step;
 mod world;
 
+pub use cip_event::FrameName;
 pub use fault::WorldFault;
 pub use flight::{Coming, Flying, frame_at};
 pub use fresh::{NewFault, check_fresh, is_fresh};
-pub use journal::{Entry, FrameName, Input, Outputs};
+pub use journal::{Entry, Input, Outputs};
 pub use laws::{
     a_close_has_no_trail, a_loss_has_no_root, a_request_gets_one_reply, a_reset_leaves_no_mirror,
     an_op_has_one_chain, an_op_opens_once, chains_carry_data, hops_are_mirrored,

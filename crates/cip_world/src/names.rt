@@ -7,8 +7,8 @@ ghost use Rattle.cip_world.specs.Names.{AllBefore};
 ghost use Rattle.cip_world.specs.Spots.{names_in, AreInOrder, AreSpots, IsPlaceOf, value_of};
 ghost use Rattle.cip_world.specs.Spots.{is_first, is_first_gone, is_last_gone};
 
-use crate::journal::FrameName;
 use cip_base::NoMemory;
+use cip_event::FrameName;
 use std::alloc::Global;
 use std::collections::VecDeque;
 use std::marker::Model;
@@ -23,7 +23,7 @@ pub(crate) struct Names {
 
 impl Model for Names {
     ghost use Rattle.std.specs.Prelude.{List};
-    ghost use Rattle.cip_world.specs.declared.journal.FrameName.{FrameName};
+    ghost use Rattle.cip_event.specs.declared.frame.FrameName.{FrameName};
     ghost use Rattle.cip_world.specs.Spots.{names_in, AreSpots};
 
     ghost Value = { List FrameName };

@@ -14,13 +14,14 @@ ghost use Rattle.cip_world.specs.Fresh.{AreFresh, IsNewFault};
 
 use crate::fault::WorldFault;
 use crate::fresh::{NewFault, check_fresh};
-use crate::journal::{Entry, FrameName, Input, Outputs};
+use crate::journal::{Entry, Input, Outputs};
 use crate::ledger::Ledger;
 use crate::step::step_at;
 use cip_base::{Address, ModuleId, Ms, NoMemory, PortNumber};
+use cip_chassis::Topology;
 use cip_clock::ClockFull;
+use cip_event::FrameName;
 use cip_routing::{Command, Event, HopRow, Module, StepFault, Tables};
-use cip_topology::Topology;
 use std::alloc::Global;
 
 /// What a contract sees of a value over boxes.

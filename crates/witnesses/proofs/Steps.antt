@@ -7,7 +7,7 @@ use Rattle.cip_event.specs.declared.event.Event.TheVariants as events
 use Rattle.cip_event.specs.declared.event.Output.{Output}
 use Rattle.cip_chassis.specs.Plan.{Plan}
 use Rattle.cip_chassis.specs.Nodes.{Way, across}
-use Rattle.cip_world.specs.declared.journal.FrameName.{FrameName}
+use Rattle.cip_event.specs.declared.frame.FrameName.{FrameName}
 use Rattle.cip_world.specs.declared.journal.Input.TheVariants as inputs
 use Rattle.cip_world.specs.declared.journal.Entry.TheVariants.{Step}
 use Rattle.cip_world.specs.Journals.{Journal, frame_at, is_named}

@@ -10,7 +10,7 @@ use Rattle.cip_config.specs.declared.config.LegalAddresses.TheVariants.{Byte}
 use Rattle.cip_event.specs.declared.event.OpenParams.{OpenParams}
 use Rattle.cip_chassis.specs.Plan.{Plan}
 use Rattle.cip_chassis.specs.declared.links.Link.{Link}
-use Rattle.cip_world.specs.declared.journal.FrameName.{FrameName}
+use Rattle.cip_event.specs.declared.frame.FrameName.{FrameName}
 
 abbrev pub identity : ℕ → ℕ → IdentityFields
 identity product serial = record {

@@ -1,7 +1,7 @@
 use Rattle.std.proofs.Common.{◌≡◌, ◌<◌, ◌+◌, ◌∙◌, ◌++◌, List, sym, ap, subst, length}
 use Rattle.std.proofs.lemmas.List.{append-nil}
 use Rattle.cip_base.specs.declared.numbers.ModuleId.{ModuleId}
-use Rattle.cip_world.specs.declared.journal.FrameName.{FrameName}
+use Rattle.cip_event.specs.declared.frame.FrameName.{FrameName}
 use Rattle.cip_threads.specs.declared.feed.Feed.{Feed}
 use Rattle.cip_threads.specs.Feeds.{feeds_of, fed}
 use Rattle.cip_threads.proofs.laws.the_end_of_a_report_is_true.Goals as goal

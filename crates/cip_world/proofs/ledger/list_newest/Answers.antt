@@ -1,5 +1,5 @@
 use Rattle.std.proofs.Common.{◌++◌, ◌∙◌, sym, ap, subst, List}
-use Rattle.cip_world.specs.declared.journal.FrameName.{FrameName}
+use Rattle.cip_event.specs.declared.frame.FrameName.{FrameName}
 use Rattle.cip_world.specs.Names.{AreRising}
 use Rattle.cip_world.proofs.Waits.{before_mid, one_more}
 use Rattle.cip_world.proofs.ledger.list_newest.Goals as goal

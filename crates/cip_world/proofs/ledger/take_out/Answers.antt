@@ -1,5 +1,5 @@
 use Rattle.std.proofs.Common.{sym, ap, ◌∙◌, Option, not, filter}
-use Rattle.cip_world.specs.declared.journal.FrameName.{FrameName}
+use Rattle.cip_event.specs.declared.frame.FrameName.{FrameName}
 use Rattle.cip_world.specs.Journals.{is_that}
 use Rattle.cip_world.proofs.Waits.{none_out}
 use Rattle.cip_world.proofs.ledger.take_out.Goals as goal

@@ -1,6 +1,6 @@
 use Rattle.std.proofs.Common.{◌∙◌, ap, sym, subst, false, Bool}
 use Rattle.std.specs.Prelude.{slice_set}
-use Rattle.cip_world.specs.declared.journal.FrameName.{FrameName}
+use Rattle.cip_event.specs.declared.frame.FrameName.{FrameName}
 use Rattle.cip_world.specs.Spots.{names_in, AreInOrder}
 use Rattle.cip_world.proofs.Spotted.{order_stays, goes_at, none_goes}
 use Rattle.cip_world.proofs.names.remove_amid.Goals as goal

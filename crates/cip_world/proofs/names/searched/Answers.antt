@@ -1,7 +1,7 @@
 use Rattle.std.proofs.Common.{Bool, subst, rules}
 use Rattle.std.specs.List.Sorted.{IsSearchInRange}
 use Rattle.std.proofs.lemmas.List.Sorted.{answers_always}
-use Rattle.cip_world.specs.declared.journal.FrameName.{FrameName}
+use Rattle.cip_event.specs.declared.frame.FrameName.{FrameName}
 use Rattle.cip_world.proofs.Spotted.{searched}
 use Rattle.cip_world.proofs.names.searched.Goals as goal
 

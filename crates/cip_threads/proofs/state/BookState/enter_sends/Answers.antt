@@ -2,7 +2,7 @@ use Rattle.std.proofs.Common.{refl, sym, arith, ap, map, ◌∙◌, ◌≡◌, �
 use Rattle.std.proofs.lemmas.List.{length-map, length-reverse, reverse-append}
 use Rattle.std.proofs.lemmas.List.Elements.{All-from_recursion}
 use Rattle.cip_base.specs.declared.numbers.ModuleId.{ModuleId}
-use Rattle.cip_world.specs.declared.journal.FrameName.{FrameName}
+use Rattle.cip_event.specs.declared.frame.FrameName.{FrameName}
 use Rattle.cip_world.specs.declared.journal.Entry.TheVariants.{Step}
 use Rattle.cip_threads.specs.Flows.{sends_of}
 use Rattle.cip_threads.specs.Queues.{enqueue}

@@ -1,6 +1,6 @@
 use Rattle.std.proofs.Common.{reverse, ◌∙◌, ap, sym, subst, filter, not, length, Option, nat_lt}
 use Rattle.std.specs.Vec.{vec_len, vec_capacity}
-use Rattle.cip_world.specs.declared.journal.FrameName.{FrameName}
+use Rattle.cip_event.specs.declared.frame.FrameName.{FrameName}
 use Rattle.cip_world.specs.Journals.{is_that}
 use Rattle.cip_world.specs.Ledgers.{Told, newest_outputs}
 use Rattle.cip_world.specs.Runs.{IsNext}

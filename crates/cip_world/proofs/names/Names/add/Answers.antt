@@ -1,6 +1,6 @@
 use Rattle.std.proofs.Common.{◌≡◌, ◌∙◌, ◌++◌, ◌∷◌, [], List, OnOk, ap, sym, subst}
 use Rattle.std.specs.Prelude.{is_ok}
-use Rattle.cip_world.specs.declared.journal.FrameName.{FrameName}
+use Rattle.cip_event.specs.declared.frame.FrameName.{FrameName}
 use Rattle.cip_world.specs.Names.{AllBefore}
 use Rattle.cip_world.specs.Spots.{names_in}
 use Rattle.cip_world.proofs.Spotted.{pushed_spots, pushed_names}

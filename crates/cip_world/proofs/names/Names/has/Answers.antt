@@ -1,6 +1,6 @@
 use Rattle.std.proofs.Common.{◌∙◌, ap, sym, Bool}
 use Rattle.std.specs.List.{list_any}
-use Rattle.cip_world.specs.declared.journal.FrameName.{FrameName}
+use Rattle.cip_event.specs.declared.frame.FrameName.{FrameName}
 use Rattle.cip_world.specs.Journals.{same_name}
 use Rattle.cip_world.proofs.Spotted.{has_at, has_not}
 use Rattle.cip_world.proofs.names.Names.has.Goals as goal
