@@ -10,7 +10,8 @@ use cip_world::{End, Shown, World, WorldFault};
 /// Why a step was not played to its end.
 #[derive(Clone, Copy, Debug, PartialEq, Eq)]
 pub enum PlayFault {
-    /// NoFrame: the frame that is named does not wait. ClockFull: the clock of a module is full.
+    /// NoFrame: the frame that is named does not wait. ClockFull: the clock of a module is full, or
+    /// there is no such module.
     Stopped(ScriptFault),
     /// An allocation was refused.
     NoMemory,
@@ -89,10 +90,11 @@ fn run(world: &mut World, limit: usize) -> Result<(), PlayFault>
     }
 }
 
-/// One step of a script over a world: the entries that it adds, by the calls of the world. What only
-/// shows something does nothing. Stopped with NoFrame where the frame that is named does not wait,
-/// with ClockFull where a clock is full; NoMemory where an allocation is refused. The world is as it
-/// was then, but for the frames of a `run` that arrived before.
+/// One step of a script over a world: the entries that it adds, by the calls of the world. What
+/// only shows something does nothing. Stopped with NoFrame where the frame that is named does not
+/// wait, with ClockFull where a clock is full or there is no such module; NoMemory where an
+/// allocation is refused. The world is as it was then, but for the frames of a `run` that arrived
+/// before.
 pub fn play_step(world: &mut World, step: Step) -> Result<(), PlayFault>
     requires stand { ⟦<World as Shown>⟧.stands world.old }
     ensures stand { ⟦<World as Shown>⟧.stands world.new }
