@@ -1,6 +1,6 @@
 """Refused memory, allocation by allocation, of the console over boxes that are not the program's own.
 
-The driver, crates/played_console, makes topology, boxes, reader and writer itself, and runs a script between marks: twice in turn, or twice
+The driver, crates/played_worlds, makes topology, boxes, reader and writer itself, and runs a script between marks: twice in turn, or twice
 with each module on a thread, once where the script lies in memory and once where it is read. Each run is refused its first allocation, its
 second, and so on, until none is refused. A run that is refused has to end with NoMemory, and has written a front of the transcript; or it
 only asked ahead, and wrote it whole. On threads it may also end because no thread can be made.
@@ -64,7 +64,7 @@ class Console:
 def consoles_refused(program, room, cases):
     """Runs the script of each case with memory refused, and returns what was wrong."""
     if not os.path.isfile(program):
-        return [f"there is no program {program}: `rt ci` makes it, or `rt run` in crates/played_console"]
+        return [f"there is no program {program}: `rt ci` makes it, or `rt run` in crates/played_worlds"]
     faults = []
     with ThreadPoolExecutor(len(os.sched_getaffinity(0))) as pool:
         for case in cases:
@@ -72,5 +72,5 @@ def consoles_refused(program, room, cases):
             count, ended, wrong = console.each_refused(pool)
             faults += wrong
             told = f"{count} refusals in turn, of which {count - ended} only asked ahead, and wrote {len(console.fronts)} fronts"
-            print(f"played_console: {case.name} met {told}, {len(wrong)} faults")
+            print(f"played_worlds: the console, {case.name}, met {told}, {len(wrong)} faults")
     return faults

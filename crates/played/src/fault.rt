@@ -10,7 +10,8 @@ use thiserror::Error;
 /// Why the program ends before its work is done.
 #[derive(Clone, Copy, Debug, PartialEq, Eq, Error)]
 pub enum Fault {
-    #[error("usage: played plain|indexed|mixed, \
+    #[error("usage: played plain|indexed|mixed [FILE ..], \
+        played scenarios FILE .., \
         played times [send|open|datum|send-full|open-full|datum-full|large|datum-4|datum-400|\
         datum-long|half|long TIMES [indexed]]")]
     Usage,

@@ -1,8 +1,10 @@
 //! Plays the events that its standard input has on the modules of a chassis, and writes what comes
-//! of each.
+//! of each; and scenarios of files.
 //!
 //! `played plain`, `played indexed` or `played mixed` says of which kind scanner and bridges
-//! are; where they are mixed, one bridge is indexed. The events are those of `lines.rt`.
+//! are; where they are mixed, one bridge is indexed. The events are those of `lines.rt`. Behind it
+//! may stand files of scenarios, which are played then. `played scenarios FILE ..` plays these
+//! alone (`scenarios.rt`).
 //!
 //! `played times STEP TIMES` takes steps of a plain bridge many times over, to be timed
 //! from outside. The steps are `send`, `open`, `datum`, `send-full`, `open-full` and `datum-full`;
@@ -17,29 +19,48 @@ mod frames;
 mod guarded;
 mod lines;
 mod out;
+mod scenarios;
 mod times;
 
 use fault::Fault;
 use std::env;
+use std::env::Args;
 use std::process::ExitCode;
 use test_harness::Kinds;
 
-fn run(rt: &HostRuntime) -> Result<(), Fault> {
+// Of which kind scanner and bridges are.
+fn kinds_of(word: &str) -> Option<Kinds> {
+    match word {
+        "plain" => Some(Kinds::Plain),
+        "indexed" => Some(Kinds::Indexed),
+        "mixed" => Some(Kinds::OneIndexed),
+        _ => None,
+    }
+}
+
+// Whether each scenario is as it tells.
+fn play(rt: &HostRuntime, word: &str, words: &mut Args) -> Result<bool, Fault> {
+    if word == "times" {
+        times::run(rt, words)?;
+        return Ok(true);
+    }
+    if word != "scenarios" {
+        lines::play(rt, kinds_of(word).ok_or(Fault::Usage)?)?;
+    }
+    scenarios::play(rt, words)
+}
+
+fn run(rt: &HostRuntime) -> Result<bool, Fault> {
     let mut words = env::args(rt)?;
     let _program = words.next();
     let word = words.next().ok_or(Fault::Usage)?;
-    match word.as_str() {
-        "times" => times::run(rt, &mut words),
-        "plain" => lines::play(rt, Kinds::Plain),
-        "indexed" => lines::play(rt, Kinds::Indexed),
-        "mixed" => lines::play(rt, Kinds::OneIndexed),
-        _ => Err(Fault::Usage),
-    }
+    play(rt, word.as_str(), &mut words)
 }
 
 fn main(rt: HostRuntime) -> ExitCode {
     match run(&rt) {
-        Ok(()) => ExitCode::SUCCESS,
+        Ok(true) => ExitCode::SUCCESS,
+        Ok(false) => ExitCode::FAILURE,
         Err(fault) => {
             let _ = eprintln!(rt; "played: {fault}");
             ExitCode::FAILURE

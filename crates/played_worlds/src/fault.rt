@@ -1,6 +1,8 @@
 //! Why the program ends before its work is done.
 
 use cip_base::NoMemory;
+use cip_console::ReadFault as ScriptFault;
+use cip_read::ReadFault;
 use cip_script::StepsFault;
 use cip_topology::LoadFault;
 use cip_world::WorldFault;
@@ -11,7 +13,8 @@ use thiserror::Error;
 /// Why the program ends before its work is done.
 #[derive(Clone, Copy, Debug, PartialEq, Eq, Error)]
 pub enum Fault {
-    #[error("usage: played_worlds plain|indexed|late|two")]
+    #[error("usage: played_worlds WHAT [WHAT FILE ..], where WHAT is \
+        plain|indexed|late|two|turn|live|json")]
     Usage,
     #[error("a line cannot be played")]
     Line,
@@ -21,6 +24,8 @@ pub enum Fault {
     NoMemory,
     #[error("the chassis was not made")]
     Chassis,
+    #[error("a faulty transcript")]
+    Transcript,
 }
 
 impl From<io::Error> for Fault {
@@ -62,5 +67,23 @@ impl From<WorldFault> for Fault {
 impl From<StepsFault> for Fault {
     fn from(_fault: StepsFault) -> Fault {
         Fault::Line
+    }
+}
+
+impl From<ScriptFault> for Fault {
+    fn from(fault: ScriptFault) -> Fault {
+        match fault {
+            ScriptFault::NoMemory => Fault::NoMemory,
+            _ => Fault::System,
+        }
+    }
+}
+
+impl From<ReadFault> for Fault {
+    fn from(fault: ReadFault) -> Fault {
+        match fault {
+            ReadFault::NoMemory => Fault::NoMemory,
+            _ => Fault::Transcript,
+        }
     }
 }

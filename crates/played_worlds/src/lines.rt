@@ -1,4 +1,4 @@
-//! The lines of the standard input.
+//! Lines that make calls of a world.
 //!
 //! - Each line of a console's script is a call of the world: a command to a module, `tick`,
 //! `deliver`, `lose`, `run`, `tables`, `trail` and `chain`. So are `least`, `quiet`, `waiting`
@@ -24,7 +24,7 @@ use cip_threads::Feed;
 use cip_transcript::names_of;
 use cip_world::{Shown, World};
 use std::alloc::Global;
-use std::io::{BufRead, BufReader};
+use std::io::{BufRead, BufReader, Read};
 use std::mem;
 use std::sync::Wait;
 use std::thread::Threads;
@@ -134,12 +134,13 @@ fn obey<T: Threads + Wait + Sync>(
 }
 
 // Plays the lines over two worlds.
-fn play_over<T: Threads + Wait + Sync>(
+fn play_over<T: Threads + Wait + Sync, R: Read + Drop>(
     rt: &HostRuntime,
     workers: &T,
     plant: Plant,
     world: &mut World,
     twin: &mut World,
+    input: R,
 ) -> Result<(), Fault>
     requires stand { ⟦<World as Shown>⟧.stands world.old }
     requires twin_stand { ⟦<World as Shown>⟧.stands twin.old }
@@ -147,18 +148,19 @@ fn play_over<T: Threads + Wait + Sync>(
     let alloc = rt.alloc();
     let mut out = Out::new(rt);
     let mut beside = Beside::new(alloc, plant)?;
-    for line in BufReader::new(alloc, rt.reader())?.lines(alloc) {
+    for line in BufReader::new(alloc, input)?.lines(alloc) {
         let line = line?;
         obey(&mut out, workers, &mut beside, world, twin, line.as_str())?;
     }
     Ok(())
 }
 
-/// Plays the lines of the standard input over a chassis.
-pub fn play<T: Threads + Wait + Sync>(
+/// Plays the lines of this input over a chassis.
+pub fn play<T: Threads + Wait + Sync, R: Read + Drop>(
     rt: &HostRuntime,
     workers: &T,
     plant: Plant,
+    input: R,
 ) -> Result<(), Fault> {
     let alloc = rt.alloc();
     let topology = plant.topology(alloc)?;
@@ -170,5 +172,5 @@ pub fn play<T: Threads + Wait + Sync>(
     let Ok(mut twin) = World::new(alloc, topology, twins) else {
         return Err(Fault::Chassis);
     };
-    play_over(rt, workers, plant, &mut here, &mut twin)
+    play_over(rt, workers, plant, &mut here, &mut twin, input)
 }

@@ -1,34 +1,77 @@
 //! Makes the calls that its standard input has of a world of the chassis, and writes what each
-//! answers.
+//! answers; or runs a script by the console, or shows a transcript.
 //!
 //! `played_worlds plain` and `played_worlds indexed` say of which kind scanner and bridges are;
 //! `played_worlds late` has the scanner's clock at its end, `played_worlds two` a second scanner.
-//! The calls are those of `lines.rt`.
+//! The calls are those of `lines.rt`. `played_worlds turn` runs a script in turn, `played_worlds
+//! live` with each module on a thread of its own (`console.rt`). `played_worlds json` shows a
+//! transcript in the form from before (`views.rt`).
+//!
+//! Further words are pairs: what else to do, and the file that has its input.
 #![tactic(auto)]
 
 mod answers;
 mod calls;
+mod console;
 mod fault;
 mod guarded;
+mod kept;
 mod lines;
 mod live;
 mod made;
 mod noted;
 mod out;
 mod plants;
+mod views;
 
 use fault::Fault;
 use plants::Plant;
 use std::env;
+use std::env::Args;
+use std::fs::File;
+use std::io::Read;
 use std::process::ExitCode;
 use std::sync::Wait;
 use std::thread::Threads;
+
+// Does what a word asks for with this input.
+fn play<T: Threads + Wait + Sync, R: Read + Drop>(
+    rt: &HostRuntime,
+    workers: &T,
+    word: &str,
+    input: R,
+) -> Result<(), Fault> {
+    match word {
+        "turn" => console::in_turn(rt, input),
+        "live" => console::on_threads(rt, workers, input),
+        "json" => views::show(rt, input),
+        name => lines::play(rt, workers, Plant::of(name).ok_or(Fault::Usage)?, input),
+    }
+}
+
+// Does what the pairs of words ask for.
+fn play_files<T: Threads + Wait + Sync>(
+    rt: &HostRuntime,
+    workers: &T,
+    words: &mut Args,
+) -> Result<(), Fault> {
+    for _ in 0..u64::MAX {
+        let Some(word) = words.next() else {
+            break;
+        };
+        let path = words.next().ok_or(Fault::Usage)?;
+        let input = File::open(rt, path.as_str())?;
+        play(rt, workers, word.as_str(), input)?;
+    }
+    Ok(())
+}
 
 fn run<T: Threads + Wait + Sync>(rt: &HostRuntime, workers: &T) -> Result<(), Fault> {
     let mut words = env::args(rt)?;
     let _program = words.next();
     let word = words.next().ok_or(Fault::Usage)?;
-    lines::play(rt, workers, Plant::of(word.as_str()).ok_or(Fault::Usage)?)
+    play(rt, workers, word.as_str(), rt.reader())?;
+    play_files(rt, workers, &mut words)
 }
 
 fn main(rt: HostRuntime) -> ExitCode {

@@ -1,7 +1,7 @@
 //! One scenario.
-use crate::events::{self, Along};
 use crate::fault::Fault;
-use crate::rows;
+use crate::scenarios::events::{self, Along};
+use crate::scenarios::rows;
 use std::alloc::Global;
 
 /// What the text of a scenario is.

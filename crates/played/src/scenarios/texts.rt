@@ -1,5 +1,5 @@
 //! Topology files that a row spells, but for edits of the chassis file.
-use crate::generated::{Size, generated};
+use crate::scenarios::generated::{Size, generated};
 use std::alloc::Global;
 use std::str::SplitAsciiWhitespace;
 

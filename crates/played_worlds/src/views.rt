@@ -1,20 +1,14 @@
-//! Shows the transcript of its standard input, of a run over the chassis, as JSON: in the form from
-//! before, which made a tree of values for each entry.
+//! The transcript of a run over the chassis as JSON, in the form from before, which made a tree of
+//! values for each entry.
 //!
-//! What it writes goes out piece by piece, as in `cipview json`, so that both can be refused memory
+//! What is written goes out piece by piece, as in `cipview json`, so that both can be refused memory
 //! and compared.
-#![tactic(auto)]
-
-mod fault;
-
+use crate::fault::Fault;
 use cip_book::{Pieces, View, feed, finish};
 use cip_read::Reader;
 use cip_topology::{CHASSIS, Topology, load};
-use fault::Fault;
-use std::alloc::Global;
 use std::io;
 use std::io::{Read, Write};
-use std::process::ExitCode;
 use tree_view::TreeView;
 
 // The bytes of one read.
@@ -31,12 +25,13 @@ fn write_out(rt: &HostRuntime, view: &mut TreeView<'_>) -> Result<(), Fault> {
     Ok(())
 }
 
-// Shows the transcript, piece by piece.
-fn show(rt: &HostRuntime, alloc: Global, topology: &Topology) -> Result<(), Fault> {
+// Shows a transcript, piece by piece.
+fn show_over<R: Read + Drop>(rt: &HostRuntime, topology: &Topology, input: R) -> Result<(), Fault> {
+    let alloc = rt.alloc();
     let mut view = TreeView::new(alloc, topology);
     let mut reader = Reader::new(topology);
     let mut pieces = Pieces::new(alloc);
-    let mut input = rt.reader();
+    let mut input = input;
     let mut piece = vec![in alloc; 0u8; PIECE]?;
     for _ in 0..u64::MAX {
         let count = input.read(piece.as_mut_slice())?;
@@ -51,17 +46,8 @@ fn show(rt: &HostRuntime, alloc: Global, topology: &Topology) -> Result<(), Faul
     write_out(rt, &mut view)
 }
 
-fn play(rt: &HostRuntime, alloc: Global) -> Result<(), Fault> {
-    let topology = load(alloc, CHASSIS)?;
-    show(rt, alloc, &topology)
-}
-
-fn main(rt: HostRuntime) -> ExitCode {
-    match play(&rt, rt.alloc()) {
-        Ok(()) => ExitCode::SUCCESS,
-        Err(fault) => {
-            let _ = eprintln!(rt; "played_views: {fault}");
-            ExitCode::from(fault.status())
-        }
-    }
+/// Shows the transcript of this input.
+pub fn show<R: Read + Drop>(rt: &HostRuntime, input: R) -> Result<(), Fault> {
+    let topology = load(rt.alloc(), CHASSIS)?;
+    show_over(rt, &topology, input)
 }

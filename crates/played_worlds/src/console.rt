@@ -1,34 +1,21 @@
-//! Runs of the console over boxes that are made here.
+//! Runs of the console over boxes, a reader and a writer that are made here.
+//!
+//! Each run stands between the marks `>` and `<`, so that memory can be refused to the console
+//! alone. A script is run twice: once where it lies in memory, and once where it has to be read.
 use crate::fault::Fault;
 use crate::kept::Kept;
-use cip_console::{ConsoleFault, Plain, Script, Source, run, run_live};
+use crate::made::boxes;
+use cip_console::{ConsoleFault, Plain, Script, Source, read_script, run, run_live};
 use cip_indexed::{NewModule, new_modules};
 use cip_module::Module;
 use cip_threads::OpenGate;
 use cip_topology::{CHASSIS, load};
+use std::io::Read;
 use std::sync::Wait;
 use std::thread::Threads;
 
 // More turns than any script here takes.
 const TURNS: usize = 10_000;
-
-// New modules of a topology, each as a box of any module: a function can't hand such boxes out.
-macro_rules! boxes {
-    ($alloc:ident, $topology:expr) => {{
-        let mut modules: Vec<Box<dyn Module + Send>> = Vec::new($alloc);
-        for new in new_modules($alloc, $topology.configs())? {
-            let pushed = match new {
-                NewModule::Plain(module_) => modules.push(module_),
-                NewModule::Adapter(module_) => modules.push(module_),
-                NewModule::Indexed(module_) => modules.push(module_),
-            };
-            if pushed.is_err() {
-                return Err(Fault::NoMemory);
-            }
-        }
-        modules
-    }};
-}
 
 // How a run ended, and its transcript. The marks stand on a line of their own.
 fn tell(rt: &HostRuntime, ended: Result<(), ConsoleFault>, kept: &Kept) -> Result<(), Fault> {
@@ -47,7 +34,7 @@ fn run_one<R: Source>(rt: &HostRuntime, reader: &mut R) -> Result<(), Fault> {
     let alloc = rt.alloc();
     let topology = load(alloc, CHASSIS)?;
     let mut writer = Kept::new(alloc)?;
-    let modules = boxes!(alloc, topology);
+    let modules = boxes!(alloc, new_modules(alloc, topology.configs())?);
     // (what the marks say is looked at when no box is left to be given up)
     let begun = print!(rt; ">");
     let ended = run(alloc, reader, &mut writer, topology, modules);
@@ -64,7 +51,7 @@ fn run_one_live<T: Threads + Wait + Sync, R: Source>(
     let alloc = rt.alloc();
     let topology = load(alloc, CHASSIS)?;
     let mut writer = Kept::new(alloc)?;
-    let modules = boxes!(alloc, topology);
+    let modules = boxes!(alloc, new_modules(alloc, topology.configs())?);
     // (what the marks say is looked at when no box is left to be given up)
     let begun = print!(rt; ">");
     let ended = run_live(
@@ -82,18 +69,22 @@ fn run_one_live<T: Threads + Wait + Sync, R: Source>(
     tell(rt, ended, &writer)
 }
 
-/// Runs a script in turn, where it lies in memory, and where it is read.
-pub fn in_turn(rt: &HostRuntime, script: &[u8]) -> Result<(), Fault> {
+/// Runs the script of this input in turn.
+pub fn in_turn<R: Read + Drop>(rt: &HostRuntime, input: R) -> Result<(), Fault> {
+    let script = read_script(rt.alloc(), &mut Plain { inner: input })?;
+    let script = script.as_slice();
     run_one(rt, &mut Script { rest: script })?;
     run_one(rt, &mut Plain { inner: script })
 }
 
-/// Runs a script with each module on a thread of its own, in both ways.
-pub fn on_threads<T: Threads + Wait + Sync>(
+/// Runs the script of this input with each module on a thread of its own.
+pub fn on_threads<T: Threads + Wait + Sync, R: Read + Drop>(
     rt: &HostRuntime,
     workers: &T,
-    script: &[u8],
+    input: R,
 ) -> Result<(), Fault> {
+    let script = read_script(rt.alloc(), &mut Plain { inner: input })?;
+    let script = script.as_slice();
     run_one_live(rt, workers, &mut Script { rest: script })?;
     run_one_live(rt, workers, &mut Plain { inner: script })
 }

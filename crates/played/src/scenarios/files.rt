@@ -1,7 +1,7 @@
 //! The scenarios of a file, and the lines that are written of them.
 use crate::fault::Fault;
-use crate::lines::count_lines;
-use crate::scenario::Scenario;
+use crate::scenarios::lines::count_lines;
+use crate::scenarios::scenario::Scenario;
 use std::fs;
 
 // A scenario with the number of its heading's line. Whether it is as it tells.

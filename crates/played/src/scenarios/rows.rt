@@ -10,10 +10,10 @@
 //! - lines `| TEXT`: the text of the file, which has a line's end between two of them.
 //!   `{N of TEXT}` in it stands for a text so many times; there `NUL` is a byte of zero, `SPACE` a
 //!   space. Behind a file of so many tables they go on with it.
-use crate::edits::edited;
 use crate::fault::Fault;
-use crate::lines::count_lines;
-use crate::texts::spelled;
+use crate::scenarios::edits::edited;
+use crate::scenarios::lines::count_lines;
+use crate::scenarios::texts::spelled;
 use cip_topology::CHASSIS;
 use std::alloc::{AllocError, Global};
 use test_harness::answer;
