@@ -1,8 +1,8 @@
 //! The transcript of a run over the chassis as JSON, in the form from before, which made a tree of
 //! values for each entry.
 //!
-//! What is written goes out piece by piece, as in `cipview json`, so that both can be refused memory
-//! and compared.
+//! What is written goes out piece by piece, as in `cipview json`, so that both can be refused
+//! memory and compared.
 use crate::fault::Fault;
 use cip_book::{Pieces, View, feed, finish};
 use cip_read::Reader;
