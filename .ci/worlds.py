@@ -80,9 +80,74 @@ CONNECTED = [
     *(("tick E 1000", entry(29)), ("chain S 3", BROKEN)),
 ]
 
+# Where each frame of that request came in, and from which entry others come; how runs end that deliver so many.
+CAME = ["came 1 A 2 [1]", "came 2 B 1 [0]", "came 3 A 1 [3]", "came 4 S 2 [5]"]
+ENDED = [
+    *(("run 0", QUIET), (SEND, entry(0)), ("run 1", LIMIT), ("run 0", LIMIT), ("run 10", QUIET), ("run 0", QUIET)),
+    *(("journal", SENT + HOPS), ("came", CAME), ("root 4", ["root Some(0)"]), ("root 5", ["root None"])),
+]
+
+# Frames one by one, of which the least is delivered, or one by its name.
+ONE_BY_ONE = [
+    *(("least", ["none"]), (SEND, entry(0)), ("least", ["arrived"]), ("deliver 1.0", entry(2)), ("deliver 2.0", entry(3))),
+    *(("deliver 3.0", entry(4)), ("least", ["none"]), ("journal", SENT + HOPS), ("came", CAME)),
+]
+
+# What waits, in rising name, and a loss.
+SENT_AGAIN = ["1 S send 2", f"  0 send 2 05 request 2 52022006240107F90600{REQUEST}01000103"]
+PASSED_ON = ["2 A frame 1.0", f"  0 send 1 03 request 1 {REQUEST}"]
+WAITING = [
+    *(("waiting", ["waiting"]), (SEND, entry(0)), ("waiting", ["waiting 0.0"]), (SEND.replace("S 1", "S 2"), entry(1))),
+    *(("waiting", ["waiting 0.0 1.0"]), ("deliver 1.0", entry(2)), ("waiting", ["waiting 0.0 2.0"]), ("lose 0.0", entry(3))),
+    *(("waiting", ["waiting 2.0"]), ("journal", [*SENT, *SENT_AGAIN, *PASSED_ON, "3 lost 0.0"])),
+]
+
+# Time goes by at one module alone.
+TICKED_ALONE = [
+    *(("tick A 7", entry(0)), (SEND, entry(1)), ("tables A", tables("A", 7_000))),
+    ("tables S", tables("S", last=1, rows=["  pending 1 2 05 due 32000000 words 2 unconnected"])),
+]
+
+# Addresses that lead back to the sender, or nowhere.
+IDENTITY = "8100000001010E000900010300000D0C0B0A025343"
+TO_ITSELF = [
+    *((f"send S 1 {TIMING} 0201 {REQUEST}", entry(0)), ("run 10", QUIET), ("came", ["came 1 S 2 [1]", "came 2 S 2 [1]"])),
+    (
+        "journal",
+        [
+            *("0 S send 1", f"  0 send 2 01 request 1 {REQUEST}", "1 S frame 0.0", f"  0 send 2 01 reply 1 {IDENTITY}"),
+            *("2 S frame 1.0", f"  0 done 1 {IDENTITY}"),
+        ],
+    ),
+]
+TO_NOBODY = [
+    *((f"send S 1 {TIMING} 0209 {REQUEST}", entry(0)), ("waiting", ["waiting"]), ("deliver 0.0", NO_FRAME), ("lose 0.0", NO_FRAME)),
+    *(("run 5", QUIET), ("tick S 32000", entry(1)), ("came", [])),
+    ("journal", ["0 S send 1", f"  0 send 2 09 request 1 {REQUEST}", "1 S tick 32000", "  0 done 1 D2000101040201"]),
+]
+OUT_AND_IN = [
+    *((f"send M 1 {TIMING} 0104 {REQUEST}", entry(0)), ("run 10", QUIET), ("came", ["came 1 M 2 [3]", "came 2 M 1 [4]"])),
+    (
+        "journal",
+        [
+            *("0 M send 1", f"  0 send 1 04 request 1 {REQUEST}", "1 M frame 0.0", f"  0 send 2 03 reply 1 {IDENTITY}"),
+            *("2 M frame 1.0", f"  0 done 1 {IDENTITY}"),
+        ],
+    ),
+]
+
+# Op 1 is refused once, the request of op 3 is lost, and that of op 4 waits.
+TRAILS = [
+    *((SEND, entry(0)), (SEND.replace("S 1", "S 2"), entry(1)), (SEND, entry(2)), ("run 10", QUIET)),
+    *((SEND.replace("S 1", "S 5"), entry(11)), (SEND.replace("S 1", "S 3"), entry(12)), ("deliver 11.0", entry(13))),
+    *(("lose 12.0", entry(14)), ("run 10", QUIET), (SEND.replace("S 1", "S 4"), entry(18)), ("trail S 1", ["trail 0 3 5"])),
+    ("trails", ["alike"]),
+]
+
 # The scanner's clock is at its end.
 LATE = [("tick S 1", FULL), ("journal", []), ("tick A 1", entry(0)), ("journal", ["0 A tick 1"])]
-PLAYED = {"plain": [MADE, ASKED, CONNECTED], "indexed": [MADE, ASKED, CONNECTED], "late": [LATE]}
+BOTH_KINDS = [MADE, ASKED, CONNECTED, ENDED, ONE_BY_ONE, WAITING, TICKED_ALONE, TO_ITSELF, TO_NOBODY, TRAILS]
+PLAYED = {"plain": BOTH_KINDS, "indexed": BOTH_KINDS, "late": [LATE], "ports": [OUT_AND_IN]}
 
 
 class Ran:

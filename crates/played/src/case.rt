@@ -1,11 +1,11 @@
 //! The cases: a step, and what else stands in the tables.
 
 use crate::bridge::Bridge;
+use crate::chassis::{AnyModule, Kinds, device_of, make};
 use crate::fault::Fault;
 use crate::frames::{DATUM, long_datum, long_send};
 use cip_module::Module;
 use std::alloc::Global;
-use test_harness::{AnyModule, Kinds, device_of, make};
 
 /// What is done in a turn.
 #[derive(Clone, Copy)]

@@ -1,9 +1,9 @@
 //! An event that is guarded, so that memory can be refused to its step alone.
 use crate::fault::Fault;
+use crate::harness::Harness;
 use crate::out::Out;
 use cip_module::{Event, StepFault};
 use std::alloc::Global;
-use test_harness::Harness;
 
 /// What a step that is refused must leave as it was.
 #[derive(Drop, PartialEq, Eq)]

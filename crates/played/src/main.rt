@@ -1,10 +1,10 @@
 //! Plays the events that its standard input has on the modules of a chassis, and writes what comes
-//! of each; and scenarios of files.
+//! of each; and loads topology files.
 //!
 //! `played plain`, `played indexed` or `played mixed` says of which kind scanner and bridges
 //! are; where they are mixed, one bridge is indexed. The events are those of `lines.rt`. Behind it
-//! may stand files of scenarios, which are played then. `played scenarios FILE ..` plays these
-//! alone (`scenarios.rt`).
+//! may stand topology files, which are loaded then. `played topologies FILE ..` loads these alone
+//! (`topologies.rt`).
 //!
 //! `played times STEP TIMES` takes steps of a plain bridge many times over, to be timed
 //! from outside. The steps are `send`, `open`, `datum`, `send-full`, `open-full` and `datum-full`;
@@ -12,21 +12,28 @@
 //! 1,000 times.
 #![tactic(auto)]
 
+mod asked;
 mod bridge;
 mod case;
+mod chassis;
 mod fault;
 mod frames;
 mod guarded;
+mod harness;
 mod lines;
+mod little_room;
+mod opened;
 mod out;
-mod scenarios;
 mod times;
+mod told;
+mod topologies;
+mod words;
 
+use chassis::Kinds;
 use fault::Fault;
 use std::env;
 use std::env::Args;
 use std::process::ExitCode;
-use test_harness::Kinds;
 
 // Of which kind scanner and bridges are.
 fn kinds_of(word: &str) -> Option<Kinds> {
@@ -38,19 +45,17 @@ fn kinds_of(word: &str) -> Option<Kinds> {
     }
 }
 
-// Whether each scenario is as it tells.
-fn play(rt: &HostRuntime, word: &str, words: &mut Args) -> Result<bool, Fault> {
+fn play(rt: &HostRuntime, word: &str, words: &mut Args) -> Result<(), Fault> {
     if word == "times" {
-        times::run(rt, words)?;
-        return Ok(true);
+        return times::run(rt, words);
     }
-    if word != "scenarios" {
+    if word != "topologies" {
         lines::play(rt, kinds_of(word).ok_or(Fault::Usage)?)?;
     }
-    scenarios::play(rt, words)
+    topologies::play(rt, words)
 }
 
-fn run(rt: &HostRuntime) -> Result<bool, Fault> {
+fn run(rt: &HostRuntime) -> Result<(), Fault> {
     let mut words = env::args(rt)?;
     let _program = words.next();
     let word = words.next().ok_or(Fault::Usage)?;
@@ -59,8 +64,7 @@ fn run(rt: &HostRuntime) -> Result<bool, Fault> {
 
 fn main(rt: HostRuntime) -> ExitCode {
     match run(&rt) {
-        Ok(true) => ExitCode::SUCCESS,
-        Ok(false) => ExitCode::FAILURE,
+        Ok(()) => ExitCode::SUCCESS,
         Err(fault) => {
             let _ = eprintln!(rt; "played: {fault}");
             ExitCode::FAILURE

@@ -1,8 +1,8 @@
 //! Steps of a bridge, many times over.
 use crate::case::{CASES, Case, case_of};
+use crate::chassis::Kinds;
 use crate::fault::Fault;
 use std::env::Args;
-use test_harness::Kinds;
 
 // So many turns, and a line about them.
 fn run_case(rt: &HostRuntime, case: Case, kinds: Kinds, times: u32) -> Result<(), Fault> {

@@ -1,6 +1,6 @@
 //! What a call is answered.
 use crate::fault::Fault;
-use crate::noted::{put_frames, put_journal};
+use crate::noted::{put_frames, put_journal, put_places};
 use cip_base::{Bytes, ModuleId, NoMemory};
 use cip_chain::{ChainFault, ChainView};
 use cip_module::Tables;
@@ -23,6 +23,12 @@ pub enum Answer {
     Trail(Result<Vec<usize>, NoMemory>),
     Chain(Result<ChainView, ChainFault>),
     Journal,
+    /// Where each frame came in.
+    Came,
+    /// The entry from which another comes.
+    Root(Option<usize>),
+    /// Whether two forms of an answer are the same.
+    Alike(Result<bool, NoMemory>),
 }
 
 impl Answer {
@@ -36,6 +42,7 @@ impl Answer {
             Answer::Frames(Err(NoMemory)) => true,
             Answer::Tables(_, Err(WorldFault::NoMemory)) => true,
             Answer::Trail(Err(NoMemory)) => true,
+            Answer::Alike(Err(NoMemory)) => true,
             Answer::Chain(Err(ChainFault::NoMemory)) => true,
             _ => false,
         }
@@ -99,6 +106,13 @@ pub fn put_answer(
             Ok(put(text, told.as_bytes())?)
         }
         Answer::Journal => put_journal(text, names, world.journal()),
+        Answer::Came => put_places(alloc, text, names, world.journal()),
+        Answer::Root(entry) => {
+            let told = format!(in alloc; "root {entry:?}\n")?;
+            Ok(put(text, told.as_bytes())?)
+        }
+        Answer::Alike(Ok(true)) => Ok(put(text, b"alike\n")?),
+        Answer::Alike(Ok(false)) => Ok(put(text, b"otherwise\n")?),
         Answer::Entry(Err(fault)) => put_fault(alloc, text, *fault),
         Answer::Delivered(Err(fault)) => put_fault(alloc, text, *fault),
         Answer::Ended(Err(fault)) => put_fault(alloc, text, *fault),
@@ -106,5 +120,6 @@ pub fn put_answer(
         Answer::Quiet(Err(NoMemory)) => put_fault(alloc, text, WorldFault::NoMemory),
         Answer::Frames(Err(NoMemory)) => put_fault(alloc, text, WorldFault::NoMemory),
         Answer::Trail(Err(NoMemory)) => put_fault(alloc, text, WorldFault::NoMemory),
+        Answer::Alike(Err(NoMemory)) => put_fault(alloc, text, WorldFault::NoMemory),
     }
 }

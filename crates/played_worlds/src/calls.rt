@@ -1,10 +1,10 @@
 //! Calls of a world, and what it answers them.
 use crate::answers::Answer;
 use crate::fault::Fault;
-use cip_base::Bytes;
-use cip_chain::{chain, trail};
+use cip_base::{Bytes, ModuleId, NoMemory};
+use cip_chain::{TrailIndex, chain, root, trail};
 use cip_script::{Mode, Step, read_steps};
-use cip_world::{Shown, World};
+use cip_world::{Entry, Shown, World};
 use std::alloc::Global;
 
 /// A call of a world.
@@ -16,6 +16,12 @@ pub enum Call {
     Waiting,
     /// The whole journal, which takes no memory.
     Journal,
+    /// Where each frame came in, likewise.
+    Came,
+    /// The entry from which an entry comes.
+    Root(usize),
+    /// Whether trails by an index are those that a walk finds.
+    Trails,
 }
 
 /// The step that a line of a script is.
@@ -34,7 +40,12 @@ pub fn call_of(alloc: Global, names: &[Bytes], line: &str) -> Result<Call, Fault
         "quiet" => Ok(Call::IsQuiet),
         "waiting" => Ok(Call::Waiting),
         "journal" => Ok(Call::Journal),
-        line => Ok(Call::Step(step_of(alloc, Mode::InTurn, names, line)?)),
+        "came" => Ok(Call::Came),
+        "trails" => Ok(Call::Trails),
+        line => match line.strip_prefix("root ") {
+            Some(entry) => Ok(Call::Root(entry.parse::<usize>().ok().ok_or(Fault::Line)?)),
+            None => Ok(Call::Step(step_of(alloc, Mode::InTurn, names, line)?)),
+        },
     }
 }
 
@@ -56,6 +67,23 @@ impl Call {
             call => call,
         }
     }
+}
+
+// Whether the index finds the trails that a walk finds, of every op at every module, three times.
+fn are_alike(alloc: Global, journal: &[Entry]) -> Result<bool, NoMemory> {
+    let mut index = TrailIndex::new(alloc);
+    for _turn in 0..3 {
+        for at in 0..4 {
+            for op in 0..6 {
+                let walked = trail(alloc, journal, ModuleId(at), op)?;
+                let found = index.trail(journal, ModuleId(at), op)?;
+                if found.as_slice() != walked.as_slice() {
+                    return Ok(false);
+                }
+            }
+        }
+    }
+    Ok(true)
 }
 
 fn ask_step(alloc: Global, world: &mut World, step: Step) -> Answer
@@ -85,5 +113,8 @@ pub fn ask(alloc: Global, world: &mut World, call: Call) -> Answer
         Call::IsQuiet => Answer::Quiet(world.is_quiet()),
         Call::Waiting => Answer::Frames(world.waiting()),
         Call::Journal => Answer::Journal,
+        Call::Came => Answer::Came,
+        Call::Root(entry) => Answer::Root(root(world.journal(), entry)),
+        Call::Trails => Answer::Alike(are_alike(alloc, world.journal())),
     }
 }

@@ -1,9 +1,9 @@
 //! Lines that make calls of a world.
 //!
 //! - Each line of a console's script is a call of the world: a command to a module, `tick`,
-//! `deliver`, `lose`, `run`, `tables`, `trail` and `chain`. So are `least`, `quiet`, `waiting`
-//! and `journal`. X is the name of a module that is not there. What is answered is an entry's
-//! number, a text, or why there is none.
+//! `deliver`, `lose`, `run`, `tables`, `trail` and `chain`. So are `least`, `quiet`, `waiting`,
+//! `journal`, `came`, `root ENTRY` and `trails`. X is the name of a module that is not there. What
+//! is answered is an entry's number, a text, or why there is none.
 //! - `new PLACES` makes a world of the modules at these places of the chassis, a digit for each,
 //! and `check PLACES` looks at them. Behind both may stand which of them took a millisecond.
 //! - `feed LINE` keeps a command or a tick, and `threads TURNS PLACES` runs new modules on threads

@@ -2,7 +2,8 @@
 //! answers; or runs a script by the console, or shows a transcript.
 //!
 //! `played_worlds plain` and `played_worlds indexed` say of which kind scanner and bridges are;
-//! `played_worlds late` has the scanner's clock at its end, `played_worlds two` a second scanner.
+//! `played_worlds late` has the scanner's clock at its end, `played_worlds two` a second scanner;
+//! `played_worlds ports` is one module with two ports on one link.
 //! The calls are those of `lines.rt`. `played_worlds turn` runs a script in turn, `played_worlds
 //! live` with each module on a thread of its own (`console.rt`). `played_worlds json` shows a
 //! transcript in the form from before (`views.rt`).

@@ -2,13 +2,50 @@
 use crate::fault::Fault;
 use cip_base::{Bytes, ModuleId};
 use cip_transcript::{name_in, put, put_entry, put_tables};
-use cip_world::{Entry, FrameName, Shown, World};
+use cip_world::{Entry, FrameName, Input, Shown, World};
 use std::alloc::Global;
 
 /// A journal, oldest entry first.
 pub fn put_journal(text: &mut Vec<u8>, names: &[Bytes], journal: &[Entry]) -> Result<(), Fault> {
     for (k, entry) in journal.iter().enumerate() {
         put_entry(text, names, k, entry)?;
+    }
+    Ok(())
+}
+
+// The place at which the frame of an entry came in, where it is one: the module, its port and the
+// address that it came from.
+fn put_place(
+    alloc: Global,
+    text: &mut Vec<u8>,
+    names: &[Bytes],
+    k: usize,
+    entry: &Entry,
+) -> Result<(), Fault> {
+    if let Entry::Step {
+        at,
+        input: Input::Frame { port, from, .. },
+        ..
+    } = entry
+    {
+        let told = format!(in alloc; "came {k} ")?;
+        put(text, told.as_bytes())?;
+        put(text, name_in(names, at.0))?;
+        let told = format!(in alloc; " {} {:?}\n", port.get(), from.as_slice())?;
+        put(text, told.as_bytes())?;
+    }
+    Ok(())
+}
+
+/// Where each frame came in.
+pub fn put_places(
+    alloc: Global,
+    text: &mut Vec<u8>,
+    names: &[Bytes],
+    journal: &[Entry],
+) -> Result<(), Fault> {
+    for (k, entry) in journal.iter().enumerate() {
+        put_place(alloc, text, names, k, entry)?;
     }
     Ok(())
 }

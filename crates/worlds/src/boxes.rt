@@ -1,10 +1,8 @@
-//! Topologies, their modules in boxes, and worlds of them.
-ghost use Rattle.std.specs.Prelude.{IfSome};
+//! Topologies, and their modules in boxes.
 
 use cip_indexed::{NewModule, new_modules};
 use cip_module::Module;
 use cip_topology::{CHASSIS, Topology, load};
-use cip_world::{Shown, World};
 use std::alloc::Global;
 
 /// The topology of a text.
@@ -38,23 +36,4 @@ pub fn boxes(alloc: Global, topology: &Topology) -> Option<Vec<Box<dyn Module + 
     let mut modules = Vec::new(alloc);
     put_boxes(&mut modules, made)?;
     Some(modules)
-}
-
-/// A world of new modules of the topology of a text.
-pub fn world(alloc: Global, text: &str) -> Option<World>
-    ensures stand { IfSome result (λ w. ⟦<World as Shown>⟧.stands w) }
-{
-    let topology = topology(alloc, text)?;
-    let modules = boxes(alloc, &topology)?;
-    match World::new(alloc, topology, modules) {
-        Ok(world) => Some(world),
-        Err(_) => None,
-    }
-}
-
-/// A world of the chassis.
-pub fn chassis_world(alloc: Global) -> Option<World>
-    ensures stand { IfSome result (λ w. ⟦<World as Shown>⟧.stands w) }
-{
-    world(alloc, CHASSIS)
 }

@@ -2,8 +2,8 @@
 ghost use Rattle.std.specs.Prelude.{IfSome};
 
 use crate::boxes::{chassis, put_boxes};
-use crate::calls::{Answer, Call, first_other};
-use crate::given::{THROUGH_A_TO_B, open};
+use crate::given::{open, send};
+use crate::new_modules::modules_at;
 use cip_base::{ModuleId, NoMemory};
 use cip_chain::{ChainEnd, chain};
 use cip_module::{Event, Module, ModuleConfig, ModuleKind, Output, PlainModule, StepFault, Tables};
@@ -13,7 +13,6 @@ use std::alloc::Global;
 use std::sync::Arc;
 use std::sync::atomic::{AtomicU64, Ordering};
 use std::test::Fail;
-use test_harness::modules_at;
 
 /// A plain module, and how many steps it took, which the test sees.
 #[derive(Drop)]
@@ -91,12 +90,7 @@ fn counted_world(alloc: Global, steps: &Arc<AtomicU64, Global>) -> Option<World>
     }
 }
 
-const SENT: &[(Call, Answer)] = &[(Call::Send(0, 1, THROUGH_A_TO_B), Answer::Entry(0))];
-
-const RAN: &[(Call, Answer)] = &[
-    (Call::Run(10), Answer::Ended(End::Quiet)),
-    (Call::Pendings(0), Answer::Count(0)),
-];
+const SCANNER: ModuleId = ModuleId(0);
 
 #[test]
 fn the_box_itself_is_stepped(rt: HostRuntime) -> Result<(), Fail> {
@@ -104,14 +98,13 @@ fn the_box_itself_is_stepped(rt: HostRuntime) -> Result<(), Fail> {
     let steps = Arc::new(alloc, AtomicU64::new(0))?;
     let mut world = counted_world(alloc, &steps).ok_or("no world")?;
     assert_eq!(&rt; steps.load(Ordering::SeqCst), 0);
-    assert_eq!(&rt; first_other(alloc, &mut world, SENT), None);
+    world.feed(SCANNER, send(alloc, 1).ok_or("no command")?)?;
     assert_eq!(&rt; steps.load(Ordering::SeqCst), 1);
-    assert_eq!(&rt; first_other(alloc, &mut world, RAN), None);
+    assert_eq!(&rt; world.run(10)?, End::Quiet);
     assert_eq!(&rt; steps.load(Ordering::SeqCst), 2);
+    assert!(&rt; world.tables(SCANNER)?.pendings.as_slice().is_empty());
     Ok(())
 }
-
-const SCANNER: ModuleId = ModuleId(0);
 
 // The box has no call of its own that finds a connection: its tables tell which one the op opened.
 #[test]

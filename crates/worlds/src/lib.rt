@@ -5,20 +5,12 @@
 #[cfg(test)]
 mod boxes;
 #[cfg(test)]
-mod calls;
-#[cfg(test)]
 mod counted_steps;
 #[cfg(test)]
 mod given;
 #[cfg(test)]
-mod journals;
-#[cfg(test)]
-mod runs;
+mod new_modules;
 #[cfg(test)]
 mod threads;
 #[cfg(test)]
 mod topologies;
-#[cfg(test)]
-mod trails;
-#[cfg(test)]
-mod ways;

@@ -1,7 +1,7 @@
 //! Chassis, and what their modules are given.
 use crate::boxes::topology;
-use crate::given::{THROUGH_A_TO_B, ms, send as send_along};
-use cip_base::ModuleId;
+use crate::given::send as send_of;
+use cip_base::{ModuleId, Ms};
 use cip_threads::Feed;
 use cip_topology::{CHASSIS, Topology};
 use std::alloc::Global;
@@ -52,13 +52,13 @@ pub fn two_scanners(alloc: Global) -> Result<Topology, Fail> {
 
 // Asks the second bridge for its identity, through the first one.
 fn send(alloc: Global) -> Result<Feed, Fail> {
-    let command = send_along(alloc, 1, THROUGH_A_TO_B).ok_or("no command")?;
+    let command = send_of(alloc, 1).ok_or("no command")?;
     Ok(Feed::Command(command))
 }
 
 // A millisecond.
 fn tick() -> Result<Feed, Fail> {
-    Ok(Feed::Tick(ms(1).ok_or("no time")?))
+    Ok(Feed::Tick(Ms::new(1).ok_or("no time")?))
 }
 
 /// The same send at each of these modules.

@@ -1,6 +1,6 @@
 use Rattle.std.proofs.Common.{reverse}
 use Rattle.cip_chain.specs.Index.{IsIndexOf}
-use Rattle.worlds.proofs.trails.finds_all.Given as goal
+use Rattle.played_worlds.proofs.calls.are_alike.Given as goal
 
 abbrev pub invariant-loop-turn : goal.invariant-loop-turn
 invariant-loop-turn l = IsIndexOf l.index (reverse l.journal)

@@ -1,8 +1,0 @@
-use Rattle.std.proofs.Common.{map}
-use Rattle.cip_world.specs.Worlds.{Stand}
-use Rattle.worlds.proofs.calls.first_other.Given as goal
-
-abbrev pub invariant-loop-i : goal.invariant-loop-i
-invariant-loop-i g l =
-    Stand l.world.ledger (map (λ b. (goal.Module-dyn g (b.vtable, b.value)).config_of b.value) l.world.modules.items)
-    (map (λ b. (goal.Module-dyn g (b.vtable, b.value)).state_of b.value) l.world.modules.items)
