@@ -95,7 +95,7 @@ fn empty_table(alloc: Global, room: usize, first: u32) -> Option<HopTable>
 }
 
 /// `ROOM FIRST`: an empty table.
-pub fn table(words: &mut Words) -> Option<HopTable> {
+pub fn of_room(words: &mut Words) -> Option<HopTable> {
     let room = usize::try_from(words.u64()?).ok()?;
     let first = words.u32()?;
     if count_of(first) == 0 {
@@ -142,9 +142,9 @@ fn begun(table: &mut HopTable, words: &mut Words) -> Option<String> {
     let opening = routed(alloc, words)?;
     let before = format!(in alloc; "{opening:?}").ok()?;
     words.open();
-    let begun = begin(table, opening);
+    let given = begin(table, opening);
     words.close(false);
-    let (reason, opening) = match begun {
+    let (reason, opening) = match given {
         Ok(OwnIds { up, down }) => {
             return format!(in alloc; "{} {}", Perhaps(down), Perhaps(up)).ok();
         }

@@ -37,8 +37,8 @@ impl Part {
             "edits" => Some(Part::Edits),
             "rooms" => Some(Part::Rooms),
             "clock" => Some(Part::Clock(Clock::new(0))),
-            "waiting" => Some(Part::Waiting(waiting_requests::table(words)?)),
-            "connections" => Some(Part::Connections(connections::table(words)?)),
+            "waiting" => Some(Part::Waiting(waiting_requests::of_room(words)?)),
+            "connections" => Some(Part::Connections(connections::of_room(words)?)),
             "command" => {
                 let table = connections::table_of_command(words.alloc, words.u32()?)?;
                 Some(Part::Connections(table))

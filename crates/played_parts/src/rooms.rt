@@ -10,11 +10,11 @@ pub fn answer(name: &str, words: &mut Words) -> Option<String> {
     let alloc = words.alloc;
     match name {
         "PendingTable::with_room" => {
-            let table = waiting_requests::table(words)?;
+            let table = waiting_requests::of_room(words)?;
             return format!(in alloc; "last {}", table.last()).ok();
         }
         "HopTable::with_room" => {
-            let table = connections::table(words)?;
+            let table = connections::of_room(words)?;
             return format!(in alloc; "last {}", table.last()).ok();
         }
         _ => {}

@@ -49,7 +49,7 @@ pub fn state(alloc: Global, table: &PendingTable) -> Option<String> {
 }
 
 /// `ROOM FIRST`: an empty table.
-pub fn table(words: &mut Words) -> Option<PendingTable> {
+pub fn of_room(words: &mut Words) -> Option<PendingTable> {
     let room = usize::try_from(words.u64()?).ok()?;
     let first = words.u32()?;
     if count_of(first) == 0 {
