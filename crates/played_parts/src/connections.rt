@@ -1,13 +1,15 @@
-//! The table of connections, with room and without.
-ghost use Rattle.std.specs.Prelude.{◌≡◌, ◌<◌, None};
+//! Questions about the table of connections.
+ghost use Rattle.std.specs.Prelude.{◌≡◌, ◌<◌, IfSome, None};
+ghost use Rattle.std.specs.FinMap as map;
 ghost use Rattle.cip_base.specs.Counts.{count_of};
 ghost use Rattle.cip_hops.specs.Sides.{op_of};
 
-use crate::fault::Fault;
-use crate::guarded::{Part, Refusal, guarded};
-use crate::out::Out;
-use cip_base::{Address, PortNumber, Triad};
-use cip_hops::{BeginFault, BeginReason, HopDown, HopTable, HopUp, Opening, OwnIds};
+use crate::texts::{Perhaps, name as name_of, text};
+use crate::words::Words;
+use cip_base::{Address, PortNumber, Triad, count_of};
+use cip_hops::{
+    BeginFault, BeginReason, Held, Hop, HopDown, HopTable, HopUp, Opening, OwnIds, Side,
+};
 use cip_segment::read_path;
 use std::alloc::Global;
 
@@ -19,20 +21,47 @@ fn triad(serial: u16) -> Triad {
     }
 }
 
-// A connection from address 01 by port 2, on to address 03 by port 1.
-fn opening(alloc: Global, serial: u16) -> Option<Opening> {
+fn link_down() -> Option<HopDown> {
+    Some(HopDown::Link {
+        port: PortNumber::new(1)?,
+        address: Address::read(&[3]).ok()?,
+    })
+}
+
+fn link_up() -> Option<HopUp>
+    ensures { IfSome result (λ up. op_of up ≡ None) }
+{
+    Some(HopUp::Link {
+        port: PortNumber::new(2)?,
+        address: Address::read(&[1]).ok()?,
+        their_id: 7,
+    })
+}
+
+// `through` for a connection that goes on, `end` for one that ends here.
+fn down_side(words: &mut Words) -> Option<HopDown> {
+    match words.word()? {
+        "through" => link_down(),
+        "end" => Some(HopDown::End {
+            config: 100,
+            consume: 101,
+            produce: 102,
+        }),
+        _ => None,
+    }
+}
+
+// Over the path 01 03, then class 4, with the least watchdog.
+fn opening(alloc: Global, serial: u16, up: HopUp, down: HopDown) -> Option<Opening>
+    ensures up { IfSome result (λ o. o.up ≡ up) }
+    ensures multiplier { IfSome result (λ o. o.multiplier ≡ 0) }
+{
+    let path = read_path(alloc, &[1, 3, 0x20, 4]).ok()?;
     Some(Opening {
         triad: triad(serial),
-        up: HopUp::Link {
-            port: PortNumber::new(2)?,
-            address: Address::read(&[1]).ok()?,
-            their_id: 7,
-        },
-        down: HopDown::Link {
-            port: PortNumber::new(1)?,
-            address: Address::read(&[3]).ok()?,
-        },
-        path: read_path(alloc, &[1, 3, 0x20, 4]).ok()?,
+        up,
+        down,
+        path,
         ot_size: 6,
         to_size: 4,
         ot_rpi: 10_000,
@@ -43,86 +72,190 @@ fn opening(alloc: Global, serial: u16) -> Option<Opening> {
     })
 }
 
-// All that a table shows of the serials that are begun here.
-fn shown(alloc: Global, table: &HopTable) -> Result<String, Fault> {
-    let free = table.can_begin(&triad(9), 2);
-    let mut text = format!(in alloc; "{free:?} last {}", table.last())?;
-    for serial in 1..=4u16 {
-        let line = format!(in alloc; " {:?}", table.held(&triad(serial)))?;
-        text.push_str(line.as_str())?;
+// `SERIAL through|end`, from address 01 by port 2.
+fn routed(alloc: Global, words: &mut Words) -> Option<Opening>
+    ensures up { IfSome result (λ o. op_of o.up ≡ None) }
+    ensures multiplier { IfSome result (λ o. o.multiplier ≡ 0) }
+{
+    let serial = words.u16()?;
+    let down = down_side(words)?;
+    let up = link_up()?;
+    let opening = opening(alloc, serial, up, down)?;
+    Some(opening)
+}
+
+fn empty_table(alloc: Global, room: usize, first: u32) -> Option<HopTable>
+    requires { 0 < count_of first }
+    ensures { IfSome result (λ t. t ≡ record { room = room; next = first; held = map.empty }) }
+{
+    match HopTable::with_room(alloc, room, first) {
+        Ok(table) => Some(table),
+        Err(_) => None,
     }
-    Ok(text)
+}
+
+/// `ROOM FIRST`: an empty table.
+pub fn of_room(words: &mut Words) -> Option<HopTable> {
+    let room = usize::try_from(words.u64()?).ok()?;
+    let first = words.u32()?;
+    if count_of(first) == 0 {
+        return None;
+    }
+    words.open();
+    let table = HopTable::with_room(words.alloc, room, first);
+    words.had(table)
+}
+
+/// A table in which a connection of this command alone is opening.
+pub fn table_of_command(alloc: Global, op: u32) -> Option<HopTable> {
+    let mut table = empty_table(alloc, 1, 1)?;
+    let opening = opening(alloc, 9, HopUp::Local { op }, link_down()?)?;
+    match table.begin(opening) {
+        Ok(_) => Some(table),
+        Err(_) => None,
+    }
+}
+
+/// All that a table shows: whether it would take a further opening, and what it holds of the
+/// serials from 1 to 4.
+pub fn state(alloc: Global, table: &HopTable) -> Option<String> {
+    let free = table.can_begin(&triad(9), 2);
+    let mut text = format!(in alloc; "{free:?} last {}", table.last()).ok()?;
+    for serial in 1..=4u16 {
+        let line = format!(in alloc; " {:?}", table.held(&triad(serial))).ok()?;
+        text.push_str(line.as_str()).ok()?;
+    }
+    Some(text)
 }
 
 #[tactic(auto, using(cip_hops::proofs::Callers::no_op))]
 fn begin(table: &mut HopTable, opening: Opening) -> Result<OwnIds, BeginFault>
     requires up { op_of opening.up ≡ None }
-    requires multiplier { opening.multiplier < 8 }
+    requires multiplier { opening.multiplier ≡ 0 }
 {
     table.begin(opening)
 }
 
-// Beginning an opening in a table.
-#[derive(Drop)]
-struct Beginning {
-    table: HopTable,
-    opening: Option<Opening>,
-    given: Result<OwnIds, BeginReason>,
-}
-
-impl Part for Beginning {
-    fn call(&mut self, _alloc: Global) -> Result<(), Refusal> {
-        let opening = self.opening.take().ok_or(Refusal::Other)?;
-        if opening.up.op().is_some() || opening.multiplier >= 8 {
-            return Err(Refusal::Other);
+// The own ids down and up, or why there are none, and then whether the opening came back.
+fn begun(table: &mut HopTable, words: &mut Words) -> Option<String> {
+    let alloc = words.alloc;
+    let opening = routed(alloc, words)?;
+    let before = format!(in alloc; "{opening:?}").ok()?;
+    words.open();
+    let given = begin(table, opening);
+    words.close(false);
+    let (reason, opening) = match given {
+        Ok(OwnIds { up, down }) => {
+            return format!(in alloc; "{} {}", Perhaps(down), Perhaps(up)).ok();
         }
-        let (reason, opening) = match begin(&mut self.table, opening) {
-            Ok(ids) => {
-                self.given = Ok(ids);
-                return Ok(());
-            }
-            Err(BeginFault::Duplicate(opening)) => (BeginReason::Duplicate, opening),
-            Err(BeginFault::Full(opening)) => (BeginReason::Full, opening),
-            Err(BeginFault::IdsSpent(opening)) => (BeginReason::IdsSpent, opening),
-        };
-        self.given = Err(reason);
-        self.opening = Some(opening);
-        Err(Refusal::Back)
-    }
-
-    fn told(&self, alloc: Global) -> Result<String, Fault> {
-        Ok(match self.given {
-            Ok(ids) => format!(in alloc; "up {:?} down {:?}", ids.up, ids.down)?,
-            Err(reason) => format!(in alloc; "{reason:?}")?,
-        })
-    }
-
-    fn state(&self, alloc: Global) -> Result<String, Fault> {
-        let table = shown(alloc, &self.table)?;
-        Ok(format!(in alloc; "{:?} in {table}", self.opening)?)
-    }
-}
-
-// Begins openings of these serials in a table of so much room, one after the other.
-fn play_table(out: &mut Out, room: usize, first: u32, serials: &[u16]) -> Result<(), Fault>
-    requires { 0 < count_of first }
-{
-    let alloc = out.alloc();
-    let table = HopTable::with_room(alloc, room, first)?;
-    let mut beginning = Beginning {
-        table,
-        opening: None,
-        given: Err(BeginReason::Full),
+        Err(BeginFault::Duplicate(opening)) => (BeginReason::Duplicate, opening),
+        Err(BeginFault::Full(opening)) => (BeginReason::Full, opening),
+        Err(BeginFault::IdsSpent(opening)) => (BeginReason::IdsSpent, opening),
     };
-    for serial in serials {
-        beginning.opening = opening(alloc, *serial);
-        guarded(out, "HopTable::begin", &mut beginning)?;
-    }
-    Ok(())
+    let back = format!(in alloc; "{opening:?}").ok()?;
+    words.same = Some(back.as_str() == before.as_str());
+    name_of(alloc, reason)
 }
 
-/// Begins an opening twice, others until the table is full, and some until the ids are spent.
-pub fn play(out: &mut Out) -> Result<(), Fault> {
-    play_table(out, 2, 0x31, &[1, 1, 2, 3])?;
-    play_table(out, 4, 0xFFFF_FFFD, &[1, 2])
+// The serial of a hop.
+fn serial(alloc: Global, hop: Option<&Hop>) -> Option<String> {
+    match hop {
+        Some(hop) => text(alloc, hop.opening.triad.serial),
+        None => text(alloc, "none"),
+    }
+}
+
+// `SERIAL`: whether it was opening, and is open from 1 ms on.
+fn finished(table: &mut HopTable, words: &mut Words) -> Option<String> {
+    let triad = triad(words.u16()?);
+    let is_opening = matches!(table.held(&triad), Some(Held::Opening(_, _)));
+    if is_opening {
+        table.finish(&triad, 0x32, 1_000);
+    }
+    text(words.alloc, is_opening)
+}
+
+// `SERIAL NOW`: whether its side towards the originator is watched anew.
+fn touched(table: &mut HopTable, words: &mut Words) -> Option<String> {
+    let triad = triad(words.u16()?);
+    let now = words.u64()?;
+    let is_touched = match table.by_triad(&triad) {
+        Some(hop) if hop.opening.up.is_link() && now < 1_000_000 => {
+            table.touch(&triad, Side::Up, now);
+            true
+        }
+        _ => false,
+    };
+    text(words.alloc, is_touched)
+}
+
+// `SERIAL COUNT`: the count that an end then has.
+fn counted(table: &mut HopTable, words: &mut Words) -> Option<String> {
+    let triad = triad(words.u16()?);
+    let count = words.u16()?;
+    match table.by_triad(&triad) {
+        Some(hop) if !hop.opening.down.is_link() => {
+            table.set_count(&triad, Side::Up, count);
+        }
+        _ => return text(words.alloc, "none"),
+    }
+    text(words.alloc, Perhaps(table.by_triad(&triad)?.consumed))
+}
+
+// Begins the next incarnation where there is one: whether there was.
+fn reset(table: &mut HopTable, alloc: Global) -> Option<String> {
+    let is_left = table.can_reset();
+    if is_left {
+        table.reset();
+    }
+    text(alloc, is_left)
+}
+
+// A question that changes nothing.
+fn found(table: &HopTable, name: &str, words: &mut Words) -> Option<String> {
+    let alloc = words.alloc;
+    match name {
+        // `ID PORT ADDRESS`, by the own id towards the originator, or towards the target
+        "by_up" | "by_down" => {
+            let id = words.u32()?;
+            let port = words.port()?;
+            let address = words.address()?;
+            if name == "by_up" {
+                serial(alloc, table.by_up(id, port, &address))
+            } else {
+                serial(alloc, table.by_down(id, port, &address))
+            }
+        }
+        "by_op" => serial(alloc, table.by_op(words.u32()?)),
+        "by_triad" => serial(alloc, table.by_triad(&triad(words.u16()?))),
+        "least" => serial(alloc, table.next_after(None)),
+        "after" => serial(alloc, table.next_after(Some(&triad(words.u16()?)))),
+        "last" => text(alloc, table.last()),
+        // `SERIAL IDS`
+        "can_begin" => match table.can_begin(&triad(words.u16()?), words.u8()?) {
+            Some(reason) => name_of(alloc, reason),
+            None => text(alloc, "yes"),
+        },
+        _ => None,
+    }
+}
+
+/// The answer to a question of this name.
+pub fn answer(table: &mut HopTable, name: &str, words: &mut Words) -> Option<String> {
+    let alloc = words.alloc;
+    match name {
+        "begin" => begun(table, words),
+        "finish" => finished(table, words),
+        "abandon" => text(alloc, table.abandon(&triad(words.u16()?)).is_some()),
+        "remove" => text(alloc, table.remove(&triad(words.u16()?)).is_some()),
+        "touch" => touched(table, words),
+        "count" => counted(table, words),
+        // `NOW`: the serial of the one that leaves
+        "expire" => {
+            let hop = table.expire(words.u64()?);
+            serial(alloc, hop.as_ref())
+        }
+        "reset" => reset(table, alloc),
+        _ => found(table, name, words),
+    }
 }

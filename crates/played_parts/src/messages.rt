@@ -1,171 +1,331 @@
-//! Messages that are written.
-use crate::fault::Fault;
-use crate::guarded::{Part, Refusal, guarded};
-use crate::out::{Out, Pairs};
-use cip_base::{Bytes, Status, Timing, Triad};
+//! Questions about messages: what bytes are read as, and what is written.
+ghost use Rattle.std.specs.Prelude.{◌≡◌, ◌<◌, ◌^◌, false, IfSome};
+ghost use Rattle.cip_open.specs.Open.{FitWidth};
+ghost use Rattle.cip_message.specs.Failure.{HasTriadForWords};
+
+use crate::read_messages::{cut, over, read};
+use crate::texts::{Numbers, Pairs, text};
+use crate::words::Words;
+use cip_base::{Bytes, NoMemory, Status, put_double, put_word};
 use cip_close::{CloseFields, CloseReply, write_close, write_close_failure, write_close_reply};
-use cip_message::{ConnectionFailure, write_failure, write_reply, write_request};
+use cip_message::{
+    ConnectionFailure, WriteFault, put_failure, put_manager_header, put_reply_header, put_triad,
+    write_failure, write_reply, write_request,
+};
 use cip_open::{
-    OpenFailure, OpenFields, OpenReply, write_open, write_open_failure, write_open_reply,
+    OpenFailure, OpenFields, OpenReply, Params, large_params, params, write_open,
+    write_open_failure, write_open_reply,
 };
 use cip_segment::view_path;
 use cip_unconnected::write_unconnected;
 use std::alloc::Global;
 
-/// The connection of each message.
-pub const TRIAD: Triad = Triad {
-    serial: 0x42,
-    vendor: 0x0101,
-    originator: 0x0A0B_0C0D,
-};
-
-/// Nothing was opened, with five words of path left.
-pub const FAILURE: ConnectionFailure = ConnectionFailure {
-    triad: Some(TRIAD),
-    words: Some(5),
-};
-
-/// The port in the path is not there.
-pub const PATH_REFUSED: Status = Status {
-    general: 1,
-    extra: Some(0x0311),
-};
-
-// No connection has this triad.
-const NO_CONNECTION: Status = Status {
-    general: 1,
-    extra: Some(0x0107),
-};
-
-const TIMING: Timing = Timing {
-    tick: 0x07,
-    ticks: 0xF9,
-};
-
-const OPEN: OpenFields = OpenFields {
-    timing: TIMING,
-    ot_id: 0,
-    to_id: 0x11,
-    triad: TRIAD,
-    multiplier: 0,
-    ot_rpi: 10_000,
-    ot_params: 0x4806,
-    to_rpi: 10_000,
-    to_params: 0x4804,
-    transport: 1,
-    large: false,
-};
-
-const OPENED: OpenReply<'static> = OpenReply {
-    ot_id: 0x41,
-    to_id: 0x31,
-    triad: TRIAD,
-    ot_api: 10_000,
-    to_api: 10_000,
-    reply: &[],
-    large: false,
-};
-
-const OPEN_FAILURE: OpenFailure = OpenFailure {
-    triad: Some(TRIAD),
-    words: Some(5),
-    large: false,
-};
-
-const CLOSE: CloseFields = CloseFields {
-    timing: TIMING,
-    triad: TRIAD,
-};
-
-const CLOSED: CloseReply<'static> = CloseReply {
-    triad: TRIAD,
-    reply: &[],
-};
-
-// By port 1 to 03 and port 2 to 07, and there to three assemblies.
-const ROUTE: [u8; 12] = [
-    0x01, 0x03, 0x02, 0x07, 0x20, 0x04, 0x24, 0x64, 0x2C, 0x65, 0x2C, 0x66,
-];
-
-// The data of an assembly.
-const DATA_PATH: [u8; 6] = [0x20, 0x04, 0x24, 0x64, 0x30, 0x03];
-
-// Setting it.
-const SETTING: [u8; 9] = [0x10, 0x03, 0x20, 0x04, 0x24, 0x64, 0x30, 0x03, 0xAA];
-
-#[derive(Clone, Copy)]
-enum Call {
-    Request,
-    Reply,
-    Failure,
-    Unconnected,
-    Open,
-    OpenReply,
-    OpenFailure,
-    Close,
-    CloseReply,
-    CloseFailure,
+// The bytes of a message that a guarded call gave, or its fault.
+fn written(words: &mut Words, written: Result<Bytes, WriteFault>) -> Option<String> {
+    let alloc = words.alloc;
+    words.close(matches!(written, Err(WriteFault::NoMemory)));
+    match written {
+        Ok(bytes) => text(alloc, Pairs(bytes.as_slice())),
+        Err(fault) => format!(in alloc; "{fault:?}: {fault}").ok(),
+    }
 }
 
-const CALLS: [(&str, Call); 10] = [
-    ("write_request", Call::Request),
-    ("write_reply", Call::Reply),
-    ("write_failure", Call::Failure),
-    ("write_unconnected", Call::Unconnected),
-    ("write_open", Call::Open),
-    ("write_open_reply", Call::OpenReply),
-    ("write_open_failure", Call::OpenFailure),
-    ("write_close", Call::Close),
-    ("write_close_reply", Call::CloseReply),
-    ("write_close_failure", Call::CloseFailure),
-];
+// The same of a call that fails only where it is refused memory.
+fn made(words: &mut Words, made: Result<Bytes, NoMemory>) -> Option<String> {
+    let bytes = words.had(made)?;
+    text(words.alloc, Pairs(bytes.as_slice()))
+}
 
-fn made(alloc: Global, call: Call) -> Result<Bytes, Refusal> {
-    Ok(match call {
-        Call::Request => write_request(alloc, 0x10, view_path(&DATA_PATH)?, &[0xAA])?,
-        Call::Reply => write_reply(alloc, 0xD4, PATH_REFUSED, &[5, 0])?,
-        Call::Failure => write_failure(alloc, 0xD4, PATH_REFUSED, &FAILURE)?,
-        Call::Unconnected => {
-            write_unconnected(alloc, TIMING, &SETTING, view_path(&ROUTE[..4])?)?
-        }
-        Call::Open => write_open(alloc, &OPEN, view_path(&ROUTE)?)?,
-        Call::OpenReply => write_open_reply(alloc, &OPENED)?,
-        Call::OpenFailure => write_open_failure(alloc, PATH_REFUSED, &OPEN_FAILURE)?,
-        Call::Close => write_close(alloc, &CLOSE, view_path(&ROUTE)?)?,
-        Call::CloseReply => write_close_reply(alloc, &CLOSED)?,
-        Call::CloseFailure => write_close_failure(alloc, NO_CONNECTION, &FAILURE)?,
+// `SERVICE PATH DATA`
+fn new_request(words: &mut Words) -> Option<String> {
+    let service = words.u8()?;
+    let path = words.bytes()?;
+    let data_ = words.bytes()?;
+    if service >= 128 {
+        return None;
+    }
+    let path = view_path(path.as_slice()).ok()?;
+    words.open();
+    let message = write_request(words.alloc, service, path, data_.as_slice());
+    written(words, message)
+}
+
+// `GENERAL EXTRA`
+fn status(words: &mut Words) -> Option<Status> {
+    Some(Status {
+        general: words.u8()?,
+        extra: words.u16_or_dash()?,
     })
 }
 
-#[derive(Drop)]
-struct Messages {
-    call: Call,
-    given: Option<Bytes>,
+// `SERVICE GENERAL EXTRA DATA`
+fn new_reply(words: &mut Words) -> Option<String> {
+    let service = words.u8()?;
+    let status = status(words)?;
+    let data_ = words.bytes()?;
+    if service < 128 {
+        return None;
+    }
+    words.open();
+    let message = write_reply(words.alloc, service, status, data_.as_slice());
+    written(words, message)
 }
 
-impl Part for Messages {
-    fn call(&mut self, alloc: Global) -> Result<(), Refusal> {
-        self.given = Some(made(alloc, self.call)?);
-        Ok(())
-    }
+// `TIMING REQUEST ROUTE`
+fn new_unconnected(words: &mut Words) -> Option<String> {
+    let timing = words.timing()?;
+    let request = words.bytes()?;
+    let route = words.bytes()?;
+    let route = view_path(route.as_slice()).ok()?;
+    words.open();
+    let message = write_unconnected(words.alloc, timing, request.as_slice(), route);
+    written(words, message)
+}
 
-    fn told(&self, alloc: Global) -> Result<String, Fault> {
-        match &self.given {
-            Some(bytes) => Ok(format!(in alloc; "{}", Pairs(bytes.as_slice()))?),
-            None => Err(Fault::Unexpected),
+// The network connection parameters of one direction, of an open that is large or not.
+fn params_word(large: bool, words: &mut Words) -> Option<u32>
+    ensures { IfSome result (λ p. large ≡ false → p < 2 ^ 16) }
+{
+    if large {
+        words.u32()
+    } else {
+        Some(u32::from(words.u16()?))
+    }
+}
+
+// The fixed fields of an open, large or not.
+fn open_fields(large: bool, words: &mut Words) -> Option<OpenFields>
+    ensures { IfSome result FitWidth }
+{
+    Some(OpenFields {
+        timing: words.timing()?,
+        ot_id: words.u32()?,
+        to_id: words.u32()?,
+        triad: words.triad()?,
+        multiplier: words.u8()?,
+        ot_rpi: words.u32()?,
+        ot_params: params_word(large, words)?,
+        to_rpi: words.u32()?,
+        to_params: params_word(large, words)?,
+        transport: words.u8()?,
+        large,
+    })
+}
+
+// `FIELDS PATH`
+fn new_open(large: bool, words: &mut Words) -> Option<String> {
+    let fields = open_fields(large, words)?;
+    let path = words.bytes()?;
+    let path = view_path(path.as_slice()).ok()?;
+    words.open();
+    let message = write_open(words.alloc, &fields, path);
+    made(words, message)
+}
+
+// `OT_ID TO_ID TRIAD OT_API TO_API REPLY`
+fn new_open_reply(large: bool, words: &mut Words) -> Option<String> {
+    let ot_id = words.u32()?;
+    let to_id = words.u32()?;
+    let triad = words.triad()?;
+    let ot_api = words.u32()?;
+    let to_api = words.u32()?;
+    let more = words.bytes()?;
+    if more.len() > 510 || more.len() % 2 != 0 {
+        return None;
+    }
+    let reply = OpenReply {
+        ot_id,
+        to_id,
+        triad,
+        ot_api,
+        to_api,
+        reply: more.as_slice(),
+        large,
+    };
+    words.open();
+    let message = write_open_reply(words.alloc, &reply);
+    made(words, message)
+}
+
+// `WORDS TRIAD`, or a dash for neither.
+fn told(words: &mut Words) -> Option<ConnectionFailure>
+    ensures { IfSome result HasTriadForWords }
+{
+    let failure = match words.u16_or_dash()? {
+        Some(left) => ConnectionFailure {
+            triad: Some(words.triad()?),
+            words: Some(u8::try_from(left).ok()?),
+        },
+        None => ConnectionFailure {
+            triad: None,
+            words: None,
+        },
+    };
+    Some(failure)
+}
+
+// `SERVICE GENERAL EXTRA`, and what a failure tells.
+fn new_failure(words: &mut Words) -> Option<String> {
+    let service = words.u8()?;
+    let status = status(words)?;
+    let failure = told(words)?;
+    words.open();
+    let message = write_failure(words.alloc, service, status, &failure);
+    made(words, message)
+}
+
+// `GENERAL EXTRA`, and what a failed open, large or not, tells.
+fn new_open_failure(large: bool, words: &mut Words) -> Option<String> {
+    let status = status(words)?;
+    let ConnectionFailure { triad, words: left } = told(words)?;
+    let failure = OpenFailure {
+        triad,
+        words: left,
+        large,
+    };
+    words.open();
+    let message = write_open_failure(words.alloc, status, &failure);
+    made(words, message)
+}
+
+// `GENERAL EXTRA`, and what a failed close tells.
+fn new_close_failure(words: &mut Words) -> Option<String> {
+    let status = status(words)?;
+    let failure = told(words)?;
+    words.open();
+    let message = write_close_failure(words.alloc, status, &failure);
+    made(words, message)
+}
+
+// `TIMING TRIAD PATH`
+fn new_close(words: &mut Words) -> Option<String> {
+    let fields = CloseFields {
+        timing: words.timing()?,
+        triad: words.triad()?,
+    };
+    let path = words.bytes()?;
+    let path = view_path(path.as_slice()).ok()?;
+    words.open();
+    let message = write_close(words.alloc, &fields, path);
+    made(words, message)
+}
+
+// `TRIAD REPLY`
+fn new_close_reply(words: &mut Words) -> Option<String> {
+    let triad = words.triad()?;
+    let more = words.bytes()?;
+    if more.len() > 510 || more.len() % 2 != 0 {
+        return None;
+    }
+    let reply = CloseReply {
+        triad,
+        reply: more.as_slice(),
+    };
+    words.open();
+    let message = write_close_reply(words.alloc, &reply);
+    made(words, message)
+}
+
+// `BYTES`, and what is put behind them. A call that is refused may leave a part of it there.
+fn put(name: &str, words: &mut Words) -> Option<String> {
+    let alloc = words.alloc;
+    let front = words.bytes()?;
+    let mut out = Vec::from_slice(alloc, front.as_slice()).ok()?;
+    let put = match name {
+        "put_word" => {
+            let number = words.u16()?;
+            words.open();
+            put_word(&mut out, number)
         }
+        "put_double" => {
+            let number = words.u32()?;
+            words.open();
+            put_double(&mut out, number)
+        }
+        "put_triad" => {
+            let triad = words.triad()?;
+            words.open();
+            put_triad(&mut out, triad)
+        }
+        "put_manager_header" => {
+            let service = words.u8()?;
+            words.open();
+            put_manager_header(&mut out, service)
+        }
+        "put_reply_header" => {
+            let service = words.u8()?;
+            let status = status(words)?;
+            words.open();
+            put_reply_header(&mut out, service, status)
+        }
+        "put_failure" => {
+            let failure = told(words)?;
+            words.open();
+            put_failure(&mut out, &failure)
+        }
+        _ => return None,
+    };
+    if words.had(put).is_none() {
+        words.same = Some(out.as_slice().get(..front.len()) == Some(front.as_slice()));
     }
-
-    // Constants alone are given to these calls.
-    fn state(&self, alloc: Global) -> Result<String, Fault> {
-        Ok(String::new(alloc))
-    }
+    text(alloc, Pairs(out.as_slice()))
 }
 
-/// Makes each call.
-pub fn play(out: &mut Out) -> Result<(), Fault> {
-    for (name, call) in CALLS {
-        guarded(out, name, &mut Messages { call, given: None })?;
+// `SERVICE TRIAD`: a header of the Connection Manager and a triad.
+fn manager_front(words: &mut Words) -> Option<String> {
+    let mut out = Vec::new(words.alloc);
+    put_manager_header(&mut out, words.u8()?).ok()?;
+    put_triad(&mut out, words.triad()?).ok()?;
+    text(words.alloc, Pairs(out.as_slice()))
+}
+
+// `AT BYTES`: the triad that stands there.
+fn triad_there(words: &mut Words) -> Option<String> {
+    let at = usize::from(words.u16()?);
+    let bytes = words.bytes()?;
+    if bytes.len() < 8 || at > bytes.len() - 8 {
+        return None;
     }
-    Ok(())
+    text(
+        words.alloc,
+        Numbers(cip_message::triad_at(bytes.as_slice(), at)),
+    )
+}
+
+// The parts of network connection parameters.
+fn split_params(alloc: Global, found: Params) -> Option<String> {
+    let size = found.size;
+    let priority = found.priority;
+    let kind = found.kind;
+    let variable = found.variable;
+    let redundant = found.redundant;
+    format!(in alloc; "{size} {priority:?} {kind:?} {variable} {redundant}").ok()
+}
+
+/// The answer to a question of this name.
+pub fn answer(name: &str, words: &mut Words) -> Option<String> {
+    let alloc = words.alloc;
+    match name {
+        "cut" => cut(words),
+        "over" => over(words),
+        "write_request" => new_request(words),
+        "write_reply" => new_reply(words),
+        "write_failure" => new_failure(words),
+        "manager_front" => manager_front(words),
+        "triad_at" => triad_there(words),
+        "write_unconnected" => new_unconnected(words),
+        "write_open" => new_open(false, words),
+        "write_large_open" => new_open(true, words),
+        "write_open_reply" => new_open_reply(false, words),
+        "write_large_reply" => new_open_reply(true, words),
+        "write_open_failure" => new_open_failure(false, words),
+        "write_large_failure" => new_open_failure(true, words),
+        "write_close" => new_close(words),
+        "write_close_reply" => new_close_reply(words),
+        "write_close_failure" => new_close_failure(words),
+        "params" => split_params(alloc, params(words.u16()?)),
+        "large_params" => split_params(alloc, large_params(words.u32()?)),
+        _ if name.starts_with("put_") => put(name, words),
+        _ => read(alloc, name, words.bytes()?.as_slice()),
+    }
 }

@@ -1,0 +1,48 @@
+//! Questions about addresses, numbers from 1, triads and lists of bytes.
+use crate::texts::{Pairs, Perhaps, name as name_of, text};
+use crate::words::Words;
+use cip_base::{Address, Bytes, Ms, PortNumber};
+
+// `BYTES`: the address, and once more as its copy.
+fn address(words: &mut Words) -> Option<String> {
+    let alloc = words.alloc;
+    match Address::read(words.bytes()?.as_slice()) {
+        Ok(address) => {
+            let copy = address.copy();
+            let address = Pairs(address.as_slice());
+            format!(in alloc; "{address} {}", Pairs(copy.as_slice())).ok()
+        }
+        Err(fault) => name_of(alloc, fault),
+    }
+}
+
+// `BYTES BYTES`: the first written over by the second, which are as many, and whether that changed
+// them.
+fn overwritten(words: &mut Words) -> Option<String> {
+    let alloc = words.alloc;
+    let mut bytes = Bytes::of(words.bytes()?);
+    let same = Bytes::of(bytes.as_slice().to_vec(alloc).ok()?);
+    let next = words.bytes()?;
+    if next.len() != bytes.as_slice().len() || bytes != same {
+        return None;
+    }
+    bytes.overwrite(next.as_slice());
+    let differs = bytes != same;
+    let bytes = bytes.into_vec();
+    format!(in alloc; "{} {differs}", Pairs(bytes.as_slice())).ok()
+}
+
+/// The answer to a question of this name.
+pub fn answer(name: &str, words: &mut Words) -> Option<String> {
+    let alloc = words.alloc;
+    match name {
+        "address" => address(words),
+        "shown" => name_of(alloc, words.address()?),
+        "same" => text(alloc, words.address()? == words.address()?),
+        "ms" => text(alloc, Perhaps(Ms::new(words.u16()?).map(Ms::get))),
+        "port" => text(alloc, Perhaps(words.port().map(PortNumber::get))),
+        "less" => text(alloc, words.triad()? < words.triad()?),
+        "overwritten" => overwritten(words),
+        _ => None,
+    }
+}

@@ -1,0 +1,189 @@
+//! Questions about the table of requests that wait.
+use crate::texts::{Numbers, Pairs, Perhaps, name as name_of, text};
+use crate::words::Words;
+use cip_base::{Address, PortNumber, count_of};
+use cip_pending::{AddFault, Entry, Kind, PendingTable, UpSide};
+use std::alloc::Global;
+use std::fmt;
+
+#[derive(Clone, Copy)]
+struct Shown<'a>(&'a Entry);
+
+impl fmt::Display for Shown<'_> {
+    fn fmt<W: fmt::Write>(&self, f: &mut fmt::Formatter<W>) -> fmt::Result {
+        let entry = self.0;
+        match &entry.up {
+            UpSide::Link {
+                port,
+                address,
+                number,
+            } => write!(f, "{} {} {number}", port.get(), Pairs(address.as_slice()))?,
+            UpSide::Local { op } => write!(f, "op {op}")?,
+        }
+        let port = entry.port.get();
+        let address = Pairs(entry.address.as_slice());
+        write!(f, " to {port} {address} due {}", entry.deadline)?;
+        write!(f, " words {}", entry.words)?;
+        match entry.kind {
+            Kind::Unconnected => write!(f, " unconnected"),
+            Kind::Opening(triad) => write!(f, " opening {}", Numbers(triad)),
+            Kind::OpeningLarge(triad) => write!(f, " large {}", Numbers(triad)),
+            Kind::Closing(triad) => write!(f, " closing {}", Numbers(triad)),
+        }
+    }
+}
+
+/// All that a table shows: at most four of its entries.
+pub fn state(alloc: Global, table: &PendingTable) -> Option<String> {
+    let mut text = format!(in alloc; "{:?} last {}", table.can_add(), table.last()).ok()?;
+    let mut after = None;
+    for _ in 0..4 {
+        let Some((number, entry)) = table.next_after(after) else {
+            break;
+        };
+        let line = format!(in alloc; " {number} {entry:?}").ok()?;
+        text.push_str(line.as_str()).ok()?;
+        after = Some(number);
+    }
+    Some(text)
+}
+
+/// `ROOM FIRST`: an empty table.
+pub fn of_room(words: &mut Words) -> Option<PendingTable> {
+    let room = usize::try_from(words.u64()?).ok()?;
+    let first = words.u32()?;
+    if count_of(first) == 0 {
+        return None;
+    }
+    words.open();
+    let table = PendingTable::with_room(words.alloc, room, first);
+    words.had(table)
+}
+
+// `OP DEADLINE`: a request of this module's command, which went by port 2 to address 05.
+fn own(words: &mut Words) -> Option<Entry> {
+    Some(Entry {
+        up: UpSide::Local { op: words.u32()? },
+        port: PortNumber::new(2)?,
+        address: Address::read(&[5]).ok()?,
+        deadline: words.u64()?,
+        words: 4,
+        kind: Kind::Unconnected,
+    })
+}
+
+// `PORT ADDRESS NUMBER PORT ADDRESS DEADLINE WORDS`, and perhaps `TRIAD`: a request of a node on a
+// link, an opening where it has a triad.
+fn of_link(words: &mut Words) -> Option<Entry> {
+    Some(Entry {
+        up: UpSide::Link {
+            port: words.port()?,
+            address: words.address()?,
+            number: words.u32()?,
+        },
+        port: words.port()?,
+        address: words.address()?,
+        deadline: words.u64()?,
+        words: words.u8()?,
+        kind: match words.triad() {
+            Some(triad) => Kind::Opening(triad),
+            None => Kind::Unconnected,
+        },
+    })
+}
+
+// The number, or why there is none and the request that comes back.
+fn add(table: &mut PendingTable, words: &mut Words, entry: Entry) -> Option<String> {
+    let alloc = words.alloc;
+    let before = entry.copy();
+    words.open();
+    let added = table.add(entry);
+    words.close(false);
+    match added {
+        Ok(number) => text(alloc, number),
+        Err(fault) => {
+            let why = format!(in alloc; "{fault}").ok()?;
+            let (AddFault::Full(entry) | AddFault::NumbersSpent(entry)) = fault;
+            words.same = Some(entry == before);
+            format!(in alloc; "{why}: {}", Shown(&entry)).ok()
+        }
+    }
+}
+
+// The least number above this one, or of all.
+fn next(alloc: Global, table: &PendingTable, after: Option<u32>) -> Option<String> {
+    let number = match table.next_after(after) {
+        Some((number, _)) => Some(number),
+        None => None,
+    };
+    text(alloc, Perhaps(number))
+}
+
+// A question that changes the table.
+fn changed(table: &mut PendingTable, name: &str, words: &mut Words) -> Option<String> {
+    let alloc = words.alloc;
+    match name {
+        "add" => {
+            let entry = own(words)?;
+            add(table, words, entry)
+        }
+        "add_link" => {
+            let entry = of_link(words)?;
+            add(table, words, entry)
+        }
+        // `NUMBER PORT ADDRESS`
+        "take" => {
+            let number = words.u32()?;
+            let port = words.port()?;
+            let address = words.address()?;
+            let taken = table.take(number, port, &address);
+            text(alloc, Perhaps(taken.as_ref().map(Shown)))
+        }
+        // `NOW`
+        "expire" => match table.expire(words.u64()?) {
+            Some((number, entry)) => format!(in alloc; "{number}: {}", Shown(&entry)).ok(),
+            None => text(alloc, "none"),
+        },
+        // begins the next incarnation where there is one: whether there was
+        "reset" => {
+            let is_left = table.can_reset();
+            if is_left {
+                table.reset();
+            }
+            text(alloc, is_left)
+        }
+        _ => None,
+    }
+}
+
+/// The answer to a question of this name.
+pub fn answer(table: &mut PendingTable, name: &str, words: &mut Words) -> Option<String> {
+    let alloc = words.alloc;
+    match name {
+        "can_add" => match table.can_add() {
+            Some(reason) => name_of(alloc, reason),
+            None => text(alloc, "yes"),
+        },
+        // `NUMBER PORT ADDRESS`
+        "look" => {
+            let number = words.u32()?;
+            let port = words.port()?;
+            let address = words.address()?;
+            text(
+                alloc,
+                Perhaps(table.look(number, port, &address).map(Shown)),
+            )
+        }
+        "least" => next(alloc, table, None),
+        "after" => next(alloc, table, Some(words.u32()?)),
+        "last" => text(alloc, table.last()),
+        // a request of a link, and whether its copy is the same
+        "copy" => {
+            let entry = of_link(words)?;
+            let copy = entry.copy();
+            let is_same = copy == entry;
+            format!(in alloc; "{} {is_same}", Shown(&copy)).ok()
+        }
+        _ => changed(table, name, words),
+    }
+}
