@@ -60,30 +60,20 @@ fn event_in_room(alloc: Global, event: &Event, room: usize) -> Option<Event> {
     }
 }
 
-// The event of a row's line, with its bytes in the room of the row.
-fn event_of(alloc: Global, harness: &Harness, row: &Row) -> Option<(usize, Event)> {
-    let (place, event) = harness.event(row.0)?;
-    Some((place, event_in_room(alloc, &event, row.1)?))
-}
-
-// The room in which bytes go on by an output.
-fn room_of(output: Output) -> Option<usize> {
-    match output {
-        Output::Send { body, .. } => match body {
-            Body::Data { bytes, .. } => Some(bytes.into_vec().capacity()),
-            _ => None,
-        },
-        Output::Arrived { bytes, .. } => Some(bytes.into_vec().capacity()),
-        Output::Consumed { bytes, .. } => Some(bytes.into_vec().capacity()),
-        _ => None,
-    }
-}
-
 // The room in which the bytes of a row go on.
 fn room_after(alloc: Global, harness: &mut Harness, row: &Row) -> Option<usize> {
-    let (place, event) = event_of(alloc, harness, row)?;
-    let mut outputs = harness.step(place, event)?.ok()?;
-    room_of(outputs.pop()?)
+    let (place, event) = harness.event(row.0)?;
+    let event = event_in_room(alloc, &event, row.1)?;
+    let bytes = match harness.step(place, event)?.ok()?.pop()? {
+        Output::Send {
+            body: Body::Data { bytes, .. },
+            ..
+        } => bytes,
+        Output::Arrived { bytes, .. } => bytes,
+        Output::Consumed { bytes, .. } => bytes,
+        _ => return None,
+    };
+    Some(bytes.into_vec().capacity())
 }
 
 #[test]
