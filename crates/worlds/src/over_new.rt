@@ -74,10 +74,10 @@ const FAULTY: Giver = Giver {
     ..TICK
 };
 
-const EMPTY_LINE: Giver = Giver {
-    text: b"\n",
-    ..TICK
-};
+// 16 and 17 empty lines.
+const SIXTEEN: &[u8] = b"\n\n\n\n\n\n\n\n\n\n\n\n\n\n\n\n";
+
+const SEVENTEEN: &[u8] = b"\n\n\n\n\n\n\n\n\n\n\n\n\n\n\n\n\n";
 
 // New comes only behind a script that can be read and has no fault.
 const ROWS: [Row; 10] = [
@@ -137,11 +137,12 @@ const ROWS: [Row; 10] = [
         fault: ConsoleFault::Read,
     },
     Row {
-        name: "a script of as many bytes as are allowed, a byte a call",
+        name: "a script of as many bytes as are allowed",
         change: Change::OneLess,
         script: Giver {
-            times: SCRIPT_LIMIT,
-            ..EMPTY_LINE
+            text: SIXTEEN,
+            times: SCRIPT_LIMIT / 16,
+            fails: false,
         },
         fault: ConsoleFault::New(NewFault::Count),
     },
@@ -149,8 +150,9 @@ const ROWS: [Row; 10] = [
         name: "a script of one byte more",
         change: Change::OneLess,
         script: Giver {
-            times: SCRIPT_LIMIT + 1,
-            ..EMPTY_LINE
+            text: SEVENTEEN,
+            times: (SCRIPT_LIMIT + 1) / 17,
+            fails: false,
         },
         fault: ConsoleFault::Read,
     },
