@@ -199,6 +199,7 @@ BOTH = request("S", "01", 5) + request("S2", "02", 5)
 ALL_OF_TWO = Ran("quiet", 0, 0, BOTH, all_tables(TWO, S=tables("S", last=1), A=tables("A", last=2), S2=tables("S2", last=1)), 3)
 ALL_OF_ONE = Ran("quiet", 0, 0, request("S", "01", 5), all_tables(S=tables("S", last=1), A=tables("A", last=1)), 3)
 NOTHING = Ran("quiet", 0, 0, [], all_tables())
+UNTAKEN = Ran("limit", 1, 0, [], all_tables())
 AT_ITS_END = Ran("quiet", 0, 0, [], all_tables(S=tables("S", 2**63 - 1)))
 TICKED = Ran("quiet", 0, 0, [f"{name} tick 1" for name in CHASSIS], all_tables(**LATER))
 
@@ -210,6 +211,7 @@ THREADS = {
     ],
     "plain": [
         *((f"feed {SEND}", []), ("threads 100 0123", [ALL_OF_ONE]), ("threads 100 0123", [NOTHING])),
+        *((f"feed {SEND}", []), ("threads 0 0123", [UNTAKEN])),
         *((f"feed tick {name} 1", []) for name in CHASSIS),
         *(("threads 100 0123", [TICKED]), (f"feed {SEND}", []), ("threads 100 012", COUNT), ("threads 100 1023", other(0))),
         ("threads 100 0123 1", stale(1)),

@@ -1,5 +1,6 @@
-//! Tests of topology files, of worlds (chassis in boxes, what they are given, and what then stands
-//! in the journal), and of modules on threads.
+//! Tests of worlds (chassis in boxes, what they are given, and what then stands in the journal), of
+//! modules on threads, of what a loaded chassis says, and of the console and the modules: what no
+//! program shows.
 #![tactic(auto)]
 
 #[cfg(test)]
@@ -11,6 +12,10 @@ mod given;
 #[cfg(test)]
 mod new_modules;
 #[cfg(test)]
-mod threads;
+mod nodes;
 #[cfg(test)]
-mod topologies;
+mod over_new;
+#[cfg(test)]
+mod progress_lines;
+#[cfg(test)]
+mod threads;

@@ -83,8 +83,9 @@ const RUNS: [Watching; 4] = [
     },
 ];
 
-// The lines that a run shows; false where an allocation for its text is refused.
-fn watch(alloc: Global, watching: &Watching, lines: &mut Vec<Line>) -> bool {
+// Whether a run shows its lines. None where an allocation is refused.
+fn shows(alloc: Global, watching: &Watching) -> Option<bool> {
+    let mut lines = Vec::with_capacity(alloc, 8).ok()?;
     let mut writer = Watched::of(
         Out {
             inner: Vec::new(alloc),
@@ -92,51 +93,25 @@ fn watch(alloc: Global, watching: &Watching, lines: &mut Vec<Line>) -> bool {
         Board {
             times: watching.times,
             has_transcript: watching.has_transcript,
-            lines,
+            lines: &mut lines,
         },
     );
-    let mut is_whole = true;
     for done in 1..=watching.pieces {
-        if writer.write(b"text").is_err() {
-            is_whole = false;
-        }
+        writer.write(b"text").ok()?;
         if writer.is_due() {
             writer.tell(done, 7);
         }
     }
     writer.clear();
-    is_whole
-}
-
-// Whether a run shows its lines.
-fn shows(alloc: Global, watching: &Watching) -> bool {
-    match Vec::with_capacity(alloc, 8) {
-        Ok(mut lines) => watch(alloc, watching, &mut lines) && lines.as_slice() == watching.shown,
-        Err(_) => false,
-    }
+    drop(writer);
+    Some(lines.as_slice() == watching.shown)
 }
 
 #[test]
 fn lines_of_progress(rt: HostRuntime) -> Result<(), Fail> {
     for watching in &RUNS {
-        if !shows(rt.alloc(), watching) {
+        if shows(rt.alloc(), watching) != Some(true) {
             return Err(Fail::new(format_args!("{}: something else", watching.name)));
-        }
-    }
-    Ok(())
-}
-
-const TEXTS: [(Line, &str); 2] = [
-    (SECOND, "\r2 entries done, 7 frames waiting\x1B[K"),
-    (Line::Cleared, "\r\x1B[K"),
-];
-
-#[test]
-fn the_text_of_a_line(rt: HostRuntime) -> Result<(), Fail> {
-    for (line, text) in &TEXTS {
-        let told = format!(in rt.alloc(); "{line}")?;
-        if told.as_str() != *text {
-            return Err(Fail::new(format_args!("{line:?}: {told}")));
         }
     }
     Ok(())
