@@ -5,9 +5,13 @@
 //! `played_worlds late` has the scanner's clock at its end, `played_worlds two` a second scanner.
 //! The calls are those of `lines.rt`. `played_worlds turn` runs a script in turn, `played_worlds
 //! live` with each module on a thread of its own (`console.rt`). `played_worlds json` shows a
-//! transcript in the form from before (`views.rt`).
+//! transcript in the form from before (`views.rt`), `played_worlds leaves` bytes, names, paths,
+//! messages and lines (`leaves.rt`).
 //!
 //! Further words are pairs: what else to do, and the file that has its input.
+//!
+//! `played_worlds over FILE json|svg|page ..` shows a transcript over the topology of a file, in a
+//! form from before (`views.rt`).
 #![tactic(auto)]
 
 mod answers;
@@ -16,6 +20,7 @@ mod console;
 mod fault;
 mod guarded;
 mod kept;
+mod leaves;
 mod lines;
 mod live;
 mod made;
@@ -45,6 +50,7 @@ fn play<T: Threads + Wait + Sync, R: Read + Drop>(
         "turn" => console::in_turn(rt, input),
         "live" => console::on_threads(rt, workers, input),
         "json" => views::show(rt, input),
+        "leaves" => leaves::show(rt, input),
         name => lines::play(rt, workers, Plant::of(name).ok_or(Fault::Usage)?, input),
     }
 }
@@ -70,6 +76,9 @@ fn run<T: Threads + Wait + Sync>(rt: &HostRuntime, workers: &T) -> Result<(), Fa
     let mut words = env::args(rt)?;
     let _program = words.next();
     let word = words.next().ok_or(Fault::Usage)?;
+    if word.as_str() == "over" {
+        return views::over(rt, &mut words);
+    }
     play(rt, workers, word.as_str(), rt.reader())?;
     play_files(rt, workers, &mut words)
 }
