@@ -4,12 +4,15 @@
 //   REFUSE_ALLOC=N  the Nth allocation is refused         REFUSE_READ=N   the Nth read of input or a file fails
 //   REFUSE_WRITE=N  the Nth write of standard output fails REFUSE_TAKE=N  the Nth write of standard output takes no byte
 //   ONE_BYTE=1      each read and write moves one byte     REFUSE_TELL=FD  a byte goes to this file where one was refused
+//   READ_MOST=N     each read of standard input takes at most N bytes
+//   READ_TELL=FD    before each of them, how many bytes of standard output were written goes to this file, as a line
 //   REFUSE_STEP=N   behind each mark '>' that is written to standard output alone, up to a mark '<', the Nth allocation is refused
 // Compiled with -DNEXT it hands on to whatever malloc is behind it, so that valgrind sees the memory (with
 // --soname-synonyms=somalloc=nouserintercepts); else to that of the C library.
 #define _GNU_SOURCE
 #include <dlfcn.h>
 #include <errno.h>
+#include <stdio.h>
 #include <stdlib.h>
 #include <sys/auxv.h>
 #include <sys/syscall.h>
@@ -22,7 +25,7 @@ extern void *__libc_malloc(size_t), *__libc_calloc(size_t, size_t), *__libc_real
 #define HAND_ON(name, ...) __libc_##name(__VA_ARGS__)
 #endif
 
-static unsigned long allocations, reads, writes, steps;
+static unsigned long allocations, reads, writes, steps, written;
 static int is_marked;
 
 static unsigned long word(const char *name) { return getenv(name) ? strtoul(getenv(name), 0, 10) : 0; }
@@ -49,8 +52,17 @@ void *malloc(size_t size) { return is_no_memory(__builtin_return_address(0)) ? 0
 void *calloc(size_t n, size_t size) { return is_no_memory(__builtin_return_address(0)) ? 0 : HAND_ON(calloc, n, size); }
 void *realloc(void *old, size_t size) { return is_no_memory(__builtin_return_address(0)) ? 0 : HAND_ON(realloc, old, size); }
 
+// How much was written goes to the file that is to be told.
+static void tell_written(void) {
+  char line[24];
+  int length = snprintf(line, sizeof line, "%lu\n", written);
+  syscall(SYS_write, word("READ_TELL"), line, length);
+}
+
 ssize_t read(int file, void *to, size_t size) {
   int is_input = file == 0 || file > 2;
+  if (file == 0 && word("READ_TELL")) tell_written();
+  if (file == 0 && word("READ_MOST") && word("READ_MOST") < size) size = word("READ_MOST");
   if (is_input && is_refused(++reads, "REFUSE_READ")) return errno = EIO, -1;
   return syscall(SYS_read, file, to, is_input && word("ONE_BYTE") && size ? 1 : size);
 }
@@ -66,5 +78,7 @@ ssize_t write(int file, const void *from, size_t size) {
   look_for_mark(file, from, size);
   if (file == 1 && is_refused(++writes, "REFUSE_WRITE")) return errno = EIO, -1;
   if (file == 1 && is_refused(writes, "REFUSE_TAKE")) return 0;
-  return syscall(SYS_write, file, from, file == 1 && word("ONE_BYTE") && size ? 1 : size);
+  ssize_t taken = syscall(SYS_write, file, from, file == 1 && word("ONE_BYTE") && size ? 1 : size);
+  if (file == 1 && taken > 0) written += taken;
+  return taken;
 }

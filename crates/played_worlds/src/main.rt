@@ -6,9 +6,13 @@
 //! `played_worlds ports` is one module with two ports on one link.
 //! The calls are those of `lines.rt`. `played_worlds turn` runs a script in turn, `played_worlds
 //! live` with each module on a thread of its own (`console.rt`). `played_worlds json` shows a
-//! transcript in the form from before (`views.rt`).
+//! transcript in the form from before (`views.rt`), `played_worlds leaves` bytes, names, paths,
+//! messages and lines (`leaves.rt`).
 //!
 //! Further words are pairs: what else to do, and the file that has its input.
+//!
+//! `played_worlds over FILE json|svg|page ..` shows a transcript over the topology of a file, in a
+//! form from before (`views.rt`).
 #![tactic(auto)]
 
 mod answers;
@@ -17,6 +21,7 @@ mod console;
 mod fault;
 mod guarded;
 mod kept;
+mod leaves;
 mod lines;
 mod live;
 mod made;
@@ -46,6 +51,7 @@ fn play<T: Threads + Wait + Sync, R: Read + Drop>(
         "turn" => console::in_turn(rt, input),
         "live" => console::on_threads(rt, workers, input),
         "json" => views::show(rt, input),
+        "leaves" => leaves::show(rt, input),
         name => lines::play(rt, workers, Plant::of(name).ok_or(Fault::Usage)?, input),
     }
 }
@@ -71,6 +77,9 @@ fn run<T: Threads + Wait + Sync>(rt: &HostRuntime, workers: &T) -> Result<(), Fa
     let mut words = env::args(rt)?;
     let _program = words.next();
     let word = words.next().ok_or(Fault::Usage)?;
+    if word.as_str() == "over" {
+        return views::over(rt, &mut words);
+    }
     play(rt, workers, word.as_str(), rt.reader())?;
     play_files(rt, workers, &mut words)
 }

@@ -8,11 +8,11 @@
 //! So the side of each text is compared, and, byte by byte as before, all else: where texts at the
 //! right, labels and lines stand. A reset, which stays at the right, is not: the start's form has
 //! none.
-use crate::old_chart::areas::{Anchor, Areas, Spot};
-use crate::old_chart::collect::ChartView;
-use crate::old_chart::layout::Heights;
-use crate::old_chart::line::line_of;
-use crate::old_chart::lives::take_names;
+use crate::areas::{Anchor, Areas, Spot};
+use crate::collect::ChartView;
+use crate::layout::Heights;
+use crate::line::line_of;
+use crate::lives::take_names;
 use cip_base::NoMemory;
 use std::alloc::Global;
 

@@ -1,6 +1,6 @@
 //! Where the labels of arrows stand: at their lines, where nothing else stands.
-use crate::old_chart::areas::{Anchor, Areas, Spot, width_of};
-use crate::old_chart::line::Line;
+use crate::areas::{Anchor, Areas, Spot, width_of};
+use crate::line::Line;
 
 // The parts of a line's way at which its label may stand, in thousandths, the best first.
 const PARTS: &[u64] = &[500, 400, 600, 300, 700, 200, 800, 120, 880];

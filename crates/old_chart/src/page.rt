@@ -1,9 +1,9 @@
 //! The chart as a page: beside it what the message of an arrow says.
-use crate::old_chart::collect::ChartView;
-use crate::old_chart::draw::put_svg;
-use crate::old_chart::escape::put_escaped;
-use crate::old_chart::model::Arrow;
-use crate::old_chart::style::{PAGE_STYLE, SCRIPT};
+use crate::collect::ChartView;
+use crate::draw::put_svg;
+use crate::escape::put_escaped;
+use crate::model::Arrow;
+use crate::style::{PAGE_STYLE, SCRIPT};
 use cip_base::NoMemory;
 use std::alloc::Global;
 

@@ -1,7 +1,7 @@
 //! The lines of frames.
-use crate::old_chart::collect::ChartView;
-use crate::old_chart::layout::{Heights, ROW, x_of};
-use crate::old_chart::model::{Arrow, Fate};
+use crate::collect::ChartView;
+use crate::layout::{Heights, ROW, x_of};
+use crate::model::{Arrow, Fate};
 
 /// Where the line of a frame begins and ends.
 #[derive(Clone, Copy)]

@@ -1,5 +1,5 @@
 //! Where things stand in a chart, in pixels.
-use crate::old_chart::model::Row;
+use crate::model::Row;
 use cip_base::NoMemory;
 use std::alloc::Global;
 

@@ -1,13 +1,13 @@
 //! The chart as SVG.
-use crate::old_chart::areas::{Areas, width_of};
-use crate::old_chart::arrows::{put_arrows, take_arrows};
-use crate::old_chart::collect::ChartView;
-use crate::old_chart::escape::put_escaped;
-use crate::old_chart::layout::{Heights, LEFT, MARK, SPACING};
-use crate::old_chart::lives::{body_of, put_lives, take_names};
-use crate::old_chart::rows::{put_marks, put_rows, take_rows};
-use crate::old_chart::sides::Sides;
-use crate::old_chart::style::{self, HEADS, STYLE};
+use crate::areas::{Areas, width_of};
+use crate::arrows::{put_arrows, take_arrows};
+use crate::collect::ChartView;
+use crate::escape::put_escaped;
+use crate::layout::{Heights, LEFT, MARK, SPACING};
+use crate::lives::{body_of, put_lives, take_names};
+use crate::rows::{put_marks, put_rows, take_rows};
+use crate::sides::Sides;
+use crate::style::{self, HEADS, STYLE};
 use cip_base::NoMemory;
 use std::alloc::Global;
 

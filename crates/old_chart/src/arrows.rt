@@ -1,12 +1,12 @@
 //! The arrows of a chart, with their labels.
-use crate::old_chart::areas::{Anchor, Areas, Spot, width_of};
-use crate::old_chart::collect::ChartView;
-use crate::old_chart::escape::put_escaped;
-use crate::old_chart::labels::spot_of;
-use crate::old_chart::layout::Heights;
-use crate::old_chart::line::{Line, line_of};
-use crate::old_chart::model::{Arrow, Fate};
-use crate::old_chart::style;
+use crate::areas::{Anchor, Areas, Spot, width_of};
+use crate::collect::ChartView;
+use crate::escape::put_escaped;
+use crate::labels::spot_of;
+use crate::layout::Heights;
+use crate::line::{Line, line_of};
+use crate::model::{Arrow, Fate};
+use crate::style;
 use cip_base::NoMemory;
 use cip_view::{Kind, Label};
 use std::alloc::Global;

@@ -1,5 +1,5 @@
 //! Repeats of cyclic data, folded.
-use crate::old_chart::model::{Look, Row};
+use crate::model::{Look, Row};
 
 // The most rows of a cycle that is folded.
 const LONGEST: usize = 48;

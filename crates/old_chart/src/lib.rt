@@ -1,5 +1,7 @@
-//! The chart as it was when its texts were formatted, kept to compare with. New is the
-//! file `sides`, and that `draw` and `rows` ask it.
+//! The chart as it was when its texts were formatted and each place of a label was weighed, kept to
+//! compare with. New is the file `sides`, and that `draw` and `rows` ask it.
+#![tactic(auto)]
+
 mod areas;
 mod arrows;
 mod collect;

@@ -1,6 +1,6 @@
 //! Which parts of a chart are taken, so that no text hides another.
-use crate::old_chart::layout::ROW;
-use crate::old_chart::line::Line;
+use crate::layout::ROW;
+use crate::line::Line;
 use cip_base::NoMemory;
 use std::alloc::Global;
 

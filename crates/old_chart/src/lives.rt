@@ -1,9 +1,9 @@
 //! The modules of a chart: their boxes, their ports and their lifelines.
-use crate::old_chart::areas::{Anchor, Areas, Spot, width_of};
-use crate::old_chart::collect::ChartView;
-use crate::old_chart::escape::put_escaped;
-use crate::old_chart::layout::{BOX, Heights, PORT, x_of};
-use crate::old_chart::style;
+use crate::areas::{Anchor, Areas, Spot, width_of};
+use crate::collect::ChartView;
+use crate::escape::put_escaped;
+use crate::layout::{BOX, Heights, PORT, x_of};
+use crate::style;
 use cip_base::{Address, ModuleId, NoMemory};
 use cip_topology::Topology;
 use cip_view::NameText;

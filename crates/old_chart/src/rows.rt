@@ -1,12 +1,12 @@
 //! The rows of a chart: an entry each, with what the module was given and what came of it.
-use crate::old_chart::areas::{Anchor, Areas, Spot, width_of};
-use crate::old_chart::collect::ChartView;
-use crate::old_chart::escape::put_escaped;
-use crate::old_chart::layout::{Heights, MARK, below_dot, x_of};
-use crate::old_chart::line::y_of;
-use crate::old_chart::model::{Mark, Row};
-use crate::old_chart::sides::Sides;
-use crate::old_chart::style;
+use crate::areas::{Anchor, Areas, Spot, width_of};
+use crate::collect::ChartView;
+use crate::escape::put_escaped;
+use crate::layout::{Heights, MARK, below_dot, x_of};
+use crate::line::y_of;
+use crate::model::{Mark, Row};
+use crate::sides::Sides;
+use crate::style;
 use cip_base::NoMemory;
 use cip_read::Given;
 use cip_view::command_word;

@@ -1,11 +1,11 @@
 //! The chart of a transcript, gathered line by line.
 ghost use Rattle.std.specs.Prelude.{◌≡◌, [], IfOk, string_bytes};
 
-use crate::old_chart::draw::put_svg;
-use crate::old_chart::fold::fold;
-use crate::old_chart::marks::mark_of;
-use crate::old_chart::model::{Arrow, Fate, Look, Mark, Row};
-use crate::old_chart::page::put_page;
+use crate::draw::put_svg;
+use crate::fold::fold;
+use crate::marks::mark_of;
+use crate::model::{Arrow, Fate, Look, Mark, Row};
+use crate::page::put_page;
 use cip_base::{ModuleId, NoMemory};
 use cip_chart::Cut;
 use cip_event::{Body, Output};
