@@ -1,5 +1,6 @@
 """Calls of a world, and runs of modules on threads, that are refused memory: the lines of the driver crates/played_worlds, what must come
-of each, and how it is played."""
+of each, and how it is played. And what is played once: boxes that count their steps, steps and commits that are held, the book by itself,
+the console over boxes and readers with which it never runs a script, and what a screen beside a transcript shows."""
 
 import os
 import re
@@ -146,7 +147,24 @@ TRAILS = [
 
 # The scanner's clock is at its end.
 LATE = [("tick S 1", FULL), ("journal", []), ("tick A 1", entry(0)), ("journal", ["0 A tick 1"])]
-BOTH_KINDS = [MADE, ASKED, CONNECTED, ENDED, ONE_BY_ONE, WAITING, TICKED_ALONE, TO_ITSELF, TO_NOBODY, TRAILS]
+
+# Where frames go: to an address of nobody, by a port that is not there, from a bridge to itself, to the adapter and back, and from the
+# second bridge to nobody.
+WAYS = [
+    *((f"send S 1 {TIMING} 0203 {REQUEST}", entry(0)), (f"send S 2 {TIMING} 0105 {REQUEST}", entry(1)), ("waiting", ["waiting"])),
+    *((f"send S 3 {TIMING} 02050100 {REQUEST}", entry(2)), ("run 10", QUIET)),
+    *((f"send S 4 {TIMING} 020501030207 {REQUEST}", entry(7)), ("run 10", QUIET)),
+    *((f"send S 5 {TIMING} 020501030200 {REQUEST}", entry(14)), ("run 10", QUIET)),
+    (
+        "came",
+        [
+            *("came 3 A 2 [1]", "came 4 A 1 [0]", "came 5 A 1 [0]", "came 6 S 2 [5]"),
+            *("came 8 A 2 [1]", "came 9 B 1 [0]", "came 10 E 2 [1]", "came 11 B 2 [7]", "came 12 A 1 [3]", "came 13 S 2 [5]"),
+            *("came 15 A 2 [1]", "came 16 B 1 [0]"),
+        ],
+    ),
+]
+BOTH_KINDS = [MADE, ASKED, CONNECTED, ENDED, ONE_BY_ONE, WAITING, TICKED_ALONE, TO_ITSELF, TO_NOBODY, WAYS, TRAILS]
 PLAYED = {"plain": BOTH_KINDS, "indexed": BOTH_KINDS, "late": [LATE], "ports": [OUT_AND_IN]}
 
 
@@ -219,6 +237,69 @@ THREADS = {
     "indexed": [(f"feed {SEND}", []), ("threads 100 0123", [ALL_OF_ONE])],
     "late": [("feed tick S 1", []), ("threads 100 0123", FULL), ("threads 100 0123", [AT_ITS_END])],
 }
+
+# Modules that wait for one another: how many steps and first commits found all come, and the run.
+HELD = [
+    # The commits of both scanners wait for one another.
+    *((f"feed {SEND}", []), (f"feed {SECOND}", []), ("held 0 2 100", ["steps 10 entries 4", ALL_OF_TWO])),
+    # So do the first steps of all five modules.
+    *((f"feed tick {name} 1", []) for name in TWO),
+    (
+        "held 5 0 100",
+        ["steps 5 entries 5", Ran("quiet", 0, 0, [f"{it} tick 1" for it in TWO], [line for it in TWO for line in tables(it, 1_000)])],
+    ),
+]
+
+# Calls of a world whose boxes count their steps, and how many they took in the end.
+COUNTED = [
+    ([], 0),
+    ([(SEND, entry(0))], 1),
+    ([(SEND, entry(0)), ("run 10", QUIET), ("tables S", tables("S", last=1))], 5),
+    # The boxes have no call of their own that finds a connection: their tables tell which one the op opened.
+    ([(OPEN, entry(0)), ("run 100", QUIET), ("chain S 1", ["chain S A B E end 101 102"])], 7),
+]
+
+# The book of the chassis, in which the scanner is to send one request: how many turns may be taken, the calls and what they give.
+BOOKS = [
+    (
+        100,
+        [
+            *(("hand 0", "work"), ("hand 0", "held"), ("hand 1", "not yet"), ("enter 1 -", "nothing in hand"), ("enter 0", "entered")),
+            *(("hand 1", "work"), ("stop", "stopped"), ("hand 2", "stop")),
+        ],
+    ),
+    # A module, and turns, that are not there.
+    (
+        1,
+        [
+            *(("hand 4", "stop"), ("enter 4 -", "nothing in hand"), ("hand 0", "work"), ("hand 1", "stop"), ("enter 0 -", "entered")),
+            ("hand 0", "stop"),
+        ],
+    ),
+    # Nothing was put out.
+    (100, [("hand 0", "work"), ("enter 0 -", "entered"), ("hand 0", "stop")]),
+]
+
+# Runs beside a screen, and the lines that it shows. A telling reads the time again, and the next is due 100 ms later. On the screen of a
+# transcript the line is taken away before each piece.
+SECOND_PIECE, FOURTH_PIECE = (f"Progress {{ done: {done}, waiting: 7 }}" for done in (2, 4))
+WATCHED = [
+    ("alone 3 0 500 999", []),
+    ("alone 4 999 1000 1010 1109 1110 1110", [SECOND_PIECE, FOURTH_PIECE, "Cleared"]),
+    ("beside 4 999 1000 1010 1109 1110 1110", [SECOND_PIECE, "Cleared", FOURTH_PIECE, "Cleared"]),
+    ("beside 1 999", []),
+]
+
+# Boxes that are handed to the console and are not those of the topology, scripts, and the fault; of which a faulty line comes first, and a
+# reader that fails before both. Each with which reads of it fail, where one does.
+TICK, LIMIT_OF_A_SCRIPT = "tick S 1\n", 1_048_576
+FAULTY, UNREAD = ["line 2: unknown word"], ["the script can't be read"]
+NEVER_RUN = [
+    *(("012", TICK, 0, COUNT), ("1023", TICK, 0, other(0)), ("0123 1", TICK, 0, stale(1))),
+    *((places, f"{TICK}next\n", 0, FAULTY) for places in ("012", "1023", "0123 1")),
+    *(("012", TICK, 1, UNREAD), ("012", TICK, 2, UNREAD)),
+    *(("012", "\n" * LIMIT_OF_A_SCRIPT, 0, COUNT), ("012", "\n" * (LIMIT_OF_A_SCRIPT + 1), 0, UNREAD)),
+]
 
 
 def is_wanted(given, wanted):
@@ -312,6 +393,57 @@ def each_refused(program, room, name, scripts):
     return faults
 
 
+def ran_once(program, words, text, **how):
+    """What the program writes, and what it says where it fails."""
+    ran = subprocess.run([program, words], input=text, capture_output=True, timeout=60, encoding="ascii", **how)
+    return ran.stdout, f"status {ran.returncode} {ran.stderr}" if ran.returncode or ran.stderr else ""
+
+
+def text_of(*lines):
+    return "".join(f"{line}\n" for line in lines)
+
+
+def once(room):
+    """What is played once: the words of the program, its input, what it must write, and how it is run."""
+    for calls, steps in COUNTED:
+        told = [line for _, answer in calls for line in ("><", *answer, "")]
+        yield "counted", text_of(*(line for line, _ in calls)), text_of(*told, f"steps {steps}"), {}
+    for turns, calls in BOOKS:
+        yield f"book {turns}", text_of(*(call for call, _ in calls)), text_of(*(given for _, given in calls)), {}
+    yield "progress", text_of(*(run for run, _ in WATCHED)), text_of(*(line for _, shown in WATCHED for line in (*shown, ""))), {}
+    for places, script, failing, fault in NEVER_RUN:
+        how = {"env": {"LD_PRELOAD": f"{room}/refuse.so", "REFUSE_READ": str(failing)}} if failing else {}
+        for word in ("read", "live-read") if fault == UNREAD else ("turn", "read", "live", "live-read"):
+            # what is not to be read again is run once
+            times = 1 if word.endswith("read") else 2
+            yield f"{word} {places}", script, text_of("><", *fault, "") * times, how
+
+
+def held(program):
+    """Plays modules that wait for one another, and returns what was wrong."""
+    given, said = ran_once(program, "two", text_of(*(line for line, _ in HELD)))
+    blocks = [block.strip("\n").split("\n") if block.strip("\n") else [] for block in f"\n{given}".split("\n\n")]
+    faults = [f"held: {said}"] if said else []
+    if len(blocks) != len(HELD) + 1:
+        faults.append(f"held: {blocks}")
+    for (line, wanted), block in zip(HELD, blocks):
+        if wanted and (block[:1] != wanted[:1] or not is_wanted(block[1:], wanted[1:])) or not wanted and block:
+            faults.append(f"{line}: {block} and not {[it.told if isinstance(it, Ran) else it for it in wanted]}")
+    return faults
+
+
+def played_once(program, room):
+    """Plays what is refused no memory, prints how much that is, and returns what was wrong."""
+    faults, count = held(program), 1
+    for words, text, wanted, how in once(room):
+        given, said = ran_once(program, words, text, **how)
+        count += 1
+        if said or given != wanted:
+            faults.append(f"played_worlds {words}: {text[:200]!r}: {given[:400]!r} {said} and not {wanted[:400]!r}")
+    print(f"played_worlds: {count} runs that are refused nothing, {len(faults)} faults")
+    return faults
+
+
 def all_calls_refused(program, room):
     """Plays calls of worlds, and runs on threads, with memory refused to each, and returns what was wrong."""
     if not os.path.isfile(program):
@@ -319,4 +451,4 @@ def all_calls_refused(program, room):
     faults = []
     for plant, scripts in PLAYED.items():
         faults += each_refused(program, room, f"calls of worlds, {plant},", [(plant, script) for script in scripts])
-    return faults + each_refused(program, room, "runs on threads", list(THREADS.items()))
+    return faults + each_refused(program, room, "runs on threads", list(THREADS.items())) + played_once(program, room)

@@ -11,7 +11,7 @@ use thiserror::Error;
 #[derive(Clone, Copy, Debug, PartialEq, Eq, Error)]
 pub enum Fault {
     #[error("usage: played plain|indexed|mixed [FILE ..], \
-        played topologies FILE .., \
+        played topologies FILE .., played chassis FILE, \
         played times [send|open|datum|send-full|open-full|datum-full|large|datum-4|datum-400|\
         datum-long|half|long TIMES [indexed]]")]
     Usage,

@@ -3,8 +3,8 @@
 //!
 //! `played plain`, `played indexed` or `played mixed` says of which kind scanner and bridges
 //! are; where they are mixed, one bridge is indexed. The events are those of `lines.rt`. Behind it
-//! may stand topology files, which are loaded then. `played topologies FILE ..` loads these alone
-//! (`topologies.rt`).
+//! may stand topology files, which are loaded then. `played topologies FILE ..` loads these alone,
+//! `played chassis FILE` tells what one says (`topologies.rt`).
 //!
 //! `played times STEP TIMES` takes steps of a plain bridge many times over, to be timed
 //! from outside. The steps are `send`, `open`, `datum`, `send-full`, `open-full` and `datum-full`;
@@ -48,6 +48,9 @@ fn kinds_of(word: &str) -> Option<Kinds> {
 fn play(rt: &HostRuntime, word: &str, words: &mut Args) -> Result<(), Fault> {
     if word == "times" {
         return times::run(rt, words);
+    }
+    if word == "chassis" {
+        return topologies::tell_chassis(rt, words);
     }
     if word != "topologies" {
         lines::play(rt, kinds_of(word).ok_or(Fault::Usage)?)?;

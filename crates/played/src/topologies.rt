@@ -1,6 +1,8 @@
-//! Topology files, and what loading each gives.
+//! Topology files: what loading each gives, and what a topology says.
 use crate::fault::Fault;
-use cip_topology::load;
+use cip_base::ModuleId;
+use cip_module::ModuleSettings;
+use cip_topology::{Link, Topology, load};
 use std::env::Args;
 use std::fs;
 
@@ -18,6 +20,53 @@ fn tell(rt: &HostRuntime, path: &str) -> Result<(), Fault> {
 pub fn play(rt: &HostRuntime, paths: &mut Args) -> Result<(), Fault> {
     for path in paths {
         tell(rt, path.as_str())?;
+    }
+    Ok(())
+}
+
+fn text(bytes: &[u8]) -> &str {
+    std::str::from_utf8(bytes).unwrap_or("no text")
+}
+
+fn tell_link(rt: &HostRuntime, link: &Link) -> Result<(), Fault> {
+    println!(rt; "link {} {:?}", text(link.name.as_slice()), link.legal)?;
+    Ok(())
+}
+
+// A module: the place that its name leads to, its kind, first id, first number and clock, the room
+// of its tables, and how many ports it has.
+fn tell_module(
+    rt: &HostRuntime,
+    topology: &Topology,
+    settings: &ModuleSettings,
+) -> Result<(), Fault> {
+    let name = settings.name.as_slice();
+    let place = topology.by_name(name).ok_or(Fault::Line)?.0;
+    let told = topology.name_of(ModuleId(place)).ok_or(Fault::Line)?;
+    print!(rt; "module {place} {} {:?}", text(told), settings.kind)?;
+    print!(rt;
+        " id {} number {}",
+        settings.first_id, settings.first_number
+    )?;
+    print!(rt; " clock {} rooms {}", settings.clock, settings.pending_room)?;
+    println!(rt;
+        " {} ports {}",
+        settings.hop_room,
+        settings.ports.as_slice().len()
+    )?;
+    Ok(())
+}
+
+/// Tells what the topology of a file says: its links and its modules.
+pub fn tell_chassis(rt: &HostRuntime, words: &mut Args) -> Result<(), Fault> {
+    let path = words.next().ok_or(Fault::Usage)?;
+    let text = fs::read_to_string(rt, path.as_str())?;
+    let topology = load(rt.alloc(), text.as_str()).ok().ok_or(Fault::Usage)?;
+    for link in topology.links() {
+        tell_link(rt, link)?;
+    }
+    for config in topology.configs() {
+        tell_module(rt, &topology, config.settings())?;
     }
     Ok(())
 }

@@ -1,12 +1,13 @@
 //! Runs of the console over boxes, a reader and a writer that are made here.
 //!
 //! Each run stands between the marks `>` and `<`, so that memory can be refused to the console
-//! alone. A script is run twice: once where it lies in memory, and once where it has to be read.
+//! alone. A script is run twice: once where it lies in memory, and once where it has to be read;
+//! where the reader is to fail, once, from that reader.
 use crate::fault::Fault;
 use crate::kept::Kept;
-use crate::made::boxes;
+use crate::made::{Chosen, boxes};
 use cip_console::{ConsoleFault, Plain, Script, Source, read_script, run, run_live};
-use cip_indexed::{NewModule, new_modules};
+use cip_indexed::NewModule;
 use cip_module::Module;
 use cip_threads::OpenGate;
 use cip_topology::{CHASSIS, load};
@@ -30,11 +31,11 @@ fn tell(rt: &HostRuntime, ended: Result<(), ConsoleFault>, kept: &Kept) -> Resul
     Ok(())
 }
 
-fn run_one<R: Source>(rt: &HostRuntime, reader: &mut R) -> Result<(), Fault> {
+fn run_one<R: Source>(rt: &HostRuntime, chosen: &Chosen, reader: &mut R) -> Result<(), Fault> {
     let alloc = rt.alloc();
     let topology = load(alloc, CHASSIS)?;
     let mut writer = Kept::new(alloc)?;
-    let modules = boxes!(alloc, new_modules(alloc, topology.configs())?);
+    let modules = boxes!(NewModule, alloc, chosen.modules(alloc, &topology)?);
     // (what the marks say is looked at when no box is left to be given up)
     let begun = print!(rt; ">");
     let ended = run(alloc, reader, &mut writer, topology, modules);
@@ -46,12 +47,13 @@ fn run_one<R: Source>(rt: &HostRuntime, reader: &mut R) -> Result<(), Fault> {
 fn run_one_live<T: Threads + Wait + Sync, R: Source>(
     rt: &HostRuntime,
     workers: &T,
+    chosen: &Chosen,
     reader: &mut R,
 ) -> Result<(), Fault> {
     let alloc = rt.alloc();
     let topology = load(alloc, CHASSIS)?;
     let mut writer = Kept::new(alloc)?;
-    let modules = boxes!(alloc, new_modules(alloc, topology.configs())?);
+    let modules = boxes!(NewModule, alloc, chosen.modules(alloc, &topology)?);
     // (what the marks say is looked at when no box is left to be given up)
     let begun = print!(rt; ">");
     let ended = run_live(
@@ -69,22 +71,42 @@ fn run_one_live<T: Threads + Wait + Sync, R: Source>(
     tell(rt, ended, &writer)
 }
 
-/// Runs the script of this input in turn.
-pub fn in_turn<R: Read + Drop>(rt: &HostRuntime, input: R) -> Result<(), Fault> {
+/// Runs the script of this input in turn, over these modules.
+pub fn in_turn<R: Read + Drop>(rt: &HostRuntime, places: &str, input: R) -> Result<(), Fault> {
+    let chosen = Chosen::of(rt.alloc(), places)?;
     let script = read_script(rt.alloc(), &mut Plain { inner: input })?;
     let script = script.as_slice();
-    run_one(rt, &mut Script { rest: script })?;
-    run_one(rt, &mut Plain { inner: script })
+    run_one(rt, &chosen, &mut Script { rest: script })?;
+    run_one(rt, &chosen, &mut Plain { inner: script })
 }
 
-/// Runs the script of this input with each module on a thread of its own.
+/// Runs the script that has to be read from this input, likewise.
+pub fn as_read<R: Read + Drop>(rt: &HostRuntime, places: &str, input: R) -> Result<(), Fault> {
+    let chosen = Chosen::of(rt.alloc(), places)?;
+    run_one(rt, &chosen, &mut Plain { inner: input })
+}
+
+/// Runs the script of this input with each of these modules on a thread of its own.
 pub fn on_threads<T: Threads + Wait + Sync, R: Read + Drop>(
     rt: &HostRuntime,
     workers: &T,
+    places: &str,
     input: R,
 ) -> Result<(), Fault> {
+    let chosen = Chosen::of(rt.alloc(), places)?;
     let script = read_script(rt.alloc(), &mut Plain { inner: input })?;
     let script = script.as_slice();
-    run_one_live(rt, workers, &mut Script { rest: script })?;
-    run_one_live(rt, workers, &mut Plain { inner: script })
+    run_one_live(rt, workers, &chosen, &mut Script { rest: script })?;
+    run_one_live(rt, workers, &chosen, &mut Plain { inner: script })
+}
+
+/// Runs the script that has to be read from this input, likewise.
+pub fn on_threads_as_read<T: Threads + Wait + Sync, R: Read + Drop>(
+    rt: &HostRuntime,
+    workers: &T,
+    places: &str,
+    input: R,
+) -> Result<(), Fault> {
+    let chosen = Chosen::of(rt.alloc(), places)?;
+    run_one_live(rt, workers, &chosen, &mut Plain { inner: input })
 }

@@ -14,7 +14,8 @@ use thiserror::Error;
 #[derive(Clone, Copy, Debug, PartialEq, Eq, Error)]
 pub enum Fault {
     #[error("usage: played_worlds WHAT [WHAT FILE ..], where WHAT is \
-        plain|indexed|late|two|turn|live|json|leaves; \
+        plain|indexed|late|two|ports|counted|book TURNS|turn|read|live|live-read|progress| \
+        json|leaves; \
         or played_worlds over FILE json|svg|page [FROM TO [MODULE ..]]")]
     Usage,
     #[error("a line cannot be played")]

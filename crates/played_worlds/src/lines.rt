@@ -7,13 +7,16 @@
 //! - `new PLACES` makes a world of the modules at these places of the chassis, a digit for each,
 //! and `check PLACES` looks at them. Behind both may stand which of them took a millisecond.
 //! - `feed LINE` keeps a command or a tick, and `threads TURNS PLACES` runs new modules on threads
-//! with what was kept.
+//! with what was kept. `held STEPS COMMITS TURNS` runs all modules so, each of which waits before
+//! each step until so many steps were begun, and before it enters its first one until so many
+//! modules came to that. It tells how many steps and entries found all of them come.
 //!
-//! Each call is guarded (`guarded.rt`, `made.rt`, `live.rt`). What comes of a line is lines, and
+//! Each call but `held` is guarded (`guarded.rt`, `made.rt`, `live.rt`). What comes of a line is lines, and
 //! then an empty one.
 use crate::fault::Fault;
 use crate::guarded::guarded;
-use crate::live::{LiveRun, feed_of, run_live};
+use crate::held::{HeldModule, Hold, held_modules};
+use crate::live::{HeldRun, LiveRun, feed_of, run_held, run_live};
 use crate::made::{Chosen, Trial, boxes, tried};
 use crate::out::Out;
 use crate::plants::Plant;
@@ -26,7 +29,7 @@ use cip_world::{Shown, World};
 use std::alloc::Global;
 use std::io::{BufRead, BufReader, Read};
 use std::mem;
-use std::sync::Wait;
+use std::sync::{Arc, Wait};
 use std::thread::Threads;
 
 // The names of the modules, and one of a module that is not there.
@@ -70,6 +73,24 @@ impl Beside {
         run_live(out, workers, self.plant, self.names.as_slice(), &kept)
     }
 
+    // `STEPS COMMITS TURNS`
+    fn held<T: Threads + Wait + Sync>(
+        &mut self,
+        out: &mut Out,
+        workers: &T,
+        words: &str,
+    ) -> Result<(), Fault> {
+        let (steps, rest) = words.split_once(' ').ok_or(Fault::Line)?;
+        let (commits, turns) = rest.split_once(' ').ok_or(Fault::Line)?;
+        let asked = HeldRun {
+            steps: steps.parse::<u64>().ok().ok_or(Fault::Line)?,
+            commits: commits.parse::<u64>().ok().ok_or(Fault::Line)?,
+            turns: turns.parse::<usize>().ok().ok_or(Fault::Line)?,
+            feeds: mem::replace(&mut self.feeds, Vec::new(out.alloc())),
+        };
+        run_held(out, workers, self.plant, self.names.as_slice(), asked)
+    }
+
     // What comes of a line, or that it asks something of the world.
     fn obey<T: Threads + Wait + Sync>(
         &mut self,
@@ -87,6 +108,8 @@ impl Beside {
                 .push(feed_of(alloc, self.names.as_slice(), line)?)?;
         } else if let Some(words) = line.strip_prefix("threads ") {
             self.on_threads(out, workers, words)?;
+        } else if let Some(words) = line.strip_prefix("held ") {
+            self.held(out, workers, words)?;
         } else {
             return Ok(false);
         }
@@ -155,6 +178,25 @@ fn play_over<T: Threads + Wait + Sync, R: Read + Drop>(
     Ok(())
 }
 
+// Plays the lines over a world of these boxes and one of the twins.
+fn play_boxes<T: Threads + Wait + Sync, R: Read + Drop>(
+    rt: &HostRuntime,
+    workers: &T,
+    plant: Plant,
+    modules: Vec<Box<dyn Module + Send>>,
+    twins: Vec<Box<dyn Module + Send>>,
+    input: R,
+) -> Result<(), Fault> {
+    let alloc = rt.alloc();
+    let Ok(mut here) = World::new(alloc, plant.topology(alloc)?, modules) else {
+        return Err(Fault::Chassis);
+    };
+    let Ok(mut twin) = World::new(alloc, plant.topology(alloc)?, twins) else {
+        return Err(Fault::Chassis);
+    };
+    play_over(rt, workers, plant, &mut here, &mut twin, input)
+}
+
 /// Plays the lines of this input over a chassis.
 pub fn play<T: Threads + Wait + Sync, R: Read + Drop>(
     rt: &HostRuntime,
@@ -164,13 +206,26 @@ pub fn play<T: Threads + Wait + Sync, R: Read + Drop>(
 ) -> Result<(), Fault> {
     let alloc = rt.alloc();
     let topology = plant.topology(alloc)?;
-    let modules = boxes!(alloc, new_modules(alloc, topology.configs())?);
-    let twins = boxes!(alloc, new_modules(alloc, topology.configs())?);
-    let Ok(mut here) = World::new(alloc, plant.topology(alloc)?, modules) else {
-        return Err(Fault::Chassis);
-    };
-    let Ok(mut twin) = World::new(alloc, topology, twins) else {
-        return Err(Fault::Chassis);
-    };
-    play_over(rt, workers, plant, &mut here, &mut twin, input)
+    let modules = boxes!(NewModule, alloc, new_modules(alloc, topology.configs())?);
+    let twins = boxes!(NewModule, alloc, new_modules(alloc, topology.configs())?);
+    play_boxes(rt, workers, plant, modules, twins, input)
+}
+
+/// Plays the lines of this input over the chassis, whose boxes count their steps, and then tells
+/// how many steps they took.
+pub fn play_counted<T: Threads + Wait + Sync, R: Read + Drop>(
+    rt: &HostRuntime,
+    workers: &T,
+    input: R,
+) -> Result<(), Fault> {
+    let alloc = rt.alloc();
+    let plant = Plant::Plain;
+    let topology = plant.topology(alloc)?;
+    let hold = Arc::new(alloc, Hold::new(0))?;
+    let made = held_modules(alloc, topology.configs(), &hold)?;
+    let modules = boxes!(HeldModule, alloc, made);
+    let twins = boxes!(NewModule, alloc, new_modules(alloc, topology.configs())?);
+    play_boxes(rt, workers, plant, modules, twins, input)?;
+    println!(rt; "steps {}", hold.passed())?;
+    Ok(())
 }

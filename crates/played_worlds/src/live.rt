@@ -2,6 +2,7 @@
 use crate::answers::put_end;
 use crate::calls::step_of;
 use crate::fault::Fault;
+use crate::held::{FirstCommits, HeldModule, Hold, held_modules};
 use crate::made::{Chosen, boxes};
 use crate::noted::{put_frames, put_journal};
 use crate::out::{Guard, Out};
@@ -15,7 +16,7 @@ use cip_threads::{Feed, OpenGate, Report, RunFault, feeds_fit, run_threads};
 use cip_transcript::{name_in, put, put_tables, put_trail};
 use cip_world::Entry;
 use std::alloc::Global;
-use std::sync::Wait;
+use std::sync::{Arc, Wait};
 use std::thread::Threads;
 
 /// The feeds that a line gives.
@@ -63,7 +64,7 @@ fn ran<T: Threads + Wait + Sync>(
         return Err(Fault::Line);
     }
     let made = asked.chosen.modules(alloc, &topology)?;
-    let modules = boxes!(alloc, made);
+    let modules = boxes!(NewModule, alloc, made);
     // (what the marks say is looked at when no box is left to be given up)
     let begun = out.begin(guard);
     let turns = asked.turns;
@@ -124,6 +125,12 @@ pub fn run_live<T: Threads + Wait + Sync>(
             report = ran(out, workers, plant, asked, Guard::Nothing)?;
         }
     }
+    tell(out, names, report)
+}
+
+// What came of a run.
+fn tell(out: &mut Out, names: &[Bytes], report: Result<Report, RunFault>) -> Result<(), Fault> {
+    let alloc = out.alloc();
     match report {
         Ok(report) => out.put_bytes(told(alloc, names, &report)?.as_slice()),
         Err(fault) => {
@@ -131,4 +138,42 @@ pub fn run_live<T: Threads + Wait + Sync>(
             out.put(told.as_str())
         }
     }
+}
+
+/// A run of all modules, each of which waits before each step until so many steps were begun, and
+/// before it enters its first step until so many modules came to that.
+#[derive(Drop)]
+pub struct HeldRun {
+    pub steps: u64,
+    pub commits: u64,
+    pub turns: usize,
+    pub feeds: Vec<(ModuleId, Feed)>,
+}
+
+/// Runs modules on threads that wait for one another, and tells how many steps and how many first
+/// entries found all come.
+pub fn run_held<T: Threads + Wait + Sync>(
+    out: &mut Out,
+    workers: &T,
+    plant: Plant,
+    names: &[Bytes],
+    asked: HeldRun,
+) -> Result<(), Fault> {
+    let alloc = out.alloc();
+    let topology = plant.topology(alloc)?;
+    if !feeds_fit(&topology, asked.feeds.as_slice()) {
+        return Err(Fault::Line);
+    }
+    let hold = Arc::new(alloc, Hold::new(asked.steps))?;
+    let gate = FirstCommits {
+        hold: Hold::new(asked.commits),
+    };
+    let made = held_modules(alloc, topology.configs(), &hold)?;
+    let modules = boxes!(HeldModule, alloc, made);
+    let HeldRun { turns, feeds, .. } = asked;
+    let report = run_threads(workers, alloc, topology, modules, feeds, turns, &gate);
+    let passed = (hold.passed(), gate.hold.passed());
+    let passed = format!(in alloc; "steps {} entries {}\n", passed.0, passed.1)?;
+    out.put(passed.as_str())?;
+    tell(out, names, report)
 }

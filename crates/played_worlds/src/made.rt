@@ -10,15 +10,15 @@ use cip_topology::Topology;
 use cip_world::{NewFault, World, check_fresh};
 use std::alloc::Global;
 
-// New modules, each as a box of any module: a function can't hand such boxes out.
+// Modules of this enum, each as a box of any module: a function can't hand such boxes out.
 macro_rules! boxes {
-    ($alloc:expr, $made:expr) => {{
+    ($modules:ident, $alloc:expr, $made:expr) => {{
         let mut modules: Vec<Box<dyn Module + Send>> = Vec::new($alloc);
         for new in $made {
             let pushed = match new {
-                NewModule::Plain(module_) => modules.push(module_),
-                NewModule::Adapter(module_) => modules.push(module_),
-                NewModule::Indexed(module_) => modules.push(module_),
+                $modules::Plain(module_) => modules.push(module_),
+                $modules::Adapter(module_) => modules.push(module_),
+                $modules::Indexed(module_) => modules.push(module_),
             };
             if pushed.is_err() {
                 return Err(Fault::NoMemory);
@@ -110,7 +110,7 @@ fn said(
     let alloc = out.alloc();
     let topology = plant.topology(alloc)?;
     let made = chosen.modules(alloc, &topology)?;
-    let modules = boxes!(alloc, made);
+    let modules = boxes!(NewModule, alloc, made);
     // (what the marks say is looked at when no box is left to be given up)
     let begun = out.begin(guard);
     let fault = match trial {

@@ -3,23 +3,30 @@
 //!
 //! `played_worlds plain` and `played_worlds indexed` say of which kind scanner and bridges are;
 //! `played_worlds late` has the scanner's clock at its end, `played_worlds two` a second scanner;
-//! `played_worlds ports` is one module with two ports on one link.
-//! The calls are those of `lines.rt`. `played_worlds turn` runs a script in turn, `played_worlds
-//! live` with each module on a thread of its own (`console.rt`). `played_worlds json` shows a
+//! `played_worlds ports` is one module with two ports on one link. `played_worlds counted` tells
+//! how many steps the modules of a plain chassis took.
+//! The calls are those of `lines.rt`; `played_worlds book TURNS` has those of the book (`book.rt`).
+//! `played_worlds turn` runs a script in turn, `played_worlds live` with each module on a thread of
+//! its own, `read` and `live-read` as it is read (`console.rt`); behind these words may stand which
+//! new modules are handed in (`made.rt`). `played_worlds progress` shows what a screen
+//! tells of a long run (`progress.rt`). `played_worlds json` shows a
 //! transcript in the form from before (`views.rt`), `played_worlds leaves` bytes, names, paths,
 //! messages and lines (`leaves.rt`).
 //!
-//! Further words are pairs: what else to do, and the file that has its input.
+//! What stands behind a word is in the same argument. Further arguments are pairs: what else to do,
+//! and the file that has its input.
 //!
 //! `played_worlds over FILE json|svg|page ..` shows a transcript over the topology of a file, in a
 //! form from before (`views.rt`).
 #![tactic(auto)]
 
 mod answers;
+mod book;
 mod calls;
 mod console;
 mod fault;
 mod guarded;
+mod held;
 mod kept;
 mod leaves;
 mod lines;
@@ -28,6 +35,7 @@ mod made;
 mod noted;
 mod out;
 mod plants;
+mod progress;
 mod views;
 
 use fault::Fault;
@@ -40,16 +48,25 @@ use std::process::ExitCode;
 use std::sync::Wait;
 use std::thread::Threads;
 
-// Does what a word asks for with this input.
+// The modules of the chassis, in its order.
+const ALL: &str = "0123";
+
+// Does what a word asks for with this input, and what stands behind it.
 fn play<T: Threads + Wait + Sync, R: Read + Drop>(
     rt: &HostRuntime,
     workers: &T,
-    word: &str,
+    asked: &str,
     input: R,
 ) -> Result<(), Fault> {
+    let (word, places) = asked.split_once(' ').unwrap_or((asked, ALL));
     match word {
-        "turn" => console::in_turn(rt, input),
-        "live" => console::on_threads(rt, workers, input),
+        "turn" => console::in_turn(rt, places, input),
+        "read" => console::as_read(rt, places, input),
+        "live" => console::on_threads(rt, workers, places, input),
+        "live-read" => console::on_threads_as_read(rt, workers, places, input),
+        "book" => book::play(rt, places, input),
+        "counted" => lines::play_counted(rt, workers, input),
+        "progress" => progress::play(rt, input),
         "json" => views::show(rt, input),
         "leaves" => leaves::show(rt, input),
         name => lines::play(rt, workers, Plant::of(name).ok_or(Fault::Usage)?, input),
