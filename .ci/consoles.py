@@ -2,7 +2,7 @@
 
 The driver, crates/played_worlds, makes topology, boxes, reader and writer itself, and runs a script between marks: twice in turn, or twice
 with each module on a thread, once where the script lies in memory and once where it is read. Each run is refused its first allocation, its
-second, and so on, until none is refused. A run that is refused has to end with NoMemory, and has written a front of the transcript; or it
+second, and so on, until none is refused. A run that is refused has to end with NoMemory, and has written a prefix of the transcript; or it
 only asked ahead, and wrote it whole. On threads it may also end because no thread can be made.
 """
 
@@ -21,7 +21,7 @@ class Console:
 
     def __init__(self, program, room, case):
         self.program, self.room, self.word = program, room, "live" if case.has_threads else "turn"
-        self.case, self.script, self.whole, self.fronts = case.name, case.script, case.stdout.decode(), set()
+        self.case, self.script, self.whole, self.prefixes = case.name, case.script, case.stdout.decode(), set()
 
     def played(self, number):
         """Refuses each run its allocation of that number. Returns how many ended so, how many were refused, and what was wrong."""
@@ -38,9 +38,9 @@ class Console:
         faults = [] if not marks and len(ends) == RUNS else [f"{where}: {len(ends)} runs came"]
         for end, transcript in ends:
             is_whole = end == "done" and transcript == self.whole + "\n"
-            is_front = refused and end in ENDS[self.word] and self.whole.startswith(transcript[:-1])
-            self.fronts.add(len(transcript) - 1)
-            if not is_whole and not is_front:
+            is_prefix = refused and end in ENDS[self.word] and self.whole.startswith(transcript[:-1])
+            self.prefixes.add(len(transcript) - 1)
+            if not is_whole and not is_prefix:
                 faults.append(f"{where}: {end!r} and {transcript[-200:]!r}")
         failed = sum(end != "done" for end, _ in ends)
         if failed > refused:
@@ -71,6 +71,6 @@ def consoles_refused(program, room, cases):
             console = Console(program, room, case)
             count, ended, wrong = console.each_refused(pool)
             faults += wrong
-            told = f"{count} refusals in turn, of which {count - ended} only asked ahead, and wrote {len(console.fronts)} fronts"
+            told = f"{count} refusals in turn, of which {count - ended} only asked ahead, and wrote {len(console.prefixes)} prefixes"
             print(f"played_worlds: the console, {case.name}, met {told}, {len(wrong)} faults")
     return faults

@@ -1,4 +1,4 @@
-"""What a module does at each event, reckoned from docs/ROUTING_TABLE.md and docs/FORMATS.md, and never from the program.
+"""What a module does at each event, worked out from docs/ROUTING_TABLE.md and docs/FORMATS.md, and never from the program.
 
 Module(name) is a module of the chassis of docs/CONSOLE.md, fresh. Its `step` takes the words of an event, as lines for
 the driver have them, and gives the lines that come of it; `tables` gives the lines of its state. `hits` counts the rows,

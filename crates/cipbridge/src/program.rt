@@ -59,7 +59,7 @@ fn script_fault(
             Ok(Fault::NoModule(name, line, explained, names))
         }
         ScriptFault::NoFrame => {
-            // Want of memory alone keeps them back.
+            // They are missing only where memory was refused.
             let waiting = waiting.ok_or(NoMemory)?;
             Ok(Fault::NoFrame(name, line, explained, waiting))
         }
