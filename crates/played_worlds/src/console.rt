@@ -5,8 +5,9 @@
 //! where the reader is to fail, once, from that reader.
 use crate::fault::Fault;
 use crate::kept::Kept;
-use crate::made::{Chosen, put_boxes};
+use crate::made::{Chosen, boxes};
 use cip_console::{ConsoleFault, Plain, Script, Source, read_script, run, run_live};
+use cip_indexed::NewModule;
 use cip_module::Module;
 use cip_threads::OpenGate;
 use cip_topology::{CHASSIS, load};
@@ -34,8 +35,7 @@ fn run_one<R: Source>(rt: &HostRuntime, chosen: &Chosen, reader: &mut R) -> Resu
     let alloc = rt.alloc();
     let topology = load(alloc, CHASSIS)?;
     let mut writer = Kept::new(alloc)?;
-    let mut modules: Vec<Box<dyn Module + Send>> = Vec::new(alloc);
-    put_boxes(&mut modules, chosen.modules(alloc, &topology)?)?;
+    let modules = boxes!(NewModule, alloc, chosen.modules(alloc, &topology)?);
     // (what the marks say is looked at when no box is left to be given up)
     let begun = print!(rt; ">");
     let ended = run(alloc, reader, &mut writer, topology, modules);
@@ -53,8 +53,7 @@ fn run_one_live<T: Threads + Wait + Sync, R: Source>(
     let alloc = rt.alloc();
     let topology = load(alloc, CHASSIS)?;
     let mut writer = Kept::new(alloc)?;
-    let mut modules: Vec<Box<dyn Module + Send>> = Vec::new(alloc);
-    put_boxes(&mut modules, chosen.modules(alloc, &topology)?)?;
+    let modules = boxes!(NewModule, alloc, chosen.modules(alloc, &topology)?);
     // (what the marks say is looked at when no box is left to be given up)
     let begun = print!(rt; ">");
     let ended = run_live(

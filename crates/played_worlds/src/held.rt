@@ -139,21 +139,3 @@ pub fn held_modules(
     }
     Ok(made)
 }
-
-/// Puts held modules behind others, each as a box of any module.
-pub fn put_held(
-    modules: &mut Vec<Box<dyn Module + Send>>,
-    made: Vec<HeldModule>,
-) -> Result<(), Fault> {
-    for new in made {
-        let pushed = match new {
-            HeldModule::Plain(module_) => modules.push(module_),
-            HeldModule::Adapter(module_) => modules.push(module_),
-            HeldModule::Indexed(module_) => modules.push(module_),
-        };
-        if pushed.is_err() {
-            return Err(Fault::NoMemory);
-        }
-    }
-    Ok(())
-}

@@ -15,13 +15,13 @@
 //! then an empty one.
 use crate::fault::Fault;
 use crate::guarded::guarded;
-use crate::held::{Hold, held_modules, put_held};
+use crate::held::{HeldModule, Hold, held_modules};
 use crate::live::{HeldRun, LiveRun, feed_of, run_held, run_live};
-use crate::made::{Chosen, Trial, put_boxes, tried};
+use crate::made::{Chosen, Trial, boxes, tried};
 use crate::out::Out;
 use crate::plants::Plant;
 use cip_base::{Bytes, ModuleId};
-use cip_indexed::new_modules;
+use cip_indexed::{NewModule, new_modules};
 use cip_module::Module;
 use cip_threads::Feed;
 use cip_transcript::names_of;
@@ -206,10 +206,8 @@ pub fn play<T: Threads + Wait + Sync, R: Read + Drop>(
 ) -> Result<(), Fault> {
     let alloc = rt.alloc();
     let topology = plant.topology(alloc)?;
-    let mut modules: Vec<Box<dyn Module + Send>> = Vec::new(alloc);
-    put_boxes(&mut modules, new_modules(alloc, topology.configs())?)?;
-    let mut twins: Vec<Box<dyn Module + Send>> = Vec::new(alloc);
-    put_boxes(&mut twins, new_modules(alloc, topology.configs())?)?;
+    let modules = boxes!(NewModule, alloc, new_modules(alloc, topology.configs())?);
+    let twins = boxes!(NewModule, alloc, new_modules(alloc, topology.configs())?);
     play_boxes(rt, workers, plant, modules, twins, input)
 }
 
@@ -225,10 +223,8 @@ pub fn play_counted<T: Threads + Wait + Sync, R: Read + Drop>(
     let topology = plant.topology(alloc)?;
     let hold = Arc::new(alloc, Hold::new(0))?;
     let made = held_modules(alloc, topology.configs(), &hold)?;
-    let mut modules: Vec<Box<dyn Module + Send>> = Vec::new(alloc);
-    put_held(&mut modules, made)?;
-    let mut twins: Vec<Box<dyn Module + Send>> = Vec::new(alloc);
-    put_boxes(&mut twins, new_modules(alloc, topology.configs())?)?;
+    let modules = boxes!(HeldModule, alloc, made);
+    let twins = boxes!(NewModule, alloc, new_modules(alloc, topology.configs())?);
     play_boxes(rt, workers, plant, modules, twins, input)?;
     println!(rt; "steps {}", hold.passed())?;
     Ok(())

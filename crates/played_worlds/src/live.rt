@@ -2,13 +2,14 @@
 use crate::answers::put_end;
 use crate::calls::step_of;
 use crate::fault::Fault;
-use crate::held::{FirstCommits, Hold, held_modules, put_held};
-use crate::made::{Chosen, put_boxes};
+use crate::held::{FirstCommits, HeldModule, Hold, held_modules};
+use crate::made::{Chosen, boxes};
 use crate::noted::{put_frames, put_journal};
 use crate::out::{Guard, Out};
 use crate::plants::Plant;
 use cip_base::{Bytes, ModuleId};
 use cip_chain::{root, trail};
+use cip_indexed::NewModule;
 use cip_module::{Module, Tables};
 use cip_script::{Mode, Step};
 use cip_threads::{Feed, OpenGate, Report, RunFault, feeds_fit, run_threads};
@@ -63,8 +64,7 @@ fn ran<T: Threads + Wait + Sync>(
         return Err(Fault::Line);
     }
     let made = asked.chosen.modules(alloc, &topology)?;
-    let mut modules: Vec<Box<dyn Module + Send>> = Vec::new(alloc);
-    put_boxes(&mut modules, made)?;
+    let modules = boxes!(NewModule, alloc, made);
     // (what the marks say is looked at when no box is left to be given up)
     let begun = out.begin(guard);
     let turns = asked.turns;
@@ -169,8 +169,7 @@ pub fn run_held<T: Threads + Wait + Sync>(
         hold: Hold::new(asked.commits),
     };
     let made = held_modules(alloc, topology.configs(), &hold)?;
-    let mut modules: Vec<Box<dyn Module + Send>> = Vec::new(alloc);
-    put_held(&mut modules, made)?;
+    let modules = boxes!(HeldModule, alloc, made);
     let HeldRun { turns, feeds, .. } = asked;
     let report = run_threads(workers, alloc, topology, modules, feeds, turns, &gate);
     let passed = (hold.passed(), gate.hold.passed());

@@ -10,23 +10,25 @@ use cip_topology::Topology;
 use cip_world::{NewFault, World, check_fresh};
 use std::alloc::Global;
 
-/// Puts new modules behind others, each as a box of any module.
-pub fn put_boxes(
-    modules: &mut Vec<Box<dyn Module + Send>>,
-    made: Vec<NewModule>,
-) -> Result<(), Fault> {
-    for new in made {
-        let pushed = match new {
-            NewModule::Plain(module_) => modules.push(module_),
-            NewModule::Adapter(module_) => modules.push(module_),
-            NewModule::Indexed(module_) => modules.push(module_),
-        };
-        if pushed.is_err() {
-            return Err(Fault::NoMemory);
+// Modules of this enum, each as a box of any module: a function can't hand such boxes out.
+macro_rules! boxes {
+    ($modules:ident, $alloc:expr, $made:expr) => {{
+        let mut modules: Vec<Box<dyn Module + Send>> = Vec::new($alloc);
+        for new in $made {
+            let pushed = match new {
+                $modules::Plain(module_) => modules.push(module_),
+                $modules::Adapter(module_) => modules.push(module_),
+                $modules::Indexed(module_) => modules.push(module_),
+            };
+            if pushed.is_err() {
+                return Err(Fault::NoMemory);
+            }
         }
-    }
-    Ok(())
+        modules
+    }};
 }
+
+pub(crate) use boxes;
 
 /// Which modules of a chassis are made, in which order, and at which of them a millisecond passes.
 #[derive(Drop)]
@@ -108,8 +110,7 @@ fn said(
     let alloc = out.alloc();
     let topology = plant.topology(alloc)?;
     let made = chosen.modules(alloc, &topology)?;
-    let mut modules: Vec<Box<dyn Module + Send>> = Vec::new(alloc);
-    put_boxes(&mut modules, made)?;
+    let modules = boxes!(NewModule, alloc, made);
     // (what the marks say is looked at when no box is left to be given up)
     let begun = out.begin(guard);
     let fault = match trial {
