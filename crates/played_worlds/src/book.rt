@@ -13,7 +13,7 @@ use crate::fault::Fault;
 use crate::live::feed_of;
 use crate::made::boxes;
 use crate::plants::Plant;
-use cip_base::{Bytes, ModuleId};
+use cip_base::ModuleId;
 use cip_indexed::{NewModule, new_modules};
 use cip_module::{Event, Module, Output};
 use cip_threads::{BookState, CommitFault, Handed, feeds_fit};
@@ -73,25 +73,41 @@ fn told(
     }
 }
 
-/// Plays the lines of this input over a book of so many turns.
-pub fn play<R: Read + Drop>(rt: &HostRuntime, turns: &str, input: R) -> Result<(), Fault> {
-    let alloc = rt.alloc();
-    let turns = turns.parse::<usize>().ok().ok_or(Fault::Usage)?;
+// The book of the chassis and of its one feed.
+fn book_of(alloc: Global, turns: usize) -> Result<BookState, Fault> {
     let topology = Plant::Plain.topology(alloc)?;
     let names = names_of(alloc, &topology)?;
-    let mut modules = boxes!(NewModule, alloc, new_modules(alloc, topology.configs())?);
     let mut feeds = Vec::new(alloc);
     feeds.push(feed_of(alloc, names.as_slice(), FEED)?)?;
     if !feeds_fit(&topology, feeds.as_slice()) {
         return Err(Fault::Line);
     }
-    let mut state = BookState::new(alloc, topology, feeds, turns)?;
+    Ok(BookState::new(alloc, topology, feeds, turns)?)
+}
+
+// Plays the lines over a book, whose modules take their steps.
+fn play_over<R: Read + Drop>(
+    rt: &HostRuntime,
+    state: &mut BookState,
+    modules: &mut [Box<dyn Module + Send>],
+    input: R,
+) -> Result<(), Fault> {
+    let alloc = rt.alloc();
     let mut put_out = Vec::new(alloc);
     for line in BufReader::new(alloc, input)?.lines(alloc) {
         let line = line?;
-        let modules = modules.as_mut_slice();
-        let given = told(alloc, &mut state, modules, &mut put_out, line.as_str())?;
+        let given = told(alloc, state, modules, &mut put_out, line.as_str())?;
         println!(rt; "{given}")?;
     }
     Ok(())
+}
+
+/// Plays the lines of this input over a book of so many turns.
+pub fn play<R: Read + Drop>(rt: &HostRuntime, turns: &str, input: R) -> Result<(), Fault> {
+    let alloc = rt.alloc();
+    let turns = turns.parse::<usize>().ok().ok_or(Fault::Usage)?;
+    let mut state = book_of(alloc, turns)?;
+    let topology = Plant::Plain.topology(alloc)?;
+    let mut modules = boxes!(NewModule, alloc, new_modules(alloc, topology.configs())?);
+    play_over(rt, &mut state, modules.as_mut_slice(), input)
 }
