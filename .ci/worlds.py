@@ -419,15 +419,28 @@ def once(room):
             yield f"{word} {places}", script, text_of("><", *fault, "") * times, how
 
 
+def blocks_of(text):
+    """What comes of each line, as lists of lines."""
+    blocks, block = [], []
+    for line in text.split("\n")[:-1]:
+        if line:
+            block.append(line)
+        else:
+            blocks.append(block)
+            block = []
+    return blocks
+
+
 def held(program):
     """Plays modules that wait for one another, and returns what was wrong."""
     given, said = ran_once(program, "two", text_of(*(line for line, _ in HELD)))
-    blocks = [block.strip("\n").split("\n") if block.strip("\n") else [] for block in f"\n{given}".split("\n\n")]
+    blocks = blocks_of(given)
     faults = [f"held: {said}"] if said else []
-    if len(blocks) != len(HELD) + 1:
-        faults.append(f"held: {blocks}")
+    if len(blocks) != len(HELD):
+        faults.append(f"held: {len(blocks)} answers to {len(HELD)} lines")
     for (line, wanted), block in zip(HELD, blocks):
-        if wanted and (block[:1] != wanted[:1] or not is_wanted(block[1:], wanted[1:])) or not wanted and block:
+        is_run = wanted and block[:1] == wanted[:1] and is_wanted(block[1:], wanted[1:])
+        if not is_run and block != wanted:
             faults.append(f"{line}: {block} and not {[it.told if isinstance(it, Ran) else it for it in wanted]}")
     return faults
 
