@@ -11,8 +11,8 @@
 //! each step until so many steps were begun, and before it enters its first one until so many
 //! modules came to that. It tells how many steps and entries found all of them come.
 //!
-//! Each call but `held` is guarded (`guarded.rt`, `made.rt`, `live.rt`). What comes of a line is lines, and
-//! then an empty one.
+//! Each call but `held` is guarded (`guarded.rt`, `made.rt`, `live.rt`). What comes of a line is
+//! lines, and then an empty one.
 use crate::fault::Fault;
 use crate::guarded::guarded;
 use crate::held::{HeldModule, Hold, held_modules};
