@@ -1,5 +1,5 @@
 //! The words of a path in words, one by one.
-ghost use Rattle.std.specs.Prelude.{◌≡◌, ◌==◌, ◌<◌, ◌^◌, map, All, IfOk, Some, None, drop};
+ghost use Rattle.std.specs.Prelude.{◌≡◌, ◌==◌, ◌<◌, ◌^◌, map, All, IfOk, Some, None, drop, [], ◌∷◌};
 ghost use Rattle.std.specs.Prelude.{if◌then◌else◌, option_map};
 ghost use Rattle.std.specs.List.{slice_split, list_all};
 ghost use Rattle.cip_segment.specs.Short.{IsWritable};
@@ -7,7 +7,9 @@ ghost use Rattle.cip_tool.specs.Words.{Gives, GivesBy, texts, bounded, port_of};
 ghost use Rattle.cip_tool.specs.Words.{is_plain, is_decimal_digit};
 ghost use Rattle.cip_tool.specs.Words.{is_name, is_marked, hex_of, if_address, address_of};
 ghost use Rattle.cip_tool.specs.Words.{object_by, object_of, key_fields, key_by, key_of};
-ghost use Rattle.cip_tool.specs.Words.{data_of, if_symbol, symbol_of, named_of};
+ghost use Rattle.cip_tool.specs.Words.{data_of, if_symbol, symbol_of, named_of, numbered};
+ghost use Rattle.cip_segment.specs.declared.segment.Segment.TheVariants as segments;
+ghost use Rattle.cip_tool.specs.declared.fault.WordFault.TheVariants as faults;
 ghost use Rattle.cip_tool.specs.Spelling.{is_symbol};
 
 use crate::fault::{WordError, WordFault};
@@ -149,34 +151,54 @@ pub(crate) fn address_of(alloc: Global, word: &str) -> Result<Address, WordError
     }
 }
 
+// CLASS
+fn class_by(alloc: Global, class: &str) -> Result<Vec<Segment>, WordError>
+    ensures gives { GivesBy (λ v. v.items) result (object_by (class.now ∷ [])) }
+    ensures writable { IfOk result (λ v. All IsWritable v.items) }
+{
+    let class = in_u16(WordFault::Class, class)?;
+    Ok(vec![in alloc; Segment::Class(class)]?)
+}
+
+// CLASS/INSTANCE
+fn instance_by(alloc: Global, class: &str, instance: &str) -> Result<Vec<Segment>, WordError>
+    ensures gives { GivesBy (λ v. v.items) result (object_by (class.now ∷ instance.now ∷ [])) }
+    ensures writable { IfOk result (λ v. All IsWritable v.items) }
+{
+    let class = in_u16(WordFault::Class, class)?;
+    let instance = in_u32(WordFault::Instance, instance)?;
+    Ok(vec![in alloc; Segment::Class(class), Segment::Instance(instance)]?)
+}
+
+// CLASS/INSTANCE/ATTRIBUTE
+fn attribute_by(
+    alloc: Global,
+    class: &str,
+    instance: &str,
+    attribute: &str,
+) -> Result<Vec<Segment>, WordError>
+    ensures gives { GivesBy (λ v. v.items) result
+        (object_by (class.now ∷ instance.now ∷ attribute.now ∷ [])) }
+    ensures writable { IfOk result (λ v. All IsWritable v.items) }
+{
+    let class = in_u16(WordFault::Class, class)?;
+    let instance = in_u32(WordFault::Instance, instance)?;
+    let attribute = in_u16(WordFault::Attribute, attribute)?;
+    Ok(vec![in alloc; Segment::Class(class), Segment::Instance(instance),
+        Segment::Attribute(attribute)]?)
+}
+
 // One, two or three segments.
 fn object_by(alloc: Global, parts: &[&str]) -> Result<Vec<Segment>, WordError>
     ensures gives { GivesBy (λ v. v.items) result (object_by (texts parts.now)) }
     ensures writable { IfOk result (λ v. All IsWritable v.items) }
 {
-    let mut found = Vec::new(alloc);
     match parts {
-        [class] => {
-            let class = in_u16(WordFault::Class, class)?;
-            found.push(Segment::Class(class))?;
-        }
-        [class, instance] => {
-            let class = in_u16(WordFault::Class, class)?;
-            let instance = in_u32(WordFault::Instance, instance)?;
-            found.push(Segment::Class(class))?;
-            found.push(Segment::Instance(instance))?;
-        }
-        [class, instance, attribute] => {
-            let class = in_u16(WordFault::Class, class)?;
-            let instance = in_u32(WordFault::Instance, instance)?;
-            let attribute = in_u16(WordFault::Attribute, attribute)?;
-            found.push(Segment::Class(class))?;
-            found.push(Segment::Instance(instance))?;
-            found.push(Segment::Attribute(attribute))?;
-        }
-        _ => return Err(WordError::Fault(WordFault::Object)),
+        [class] => class_by(alloc, class),
+        [class, instance] => instance_by(alloc, class, instance),
+        [class, instance, attribute] => attribute_by(alloc, class, instance, attribute),
+        _ => Err(WordError::Fault(WordFault::Object)),
     }
-    Ok(found)
 }
 
 /// CLASS/INSTANCE/ATTRIBUTE, or the first or the first two of them.
@@ -270,6 +292,41 @@ fn symbol_of(alloc: Global, text: &str) -> Result<Segment, WordError>
     Err(WordError::Fault(WordFault::Symbol))
 }
 
+fn instance_of(text: &str) -> Result<Segment, WordError>
+    ensures gives { Gives result (numbered segments.Instance (bounded faults.Instance (2 ^ 32) text.now)) }
+    ensures writable { IfOk result IsWritable }
+{
+    Ok(Segment::Instance(in_u32(WordFault::Instance, text)?))
+}
+
+fn attribute_of(text: &str) -> Result<Segment, WordError>
+    ensures gives { Gives result (numbered segments.Attribute (bounded faults.Attribute (2 ^ 16) text.now)) }
+    ensures writable { IfOk result IsWritable }
+{
+    Ok(Segment::Attribute(in_u16(WordFault::Attribute, text)?))
+}
+
+fn member_of(text: &str) -> Result<Segment, WordError>
+    ensures gives { Gives result (numbered segments.Member (bounded faults.Member (2 ^ 16) text.now)) }
+    ensures writable { IfOk result IsWritable }
+{
+    Ok(Segment::Member(in_u16(WordFault::Member, text)?))
+}
+
+fn point_of(text: &str) -> Result<Segment, WordError>
+    ensures gives { Gives result (numbered segments.Point (bounded faults.Point (2 ^ 32) text.now)) }
+    ensures writable { IfOk result IsWritable }
+{
+    Ok(Segment::Point(in_u32(WordFault::Point, text)?))
+}
+
+fn inhibit_of(text: &str) -> Result<Segment, WordError>
+    ensures gives { Gives result (numbered segments.Inhibit (bounded faults.Inhibit (2 ^ 8) text.now)) }
+    ensures writable { IfOk result IsWritable }
+{
+    Ok(Segment::Inhibit(in_u8(WordFault::Inhibit, text)?))
+}
+
 /// What NAME=VALUE names.
 #[tactic(auto, unfolding(crate::specs::Words::named_of))]
 pub(crate) fn named_of(alloc: Global, name: &str, text: &str) -> Result<Segment, WordError>
@@ -277,15 +334,15 @@ pub(crate) fn named_of(alloc: Global, name: &str, text: &str) -> Result<Segment,
     ensures writable { IfOk result IsWritable }
 {
     if name == "instance" {
-        Ok(Segment::Instance(in_u32(WordFault::Instance, text)?))
+        instance_of(text)
     } else if name == "attribute" {
-        Ok(Segment::Attribute(in_u16(WordFault::Attribute, text)?))
+        attribute_of(text)
     } else if name == "member" {
-        Ok(Segment::Member(in_u16(WordFault::Member, text)?))
+        member_of(text)
     } else if name == "point" {
-        Ok(Segment::Point(in_u32(WordFault::Point, text)?))
+        point_of(text)
     } else if name == "inhibit" {
-        Ok(Segment::Inhibit(in_u8(WordFault::Inhibit, text)?))
+        inhibit_of(text)
     } else if name == "key" {
         key_of(alloc, text)
     } else if name == "data" {
