@@ -11,7 +11,7 @@ ghost use Rattle.cip_chassis.specs.Ways.{way_of};
 use crate::links::Link;
 use crate::seats::Seats;
 use cip_base::{Address, ModuleId, NoMemory, PortNumber};
-use cip_config::{LegalAddresses, ModuleConfig, PortConfig};
+use cip_config::{LegalAddresses, ModuleConfig, ModuleSettings, PortConfig};
 use std::alloc::Global;
 use std::marker::Model;
 
@@ -52,6 +52,16 @@ pub struct Arrival<'a> {
     pub at: ModuleId,
     pub port: PortNumber,
     pub from: &'a Address,
+}
+
+// The settings of the module at a place.
+fn settings_at(configs: &[ModuleConfig], place: usize) -> Option<&ModuleSettings>
+    ensures { option_copied result ≡ slice_get configs.now place }
+{
+    match configs.get(place) {
+        Some(config) => Some(config.settings()),
+        None => None,
+    }
 }
 
 // The port of a number.
@@ -206,17 +216,15 @@ impl Topology {
         ensures { option_copied result
             ≡ option_map (λ c. c.name) (slice_get self.now.modules id.0) }
     {
-        let config = self.modules.get(id.0)?;
-        Some(config.settings().name.as_slice())
+        let settings = settings_at(&self.modules, id.0)?;
+        Some(settings.name.as_slice())
     }
 
     fn own_port(&self, id: ModuleId, number: PortNumber) -> Option<&PortConfig>
         ensures { option_copied result ≡ own_port self.now id.0 number }
     {
-        match self.modules.get(id.0) {
-            Some(config) => numbered(config.settings().ports.as_slice(), number),
-            None => None,
-        }
+        let settings = settings_at(&self.modules, id.0)?;
+        numbered(settings.ports.as_slice(), number)
     }
 
     /// The module with this address on the link of a module's port; None where the module has no
