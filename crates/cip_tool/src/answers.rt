@@ -228,6 +228,18 @@ fn status_fault(alloc: Global, word: &str) -> AnswerFault {
     }
 }
 
+// The name of the status of this word, if it has one.
+fn named_status(
+    alloc: Global,
+    name: Option<&'static str>,
+    word: &str,
+) -> Result<String, AnswerFault> {
+    match name {
+        Some(name) => Ok(String::from_str(alloc, name)?),
+        None => Err(status_fault(alloc, word)),
+    }
+}
+
 /// The name of a status: of a general one, or of an additional one behind 01.
 pub fn status_answer(
     alloc: Global,
@@ -238,17 +250,16 @@ pub fn status_answer(
         return Err(number_fault(alloc, "status", general, 255));
     };
     let Some(word) = additional else {
-        return match general_status(status) {
-            Some(name) => Ok(String::from_str(alloc, name)?),
-            None => Err(status_fault(alloc, general)),
-        };
+        return named_status(alloc, general_status(status), general);
     };
     let Some(number) = number_u16(word) else {
         return Err(number_fault(alloc, "status", word, 65_535));
     };
     // Additional statuses stand behind 01 alone.
-    match connection_status(number) {
-        Some(name) if status == 0x01 => Ok(String::from_str(alloc, name)?),
-        _ => Err(status_fault(alloc, word)),
-    }
+    let name = if status == 0x01 {
+        connection_status(number)
+    } else {
+        None
+    };
+    named_status(alloc, name, word)
 }

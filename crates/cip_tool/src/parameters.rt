@@ -114,20 +114,23 @@ pub struct ParamsOptions {
     pub params: Params,
 }
 
+// An option that stands alone: its text where it is set.
+fn option_text(set: bool, option: &'static str) -> &'static str {
+    if set { option } else { "" }
+}
+
 impl fmt::Display for ParamsOptions {
     fn fmt<W: fmt::Write>(&self, f: &mut fmt::Formatter<W>) -> fmt::Result {
-        let ParamsOptions { large, params } = self;
-        if *large {
-            write!(f, "--large ")?;
-        }
-        write!(f, "--size {} --{}", params.size, kind_name(params.kind))?;
-        write!(f, " --priority {}", priority_name(params.priority))?;
-        if params.variable {
-            write!(f, " --variable")?;
-        }
-        if params.redundant {
-            write!(f, " --redundant")?;
-        }
-        Ok(())
+        let params = &self.params;
+        let large = option_text(self.large, "--large ");
+        let size = params.size;
+        let kind = kind_name(params.kind);
+        let priority = priority_name(params.priority);
+        let variable = option_text(params.variable, " --variable");
+        let redundant = option_text(params.redundant, " --redundant");
+        write!(
+            f,
+            "{large}--size {size} --{kind} --priority {priority}{variable}{redundant}"
+        )
     }
 }
