@@ -3,6 +3,15 @@ use cip_base::{Timing, Triad};
 use cip_open::{ConnectionKind, OpenFields, Priority, open_params};
 use std::fmt;
 
+/// A value behind the text before it.
+pub(crate) fn write_field<W: fmt::Write, T: fmt::Display + Copy>(
+    before: &str,
+    value: T,
+    f: &mut fmt::Formatter<W>,
+) -> fmt::Result {
+    write!(f, "{before}{value}")
+}
+
 /// A triad as its three numbers: connection serial number, originator vendor, originator serial
 /// number.
 #[derive(Clone, Copy)]
@@ -88,18 +97,24 @@ pub(crate) struct ParamsText {
     pub params: u32,
 }
 
+fn length_name(variable: bool) -> &'static str {
+    if variable { "variable" } else { "fixed" }
+}
+
+// What stands behind the parameters of a redundant owner.
+fn owner_text(redundant: bool) -> &'static str {
+    if redundant { ", redundant owner" } else { "" }
+}
+
 impl fmt::Display for ParamsText {
     fn fmt<W: fmt::Write>(&self, f: &mut fmt::Formatter<W>) -> fmt::Result {
         let parts = open_params(self.large, self.params);
         let size = parts.size;
-        let length = if parts.variable { "variable" } else { "fixed" };
+        let length = length_name(parts.variable);
         let priority = priority_name(parts.priority);
         let kind = kind_name(parts.kind);
-        write!(f, "size {size} {length}, {priority}, {kind}")?;
-        if parts.redundant {
-            f.write_str(", redundant owner")?;
-        }
-        Ok(())
+        let owner = owner_text(parts.redundant);
+        write!(f, "size {size} {length}, {priority}, {kind}{owner}")
     }
 }
 
@@ -107,15 +122,17 @@ impl fmt::Display for ParamsText {
 #[derive(Clone, Copy)]
 pub(crate) struct TransportText(pub u8);
 
+// What stands behind the transport of a server.
+fn server_text(server: bool) -> &'static str {
+    if server { " server" } else { "" }
+}
+
 impl fmt::Display for TransportText {
     fn fmt<W: fmt::Write>(&self, f: &mut fmt::Formatter<W>) -> fmt::Result {
         let class = self.0 % 16;
         let trigger = trigger_name(self.0);
-        write!(f, "class {class} {trigger}")?;
-        if 128 <= self.0 {
-            f.write_str(" server")?;
-        }
-        Ok(())
+        let server = server_text(128 <= self.0);
+        write!(f, "class {class} {trigger}{server}")
     }
 }
 
@@ -137,6 +154,18 @@ impl fmt::Display for MultiplierText {
 #[derive(Clone, Copy)]
 pub(crate) struct OpenText<'a>(pub &'a OpenFields);
 
+// One direction of a connection: its identifier, behind the text before it, its interval and
+// parameters.
+fn write_direction<W: fmt::Write>(
+    before: &str,
+    id: u32,
+    rpi: u32,
+    params: &ParamsText,
+    f: &mut fmt::Formatter<W>,
+) -> fmt::Result {
+    write!(f, "{before}{id}, RPI {rpi} us, {params}; ")
+}
+
 impl fmt::Display for OpenText<'_> {
     fn fmt<W: fmt::Write>(&self, f: &mut fmt::Formatter<W>) -> fmt::Result {
         let fields = self.0;
@@ -148,18 +177,11 @@ impl fmt::Display for OpenText<'_> {
             large: fields.large,
             params: fields.ot_params,
         };
-        write!(
-            f,
-            "O→T id {}, RPI {} us, {ot}; ",
-            fields.ot_id, fields.ot_rpi
-        )?;
-        write!(
-            f,
-            "T→O id {}, RPI {} us, {to}; ",
-            fields.to_id, fields.to_rpi
-        )?;
-        write!(f, "{}; ", TransportText(fields.transport))?;
-        write!(f, "{}; ", MultiplierText(fields.multiplier))?;
-        write!(f, "{}", TimingText(fields.timing))
+        write_direction("O→T id ", fields.ot_id, fields.ot_rpi, &ot, f)?;
+        write_direction("T→O id ", fields.to_id, fields.to_rpi, &to, f)?;
+        let transport = TransportText(fields.transport);
+        let multiplier = MultiplierText(fields.multiplier);
+        let timing = TimingText(fields.timing);
+        write!(f, "{transport}; {multiplier}; {timing}")
     }
 }

@@ -82,6 +82,13 @@ pub fn put_triad_json(text: &mut Draft, triad: Triad) -> Result<(), NoMemory> {
     text.put("}")
 }
 
+// A triad as the last member of an object, which is the one member of another.
+fn put_last_triad(text: &mut Draft, triad: Triad) -> Result<(), NoMemory> {
+    text.put(",\"triad\":")?;
+    put_triad_json(text, triad)?;
+    text.put("}}")
+}
+
 fn put_key(text: &mut Draft, key: KeyFields) -> Result<(), NoMemory> {
     text.put("{\"key\":{\"compatible\":")?;
     put_bool(text, 128 <= key.major)?;
@@ -210,40 +217,44 @@ fn put_multiplier(text: &mut Draft, multiplier: u8) -> Result<(), NoMemory> {
     text.put("}")
 }
 
-fn put_open(text: &mut Draft, view: &OpenView<'_>) -> Result<(), NoMemory> {
-    let fields: &OpenFields = &view.fields;
-    let large = fields.large;
+// The members of an open before its path.
+fn put_open_front(text: &mut Draft, fields: &OpenFields) -> Result<(), NoMemory> {
     let ot = Direction {
         id: fields.ot_id,
         rpi: fields.ot_rpi,
         params: fields.ot_params,
     };
+    text.put("{\"open\":{\"large\":")?;
+    put_bool(text, fields.large)?;
+    put_multiplier(text, fields.multiplier)?;
+    put_direction(text, ",\"ot\":{\"id\":", fields.large, ot)
+}
+
+// The members of an open behind its path.
+fn put_open_end(text: &mut Draft, fields: &OpenFields) -> Result<(), NoMemory> {
     let to = Direction {
         id: fields.to_id,
         rpi: fields.to_rpi,
         params: fields.to_params,
     };
-    text.put("{\"open\":{\"large\":")?;
-    put_bool(text, large)?;
-    put_multiplier(text, fields.multiplier)?;
-    put_direction(text, ",\"ot\":{\"id\":", large, ot)?;
+    put_timing(text, ",\"timing\":", fields.timing)?;
+    put_direction(text, ",\"to\":{\"id\":", fields.large, to)?;
+    put_transport(text, fields.transport)?;
+    put_last_triad(text, fields.triad)
+}
+
+fn put_open(text: &mut Draft, view: &OpenView<'_>) -> Result<(), NoMemory> {
+    put_open_front(text, &view.fields)?;
     text.put(",\"path\":")?;
     put_path_json(text, view.path)?;
-    put_timing(text, ",\"timing\":", fields.timing)?;
-    put_direction(text, ",\"to\":{\"id\":", large, to)?;
-    put_transport(text, fields.transport)?;
-    text.put(",\"triad\":")?;
-    put_triad_json(text, fields.triad)?;
-    text.put("}}")
+    put_open_end(text, &view.fields)
 }
 
 fn put_close(text: &mut Draft, view: &CloseView<'_>) -> Result<(), NoMemory> {
     text.put("{\"close\":{\"path\":")?;
     put_path_json(text, view.path)?;
     put_timing(text, ",\"timing\":", view.fields.timing)?;
-    text.put(",\"triad\":")?;
-    put_triad_json(text, view.fields.triad)?;
-    text.put("}}")
+    put_last_triad(text, view.fields.triad)
 }
 
 fn put_meaning(text: &mut Draft, meaning: &Meaning<'_>) -> Result<(), NoMemory> {
@@ -286,9 +297,7 @@ fn put_opened(text: &mut Draft, reply: &OpenReply<'_>) -> Result<(), NoMemory> {
     )?;
     put_bytes(text, ",\"reply\":\"", reply.reply, "\",\"to\":")?;
     put_interval(text, "{\"api_us\":", reply.to_api, reply.to_id)?;
-    text.put(",\"triad\":")?;
-    put_triad_json(text, reply.triad)?;
-    text.put("}}")
+    put_last_triad(text, reply.triad)
 }
 
 fn put_closed(text: &mut Draft, reply: &CloseReply<'_>) -> Result<(), NoMemory> {

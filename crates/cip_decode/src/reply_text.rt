@@ -8,7 +8,7 @@ use cip_close::CloseReply;
 use cip_message::ConnectionFailure;
 use cip_names::status_name;
 use cip_open::OpenReply;
-use std::fmt;
+use std::fmt::{self, Display};
 
 /// A status by its digits and its name: two digits of a general status, four of an additional
 /// status beside the general status 01; `success` alone.
@@ -47,11 +47,14 @@ struct OpenedText<'a>(OpenReply<'a>);
 
 impl fmt::Display for OpenedText<'_> {
     fn fmt<W: fmt::Write>(&self, f: &mut fmt::Formatter<W>) -> fmt::Result {
-        let reply = &self.0;
-        write!(f, "; {}", TriadText(reply.triad))?;
-        write!(f, "; O→T id {}, API {} us", reply.ot_id, reply.ot_api)?;
-        write!(f, "; T→O id {}, API {} us", reply.to_id, reply.to_api)?;
-        write!(f, "{}", Rest(reply.reply))
+        let triad = TriadText(self.0.triad);
+        let data = Rest(self.0.reply);
+        let (ot_id, ot_api) = (self.0.ot_id, self.0.ot_api);
+        let (to_id, to_api) = (self.0.to_id, self.0.to_api);
+        write!(
+            f,
+            "; {triad}; O→T id {ot_id}, API {ot_api} us; T→O id {to_id}, API {to_api} us{data}"
+        )
     }
 }
 
@@ -94,18 +97,23 @@ impl fmt::Display for FailureText {
     }
 }
 
+// What the data of a reply says.
+fn write_answer<W: fmt::Write>(reply: &Reply<'_>, f: &mut fmt::Formatter<W>) -> fmt::Result {
+    match reply.answer {
+        Answer::Opened(opened) => OpenedText(opened).fmt(f),
+        Answer::Closed(closed) => ClosedText(closed).fmt(f),
+        Answer::Failed(failure) => FailureText(failure).fmt(f),
+        Answer::RouteLeft(words) => WordsText(words).fmt(f),
+        Answer::Unread(fault) => write!(f, "; unreadable: {fault}"),
+        Answer::Data => Rest(reply.view.data_).fmt(f),
+    }
+}
+
 impl fmt::Display for Reply<'_> {
     fn fmt<W: fmt::Write>(&self, f: &mut fmt::Formatter<W>) -> fmt::Result {
         let service = ServiceText(self.view.service);
         let status = StatusText(self.view.status());
         write!(f, "{service} reply: {status}")?;
-        match self.answer {
-            Answer::Opened(reply) => write!(f, "{}", OpenedText(reply)),
-            Answer::Closed(reply) => write!(f, "{}", ClosedText(reply)),
-            Answer::Failed(failure) => write!(f, "{}", FailureText(failure)),
-            Answer::RouteLeft(words) => write!(f, "{}", WordsText(words)),
-            Answer::Unread(fault) => write!(f, "; unreadable: {fault}"),
-            Answer::Data => write!(f, "{}", Rest(self.view.data_)),
-        }
+        write_answer(self, f)
     }
 }

@@ -8,7 +8,7 @@ use cip_message::{RequestView, read_request};
 use cip_names::service_name;
 use cip_open::OpenView;
 use cip_unconnected::{UnconnectedView, inner};
-use std::fmt;
+use std::fmt::{self, Display};
 
 /// A service by its name, or by its number.
 #[derive(Clone, Copy)]
@@ -37,6 +37,14 @@ impl fmt::Display for PlainText<'_> {
     }
 }
 
+// Why what a request carries can't be read.
+fn write_unreadable<W: fmt::Write, T: fmt::Display + Copy>(
+    fault: T,
+    f: &mut fmt::Formatter<W>,
+) -> fmt::Result {
+    write!(f, "unreadable: {fault}")
+}
+
 // The request that an Unconnected_Send carries.
 #[derive(Clone, Copy)]
 struct EmbeddedText<'a>(&'a [u8]);
@@ -44,8 +52,8 @@ struct EmbeddedText<'a>(&'a [u8]);
 impl fmt::Display for EmbeddedText<'_> {
     fn fmt<W: fmt::Write>(&self, f: &mut fmt::Formatter<W>) -> fmt::Result {
         match read_request(self.0) {
-            Ok(view) => write!(f, "{}", PlainText(view)),
-            Err(fault) => write!(f, "unreadable: {fault}"),
+            Ok(view) => PlainText(view).fmt(f),
+            Err(fault) => write_unreadable(fault, f),
         }
     }
 }
@@ -86,20 +94,25 @@ impl fmt::Display for CloseText<'_> {
     }
 }
 
+// What the data of a request says.
+fn write_meaning<W: fmt::Write>(meaning: &Meaning<'_>, f: &mut fmt::Formatter<W>) -> fmt::Result {
+    match meaning {
+        Meaning::Unconnected(view) => UnconnectedText(*view).fmt(f),
+        Meaning::Open(view) => ConnectionText(*view).fmt(f),
+        Meaning::Close(view) => CloseText(*view).fmt(f),
+        Meaning::UnreadUnconnected(fault) => write_unreadable(*fault, f),
+        Meaning::Unread(fault) => write_unreadable(*fault, f),
+        Meaning::Data => Ok(()),
+    }
+}
+
 impl fmt::Display for Request<'_> {
     fn fmt<W: fmt::Write>(&self, f: &mut fmt::Formatter<W>) -> fmt::Result {
         if self.asked == Asked::Other {
-            return write!(f, "{}", PlainText(self.view));
+            return PlainText(self.view).fmt(f);
         }
         let service = ServiceText(self.view.service);
         write!(f, "{service}: ")?;
-        match self.meaning {
-            Meaning::Unconnected(view) => write!(f, "{}", UnconnectedText(view)),
-            Meaning::Open(view) => write!(f, "{}", ConnectionText(view)),
-            Meaning::Close(view) => write!(f, "{}", CloseText(view)),
-            Meaning::UnreadUnconnected(fault) => write!(f, "unreadable: {fault}"),
-            Meaning::Unread(fault) => write!(f, "unreadable: {fault}"),
-            Meaning::Data => Ok(()),
-        }
+        write_meaning(&self.meaning, f)
     }
 }

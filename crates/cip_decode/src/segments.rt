@@ -1,8 +1,9 @@
 //! The segments of a path as a text.
 use crate::bytes::Pairs;
-use cip_base::KeyFields;
+use crate::fields::write_field;
+use cip_base::{KeyFields, PortNumber};
 use cip_segment::{PathView, SegmentView, split_first};
-use std::fmt;
+use std::fmt::{self, Display};
 
 // Whether each byte is a visible character but the quotation mark.
 fn is_printable(bytes: &[u8]) -> bool {
@@ -42,6 +43,11 @@ impl fmt::Display for Characters<'_> {
 #[derive(Clone, Copy)]
 struct KeyText(KeyFields);
 
+// What stands behind the revision of a key that a compatible device fits.
+fn compatible_text(compatible: bool) -> &'static str {
+    if compatible { " compatible" } else { "" }
+}
+
 impl fmt::Display for KeyText {
     fn fmt<W: fmt::Write>(&self, f: &mut fmt::Formatter<W>) -> fmt::Result {
         let KeyFields {
@@ -52,16 +58,26 @@ impl fmt::Display for KeyText {
             minor,
         } = self.0;
         let revision = major % 128;
+        let compatible = compatible_text(128 <= major);
         write!(
             f,
-            "key vendor {vendor} type {device_type} product {product} "
-        )?;
-        write!(f, "revision {revision}.{minor}")?;
-        if 128 <= major {
-            f.write_str(" compatible")?;
-        }
-        Ok(())
+            "key vendor {vendor} type {device_type} product {product} \
+            revision {revision}.{minor}{compatible}"
+        )
     }
+}
+
+// A port and the address behind it.
+fn write_hop<W: fmt::Write>(
+    port: PortNumber,
+    address: &[u8],
+    f: &mut fmt::Formatter<W>,
+) -> fmt::Result {
+    write!(f, "port {} address {}", port.get(), Characters(address))
+}
+
+fn write_inhibit<W: fmt::Write>(time: u8, f: &mut fmt::Formatter<W>) -> fmt::Result {
+    write!(f, "inhibit {time} ms")
 }
 
 // A segment.
@@ -71,18 +87,16 @@ struct SegmentText<'a>(SegmentView<'a>);
 impl fmt::Display for SegmentText<'_> {
     fn fmt<W: fmt::Write>(&self, f: &mut fmt::Formatter<W>) -> fmt::Result {
         match self.0 {
-            SegmentView::Port(port, address) => {
-                write!(f, "port {} address {}", port.get(), Characters(address))
-            }
-            SegmentView::Class(number) => write!(f, "class {number}"),
-            SegmentView::Instance(number) => write!(f, "instance {number}"),
-            SegmentView::Member(number) => write!(f, "member {number}"),
-            SegmentView::Point(number) => write!(f, "point {number}"),
-            SegmentView::Attribute(number) => write!(f, "attribute {number}"),
-            SegmentView::Key(key) => write!(f, "{}", KeyText(key)),
-            SegmentView::Words(bytes) => write!(f, "data {}", Pairs(bytes)),
-            SegmentView::Symbol(name) => write!(f, "symbol {}", Characters(name)),
-            SegmentView::Inhibit(time) => write!(f, "inhibit {time} ms"),
+            SegmentView::Port(port, address) => write_hop(port, address, f),
+            SegmentView::Class(number) => write_field("class ", number, f),
+            SegmentView::Instance(number) => write_field("instance ", number, f),
+            SegmentView::Member(number) => write_field("member ", number, f),
+            SegmentView::Point(number) => write_field("point ", number, f),
+            SegmentView::Attribute(number) => write_field("attribute ", number, f),
+            SegmentView::Key(key) => KeyText(key).fmt(f),
+            SegmentView::Words(bytes) => write_field("data ", Pairs(bytes), f),
+            SegmentView::Symbol(name) => write_field("symbol ", Characters(name), f),
+            SegmentView::Inhibit(time) => write_inhibit(time, f),
         }
     }
 }
@@ -101,7 +115,7 @@ impl fmt::Display for PathText<'_> {
             if rest.bytes.len() < self.0.bytes.len() {
                 f.write_str(", ")?;
             }
-            write!(f, "{}", SegmentText(first))?;
+            SegmentText(first).fmt(f)?;
             rest = after;
         }
         Ok(())
