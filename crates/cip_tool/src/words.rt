@@ -184,8 +184,11 @@ fn attribute_by(
     let class = in_u16(WordFault::Class, class)?;
     let instance = in_u32(WordFault::Instance, instance)?;
     let attribute = in_u16(WordFault::Attribute, attribute)?;
-    Ok(vec![in alloc; Segment::Class(class), Segment::Instance(instance),
-        Segment::Attribute(attribute)]?)
+    Ok(vec![in alloc;
+        Segment::Class(class),
+        Segment::Instance(instance),
+        Segment::Attribute(attribute),
+    ]?)
 }
 
 // One, two or three segments.
@@ -293,35 +296,40 @@ fn symbol_of(alloc: Global, text: &str) -> Result<Segment, WordError>
 }
 
 fn instance_of(text: &str) -> Result<Segment, WordError>
-    ensures gives { Gives result (numbered segments.Instance (bounded faults.Instance (2 ^ 32) text.now)) }
+    ensures gives { Gives result
+        (numbered segments.Instance (bounded faults.Instance (2 ^ 32) text.now)) }
     ensures writable { IfOk result IsWritable }
 {
     Ok(Segment::Instance(in_u32(WordFault::Instance, text)?))
 }
 
 fn attribute_of(text: &str) -> Result<Segment, WordError>
-    ensures gives { Gives result (numbered segments.Attribute (bounded faults.Attribute (2 ^ 16) text.now)) }
+    ensures gives { Gives result
+        (numbered segments.Attribute (bounded faults.Attribute (2 ^ 16) text.now)) }
     ensures writable { IfOk result IsWritable }
 {
     Ok(Segment::Attribute(in_u16(WordFault::Attribute, text)?))
 }
 
 fn member_of(text: &str) -> Result<Segment, WordError>
-    ensures gives { Gives result (numbered segments.Member (bounded faults.Member (2 ^ 16) text.now)) }
+    ensures gives { Gives result
+        (numbered segments.Member (bounded faults.Member (2 ^ 16) text.now)) }
     ensures writable { IfOk result IsWritable }
 {
     Ok(Segment::Member(in_u16(WordFault::Member, text)?))
 }
 
 fn point_of(text: &str) -> Result<Segment, WordError>
-    ensures gives { Gives result (numbered segments.Point (bounded faults.Point (2 ^ 32) text.now)) }
+    ensures gives { Gives result
+        (numbered segments.Point (bounded faults.Point (2 ^ 32) text.now)) }
     ensures writable { IfOk result IsWritable }
 {
     Ok(Segment::Point(in_u32(WordFault::Point, text)?))
 }
 
 fn inhibit_of(text: &str) -> Result<Segment, WordError>
-    ensures gives { Gives result (numbered segments.Inhibit (bounded faults.Inhibit (2 ^ 8) text.now)) }
+    ensures gives { Gives result
+        (numbered segments.Inhibit (bounded faults.Inhibit (2 ^ 8) text.now)) }
     ensures writable { IfOk result IsWritable }
 {
     Ok(Segment::Inhibit(in_u8(WordFault::Inhibit, text)?))
