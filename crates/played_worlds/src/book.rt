@@ -14,7 +14,7 @@ use crate::live::feed_of;
 use crate::made::boxes;
 use crate::plants::Plant;
 use cip_base::ModuleId;
-use cip_indexed::NewModule;
+use cip_indexed::{NewModule, new_modules};
 use cip_module::{Event, Module, Output};
 use cip_threads::{BookState, CommitFault, Handed, feeds_fit};
 use cip_transcript::names_of;
@@ -102,21 +102,12 @@ fn play_over<R: Read + Drop>(
     Ok(())
 }
 
-// Plays the lines over a book and these new modules.
-fn play_new<R: Read + Drop>(
-    rt: &HostRuntime,
-    state: &mut BookState,
-    made: Vec<NewModule>,
-    input: R,
-) -> Result<(), Fault> {
-    let mut modules = boxes!(NewModule, rt.alloc(), made);
-    play_over(rt, state, modules.as_mut_slice(), input)
-}
-
 /// Plays the lines of this input over a book of so many turns.
 pub fn play<R: Read + Drop>(rt: &HostRuntime, turns: &str, input: R) -> Result<(), Fault> {
+    let alloc = rt.alloc();
     let turns = turns.parse::<usize>().ok().ok_or(Fault::Usage)?;
-    let mut state = book_of(rt.alloc(), turns)?;
-    let made = Plant::Plain.modules(rt.alloc())?;
-    play_new(rt, &mut state, made, input)
+    let mut state = book_of(alloc, turns)?;
+    let topology = Plant::Plain.topology(alloc)?;
+    let mut modules = boxes!(NewModule, alloc, new_modules(alloc, topology.configs())?);
+    play_over(rt, &mut state, modules.as_mut_slice(), input)
 }

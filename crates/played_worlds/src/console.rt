@@ -10,7 +10,7 @@ use cip_console::{ConsoleFault, Plain, Script, Source, read_script, run, run_liv
 use cip_indexed::NewModule;
 use cip_module::Module;
 use cip_threads::OpenGate;
-use cip_topology::{CHASSIS, Topology, load};
+use cip_topology::{CHASSIS, load};
 use std::io::Read;
 use std::sync::Wait;
 use std::thread::Threads;
@@ -31,56 +31,17 @@ fn tell(rt: &HostRuntime, ended: Result<(), ConsoleFault>, kept: &Kept) -> Resul
     Ok(())
 }
 
-// A run in turn over new modules of a topology.
-fn run_new<R: Source>(
-    rt: &HostRuntime,
-    topology: Topology,
-    made: Vec<NewModule>,
-    reader: &mut R,
-    writer: &mut Kept,
-) -> Result<Result<(), ConsoleFault>, Fault> {
-    let modules = boxes!(NewModule, rt.alloc(), made);
-    // (what the marks say is looked at when no box is left to be given up)
-    let begun = print!(rt; ">");
-    let ended = run(rt.alloc(), reader, writer, topology, modules);
-    begun?;
-    print!(rt; "<")?;
-    Ok(ended)
-}
-
 fn run_one<R: Source>(rt: &HostRuntime, chosen: &Chosen, reader: &mut R) -> Result<(), Fault> {
-    let mut writer = Kept::new(rt.alloc())?;
-    let topology = load(rt.alloc(), CHASSIS)?;
-    let made = chosen.modules(rt.alloc(), &topology)?;
-    let ended = run_new(rt, topology, made, reader, &mut writer)?;
-    tell(rt, ended, &writer)
-}
-
-// A run by threads over new modules of a topology.
-fn run_new_live<T: Threads + Wait + Sync, R: Source>(
-    rt: &HostRuntime,
-    workers: &T,
-    topology: Topology,
-    made: Vec<NewModule>,
-    reader: &mut R,
-    writer: &mut Kept,
-) -> Result<Result<(), ConsoleFault>, Fault> {
-    let modules = boxes!(NewModule, rt.alloc(), made);
+    let alloc = rt.alloc();
+    let topology = load(alloc, CHASSIS)?;
+    let mut writer = Kept::new(alloc)?;
+    let modules = boxes!(NewModule, alloc, chosen.modules(alloc, &topology)?);
     // (what the marks say is looked at when no box is left to be given up)
     let begun = print!(rt; ">");
-    let ended = run_live(
-        workers,
-        rt.alloc(),
-        reader,
-        writer,
-        topology,
-        modules,
-        TURNS,
-        &OpenGate,
-    );
+    let ended = run(alloc, reader, &mut writer, topology, modules);
     begun?;
     print!(rt; "<")?;
-    Ok(ended)
+    tell(rt, ended, &writer)
 }
 
 fn run_one_live<T: Threads + Wait + Sync, R: Source>(
@@ -89,10 +50,24 @@ fn run_one_live<T: Threads + Wait + Sync, R: Source>(
     chosen: &Chosen,
     reader: &mut R,
 ) -> Result<(), Fault> {
-    let mut writer = Kept::new(rt.alloc())?;
-    let topology = load(rt.alloc(), CHASSIS)?;
-    let made = chosen.modules(rt.alloc(), &topology)?;
-    let ended = run_new_live(rt, workers, topology, made, reader, &mut writer)?;
+    let alloc = rt.alloc();
+    let topology = load(alloc, CHASSIS)?;
+    let mut writer = Kept::new(alloc)?;
+    let modules = boxes!(NewModule, alloc, chosen.modules(alloc, &topology)?);
+    // (what the marks say is looked at when no box is left to be given up)
+    let begun = print!(rt; ">");
+    let ended = run_live(
+        workers,
+        alloc,
+        reader,
+        &mut writer,
+        topology,
+        modules,
+        TURNS,
+        &OpenGate,
+    );
+    begun?;
+    print!(rt; "<")?;
     tell(rt, ended, &writer)
 }
 

@@ -15,13 +15,13 @@
 //! lines, and then an empty one.
 use crate::fault::Fault;
 use crate::guarded::guarded;
-use crate::held::{HeldModule, Hold};
+use crate::held::{HeldModule, Hold, held_modules};
 use crate::live::{HeldRun, LiveRun, feed_of, run_held, run_live};
 use crate::made::{Chosen, Trial, boxes, tried};
 use crate::out::Out;
 use crate::plants::Plant;
 use cip_base::{Bytes, ModuleId};
-use cip_indexed::NewModule;
+use cip_indexed::{NewModule, new_modules};
 use cip_module::Module;
 use cip_threads::Feed;
 use cip_transcript::names_of;
@@ -197,32 +197,6 @@ fn play_boxes<T: Threads + Wait + Sync, R: Read + Drop>(
     play_over(rt, workers, plant, &mut here, &mut twin, input)
 }
 
-// Plays the lines over a world of these boxes and one of new twins.
-fn play_beside<T: Threads + Wait + Sync, R: Read + Drop>(
-    rt: &HostRuntime,
-    workers: &T,
-    plant: Plant,
-    modules: Vec<Box<dyn Module + Send>>,
-    twins: Vec<NewModule>,
-    input: R,
-) -> Result<(), Fault> {
-    let twins = boxes!(NewModule, rt.alloc(), twins);
-    play_boxes(rt, workers, plant, modules, twins, input)
-}
-
-// Plays the lines over a world of new modules and one of new twins.
-fn play_new<T: Threads + Wait + Sync, R: Read + Drop>(
-    rt: &HostRuntime,
-    workers: &T,
-    plant: Plant,
-    made: Vec<NewModule>,
-    twins: Vec<NewModule>,
-    input: R,
-) -> Result<(), Fault> {
-    let modules = boxes!(NewModule, rt.alloc(), made);
-    play_beside(rt, workers, plant, modules, twins, input)
-}
-
 /// Plays the lines of this input over a chassis.
 pub fn play<T: Threads + Wait + Sync, R: Read + Drop>(
     rt: &HostRuntime,
@@ -230,22 +204,11 @@ pub fn play<T: Threads + Wait + Sync, R: Read + Drop>(
     plant: Plant,
     input: R,
 ) -> Result<(), Fault> {
-    let made = plant.modules(rt.alloc())?;
-    let twins = plant.modules(rt.alloc())?;
-    play_new(rt, workers, plant, made, twins, input)
-}
-
-// Plays the lines over a world of held modules and one of new twins.
-fn play_held<T: Threads + Wait + Sync, R: Read + Drop>(
-    rt: &HostRuntime,
-    workers: &T,
-    plant: Plant,
-    made: Vec<HeldModule>,
-    twins: Vec<NewModule>,
-    input: R,
-) -> Result<(), Fault> {
-    let modules = boxes!(HeldModule, rt.alloc(), made);
-    play_beside(rt, workers, plant, modules, twins, input)
+    let alloc = rt.alloc();
+    let topology = plant.topology(alloc)?;
+    let modules = boxes!(NewModule, alloc, new_modules(alloc, topology.configs())?);
+    let twins = boxes!(NewModule, alloc, new_modules(alloc, topology.configs())?);
+    play_boxes(rt, workers, plant, modules, twins, input)
 }
 
 /// Plays the lines of this input over the chassis, whose boxes count their steps, and then tells
@@ -255,11 +218,14 @@ pub fn play_counted<T: Threads + Wait + Sync, R: Read + Drop>(
     workers: &T,
     input: R,
 ) -> Result<(), Fault> {
+    let alloc = rt.alloc();
     let plant = Plant::Plain;
-    let hold = Arc::new(rt.alloc(), Hold::new(0))?;
-    let made = plant.held(rt.alloc(), &hold)?;
-    let twins = plant.modules(rt.alloc())?;
-    play_held(rt, workers, plant, made, twins, input)?;
+    let topology = plant.topology(alloc)?;
+    let hold = Arc::new(alloc, Hold::new(0))?;
+    let made = held_modules(alloc, topology.configs(), &hold)?;
+    let modules = boxes!(HeldModule, alloc, made);
+    let twins = boxes!(NewModule, alloc, new_modules(alloc, topology.configs())?);
+    play_boxes(rt, workers, plant, modules, twins, input)?;
     println!(rt; "steps {}", hold.passed())?;
     Ok(())
 }

@@ -1,6 +1,4 @@
 //! Modules on threads, guarded so that memory can be refused to that run alone.
-ghost use Rattle.std.specs.Prelude.{All, ◌<◌, length};
-
 use crate::answers::put_end;
 use crate::calls::step_of;
 use crate::fault::Fault;
@@ -15,7 +13,6 @@ use cip_indexed::NewModule;
 use cip_module::{Module, Tables};
 use cip_script::{Mode, Step};
 use cip_threads::{Feed, OpenGate, Report, RunFault, feeds_fit, run_threads};
-use cip_topology::Topology;
 use cip_transcript::{name_in, put, put_tables, put_trail};
 use cip_world::Entry;
 use std::alloc::Global;
@@ -52,29 +49,7 @@ pub struct LiveRun {
     pub feeds: Vec<(ModuleId, Feed)>,
 }
 
-// A run of new modules with these feeds, with what stands about it.
-fn ran_new<T: Threads + Wait + Sync>(
-    out: &mut Out,
-    workers: &T,
-    topology: Topology,
-    made: Vec<NewModule>,
-    feeds: Vec<(ModuleId, Feed)>,
-    turns: usize,
-    guard: Guard,
-) -> Result<Result<Report, RunFault>, Fault>
-    requires fit { All (λ fed. fed.0.0 < length topology.modules) feeds.items }
-{
-    let alloc = out.alloc();
-    let modules = boxes!(NewModule, alloc, made);
-    // (what the marks say is looked at when no box is left to be given up)
-    let begun = out.begin(guard);
-    let report = run_threads(workers, alloc, topology, modules, feeds, turns, &OpenGate);
-    begun?;
-    out.end(guard)?;
-    Ok(report)
-}
-
-// The run that is asked for, with what stands about it.
+// The run, with what stands about it.
 fn ran<T: Threads + Wait + Sync>(
     out: &mut Out,
     workers: &T,
@@ -89,7 +64,14 @@ fn ran<T: Threads + Wait + Sync>(
         return Err(Fault::Line);
     }
     let made = asked.chosen.modules(alloc, &topology)?;
-    ran_new(out, workers, topology, made, feeds, asked.turns, guard)
+    let modules = boxes!(NewModule, alloc, made);
+    // (what the marks say is looked at when no box is left to be given up)
+    let begun = out.begin(guard);
+    let turns = asked.turns;
+    let report = run_threads(workers, alloc, topology, modules, feeds, turns, &OpenGate);
+    begun?;
+    out.end(guard)?;
+    Ok(report)
 }
 
 // Where the request of the first module's op 1 went, and what the last entry there came from.
@@ -168,46 +150,6 @@ pub struct HeldRun {
     pub feeds: Vec<(ModuleId, Feed)>,
 }
 
-// A run of held modules with these feeds, behind this gate.
-fn ran_held<T: Threads + Wait + Sync>(
-    alloc: Global,
-    workers: &T,
-    topology: Topology,
-    made: Vec<HeldModule>,
-    feeds: Vec<(ModuleId, Feed)>,
-    turns: usize,
-    gate: &FirstCommits,
-) -> Result<Result<Report, RunFault>, Fault>
-    requires fit { All (λ fed. fed.0.0 < length topology.modules) feeds.items }
-{
-    let modules = boxes!(HeldModule, alloc, made);
-    Ok(run_threads(workers, alloc, topology, modules, feeds, turns, gate))
-}
-
-// The held run that is asked for, with the hold before each step and this gate.
-fn held_report<T: Threads + Wait + Sync>(
-    alloc: Global,
-    workers: &T,
-    plant: Plant,
-    asked: HeldRun,
-    hold: &Arc<Hold, Global>,
-    gate: &FirstCommits,
-) -> Result<Result<Report, RunFault>, Fault> {
-    let HeldRun { turns, feeds, .. } = asked;
-    let topology = plant.topology(alloc)?;
-    if !feeds_fit(&topology, feeds.as_slice()) {
-        return Err(Fault::Line);
-    }
-    let made = held_modules(alloc, topology.configs(), hold)?;
-    ran_held(alloc, workers, topology, made, feeds, turns, gate)
-}
-
-// How many steps and how many first entries found all come.
-fn tell_passed(out: &mut Out, steps: u64, entries: u64) -> Result<(), Fault> {
-    let told = format!(in out.alloc(); "steps {steps} entries {entries}\n")?;
-    out.put(told.as_str())
-}
-
 /// Runs modules on threads that wait for one another, and tells how many steps and how many first
 /// entries found all come.
 pub fn run_held<T: Threads + Wait + Sync>(
@@ -218,11 +160,20 @@ pub fn run_held<T: Threads + Wait + Sync>(
     asked: HeldRun,
 ) -> Result<(), Fault> {
     let alloc = out.alloc();
+    let topology = plant.topology(alloc)?;
+    if !feeds_fit(&topology, asked.feeds.as_slice()) {
+        return Err(Fault::Line);
+    }
+    let hold = Arc::new(alloc, Hold::new(asked.steps))?;
     let gate = FirstCommits {
         hold: Hold::new(asked.commits),
     };
-    let hold = Arc::new(alloc, Hold::new(asked.steps))?;
-    let report = held_report(alloc, workers, plant, asked, &hold, &gate)?;
-    tell_passed(out, hold.passed(), gate.hold.passed())?;
+    let made = held_modules(alloc, topology.configs(), &hold)?;
+    let modules = boxes!(HeldModule, alloc, made);
+    let HeldRun { turns, feeds, .. } = asked;
+    let report = run_threads(workers, alloc, topology, modules, feeds, turns, &gate);
+    let passed = (hold.passed(), gate.hold.passed());
+    let passed = format!(in alloc; "steps {} entries {}\n", passed.0, passed.1)?;
+    out.put(passed.as_str())?;
     tell(out, names, report)
 }

@@ -99,37 +99,7 @@ pub enum Trial {
     Check,
 }
 
-// What is wrong with modules of a topology, by the one call or the other.
-fn fault_of(
-    alloc: Global,
-    trial: Trial,
-    topology: Topology,
-    modules: Vec<Box<dyn Module + Send>>,
-) -> Option<NewFault> {
-    match trial {
-        Trial::New => World::new(alloc, topology, modules).err(),
-        Trial::Check => check_fresh(alloc, &topology, modules.as_slice()).err(),
-    }
-}
-
 // What is said of new modules, with what stands about that.
-fn said_of(
-    out: &mut Out,
-    trial: Trial,
-    topology: Topology,
-    made: Vec<NewModule>,
-    guard: Guard,
-) -> Result<Option<NewFault>, Fault> {
-    let modules = boxes!(NewModule, out.alloc(), made);
-    // (what the marks say is looked at when no box is left to be given up)
-    let begun = out.begin(guard);
-    let fault = fault_of(out.alloc(), trial, topology, modules);
-    begun?;
-    out.end(guard)?;
-    Ok(fault)
-}
-
-// The same of the modules that are chosen of a chassis.
 fn said(
     out: &mut Out,
     plant: Plant,
@@ -137,9 +107,19 @@ fn said(
     chosen: &Chosen,
     guard: Guard,
 ) -> Result<Option<NewFault>, Fault> {
-    let topology = plant.topology(out.alloc())?;
-    let made = chosen.modules(out.alloc(), &topology)?;
-    said_of(out, trial, topology, made, guard)
+    let alloc = out.alloc();
+    let topology = plant.topology(alloc)?;
+    let made = chosen.modules(alloc, &topology)?;
+    let modules = boxes!(NewModule, alloc, made);
+    // (what the marks say is looked at when no box is left to be given up)
+    let begun = out.begin(guard);
+    let fault = match trial {
+        Trial::New => World::new(alloc, topology, modules).err(),
+        Trial::Check => check_fresh(alloc, &topology, modules.as_slice()).err(),
+    };
+    begun?;
+    out.end(guard)?;
+    Ok(fault)
 }
 
 /// Makes modules, and a world of them or a look at them, between the marks. Where memory is

@@ -1,10 +1,7 @@
 //! The chassis over which the lines are played.
 use crate::fault::Fault;
-use crate::held::{HeldModule, Hold, held_modules};
-use cip_indexed::{NewModule, new_modules};
 use cip_topology::{CHASSIS, Topology, load};
 use std::alloc::Global;
-use std::sync::Arc;
 
 /// A chassis, or another plant.
 #[derive(Clone, Copy)]
@@ -103,17 +100,5 @@ impl Plant {
     pub fn topology(self, alloc: Global) -> Result<Topology, Fault> {
         let text = self.text(alloc)?;
         Ok(load(alloc, text.as_str())?)
-    }
-
-    /// Its modules, new.
-    pub fn modules(self, alloc: Global) -> Result<Vec<NewModule>, Fault> {
-        let topology = self.topology(alloc)?;
-        Ok(new_modules(alloc, topology.configs())?)
-    }
-
-    /// Its modules, new, each of which passes this hold.
-    pub fn held(self, alloc: Global, hold: &Arc<Hold, Global>) -> Result<Vec<HeldModule>, Fault> {
-        let topology = self.topology(alloc)?;
-        held_modules(alloc, topology.configs(), hold)
     }
 }
