@@ -5,7 +5,8 @@ The dice are numbers that look like chance, the same at each run. A transcript o
 messages of each kind that is decoded, as often as not another one: a byte changed, cut, or too
 long. One in some has a faulty line, or is cut within a line, or begins within an entry. A plant's
 addresses are texts with characters that mean something in XML; over it go runs, whose frames arrive
-long after they were sent, and cycles of data with something else between some of them.
+long after they were sent, and cycles of data with something else between some of them, and ticks of
+all modules.
 """
 
 NAMES = ("S", "A", "B", "E")
@@ -138,6 +139,9 @@ SYMBOLS = (
 # the numbers of first entries: on both sides of another digit
 FIRSTS = (0, 0, 0, 5, 95, 990, 9_990, 99_990, 4_294_967_290, 18_446_744_073_709_550_000)
 NUMBERS = ("0", "9", "10", "99", "100", "9999", "10000", "4294967295")
+# by how many milliseconds all modules tick, and one time in how many something else is there
+MILLISECONDS = (1, 5, 65535)
+OFTEN = (4, 15, 60, 1_000)
 
 
 class Dice:
@@ -336,4 +340,38 @@ def rounds(dice, length, count, first):
         if dice.is_rare(6):
             text += f"{number} M2 tick {tick_of(number)}\n"
             number += 1
+    return text
+
+
+def burst(number, count):
+    """A module sends itself so many data in one entry, which arrive in the next ones."""
+    sent = [f"  {k} send 2 {TEXTS[0]} data 20480 0A\n" for k in range(count)]
+    come = [f"{number + k + 1} M0 frame {number}.{k}\n" for k in range(count)]
+    consumed = "  0 consumed 1 257 13697281 101 0A\n"
+    return f"{number} M0 produce 101\n{''.join(sent)}{''.join(line + consumed for line in come)}"
+
+
+def ticks(dice, modules, count, first):
+    """A run in which all modules tick so many times, one behind the other and by the same
+    milliseconds, mostly the same each time, with so many data between two times, or none. In some
+    there is something else now and then: a command or another tick between, what comes of a tick,
+    or the last module ticks on alone."""
+    text, number, data = "", first, dice.below(5)
+    often, milliseconds = dice.one_of(OFTEN), dice.one_of(MILLISECONDS)
+    for _ in range(count):
+        if dice.is_rare(often):
+            milliseconds = dice.one_of(MILLISECONDS)
+        for at in range(modules):
+            if dice.is_rare(often):
+                text += f"{number} M{at} {dice.one_of(('tick', 'send', 'set'))} 7\n"
+                number += 1
+            text += f"{number} M{at} tick {milliseconds}\n"
+            text += f"  0 {output(dice)}\n" if dice.is_rare(often) else ""
+            number += 1
+        for _ in range(dice.below(4) if dice.is_rare(often) else 0):
+            text += f"{number} M{modules - 1} tick {milliseconds}\n"
+            number += 1
+        if data:
+            text += burst(number, data)
+            number += data + 1
     return text

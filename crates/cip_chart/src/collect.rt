@@ -348,6 +348,7 @@ impl<'a> ChartView<'a> {
         match output {
             Output::Send { .. } => return self.take_send(index, output),
             Output::Done { op, .. } => self.book.done(*op),
+            Output::Ended { op } => self.book.done(*op),
             Output::Refused(_) => self.book.refused(),
             _ => {}
         }

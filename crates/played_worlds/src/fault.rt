@@ -1,8 +1,7 @@
 //! Why the program ends before its work is done.
 
 use cip_base::NoMemory;
-use cip_console::ReadFault as ScriptFault;
-use cip_read::ReadFault;
+use cip_console::ReadFault;
 use cip_script::StepsFault;
 use cip_topology::LoadFault;
 use cip_world::WorldFault;
@@ -14,9 +13,7 @@ use thiserror::Error;
 #[derive(Clone, Copy, Debug, PartialEq, Eq, Error)]
 pub enum Fault {
     #[error("usage: played_worlds WHAT [WHAT FILE ..], where WHAT is \
-        plain|indexed|late|two|ports|counted|book TURNS|turn|read|live|live-read|progress| \
-        json|leaves; \
-        or played_worlds over FILE json|svg|page [FROM TO [MODULE ..]]")]
+        plain|indexed|late|two|ports|counted|book TURNS|turn|read|live|live-read|progress")]
     Usage,
     #[error("a line cannot be played")]
     Line,
@@ -26,8 +23,6 @@ pub enum Fault {
     NoMemory,
     #[error("the chassis was not made")]
     Chassis,
-    #[error("a faulty transcript")]
-    Transcript,
 }
 
 impl From<io::Error> for Fault {
@@ -72,20 +67,11 @@ impl From<StepsFault> for Fault {
     }
 }
 
-impl From<ScriptFault> for Fault {
-    fn from(fault: ScriptFault) -> Fault {
-        match fault {
-            ScriptFault::NoMemory => Fault::NoMemory,
-            _ => Fault::System,
-        }
-    }
-}
-
 impl From<ReadFault> for Fault {
     fn from(fault: ReadFault) -> Fault {
         match fault {
             ReadFault::NoMemory => Fault::NoMemory,
-            _ => Fault::Transcript,
+            _ => Fault::System,
         }
     }
 }

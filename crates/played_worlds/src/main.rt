@@ -1,5 +1,5 @@
 //! Makes the calls that its standard input has of a world of the chassis, and writes what each
-//! answers; or runs a script by the console, or shows a transcript.
+//! answers; or runs a script by the console.
 //!
 //! `played_worlds plain` and `played_worlds indexed` say of which kind scanner and bridges are;
 //! `played_worlds late` has the scanner's clock at its end, `played_worlds two` a second scanner;
@@ -9,15 +9,10 @@
 //! `played_worlds turn` runs a script in turn, `played_worlds live` with each module on a thread of
 //! its own, `read` and `live-read` as it is read (`console.rt`); behind these words may stand which
 //! new modules are handed in (`made.rt`). `played_worlds progress` shows what a screen
-//! tells of a long run (`progress.rt`). `played_worlds json` shows a
-//! transcript in the form from before (`views.rt`), `played_worlds leaves` bytes, names, paths,
-//! messages and lines (`leaves.rt`).
+//! tells of a long run (`progress.rt`).
 //!
 //! What stands behind a word is in the same argument. Further arguments are pairs: what else to do,
 //! and the file that has its input.
-//!
-//! `played_worlds over FILE json|svg|page ..` shows a transcript over the topology of a file, in a
-//! form from before (`views.rt`).
 #![tactic(auto)]
 
 mod answers;
@@ -28,7 +23,6 @@ mod fault;
 mod guarded;
 mod held;
 mod kept;
-mod leaves;
 mod lines;
 mod live;
 mod made;
@@ -36,7 +30,6 @@ mod noted;
 mod out;
 mod plants;
 mod progress;
-mod views;
 
 use fault::Fault;
 use plants::Plant;
@@ -67,8 +60,6 @@ fn play<T: Threads + Wait + Sync, R: Read + Drop>(
         "book" => book::play(rt, places, input),
         "counted" => lines::play_counted(rt, workers, input),
         "progress" => progress::play(rt, input),
-        "json" => views::show(rt, input),
-        "leaves" => leaves::show(rt, input),
         name => lines::play(rt, workers, Plant::of(name).ok_or(Fault::Usage)?, input),
     }
 }
@@ -94,9 +85,6 @@ fn run<T: Threads + Wait + Sync>(rt: &HostRuntime, workers: &T) -> Result<(), Fa
     let mut words = env::args(rt)?;
     let _program = words.next();
     let word = words.next().ok_or(Fault::Usage)?;
-    if word.as_str() == "over" {
-        return views::over(rt, &mut words);
-    }
     play(rt, workers, word.as_str(), rt.reader())?;
     play_files(rt, workers, &mut words)
 }
