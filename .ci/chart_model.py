@@ -1,9 +1,9 @@
 """What `cipview chart` shows, worked out from docs/VIEWS.md and never from the program's chart.
 
-It is worked out of the topology, and of what `cipview json` and `cipview text` show of the same
-transcript, which are looked at for themselves. What a chart has is in chart_rows.py and
-chart_folds.py, where it stands in chart_layout.py, and how it is drawn in chart_drawing.py and
-chart_style.py.
+It is worked out of the topology, of the JSON of the same transcript as .ci/json_view.py has it, and
+of what `cipview text` shows, from which come the sentences of messages. What a chart has is in
+chart_rows.py and chart_folds.py, where it stands in chart_layout.py, and how it is drawn in
+chart_drawing.py and chart_style.py.
 """
 
 import os
@@ -34,7 +34,7 @@ def chart_bytes(shown_json, shown_text, topology, cut, is_page):
 
 def chart_differs(shown, shown_json, shown_text, topology, cut, is_page):
     """What differs in a chart that was shown of a transcript over a topology, cut so, as SVG or on
-    a page; nothing where it is as it is worked out of the JSON and the text that were shown."""
+    a page; nothing where it is as it is worked out of the JSON and the text of the transcript."""
     try:
         wanted = chart_bytes(shown_json, shown_text, topology, cut, is_page)
     except (KeyError, StopIteration, TypeError, ValueError) as fault:

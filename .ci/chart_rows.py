@@ -1,9 +1,8 @@
 """What a sequence chart has: lifelines, rows, arrows and marks, and what is said below them.
 
-They are gathered from what `cipview` shows of a transcript as JSON and as text, which are looked at
-for themselves. JSON has entries and outputs with what their messages say; the text has the number
-of each output, and below it the sentence that a chart shows of a message. Labels, fates, marks and
-times are worked out here (docs/VIEWS.md, Chart).
+They are gathered from the JSON and from the text of a transcript. JSON has entries and outputs with
+what their messages say; the text has the number of each output, and below it the sentence that a
+chart shows of a message. Labels, fates, marks and times are worked out here (docs/VIEWS.md, Chart).
 """
 
 import json
