@@ -15,12 +15,12 @@ use Rattle.cip_hops.specs.Hops as hops
 use Rattle.cip_config.specs.declared.config.ModuleSettings.{ModuleSettings}
 use Rattle.cip_event.specs.declared.event.Event.TheVariants as events
 use Rattle.cip_routing.specs.Deadlines.{is_any_due as is_due_at}
-use Rattle.cip_module.specs.Code.Ticks.{shown, hop_timed_out}
+use Rattle.cip_steps.specs.Code.Ticks.{shown, hop_timed_out}
 use Rattle.cip_routing.specs.Effects.{Effect, Advances, applied, outputs_of}
 use Rattle.cip_routing.specs.State.{State}
 use Rattle.cip_routing.specs.Table.{Stepped, table_step, after_effects, tick_effects, pending_times_out, hop_times_out, hop_time_outs}
 use Rattle.cip_routing.specs.Views.{row_of, hop_row_of}
-use Rattle.cip_module.proofs.TimeOuts.{ticked}
+use Rattle.cip_steps.proofs.TimeOuts.{ticked}
 use Rattle.cip_routing.proofs.Walks.{due_open, opens}
 use Rattle.cip_device.specs.Deadlines.{is_given_up, is_silent, is_any_due, IsStill, IsSoonest, Waits}
 use Rattle.cip_device.specs.Rows.{pendings_of, connections_of}

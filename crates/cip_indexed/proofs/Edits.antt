@@ -8,8 +8,8 @@ use Rattle.cip_open.specs.Success.{OpenSuccess}
 use Rattle.cip_open.specs.GoesOn.{open_on, IsOpenGoingOn, success_with, IsOpenSuccess}
 use Rattle.cip_close.specs.Close.{Close}
 use Rattle.cip_close.specs.GoesOn.{close_on, IsCloseGoingOn}
-use Rattle.cip_module.specs.declared.reaction.Edit.TheVariants.{Unwrapped, SentOn, OpenedOn, ClosedOn, SuccessUp}
-use Rattle.cip_module.specs.Reactions.{Becomes}
+use Rattle.cip_steps.specs.declared.reaction.Edit.TheVariants.{Unwrapped, SentOn, OpenedOn, ClosedOn, SuccessUp}
+use Rattle.cip_steps.specs.Reactions.{Becomes}
 
 module _ (came left b : List ℕ) where
   pub unwrapped : ((u : Unconnected) (hop : HopAt) → IsSendGoingOn came u hop → left ≡ u.request) → Becomes came Unwrapped b → left ≡ b

@@ -1,10 +1,10 @@
 -- What a reaction puts out is what the routing table puts out.
 use Rattle.std.proofs.Common.{◌≡◌, List, ℕ, [], ◌∷◌, refl, sym, subst}
 use Rattle.cip_event.specs.declared.event.Output.{Output}
-use Rattle.cip_module.specs.declared.reaction.Reaction.{Reaction}
-use Rattle.cip_module.specs.declared.reaction.Reaction.TheVariants.{Whole, Edited, Several}
+use Rattle.cip_steps.specs.declared.reaction.Reaction.{Reaction}
+use Rattle.cip_steps.specs.declared.reaction.Reaction.TheVariants.{Whole, Edited, Several}
 use Rattle.cip_event.specs.Filled.{filled}
-use Rattle.cip_module.specs.Reactions.{PutsOut}
+use Rattle.cip_steps.specs.Reactions.{PutsOut}
 use Rattle.cip_indexed.specs.PutOut.{IsPutOut}
 
 pub put : (came : List ℕ) (reaction : Reaction) (P : List Output → Type 0) (out : List Output) → PutsOut came reaction P

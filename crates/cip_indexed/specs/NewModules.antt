@@ -1,5 +1,5 @@
 -- What a new module in its box keeps, of whichever kind it is.
-use Rattle.cip_module.specs.Code.Device.{config_of_plain, config_of_adapter, state_of_plain, state_of_adapter}
+use Rattle.cip_module.specs.Kinds.{config_of_plain, config_of_adapter, state_of_plain, state_of_adapter}
 use Rattle.cip_config.specs.declared.config.ModuleSettings.{ModuleSettings}
 use Rattle.cip_routing.specs.State.{State}
 use Rattle.cip_indexed.specs.declared.new_module.NewModule.{NewModule}

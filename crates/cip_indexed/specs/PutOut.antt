@@ -2,10 +2,10 @@
 use Rattle.std.specs.Prelude.{◌≡◌, List, [], ◌∷◌}
 use Rattle.cip_base.specs.Words.{Octets}
 use Rattle.cip_event.specs.declared.event.Output.{Output}
-use Rattle.cip_module.specs.declared.reaction.Reaction.{Reaction}
-use Rattle.cip_module.specs.declared.reaction.Reaction.TheVariants as reactions
+use Rattle.cip_steps.specs.declared.reaction.Reaction.{Reaction}
+use Rattle.cip_steps.specs.declared.reaction.Reaction.TheVariants as reactions
 use Rattle.cip_event.specs.Filled.{filled}
-use Rattle.cip_module.specs.Reactions.{Becomes}
+use Rattle.cip_steps.specs.Reactions.{Becomes}
 
 -- an edit is one that these bytes can have
 abbrev pub CanPutOut : Octets → Reaction → Type 0

@@ -5,7 +5,7 @@ ghost use Rattle.cip_base.specs.Words.{Octets};
 ghost use Rattle.cip_event.specs.declared.event.Body.TheVariants as bodies;
 ghost use Rattle.cip_event.specs.declared.event.Output.{Output as Outputs};
 ghost use Rattle.cip_event.specs.declared.event.Output.TheVariants as outputs;
-ghost use Rattle.cip_module.specs.Reactions.{Becomes};
+ghost use Rattle.cip_steps.specs.Reactions.{Becomes};
 ghost use Rattle.cip_indexed.specs.PutOut.{CanPutOut, IsPutOut};
 
 use cip_base::Bytes;

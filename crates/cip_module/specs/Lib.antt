@@ -1,2 +1,1 @@
-pub mod Reactions
-pub mod Code
+pub mod Kinds

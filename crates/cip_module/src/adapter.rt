@@ -5,18 +5,18 @@ ghost use Rattle.cip_hops.specs.Hops.{is_past};
 ghost use Rattle.cip_routing.specs.Deadlines.{is_any_due};
 ghost use Rattle.cip_config.specs.declared.config.ModuleKind.{ModuleKind as Kind};
 ghost use Rattle.cip_routing.specs.State.{initial_state};
-ghost use Rattle.cip_module.specs.Code.Device.{config_of_adapter, state_of_adapter};
+ghost use Rattle.cip_module.specs.Kinds.{config_of_adapter, state_of_adapter};
 
-use crate::device::Device;
 use cip_base::{Address, NoMemory, PortNumber};
 use cip_config::{ModuleConfig, ModuleKind};
 use cip_event::{Event, Output};
 use cip_routing::{HopRow, Module, StepFault, Tables};
+use cip_steps::Device;
 use std::alloc::Global;
 
 /// A module with one port that answers, and sends no request on.
 pub struct AdapterModule {
-    pub(crate) device: Device,
+    device: Device,
 }
 
 // (A derive would be written, and proved, anew in each crate above.)
@@ -80,7 +80,7 @@ impl AdapterModule {
 }
 
 impl Module for AdapterModule {
-    ghost use Rattle.cip_module.specs.Code.Device.{config_of_adapter, state_of_adapter};
+    ghost use Rattle.cip_module.specs.Kinds.{config_of_adapter, state_of_adapter};
 
     ghost config_of = { config_of_adapter };
 
@@ -92,7 +92,7 @@ impl Module for AdapterModule {
         { pendings = m.device.fit.pending_room; hops = m.device.fit.hop_room } };
 
     fn config(&self) -> &ModuleConfig {
-        &self.device.config
+        self.device.config()
     }
 
     fn step(&mut self, event: Event) -> Result<Vec<Output>, StepFault> {

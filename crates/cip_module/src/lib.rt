@@ -2,22 +2,7 @@
 #![tactic(auto)]
 
 mod adapter;
-mod close;
-mod command;
-mod data;
-mod device;
-mod effects;
-mod making;
-mod open;
 mod plain;
-mod reaction;
-mod reply;
-mod request;
-mod show;
-mod step;
-mod target;
-mod tick;
-mod unconnected_send;
 
 pub use adapter::AdapterModule;
 pub use cip_routing::{
@@ -26,6 +11,5 @@ pub use cip_routing::{
     ModuleSettings, OpenParams, OpenRefusal, Ops, Output, PendingRow, PendingRows, PortConfig,
     Ports, Refused, RequestRefusal, StepFault, Tables, UnconnectedRefusal, is_legal, is_name,
 };
-pub use device::Device;
+pub use cip_steps::{Device, Edit, Reaction};
 pub use plain::PlainModule;
-pub use reaction::{Edit, Reaction};

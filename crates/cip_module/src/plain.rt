@@ -6,20 +6,20 @@ ghost use Rattle.cip_hops.specs.Hops.{is_past};
 ghost use Rattle.cip_routing.specs.Deadlines.{is_any_due};
 ghost use Rattle.cip_config.specs.declared.config.ModuleKind.{ModuleKind as Kind};
 ghost use Rattle.cip_routing.specs.State.{initial_state};
-ghost use Rattle.cip_module.specs.Code.Device.{config_of_plain, state_of_plain};
+ghost use Rattle.cip_module.specs.Kinds.{config_of_plain, state_of_plain};
 
-use crate::device::Device;
 use cip_base::{Address, NoMemory, PortNumber};
 use cip_config::{ModuleConfig, ModuleKind};
 use cip_event::{Event, Output};
 use cip_routing::{HopRow, Module, StepFault, Tables};
+use cip_steps::Device;
 use std::alloc::Global;
 
 /// A module that originates, routes and answers. It decodes each request and reply and writes what
 /// goes on of it anew; the bytes of a datum and of an Enter go on as they are, in the buffer in
 /// which they came, or in one of their length where it has room for more than twice as many and 16.
 pub struct PlainModule {
-    pub(crate) device: Device,
+    device: Device,
 }
 
 // (A derive would be written, and proved, anew in each crate above.)
@@ -83,7 +83,7 @@ impl PlainModule {
 }
 
 impl Module for PlainModule {
-    ghost use Rattle.cip_module.specs.Code.Device.{config_of_plain, state_of_plain};
+    ghost use Rattle.cip_module.specs.Kinds.{config_of_plain, state_of_plain};
 
     ghost config_of = { config_of_plain };
 
@@ -95,7 +95,7 @@ impl Module for PlainModule {
         { pendings = m.device.fit.pending_room; hops = m.device.fit.hop_room } };
 
     fn config(&self) -> &ModuleConfig {
-        &self.device.config
+        self.device.config()
     }
 
     fn step(&mut self, event: Event) -> Result<Vec<Output>, StepFault> {

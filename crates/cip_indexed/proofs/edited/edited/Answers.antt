@@ -1,8 +1,8 @@
 use Rattle.std.proofs.Common.{◌≡◌, List, ℕ, sym, ap, subst, ◌∙◌, Global}
 use Rattle.std.specs.declared.vec.Vec.{Vec}
-use Rattle.cip_module.specs.declared.reaction.Edit.{Edit}
-use Rattle.cip_module.specs.declared.reaction.Edit.TheVariants.{AsTheyCame, Unwrapped, SentOn, OpenedOn, ClosedOn, SuccessUp}
-use Rattle.cip_module.specs.Reactions.{Becomes}
+use Rattle.cip_steps.specs.declared.reaction.Edit.{Edit}
+use Rattle.cip_steps.specs.declared.reaction.Edit.TheVariants.{AsTheyCame, Unwrapped, SentOn, OpenedOn, ClosedOn, SuccessUp}
+use Rattle.cip_steps.specs.Reactions.{Becomes}
 use Rattle.cip_indexed.proofs.Edits.{unwrapped, sent_on, opened_on, closed_on, success_up}
 use Rattle.cip_indexed.proofs.edited.edited.Goals as goal
 use Rattle.cip_indexed.proofs.edited.edited.Goals.{in-AsTheyCame, in-Unwrapped, in-SentOn, in-OpenedOn, in-ClosedOn, in-SuccessUp}

@@ -2,7 +2,7 @@ use Rattle.std.proofs.Common.{ℕ, List, subst}
 use Rattle.cip_event.specs.declared.event.Command.TheVariants.{Enter}
 use Rattle.cip_event.specs.declared.event.Event.TheVariants as events
 use Rattle.cip_event.specs.declared.event.Output.{Output}
-use Rattle.cip_module.specs.Reactions.{PutsOut}
+use Rattle.cip_steps.specs.Reactions.{PutsOut}
 use Rattle.cip_routing.specs.Steps.{IsStep}
 use Rattle.cip_indexed.specs.Indexed.{config_of_indexed, state_of_indexed}
 use Rattle.cip_indexed.proofs.Reacted.{put}

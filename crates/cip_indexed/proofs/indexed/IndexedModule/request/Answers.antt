@@ -2,8 +2,8 @@ use Rattle.std.proofs.Common.{ℕ, List, subst}
 use Rattle.cip_event.specs.declared.event.Body.TheVariants as bodies
 use Rattle.cip_event.specs.declared.event.Event.TheVariants as events
 use Rattle.cip_event.specs.declared.event.Output.{Output}
-use Rattle.cip_module.specs.Code.Device.{state_of_device}
-use Rattle.cip_module.specs.Reactions.{PutsOut}
+use Rattle.cip_steps.specs.Code.Device.{state_of_device}
+use Rattle.cip_steps.specs.Reactions.{PutsOut}
 use Rattle.cip_routing.specs.Steps.{IsStep}
 use Rattle.cip_indexed.specs.Indexed.{config_of_indexed, state_of_indexed}
 use Rattle.cip_indexed.proofs.Reacted.{put}

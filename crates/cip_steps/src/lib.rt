@@ -1,0 +1,21 @@
+//! What a device does at each event of the routing table, whatever kind of module it is.
+#![tactic(auto)]
+
+mod close;
+mod command;
+mod data;
+mod device;
+mod effects;
+mod making;
+mod open;
+mod reaction;
+mod reply;
+mod request;
+mod show;
+mod step;
+mod target;
+mod tick;
+mod unconnected_send;
+
+pub use device::Device;
+pub use reaction::{Edit, Reaction};
