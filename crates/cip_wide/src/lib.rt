@@ -10,7 +10,6 @@ mod fault;
 mod lines;
 mod links;
 mod narrowing;
-mod outages;
 mod plain;
 mod reading;
 

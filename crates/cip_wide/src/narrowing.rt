@@ -9,13 +9,15 @@ use crate::fault::{
     LineError, LineFault, WideFault, WordFault, unknown_word, wrong_count, wrong_word,
 };
 use crate::lines::{Line, first_not_ascii, lines_of};
-use crate::links::{frames_at, listed, module_names, side_of};
-use crate::outages::{Loss, Outage, Outages, losses_since};
+use crate::links::{frames_at, side_of};
 use crate::plain::{NewOp, Plain, plain_line};
 use cip_base::{Bytes, NoMemory};
 use cip_chassis::Topology;
 use cip_ends::Ends;
-use cip_outcomes::{Ops, is_refused, module_text, nearest, refusal_of};
+use cip_outcomes::{
+    Loss, Ops, Outage, Outages, is_refused, listed, losses_since, module_names, module_text,
+    nearest, refusal_of,
+};
 use cip_routing::Module;
 use cip_script::{Mode, ScriptFault, Step, StepsFault, explain, read_steps, usage_of};
 use cip_silent::{PlayFault, play_step};

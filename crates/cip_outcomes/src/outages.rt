@@ -1,31 +1,31 @@
 //! Links that are down, and what is lost there.
 
 use crate::links::{Side, link_of, link_word};
+use crate::naming::module_text;
 use cip_base::NoMemory;
 use cip_chassis::Topology;
-use cip_outcomes::module_text;
 use cip_routing::Body;
 use cip_world::{Flying, FrameName, World, frame_at};
 use std::alloc::{AllocError, Global};
 
 /// A link, or what a module sends there, is down since a line.
 #[derive(Clone, Copy)]
-pub(crate) struct Outage {
-    pub(crate) side: Side,
-    pub(crate) since: usize,
+pub struct Outage {
+    pub side: Side,
+    pub since: usize,
 }
 
 /// The outages that last, the oldest first.
 #[derive(Drop)]
-pub(crate) struct Outages {
+pub struct Outages {
     outages: Vec<Outage>,
 }
 
 /// A frame that is lost: the line by which it is, and a comment that says why.
 #[derive(Drop)]
-pub(crate) struct Loss {
-    pub(crate) why: String,
-    pub(crate) line: String,
+pub struct Loss {
+    pub why: String,
+    pub line: String,
 }
 
 impl Outage {
@@ -38,18 +38,18 @@ impl Outage {
 
 impl Outages {
     /// None. It takes no memory.
-    pub(crate) fn new(alloc: Global) -> Outages {
+    pub fn new(alloc: Global) -> Outages {
         Outages {
             outages: Vec::new(alloc),
         }
     }
 
-    pub(crate) fn is_empty(&self) -> bool {
+    pub fn is_empty(&self) -> bool {
         self.outages.is_empty()
     }
 
     /// The outage by which what a side sends is lost.
-    pub(crate) fn over(&self, side: Side) -> Option<Outage> {
+    pub fn over(&self, side: Side) -> Option<Outage> {
         for outage in self.outages.as_slice() {
             if outage.has(side) {
                 return Some(*outage);
@@ -59,20 +59,20 @@ impl Outages {
     }
 
     /// One more outage.
-    pub(crate) fn begin(&mut self, outage: Outage) -> Result<(), NoMemory> {
+    pub fn begin(&mut self, outage: Outage) -> Result<(), NoMemory> {
         self.outages.push(outage)?;
         Ok(())
     }
 
     /// The outage of this very side is over; false where there is none.
-    pub(crate) fn end(&mut self, side: Side) -> bool {
+    pub fn end(&mut self, side: Side) -> bool {
         let count = self.outages.len();
         self.outages.retain(|outage| outage.side != side);
         self.outages.len() < count
     }
 
     /// The words of the lines by which the outages began, with commas between them.
-    pub(crate) fn told(&self, alloc: Global, topology: &Topology) -> Result<String, AllocError> {
+    pub fn told(&self, alloc: Global, topology: &Topology) -> Result<String, AllocError> {
         let mut text = String::new(alloc);
         for outage in self.outages.as_slice() {
             if !text.is_empty() {
@@ -158,7 +158,7 @@ fn loss_of(
 }
 
 /// What was sent into the outages since there were so many entries, in rising name.
-pub(crate) fn losses_since(
+pub fn losses_since(
     alloc: Global,
     world: &World,
     outages: &Outages,
