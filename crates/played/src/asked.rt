@@ -1,7 +1,7 @@
 //! The events that a script's lines ask for.
-use crate::words::Words;
 use cip_base::Ms;
 use cip_module::{Body, Command, Event, LargeParams, OpenParams};
+use line_words::Words;
 
 // `OP TICK TICKS PATH REQUEST`
 fn send(words: &mut Words) -> Option<Command> {

@@ -1,10 +1,10 @@
 //! Why the program ends before its work is done.
 
 use cip_base::NoMemory;
-use cip_module::StepFault;
 use std::alloc::{AllocError, AllocFailed};
 use std::io;
 use std::num::ParseIntError;
+use step_times::TimesFault;
 use thiserror::Error;
 
 /// Why the program ends before its work is done.
@@ -55,11 +55,11 @@ impl From<NoMemory> for Fault {
     }
 }
 
-impl From<StepFault> for Fault {
-    fn from(fault: StepFault) -> Fault {
+impl From<TimesFault> for Fault {
+    fn from(fault: TimesFault) -> Fault {
         match fault {
-            StepFault::NoMemory(_) => Fault::NoMemory,
-            StepFault::ClockFull(_) => Fault::Unexpected,
+            TimesFault::NoMemory => Fault::NoMemory,
+            TimesFault::Unexpected => Fault::Unexpected,
         }
     }
 }

@@ -3,8 +3,8 @@ use crate::asked::event;
 use crate::chassis::{AnyModule, Device, Kinds, NAMES, device_of, make};
 use crate::opened::OPENED;
 use crate::told::{Shown, Told, fault_text};
-use crate::words::Words;
 use cip_module::{Event, Output, StepFault};
+use line_words::Words;
 use std::alloc::Global;
 use std::fmt::Write;
 
@@ -123,7 +123,7 @@ impl Harness {
     /// What a line asks for. An event is given to its module as a copy. None where the line cannot
     /// be read, or an allocation is refused.
     pub fn obey(&mut self, line: &str) -> Option<()> {
-        let mut words = Words::of(self.alloc, line);
+        let mut words = Words::of(self.alloc, line, None);
         let name = words.word()?;
         let place = place_of(self.modules.as_slice(), name)?;
         match words.word()? {
@@ -150,7 +150,7 @@ impl Harness {
 
     /// The event of a line, and the place of its module.
     pub fn event(&self, line: &str) -> Option<(usize, Event)> {
-        let mut words = Words::of(self.alloc, line);
+        let mut words = Words::of(self.alloc, line, None);
         let place = place_of(self.modules.as_slice(), words.word()?)?;
         Some((place, event(words.word()?, &mut words)?))
     }

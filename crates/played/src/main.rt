@@ -13,11 +13,8 @@
 #![tactic(auto)]
 
 mod asked;
-mod bridge;
-mod case;
 mod chassis;
 mod fault;
-mod frames;
 mod guarded;
 mod harness;
 mod lines;
@@ -27,7 +24,6 @@ mod out;
 mod times;
 mod told;
 mod topologies;
-mod words;
 
 use chassis::Kinds;
 use fault::Fault;

@@ -1,12 +1,18 @@
 //! Steps of a bridge, many times over.
-use crate::case::{CASES, Case, case_of};
-use crate::chassis::Kinds;
+use crate::chassis::{AnyModule, Kinds, device_of, make};
 use crate::fault::Fault;
 use std::env::Args;
+use step_times::{CASES, Case, case_of};
 
 // So many turns, and a line about them.
 fn run_case(rt: &HostRuntime, case: Case, kinds: Kinds, times: u32) -> Result<(), Fault> {
-    case.run(rt.alloc(), kinds, times)?;
+    let alloc = rt.alloc();
+    let bridge = device_of("A", kinds).ok_or(Fault::Unexpected)?;
+    match make(alloc, &bridge).ok_or(Fault::NoMemory)? {
+        AnyModule::Plain(module_) => case.turns(alloc, module_, times)?,
+        AnyModule::Indexed(module_) => case.turns(alloc, module_, times)?,
+        AnyModule::Adapter(_) => return Err(Fault::Unexpected),
+    }
     println!(rt; "{} {times} done", case.name)?;
     Ok(())
 }

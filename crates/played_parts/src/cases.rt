@@ -6,7 +6,7 @@
 //! begin with `#` mean nothing. A line that ends in `\` goes on in the next one, behind four
 //! spaces.
 use crate::part::Part;
-use crate::words::Words;
+use line_words::Words;
 use std::fs;
 
 /// What came of a question.
@@ -21,7 +21,8 @@ struct Given {
 fn asked(rt: &HostRuntime, part: &mut Part, question: &str, is_marked: bool) -> Option<Given> {
     let alloc = rt.alloc();
     let before = part.state(alloc)?;
-    let mut words = Words::of(rt, question, is_marked);
+    let marks = if is_marked { Some(rt) } else { None };
+    let mut words = Words::of(alloc, question, marks);
     let answer = match words.word() {
         Some(name) => part.answer(name, &mut words),
         None => None,
@@ -120,7 +121,7 @@ fn play_rows(
 fn play_case(rt: &HostRuntime, group: &str, case: &str, is_marked: bool) -> Option<bool> {
     let (heading, rows) = case.split_once('\n')?;
     let (kind, name) = heading.split_once(": ")?;
-    let Some(mut part) = Part::of(&mut Words::of(rt, kind, false)) else {
+    let Some(mut part) = Part::of(&mut Words::of(rt.alloc(), kind, None)) else {
         println!(rt; "{group}: {name}: there is no part {kind}").ok()?;
         return Some(false);
     };

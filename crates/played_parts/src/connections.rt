@@ -5,12 +5,12 @@ ghost use Rattle.cip_base.specs.Counts.{count_of};
 ghost use Rattle.cip_hops.specs.Sides.{op_of};
 
 use crate::texts::{Perhaps, name as name_of, text};
-use crate::words::Words;
 use cip_base::{Address, PortNumber, Triad, count_of};
 use cip_hops::{
     BeginFault, BeginReason, Held, Hop, HopDown, HopTable, HopUp, Opening, OwnIds, Side,
 };
 use cip_segment::read_path;
+use line_words::Words;
 use std::alloc::Global;
 
 fn triad(serial: u16) -> Triad {

@@ -11,7 +11,6 @@ ghost use Rattle.cip_close.specs.Close.{Close};
 ghost use Rattle.cip_close.specs.GoesOn.{IsCloseGoingOn};
 
 use crate::texts::{Pairs, text};
-use crate::words::Words;
 use cip_close::{FORWARD_CLOSE, read_close};
 use cip_message::{CONNECTION_MANAGER, read_reply, read_request};
 use cip_open::{open_reply_service, open_service, read_open_of, read_open_reply};
@@ -22,6 +21,7 @@ use cip_rewrite::{
 use cip_segment::{FirstHop, PathView, first_hop, rest};
 use cip_target::object_path;
 use cip_unconnected::{UNCONNECTED_SEND, read_unconnected};
+use line_words::Words;
 
 // ---- what the edits ask for
 

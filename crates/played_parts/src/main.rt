@@ -26,7 +26,6 @@ mod target;
 mod texts;
 mod times;
 mod waiting_requests;
-mod words;
 
 use std::env;
 use std::process::ExitCode;

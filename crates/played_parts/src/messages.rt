@@ -5,7 +5,6 @@ ghost use Rattle.cip_message.specs.Failure.{HasTriadForWords};
 
 use crate::read_messages::{cut, over, read};
 use crate::texts::{Numbers, Pairs, text};
-use crate::words::Words;
 use cip_base::{Bytes, NoMemory, Status, put_double, put_word};
 use cip_close::{CloseFields, CloseReply, write_close, write_close_failure, write_close_reply};
 use cip_message::{
@@ -18,6 +17,7 @@ use cip_open::{
 };
 use cip_segment::view_path;
 use cip_unconnected::write_unconnected;
+use line_words::Words;
 use std::alloc::Global;
 
 // The bytes of a message that a guarded call gave, or its fault.

@@ -1,5 +1,4 @@
 //! What is asked: a part, which a heading names, and what it shows.
-use crate::words::Words;
 use crate::{
     connections, edited_messages, messages, paths, rooms, small_values, target, times,
     waiting_requests,
@@ -8,6 +7,7 @@ use cip_clock::Clock;
 use cip_hops::HopTable;
 use cip_pending::PendingTable;
 use cip_target::Target;
+use line_words::Words;
 use std::alloc::Global;
 
 /// A part of what stands below a module.

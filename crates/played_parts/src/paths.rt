@@ -1,11 +1,11 @@
 //! Questions about paths: what they are read as, and how segments are written.
 use crate::texts::{Pairs, name as name_of, text};
-use crate::words::Words;
 use cip_base::{Bytes, KeyFields};
 use cip_segment::{
     FirstHop, Path, PathFault, Segment, SegmentView, first_hop, read_path, rest, segment_ok,
     segments, split_first, view_path, write_path,
 };
+use line_words::Words;
 use std::alloc::Global;
 use std::fmt;
 

@@ -1,6 +1,5 @@
 //! Questions about messages that are read.
 use crate::texts::{Numbers, Pairs, Perhaps, name as name_of, text};
-use crate::words::Words;
 use cip_base::Status;
 use cip_close::{close_triad_at, close_words_at, read_close, read_close_failure, read_close_reply};
 use cip_message::{ConnectionFailure, DataFault, counted_path, read_reply, read_request};
@@ -9,6 +8,7 @@ use cip_open::{
     read_open_failure, read_open_reply, words_at,
 };
 use cip_unconnected::{inner, read_unconnected, route_words};
+use line_words::Words;
 use std::alloc::Global;
 use std::fmt;
 

@@ -1,8 +1,8 @@
 //! Questions about room that is reserved: tables and what they are made of.
-use crate::words::Words;
 use crate::{connections, waiting_requests};
 use cip_base::{NumberIndex, Row};
 use cip_clock::{Deadlines, NEVER};
+use line_words::Words;
 
 /// The answer to a question that is named as the call that it makes: `CALL ROOM`, of a table
 /// `CALL ROOM FIRST`.

@@ -1,7 +1,7 @@
 //! Questions about addresses, numbers from 1, triads and lists of bytes.
 use crate::texts::{Pairs, Perhaps, name as name_of, text};
-use crate::words::Words;
 use cip_base::{Address, Bytes, Ms, PortNumber};
+use line_words::Words;
 
 // `BYTES`: the address, and once more as its copy.
 fn address(words: &mut Words) -> Option<String> {

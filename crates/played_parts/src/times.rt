@@ -1,8 +1,8 @@
 //! Questions about a clock, and the deadlines that are set by it.
 use crate::texts::text;
-use crate::words::Words;
 use cip_base::Ms;
 use cip_clock::{Clock, LAST};
+use line_words::Words;
 
 /// The answer to a question of this name: `clock MICROSECONDS` sets it, `advance MILLISECONDS` lets
 /// them go by; `after_ticks TICK TICKS`, `after_rpi INTERVAL MULTIPLIER`.

@@ -1,8 +1,8 @@
 //! Questions about the table of requests that wait.
 use crate::texts::{Numbers, Pairs, Perhaps, name as name_of, text};
-use crate::words::Words;
 use cip_base::{Address, PortNumber, count_of};
 use cip_pending::{AddFault, Entry, Kind, PendingTable, UpSide};
+use line_words::Words;
 use std::alloc::Global;
 use std::fmt;
 

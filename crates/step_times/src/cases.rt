@@ -1,8 +1,6 @@
 //! The cases: a step, and what else stands in the tables.
-
 use crate::bridge::Bridge;
-use crate::chassis::{AnyModule, Kinds, device_of, make};
-use crate::fault::Fault;
+use crate::fault::TimesFault;
 use crate::frames::{DATUM, long_datum, long_send};
 use cip_module::Module;
 use std::alloc::Global;
@@ -102,7 +100,7 @@ pub fn case_of(name: &str) -> Option<Case> {
 }
 
 // Opens connections with serial numbers from 0 on.
-fn open_all<M: Module>(bridge: &mut Bridge<M>, count: u16) -> Result<(), Fault> {
+fn open_all<M: Module>(bridge: &mut Bridge<M>, count: u16) -> Result<(), TimesFault> {
     for serial in 0..count {
         bridge.open(serial)?;
     }
@@ -110,14 +108,18 @@ fn open_all<M: Module>(bridge: &mut Bridge<M>, count: u16) -> Result<(), Fault> 
 }
 
 // Has so many requests wait.
-fn send_all<M: Module>(bridge: &mut Bridge<M>, count: u16) -> Result<(), Fault> {
+fn send_all<M: Module>(bridge: &mut Bridge<M>, count: u16) -> Result<(), TimesFault> {
     for _ in 0..count {
         bridge.send()?;
     }
     Ok(())
 }
 
-fn send_turns<M: Module>(bridge: &mut Bridge<M>, others: u16, times: u32) -> Result<(), Fault> {
+fn send_turns<M: Module>(
+    bridge: &mut Bridge<M>,
+    others: u16,
+    times: u32,
+) -> Result<(), TimesFault> {
     for _ in 0..times {
         let number = bridge.send()?;
         bridge.answer(number.wrapping_sub(u32::from(others)))?;
@@ -125,7 +127,11 @@ fn send_turns<M: Module>(bridge: &mut Bridge<M>, others: u16, times: u32) -> Res
     Ok(())
 }
 
-fn open_turns<M: Module>(bridge: &mut Bridge<M>, others: u16, times: u32) -> Result<(), Fault> {
+fn open_turns<M: Module>(
+    bridge: &mut Bridge<M>,
+    others: u16,
+    times: u32,
+) -> Result<(), TimesFault> {
     for turn in 0..times {
         let oldest = (turn % 65_536) as u16;
         bridge.open(oldest.wrapping_add(others))?;
@@ -134,7 +140,7 @@ fn open_turns<M: Module>(bridge: &mut Bridge<M>, others: u16, times: u32) -> Res
     Ok(())
 }
 
-fn large_turns<M: Module>(bridge: &mut Bridge<M>, times: u32) -> Result<(), Fault> {
+fn large_turns<M: Module>(bridge: &mut Bridge<M>, times: u32) -> Result<(), TimesFault> {
     for turn in 0..times {
         let serial = (turn % 65_536) as u16;
         bridge.open_large(serial, 6)?;
@@ -143,7 +149,11 @@ fn large_turns<M: Module>(bridge: &mut Bridge<M>, times: u32) -> Result<(), Faul
     Ok(())
 }
 
-fn datum_turns<M: Module>(bridge: &mut Bridge<M>, others: u16, times: u32) -> Result<(), Fault> {
+fn datum_turns<M: Module>(
+    bridge: &mut Bridge<M>,
+    others: u16,
+    times: u32,
+) -> Result<(), TimesFault> {
     bridge.open(others)?;
     for turn in 0..times {
         let before = (turn % (u32::from(others) + 1)) as u16;
@@ -157,7 +167,7 @@ fn long_datum_turns<M: Module>(
     bridge: &mut Bridge<M>,
     size: u16,
     times: u32,
-) -> Result<(), Fault> {
+) -> Result<(), TimesFault> {
     let datum = long_datum(alloc, size)?;
     bridge.open_large(0, size)?;
     for _ in 0..times {
@@ -171,7 +181,7 @@ fn long_turns<M: Module>(
     bridge: &mut Bridge<M>,
     pairs: u16,
     times: u32,
-) -> Result<(), Fault> {
+) -> Result<(), TimesFault> {
     let message = long_send(alloc, pairs)?;
     for _ in 0..times {
         let number = bridge.send_as(&message)?;
@@ -191,7 +201,7 @@ impl Case {
         alloc: Global,
         bridge: &mut Bridge<M>,
         times: u32,
-    ) -> Result<(), Fault> {
+    ) -> Result<(), TimesFault> {
         open_all(bridge, self.others)?;
         send_all(bridge, self.others)?;
         match self.turn {
@@ -204,23 +214,20 @@ impl Case {
         }
     }
 
-    // So many turns, in rounds between which the bridge is reset.
-    fn turns<M: Module>(&self, alloc: Global, module_: M, times: u32) -> Result<(), Fault> {
+    /// So many turns of the bridge that this module is, in rounds between which it is reset.
+    /// NoMemory where an allocation is refused, Unexpected where the bridge does not send what it
+    /// is to send.
+    pub fn turns<M: Module>(
+        &self,
+        alloc: Global,
+        module_: M,
+        times: u32,
+    ) -> Result<(), TimesFault> {
         let mut bridge = Bridge::of(alloc, module_);
         for _ in 0..times / ROUND {
             self.round(alloc, &mut bridge, ROUND)?;
             bridge.reset()?;
         }
         self.round(alloc, &mut bridge, times % ROUND)
-    }
-
-    /// So many turns at a bridge of their own, of this kind.
-    pub fn run(&self, alloc: Global, kinds: Kinds, times: u32) -> Result<(), Fault> {
-        let bridge = device_of("A", kinds).ok_or(Fault::Unexpected)?;
-        match make(alloc, &bridge).ok_or(Fault::NoMemory)? {
-            AnyModule::Plain(module_) => self.turns(alloc, module_, times),
-            AnyModule::Indexed(module_) => self.turns(alloc, module_, times),
-            AnyModule::Adapter(_) => Err(Fault::Unexpected),
-        }
     }
 }
