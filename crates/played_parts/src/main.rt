@@ -3,7 +3,8 @@
 //!
 //! `played_parts FILE ..` plays the rows of these files, which are QUESTION = ANSWER, and writes a
 //! line for each case, with the first row of it that differs. Of a row without an answer it writes
-//! the answer. `cases.rt` says how a file is made up, `words.rt` what the words of a question are.
+//! the answer. `cases.rt` says how a file is made up, the library `line_words` what the words of a
+//! question are.
 //!
 //! `played_parts marked FILE ..` compares nothing, and writes a line for each row. The library call
 //! in it that takes memory, or hands its argument back, stands between the marks `>` and `<`, so
