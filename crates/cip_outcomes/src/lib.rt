@@ -1,6 +1,6 @@
 //! What came of a run so far, as wide scripts speak of it: how ops, data, refused commands and
-//! dropped frames are named and found in the journal, how what was expected differs from it, and what
-//! waits on links or is lost where they are down.
+//! dropped frames are named and found in the journal, how what was expected differs from it, and
+//! what waits on links or is lost where they are down.
 #![tactic(auto)]
 
 mod answers;
