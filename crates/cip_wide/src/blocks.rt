@@ -1,6 +1,6 @@
 //! Lines that are repeated.
 
-use crate::fault::{LineFault, WideFault, WordFault, wrong_count, wrong_word};
+use crate::fault::{LineFault, WideFault, WordFault, count_fault, word_fault};
 use crate::lines::Line;
 use cip_tool::number_u32;
 use std::alloc::Global;
@@ -22,21 +22,26 @@ pub(crate) struct Turn {
 pub(crate) fn count_of(line: &Line<'_>) -> Result<Option<u32>, WideFault> {
     let (count, rest) = match line.words.as_slice() {
         ["repeat", count, rest @ ..] => (*count, rest),
-        ["repeat"] => return Err(wrong_count("repeat", 0, "2, N {").at(line.number)),
+        ["repeat"] => {
+            let fault = count_fault("repeat", 0, "2, N {");
+            return Err(WideFault::Line(line.number, fault));
+        }
         _ => return Ok(None),
     };
     match rest {
         ["{"] => {}
         _ => {
             let found = rest.len().saturating_add(1);
-            return Err(wrong_count("repeat", found, "2, N {").at(line.number));
+            let fault = count_fault("repeat", found, "2, N {");
+            return Err(WideFault::Line(line.number, fault));
         }
     }
     match number_u32(count) {
         Some(count) if count >= 1 && count <= MOST => Ok(Some(count)),
         _ => {
             let why = WordFault::NoNumber(1, MOST);
-            Err(wrong_word("repeat", "N", count, why).at(line.number))
+            let fault = word_fault("repeat", "N", count, why);
+            Err(WideFault::Line(line.number, fault))
         }
     }
 }
@@ -45,7 +50,10 @@ pub(crate) fn count_of(line: &Line<'_>) -> Result<Option<u32>, WideFault> {
 pub(crate) fn is_end(line: &Line<'_>) -> Result<bool, WideFault> {
     match line.words.as_slice() {
         ["}"] => Ok(true),
-        ["}", rest @ ..] => Err(wrong_count("}", rest.len(), "0").at(line.number)),
+        ["}", rest @ ..] => {
+            let fault = count_fault("}", rest.len(), "0");
+            Err(WideFault::Line(line.number, fault))
+        }
         _ => Ok(false),
     }
 }

@@ -47,7 +47,7 @@ fn expect_datum(
     word: &str,
 ) -> Result<(), LineError> {
     match differing(alloc, found, word)? {
-        Some(bytes) => Err(unmet(Unmet::Datum { kind, place, bytes })),
+        Some(bytes) => Err(unmet(alloc, Unmet::Datum { kind, place, bytes })),
         None => Ok(()),
     }
 }
@@ -64,10 +64,13 @@ pub(crate) fn expect_arrived(
         Some(found) => expect_datum(alloc, "arrived", Place::Op(name), found.as_slice(), word),
         None => {
             let _bytes = bytes_of(alloc, word)?;
-            Err(unmet(Unmet::NoDatum {
-                kind: "arrived",
-                place: Place::Op(name),
-            }))
+            Err(unmet(
+                alloc,
+                Unmet::NoDatum {
+                    kind: "arrived",
+                    place: Place::Op(name),
+                },
+            ))
         }
     }
 }
@@ -89,7 +92,7 @@ fn consumed<'a>(
         }
         None => {
             let _bytes = bytes_of(alloc, word)?;
-            Err(unmet(Unmet::NoDatum { kind, place }))
+            Err(unmet(alloc, Unmet::NoDatum { kind, place }))
         }
     }
 }
@@ -102,14 +105,17 @@ pub(crate) fn expect_consumed(
     instance: &str,
     word: &str,
 ) -> Result<(), LineError> {
-    let instance = instance_of(instance)?;
+    let instance = instance_of(alloc, instance)?;
     let datum = consumed(alloc, world, "consumed", at, instance, word)?;
     let topology = world.topology();
     match standing_of(topology, world.journal(), at, instance, datum) {
-        Counted::Repeats(count) => Err(unmet(Unmet::Repeats {
-            place: assembly_place(topology, at, instance),
-            count,
-        })),
+        Counted::Repeats(count) => Err(unmet(
+            alloc,
+            Unmet::Repeats {
+                place: assembly_place(topology, at, instance),
+                count,
+            },
+        )),
         _ => Ok(()),
     }
 }
@@ -122,23 +128,29 @@ pub(crate) fn expect_repeated(
     instance: &str,
     word: &str,
 ) -> Result<(), LineError> {
-    let instance = instance_of(instance)?;
+    let instance = instance_of(alloc, instance)?;
     let datum = consumed(alloc, world, "repeated", at, instance, word)?;
     let topology = world.topology();
     match standing_of(topology, world.journal(), at, instance, datum) {
         Counted::Repeats(_) => Ok(()),
-        counted => Err(unmet(Unmet::NotRepeated {
-            place: assembly_place(topology, at, instance),
-            counted,
-        })),
+        counted => Err(unmet(
+            alloc,
+            Unmet::NotRepeated {
+                place: assembly_place(topology, at, instance),
+                counted,
+            },
+        )),
     }
 }
 
-fn no_assembly(topology: &Topology, at: ModuleId, instance: u32) -> LineError {
-    unmet(Unmet::NoAssembly {
-        module_: module_name(topology, at),
-        instance,
-    })
+fn no_assembly(alloc: Global, topology: &Topology, at: ModuleId, instance: u32) -> LineError {
+    unmet(
+        alloc,
+        Unmet::NoAssembly {
+            module_: module_name(topology, at),
+            instance,
+        },
+    )
 }
 
 /// `assembly M INSTANCE BYTES`
@@ -151,12 +163,12 @@ pub(crate) fn expect_assembly(
 ) -> Result<(), LineError>
     requires stand { ⟦<World as Shown>⟧.stands world.now }
 {
-    let number = instance_of(instance)?;
+    let number = instance_of(alloc, instance)?;
     let topology = world.topology();
     let tables = match world.tables(at) {
         Ok(tables) => tables,
         Err(WorldFault::NoMemory) => return Err(LineError::NoMemory),
-        Err(_) => return Err(no_assembly(topology, at, number)),
+        Err(_) => return Err(no_assembly(alloc, topology, at, number)),
     };
     for row in tables.assemblies.as_slice() {
         if u32::from(row.instance) == number {
@@ -164,5 +176,5 @@ pub(crate) fn expect_assembly(
             return expect_datum(alloc, "assembly", place, row.bytes.as_slice(), word);
         }
     }
-    Err(no_assembly(topology, at, number))
+    Err(no_assembly(alloc, topology, at, number))
 }

@@ -19,26 +19,35 @@ fn name_of(world: &World, op: Named<'_>) -> OpName {
     OpName::of_word(world.topology(), op.word, op.at, op.number)
 }
 
-fn expect_done(world: &World, ends: &mut Ends, op: Named<'_>, word: &str) -> Result<(), LineError> {
+fn expect_done(
+    alloc: Global,
+    world: &World,
+    ends: &mut Ends,
+    op: Named<'_>,
+    word: &str,
+) -> Result<(), LineError> {
     let Some(wanted) = code_of(word) else {
-        return Err(wrong_word("expect", "STATUS", word, WordFault::NoStatus));
+        return Err(wrong_word(alloc, "expect", "STATUS", word, WordFault::NoStatus));
     };
     let kind = "done";
     let Some(reply) = ends.done(world.journal(), op.at, op.number) else {
         let op = name_of(world, op);
-        return Err(unmet(Unmet::NotDone { kind, op }));
+        return Err(unmet(alloc, Unmet::NotDone { kind, op }));
     };
     match Code::of(reply) {
         Some(found) if found == wanted => Ok(()),
-        Some(found) => Err(unmet(Unmet::Done {
-            op: name_of(world, op),
-            found,
-            wanted,
-            answer: answer_of(world, op.at, op.number, found, false),
-        })),
+        Some(found) => Err(unmet(
+            alloc,
+            Unmet::Done {
+                op: name_of(world, op),
+                found,
+                wanted,
+                answer: answer_of(world, op.at, op.number, found, false),
+            },
+        )),
         None => {
             let op = name_of(world, op);
-            Err(unmet(Unmet::NoReply { kind, op }))
+            Err(unmet(alloc, Unmet::NoReply { kind, op }))
         }
     }
 }
@@ -46,22 +55,25 @@ fn expect_done(world: &World, ends: &mut Ends, op: Named<'_>, word: &str) -> Res
 fn expect_refused(alloc: Global, world: &World, ops: &Ops, word: &str) -> Result<(), LineError> {
     check_reason(alloc, word)?;
     let Some(last) = newest_given(world.journal()) else {
-        return Err(unmet(Unmet::NoCommand));
+        return Err(unmet(alloc, Unmet::NoCommand));
     };
     let Some(found) = last.refused else {
         let order = order_of(world.topology(), ops, last);
-        return Err(unmet(Unmet::NotRefused(order)));
+        return Err(unmet(alloc, Unmet::NotRefused(order)));
     };
     let mut text = String::new(alloc);
     write!(text, "{found:?}")?;
     if text.as_str() == word {
         return Ok(());
     }
-    Err(unmet(Unmet::Refused {
-        order: order_of(world.topology(), ops, last),
-        found,
-        wanted: excerpt(word),
-    }))
+    Err(unmet(
+        alloc,
+        Unmet::Refused {
+            order: order_of(world.topology(), ops, last),
+            found,
+            wanted: excerpt(word),
+        },
+    ))
 }
 
 // The bytes of an attribute of the reply to an op.
@@ -73,11 +85,11 @@ fn expect_attribute(
     attribute: &str,
     word: &str,
 ) -> Result<(), LineError> {
-    let number = attribute_number(attribute)?;
+    let number = attribute_number(alloc, attribute)?;
     let kind = "attribute";
     let Some(reply) = ends.done(world.journal(), op.at, op.number) else {
         let op = name_of(world, op);
-        return Err(unmet(Unmet::NotDone { kind, op }));
+        return Err(unmet(alloc, Unmet::NotDone { kind, op }));
     };
     expect_part(alloc, world, op, reply, number, word)
 }
@@ -93,27 +105,36 @@ fn expect_part(
 ) -> Result<(), LineError> {
     let name = name_of(world, op);
     let Ok(view) = read_reply(reply.as_slice()) else {
-        return Err(unmet(Unmet::NoReply {
-            kind: "attribute",
-            op: name,
-        }));
+        return Err(unmet(
+            alloc,
+            Unmet::NoReply {
+                kind: "attribute",
+                op: name,
+            },
+        ));
     };
     if let Some(found) = failure_of(reply) {
-        return Err(unmet(Unmet::Failed {
-            op: name,
-            found,
-            answer: answer_of(world, op.at, op.number, found, false),
-        }));
+        return Err(unmet(
+            alloc,
+            Unmet::Failed {
+                op: name,
+                found,
+                answer: answer_of(world, op.at, op.number, found, false),
+            },
+        ));
     }
     let Some(part) = attribute_of(world.journal(), op.at, op.number, view, number) else {
-        return Err(unmet(Unmet::NoAttribute { op: name, number }));
+        return Err(unmet(alloc, Unmet::NoAttribute { op: name, number }));
     };
     match differing(alloc, part, word)? {
-        Some(bytes) => Err(unmet(Unmet::Attribute {
-            op: name,
-            number,
-            bytes,
-        })),
+        Some(bytes) => Err(unmet(
+            alloc,
+            Unmet::Attribute {
+                op: name,
+                number,
+                bytes,
+            },
+        )),
         None => Ok(()),
     }
 }
@@ -150,6 +171,7 @@ fn told_failure(world: &World, ends: &mut Ends, op: Named<'_>) -> Answer {
 
 // The connection of an op is open, or it is not.
 fn expect_open(
+    alloc: Global,
     world: &World,
     ends: &mut Ends,
     op: Named<'_>,
@@ -159,17 +181,21 @@ fn expect_open(
 {
     let found = world.row_by_op(op.at, op.number)?.is_some();
     match (found, is_open) {
-        (false, true) => Err(unmet(Unmet::NotOpen {
-            op: name_of(world, op),
-            answer: told_answer(world, ends, op),
-        })),
-        (true, false) => Err(unmet(Unmet::Open(name_of(world, op)))),
+        (false, true) => Err(unmet(
+            alloc,
+            Unmet::NotOpen {
+                op: name_of(world, op),
+                answer: told_answer(world, ends, op),
+            },
+        )),
+        (true, false) => Err(unmet(alloc, Unmet::Open(name_of(world, op)))),
         _ => Ok(()),
     }
 }
 
 // The connection of an op expired at a module.
 fn expect_expired(
+    alloc: Global,
     world: &World,
     ends: &mut Ends,
     at: ModuleId,
@@ -178,12 +204,15 @@ fn expect_expired(
     let topology = world.topology();
     match has_expired(topology, world.journal(), (op.at, op.number), at) {
         Some(true) => Ok(()),
-        Some(false) => Err(unmet(Unmet::NotExpired {
-            op: name_of(world, op),
-            module_: module_name(topology, at),
-            answer: told_failure(world, ends, op),
-        })),
-        None => Err(unmet(Unmet::NotAsked(name_of(world, op)))),
+        Some(false) => Err(unmet(
+            alloc,
+            Unmet::NotExpired {
+                op: name_of(world, op),
+                module_: module_name(topology, at),
+                answer: told_failure(world, ends, op),
+            },
+        )),
+        None => Err(unmet(alloc, Unmet::NotAsked(name_of(world, op)))),
     }
 }
 
@@ -192,7 +221,7 @@ fn expect_dropped(alloc: Global, world: &World, at: ModuleId, word: &str) -> Res
     check_drop(alloc, word)?;
     let module_ = module_name(world.topology(), at);
     let Some((frame, dropped)) = newest_frame(world.journal(), at) else {
-        return Err(unmet(Unmet::NoFrame(module_)));
+        return Err(unmet(alloc, Unmet::NoFrame(module_)));
     };
     let mut text = String::new(alloc);
     if let Some(dropped) = dropped {
@@ -201,12 +230,15 @@ fn expect_dropped(alloc: Global, world: &World, at: ModuleId, word: &str) -> Res
     if text.as_str() == word {
         return Ok(());
     }
-    Err(unmet(Unmet::Dropped {
-        module_,
-        frame,
-        found: DropReason(dropped),
-        wanted: excerpt(word),
-    }))
+    Err(unmet(
+        alloc,
+        Unmet::Dropped {
+            module_,
+            frame,
+            found: DropReason(dropped),
+            wanted: excerpt(word),
+        },
+    ))
 }
 
 // The words, as a script has them.
@@ -267,20 +299,23 @@ fn expect_chain(
     if found.as_str() == wanted.as_str() {
         return Ok(());
     }
-    Err(unmet(Unmet::Chain {
-        op: name_of(world, op),
-        found,
-        wanted,
-        answer: told_failure(world, ends, op),
-    }))
+    Err(unmet(
+        alloc,
+        Unmet::Chain {
+            op: name_of(world, op),
+            found,
+            wanted,
+            answer: told_failure(world, ends, op),
+        },
+    ))
 }
 
-fn expect_quiet(world: &World) -> Result<(), LineError> {
+fn expect_quiet(alloc: Global, world: &World) -> Result<(), LineError> {
     let waiting = world.waiting()?;
     if waiting.is_empty() {
         return Ok(());
     }
-    Err(unmet(Unmet::Waiting(waiting)))
+    Err(unmet(alloc, Unmet::Waiting(waiting)))
 }
 
 static KINDS: [&str; 13] = [
@@ -322,12 +357,12 @@ fn needed(kind: &str) -> Option<&'static str> {
 // The words stand for nothing that can be expected.
 fn wrong_words(alloc: Global, args: &[&str]) -> LineError {
     let Some(kind) = args.first() else {
-        return wrong_count("expect", 0, "1 or more, what is expected");
+        return wrong_count(alloc, "expect", 0, "1 or more, what is expected");
     };
     match needed(kind) {
-        Some(needed) => wrong_count("expect", args.len(), needed),
+        Some(needed) => wrong_count(alloc, "expect", args.len(), needed),
         None => match nearest(alloc, kind, &KINDS) {
-            Ok(near) => wrong_word("expect", "WHAT", kind, WordFault::NoKind(near)),
+            Ok(near) => wrong_word(alloc, "expect", "WHAT", kind, WordFault::NoKind(near)),
             Err(_) => LineError::NoMemory,
         },
     }
@@ -345,13 +380,13 @@ fn expect_op(
     requires stand { ⟦<World as Shown>⟧.stands world.now }
 {
     match args {
-        ["done", _, status] => expect_done(world, ends, op, status),
+        ["done", _, status] => expect_done(alloc, world, ends, op, status),
         ["arrived", _, bytes] => expect_arrived(alloc, world, op, bytes),
         ["attribute", _, number, bytes] => {
             expect_attribute(alloc, world, ends, op, number, bytes)
         }
-        ["open", _] => expect_open(world, ends, op, true),
-        ["closed", _] => expect_open(world, ends, op, false),
+        ["open", _] => expect_open(alloc, world, ends, op, true),
+        ["closed", _] => expect_open(alloc, world, ends, op, false),
         ["chain", _, words @ ..] => expect_chain(alloc, world, names, ends, op, words),
         _ => Err(wrong_words(alloc, args)),
     }
@@ -374,7 +409,7 @@ fn expect_module(
         ["assembly", _, instance, bytes] => expect_assembly(alloc, world, at, instance, bytes),
         ["expired", _, op] => {
             let op = op_of(alloc, world.topology(), ops, op)?;
-            expect_expired(world, ends, at, op)
+            expect_expired(alloc, world, ends, at, op)
         }
         ["dropped", _, reason] => expect_dropped(alloc, world, at, reason),
         _ => Err(wrong_words(alloc, args)),
@@ -396,7 +431,7 @@ pub(crate) fn expect(
     let topology = world.topology();
     match args {
         ["refused", reason] => expect_refused(alloc, world, ops, reason),
-        ["quiet"] => expect_quiet(world),
+        ["quiet"] => expect_quiet(alloc, world),
         ["done" | "arrived", op, _]
         | ["attribute", op, _, _]
         | ["open" | "closed", op]

@@ -120,10 +120,25 @@ impl From<NoMemory> for WideFault {
     }
 }
 
+/// What is wrong with a line, behind a pointer, so that it is handed up as one.
+pub(crate) struct Wrong {
+    // None once it was handed out
+    fault: Option<Box<LineFault>>,
+}
+
+// (A derive would take the fault apart in each function that hands it up.)
+impl Drop for Wrong {
+    fn drop(self) {
+        let Wrong { fault: _ } = self;
+    }
+}
+
 /// Why a line gave nothing.
 #[derive(Drop)]
 pub(crate) enum LineError {
-    Fault(LineFault),
+    Fault(Wrong),
+    /// The script that comes out would be too long.
+    TooLong,
     NoMemory,
 }
 
@@ -140,10 +155,22 @@ impl From<NoMemory> for LineError {
 }
 
 impl LineError {
+    /// Of this fault.
+    pub(crate) fn of(alloc: Global, fault: LineFault) -> LineError {
+        match Box::new(alloc, fault) {
+            Ok(fault) => LineError::Fault(Wrong { fault: Some(fault) }),
+            Err(_) => LineError::NoMemory,
+        }
+    }
+
     /// At the line of this number.
     pub(crate) fn at(self, line: usize) -> WideFault {
         match self {
-            LineError::Fault(fault) => WideFault::Line(line, fault),
+            LineError::Fault(mut wrong) => match wrong.fault.take() {
+                Some(fault) => WideFault::Line(line, Box::into_inner(fault)),
+                None => WideFault::NoMemory,
+            },
+            LineError::TooLong => WideFault::Line(line, LineFault::TooLong),
             LineError::NoMemory => WideFault::NoMemory,
         }
     }
@@ -157,44 +184,65 @@ static WORDS: [&str; 21] = [
 /// The first word of a line is none that there is.
 pub(crate) fn unknown_word(alloc: Global, word: &str) -> LineError {
     match nearest(alloc, word, &WORDS) {
-        Ok(near) => LineError::Fault(LineFault::UnknownWord(excerpt(word), near)),
+        Ok(near) => LineError::of(alloc, LineFault::UnknownWord(excerpt(word), near)),
         Err(_) => LineError::NoMemory,
     }
 }
 
 /// What was expected did not come.
-pub(crate) fn unmet(unmet: Unmet) -> LineError {
-    LineError::Fault(LineFault::Unmet(unmet))
+pub(crate) fn unmet(alloc: Global, unmet: Unmet) -> LineError {
+    LineError::of(alloc, LineFault::Unmet(unmet))
 }
 
 /// So many words stand behind the first one, where these are needed.
-pub(crate) fn wrong_count(word: &'static str, found: usize, needed: &'static str) -> LineError {
-    LineError::Fault(LineFault::Count {
+pub(crate) fn count_fault(word: &'static str, found: usize, needed: &'static str) -> LineFault {
+    LineFault::Count {
         word,
         found,
         needed,
-    })
+    }
 }
 
 /// A word that is none that may stand there.
+pub(crate) fn word_fault(
+    word: &str,
+    field: &'static str,
+    found: &str,
+    why: WordFault,
+) -> LineFault {
+    LineFault::Word {
+        word: excerpt(word),
+        field,
+        found: excerpt(found),
+        why,
+    }
+}
+
+/// The error of a `count_fault`.
+pub(crate) fn wrong_count(
+    alloc: Global,
+    word: &'static str,
+    found: usize,
+    needed: &'static str,
+) -> LineError {
+    LineError::of(alloc, count_fault(word, found, needed))
+}
+
+/// The error of a `word_fault`.
 pub(crate) fn wrong_word(
+    alloc: Global,
     word: &str,
     field: &'static str,
     found: &str,
     why: WordFault,
 ) -> LineError {
-    LineError::Fault(LineFault::Word {
-        word: excerpt(word),
-        field,
-        found: excerpt(found),
-        why,
-    })
+    LineError::of(alloc, word_fault(word, field, found, why))
 }
 
 /// A path in words that is none.
-pub(crate) fn wrong_path(word: &str, why: AnswerFault) -> LineError {
+pub(crate) fn wrong_path(alloc: Global, word: &str, why: AnswerFault) -> LineError {
     match why {
         AnswerFault::NoMemory => LineError::NoMemory,
-        why => LineError::Fault(LineFault::Path(excerpt(word), why)),
+        why => LineError::of(alloc, LineFault::Path(excerpt(word), why)),
     }
 }

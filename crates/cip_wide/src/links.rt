@@ -32,7 +32,7 @@ pub(crate) fn module_at(
 ) -> Result<ModuleId, LineError> {
     match topology.by_name(name.as_bytes()) {
         Some(at) => Ok(at),
-        None => Err(wrong_word(word, "M", name, no_module(alloc, topology, name)?)),
+        None => Err(wrong_word(alloc, word, "M", name, no_module(alloc, topology, name)?)),
     }
 }
 
@@ -40,7 +40,7 @@ pub(crate) fn module_at(
 fn link_at(alloc: Global, topology: &Topology, word: &str, name: &str) -> Result<usize, LineError> {
     match link_named(topology, name) {
         Some(link) => Ok(link),
-        None => Err(wrong_word(word, "LINK", name, no_link(alloc, topology, name)?)),
+        None => Err(wrong_word(alloc, word, "LINK", name, no_link(alloc, topology, name)?)),
     }
 }
 
@@ -55,7 +55,7 @@ fn side_at(
     let at = module_at(alloc, topology, word, name)?;
     match topology.configs().get(at.0) {
         Some(config) if stands_on(config, link) => Ok(at),
-        _ => Err(wrong_word(word, "M", name, WordFault::NotThere)),
+        _ => Err(wrong_word(alloc, word, "M", name, WordFault::NotThere)),
     }
 }
 
@@ -76,7 +76,7 @@ pub(crate) fn side_of(
             let module_ = Some(side_at(alloc, topology, word, link, side)?);
             Ok(Side { link, module_ })
         }
-        _ => Err(wrong_count(word, args.len(), "1 or 2, LINK [M]")),
+        _ => Err(wrong_count(alloc, word, args.len(), "1 or 2, LINK [M]")),
     }
 }
 

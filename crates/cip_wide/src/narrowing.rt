@@ -70,7 +70,7 @@ fn script_fault(
 
 fn stopped(alloc: Global, world: &World, line: &str, fault: ScriptFault) -> LineError {
     match script_fault(alloc, world, line, fault) {
-        Ok(fault) => LineError::Fault(fault),
+        Ok(fault) => LineError::of(alloc, fault),
         Err(NoMemory) => LineError::NoMemory,
     }
 }
@@ -99,7 +99,7 @@ fn put_line(narrow: &mut Kept, line: &str) -> Result<(), LineError>
     narrow.script.push_str(line)?;
     narrow.script.push('\n')?;
     if narrow.script.len() > MOST_BYTES {
-        return Err(LineError::Fault(LineFault::TooLong));
+        return Err(LineError::TooLong);
     }
     Ok(())
 }
@@ -358,7 +358,7 @@ fn lines_for(alloc: Global, world: &World, words: &[&str]) -> Result<Vec<String>
             Ok(frame_lines(alloc, "deliver", frames.as_slice())?)
         }
         ["tickall", ms] => Ok(tick_lines(alloc, world.topology(), ms)?),
-        ["tickall", args @ ..] => Err(wrong_count("tickall", args.len(), "1, MS")),
+        ["tickall", args @ ..] => Err(wrong_count(alloc, "tickall", args.len(), "1, MS")),
         _ => Ok(Vec::new(alloc)),
     }
 }
@@ -383,7 +383,7 @@ fn begin_outage(
     if let Some(outage) = outages.over(side) {
         let why = WordFault::IsDown(outage.since);
         let link = args.first().unwrap_or(&"");
-        return Err(wrong_word("down", "LINK", link, why));
+        return Err(wrong_word(alloc, "down", "LINK", link, why));
     }
     outages.begin(Outage { side, since })?;
     Ok(())
@@ -402,8 +402,8 @@ fn end_outage(
     }
     let why = WordFault::NotDown(outages.told(alloc, topology)?);
     match args {
-        [_, side] => Err(wrong_word("up", "M", side, why)),
-        _ => Err(wrong_word("up", "LINK", args.first().unwrap_or(&""), why)),
+        [_, side] => Err(wrong_word(alloc, "up", "M", side, why)),
+        _ => Err(wrong_word(alloc, "up", "LINK", args.first().unwrap_or(&""), why)),
     }
 }
 

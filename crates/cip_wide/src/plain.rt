@@ -34,7 +34,13 @@ fn is_in_words(word: &str) -> bool {
 }
 
 // The op that the line asks for by this word.
-fn new_op(ops: &Ops, at: ModuleId, word: &str, found: &str) -> Result<Option<NewOp>, LineError> {
+fn new_op(
+    alloc: Global,
+    ops: &Ops,
+    at: ModuleId,
+    word: &str,
+    found: &str,
+) -> Result<Option<NewOp>, LineError> {
     let Some(name) = name_of(found) else {
         return Ok(number_u32(found).map(|number| NewOp {
             name: None,
@@ -48,7 +54,7 @@ fn new_op(ops: &Ops, at: ModuleId, word: &str, found: &str) -> Result<Option<New
             at,
             number,
         })),
-        None => Err(wrong_word(word, "OP", found, WordFault::Spent)),
+        None => Err(wrong_word(alloc, word, "OP", found, WordFault::Spent)),
     }
 }
 
@@ -74,7 +80,7 @@ fn put_old_op(
         None => {
             let names = ops.words(alloc, Some(at))?;
             let near = nearest(alloc, found, names.as_slice())?;
-            Err(wrong_word(word, field, found, WordFault::NoOp(near)))
+            Err(wrong_word(alloc, word, field, found, WordFault::NoOp(near)))
         }
     }
 }
@@ -97,6 +103,7 @@ fn behind_count(word: &str) -> Option<&str> {
 
 // A datum of this op, whose word stands there: with the next count in front where it says so.
 fn put_datum(
+    alloc: Global,
     journal: &[Entry],
     at: ModuleId,
     of: Option<u32>,
@@ -109,7 +116,7 @@ fn put_datum(
     };
     if let Some(fault) = hex_fault(bytes) {
         let why = WordFault::NoBytes(fault);
-        return Err(wrong_word("enter", "BYTES", found, why));
+        return Err(wrong_word(alloc, "enter", "BYTES", found, why));
     }
     let [low, high] = next_count(journal, at, of).to_le_bytes();
     write!(line, "{low:02X}{high:02X}{bytes}")?;
@@ -126,7 +133,7 @@ fn put_path(alloc: Global, word: &str, found: &str, line: &mut String) -> Result
             line.push_str(path.as_str())?;
             Ok(())
         }
-        Err(why) => Err(wrong_path(word, why)),
+        Err(why) => Err(wrong_path(alloc, word, why)),
     }
 }
 
@@ -164,7 +171,7 @@ pub(crate) fn plain_line(
         line.push(' ')?;
         match (field, at) {
             ("OP", Some(at)) if asks(word) => {
-                new = new_op(ops, at, word, found)?;
+                new = new_op(alloc, ops, at, word, found)?;
                 match &new {
                     Some(op) => write!(line, "{}", op.number)?,
                     None => line.push_str(found)?,
@@ -174,7 +181,7 @@ pub(crate) fn plain_line(
             ("OF", Some(at)) => put_old_op(alloc, ops, at, word, "OF", found, &mut line)?,
             ("BYTES", Some(at)) if word == "enter" => {
                 let of = entered_op(ops, at, args);
-                put_datum(world.journal(), at, of, found, &mut line)?
+                put_datum(alloc, world.journal(), at, of, found, &mut line)?
             }
             ("PATH", _) => put_path(alloc, word, found, &mut line)?,
             _ => line.push_str(found)?,

@@ -39,7 +39,7 @@ pub(crate) fn op_of<'a>(
         None => {
             let names = ops.words(alloc, None)?;
             let near = nearest(alloc, word, names.as_slice())?;
-            Err(wrong_word("expect", "OP", word, WordFault::NoOpWord(near)))
+            Err(wrong_word(alloc, "expect", "OP", word, WordFault::NoOpWord(near)))
         }
     }
 }
@@ -51,14 +51,14 @@ pub(crate) fn bytes_of(alloc: Global, word: &str) -> Result<Bytes, LineError> {
     }
     if let Some(fault) = hex_fault(word) {
         let why = WordFault::NoBytes(fault);
-        return Err(wrong_word("expect", "BYTES", word, why));
+        return Err(wrong_word(alloc, "expect", "BYTES", word, why));
     }
     match hex::decode(alloc, word) {
         Ok(bytes) => Ok(Bytes::of(bytes)),
         Err(FromHexError::OutOfMemory) => Err(LineError::NoMemory),
         Err(_) => {
             let why = WordFault::NoBytes(HexFault::Odd(word.len()));
-            Err(wrong_word("expect", "BYTES", word, why))
+            Err(wrong_word(alloc, "expect", "BYTES", word, why))
         }
     }
 }
@@ -91,23 +91,23 @@ pub(crate) fn code_of(word: &str) -> Option<Code> {
 }
 
 /// The instance of an assembly.
-pub(crate) fn instance_of(word: &str) -> Result<u32, LineError> {
+pub(crate) fn instance_of(alloc: Global, word: &str) -> Result<u32, LineError> {
     match number_u32(word) {
         Some(instance) => Ok(instance),
         None => {
             let why = WordFault::NoNumber(0, u32::MAX);
-            Err(wrong_word("expect", "INSTANCE", word, why))
+            Err(wrong_word(alloc, "expect", "INSTANCE", word, why))
         }
     }
 }
 
 /// The number of an attribute.
-pub(crate) fn attribute_number(word: &str) -> Result<u16, LineError> {
+pub(crate) fn attribute_number(alloc: Global, word: &str) -> Result<u16, LineError> {
     match number_u16(word) {
         Some(number) => Ok(number),
         None => {
             let why = WordFault::NoNumber(0, 65_535);
-            Err(wrong_word("expect", "ATTRIBUTE", word, why))
+            Err(wrong_word(alloc, "expect", "ATTRIBUTE", word, why))
         }
     }
 }
@@ -137,7 +137,7 @@ pub(crate) fn check_reason(alloc: Global, word: &str) -> Result<(), LineError> {
         return Ok(());
     }
     let why = WordFault::NoReason(nearest(alloc, word, &REASONS)?);
-    Err(wrong_word("expect", "REASON", word, why))
+    Err(wrong_word(alloc, "expect", "REASON", word, why))
 }
 
 /// The word is a reason for which a frame is dropped.
@@ -146,5 +146,5 @@ pub(crate) fn check_drop(alloc: Global, word: &str) -> Result<(), LineError> {
         return Ok(());
     }
     let why = WordFault::NoDrop(nearest(alloc, word, &DROPS)?);
-    Err(wrong_word("expect", "REASON", word, why))
+    Err(wrong_word(alloc, "expect", "REASON", word, why))
 }
