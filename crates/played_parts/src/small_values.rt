@@ -2,6 +2,7 @@
 use crate::texts::{Pairs, Perhaps, name as name_of, text};
 use cip_base::{Address, Bytes, Ms, PortNumber};
 use line_words::Words;
+use std::alloc::Global;
 
 // `BYTES`: the address, and once more as its copy.
 fn address(words: &mut Words) -> Option<String> {
@@ -16,20 +17,23 @@ fn address(words: &mut Words) -> Option<String> {
     }
 }
 
-// `BYTES BYTES`: the first written over by the second, which are as many, and whether that changed
-// them.
-fn overwritten(words: &mut Words) -> Option<String> {
-    let alloc = words.alloc;
-    let mut bytes = Bytes::of(words.bytes()?);
+// The bytes written over by others, which are as many, and whether that changed them.
+fn changed(alloc: Global, mut bytes: Bytes, next: &[u8]) -> Option<String> {
     let same = Bytes::of(bytes.as_slice().to_vec(alloc).ok()?);
-    let next = words.bytes()?;
     if next.len() != bytes.as_slice().len() || bytes != same {
         return None;
     }
-    bytes.overwrite(next.as_slice());
+    bytes.overwrite(next);
     let differs = bytes != same;
     let bytes = bytes.into_vec();
     format!(in alloc; "{} {differs}", Pairs(bytes.as_slice())).ok()
+}
+
+// `BYTES BYTES`: the first written over by the second.
+fn overwritten(words: &mut Words) -> Option<String> {
+    let bytes = words.bytes()?;
+    let next = words.bytes()?;
+    changed(words.alloc, Bytes::of(bytes), next.as_slice())
 }
 
 /// The answer to a question of this name.
