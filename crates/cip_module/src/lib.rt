@@ -1,4 +1,4 @@
-//! What a module does at each event of the routing table, and its kinds.
+//! The kinds of module, over the steps of a device.
 #![tactic(auto)]
 
 mod adapter;
