@@ -1,5 +1,5 @@
 //! What a module is: its identity, its ports, its assemblies and its rooms.
-ghost use Rattle.std.specs.Prelude.{◌≡◌, ◌↔◌, IfSome, IsSome, IsTrue, IfOk};
+ghost use Rattle.std.specs.Prelude.{◌≡◌, ◌↔◌, IfSome, IsSome, IsTrue};
 ghost use Rattle.cip_config.specs.Config.{is_settings};
 
 use crate::legal::is_settings;

@@ -3,7 +3,7 @@ ghost use Rattle.std.specs.Prelude.{◌≡◌};
 ghost use Rattle.std.specs.List.{list_all, list_any};
 ghost use Rattle.cip_target.specs.Assemblies.{is_assembly};
 ghost use Rattle.cip_config.specs.Config.{is_name_byte, is_name, is_text_byte, is_range, is_legal};
-ghost use Rattle.cip_config.specs.Config.{is_port, has_number, numbers_differ, most_ports};
+ghost use Rattle.cip_config.specs.Config.{is_port, has_number, numbers_differ};
 ghost use Rattle.cip_config.specs.Config.{are_ports, has_instance, instances_differ};
 ghost use Rattle.cip_config.specs.Config.{are_assemblies, is_room, are_counts, is_settings};
 

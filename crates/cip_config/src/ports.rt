@@ -1,7 +1,7 @@
 //! The ports of a module.
 ghost use Rattle.std.specs.Prelude.{◌≡◌};
 ghost use Rattle.std.specs.Option.{option_copied};
-ghost use Rattle.cip_config.specs.Config.{has_number, port_of};
+ghost use Rattle.cip_config.specs.Config.{port_of};
 
 use crate::config::{ModuleSettings, PortConfig};
 use cip_base::PortNumber;

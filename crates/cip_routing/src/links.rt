@@ -1,6 +1,5 @@
 //! Whether a message can be sent on by a link.
 ghost use Rattle.std.specs.Prelude.{◌≡◌, ◌≤◌, None};
-ghost use Rattle.cip_pending.specs.Pendings.{refusal};
 ghost use Rattle.cip_routing.specs.Links.{wait_refusal, link_refusal, CanWait};
 
 use crate::refusals::LinkRefusal;

@@ -1,12 +1,11 @@
 //! Which row of the reply group a reply meets.
 ghost use Rattle.std.specs.Prelude.{◌≡◌, Option, None, Some};
-ghost use Rattle.std.specs.Option.{option_copied};
 ghost use Rattle.cip_message.specs.Reading.{reply_of};
 ghost use Rattle.cip_message.specs.ReplyAt.{reply_at};
 ghost use Rattle.cip_message.specs.Failure.{failure_at};
 ghost use Rattle.cip_open.specs.SuccessAt.{open_reply_at};
 ghost use Rattle.cip_close.specs.SuccessAt.{close_reply_at};
-ghost use Rattle.cip_routing.specs.ReplyRows.{triad_eq, failure_row, opened_row, closed_row};
+ghost use Rattle.cip_routing.specs.ReplyRows.{failure_row, opened_row, closed_row};
 ghost use Rattle.cip_routing.specs.ReplyRows.{opening_row, open_kind_row, closing_row, kind_row};
 ghost use Rattle.cip_routing.specs.ReplyRows.{read_row};
 ghost use Rattle.cip_base.specs.declared.triad.Triad.{Triad as Triads};

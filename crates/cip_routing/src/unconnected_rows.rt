@@ -1,8 +1,6 @@
 //! Which row of the unconnected send group answers.
 ghost use Rattle.std.specs.Prelude.{◌≡◌};
 ghost use Rattle.cip_segment.specs.Reading.{hop_of, segments_of};
-ghost use Rattle.cip_message.specs.RequestAt.{request_at};
-ghost use Rattle.cip_message.specs.Reading.{request_of};
 ghost use Rattle.cip_unconnected.specs.Reading.{unconnected_of};
 ghost use Rattle.cip_routing.specs.Keys.{leading_mismatch};
 ghost use Rattle.cip_routing.specs.UnconnectedRows.{hop_row, key_row, unconnected_row, unread_row};

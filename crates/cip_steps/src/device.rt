@@ -12,7 +12,7 @@ ghost use Rattle.cip_routing.specs.Code.Fit.{Fit};
 use cip_base::{Address, NoMemory, PortNumber};
 use cip_clock::Clock;
 use cip_config::ModuleConfig;
-use cip_hops::{Hop, HopTable};
+use cip_hops::HopTable;
 use cip_pending::PendingTable;
 use cip_routing::{HopRow, SpentOps, hop_row};
 use cip_target::Target;

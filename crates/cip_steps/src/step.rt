@@ -1,11 +1,10 @@
 //! The step of a module of any kind.
-ghost use Rattle.std.specs.Prelude.{◌≡◌, ◌↔◌, None, IfOk, IfSome, IsTrue, OnErr};
+ghost use Rattle.std.specs.Prelude.{◌≡◌, ◌↔◌, None, IfOk, IsTrue, OnErr};
 ghost use Rattle.cip_steps.specs.Code.Ticks.{IsMessage, IsLeftWhole, IsSingle};
 ghost use Rattle.cip_routing.specs.Steps.{IsStep, IsStepFault};
 ghost use Rattle.cip_routing.specs.Table.{command_effects, frame_effects};
 ghost use Rattle.cip_steps.specs.Code.Device.{state_of_device};
 ghost use Rattle.cip_steps.specs.Code.Reacts.{ReactsWhole};
-ghost use Rattle.cip_event.specs.Filled.{bytes_in};
 ghost use Rattle.cip_steps.specs.Reactions.{PutsOut};
 ghost use Rattle.cip_event.specs.declared.event.Body.TheVariants as bodies;
 ghost use Rattle.cip_event.specs.declared.event.Event.TheVariants as events;

@@ -1,6 +1,6 @@
 //! The target group: a request to an object of the module itself. The target decides its row; a
 //! reset of the whole module is carried out here (Volume 1, chapter 5, Identity object).
-ghost use Rattle.std.specs.Prelude.{◌≡◌, ◌∷◌, [], true, IsTrue, IfOk, OnOk, ◌++◌};
+ghost use Rattle.std.specs.Prelude.{◌≡◌, ◌∷◌, [], IsTrue, IfOk, OnOk, ◌++◌};
 ghost use Rattle.cip_message.specs.Reading.{request_of};
 ghost use Rattle.cip_message.specs.Request.{Request as Asked};
 ghost use Rattle.cip_target.specs.Objects.{reads_reset};

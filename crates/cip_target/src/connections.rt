@@ -1,5 +1,5 @@
 //! The target as the end of connections.
-ghost use Rattle.std.specs.Prelude.{◌≡◌, ◌≤◌, length, Ok, IfSome, IsSome};
+ghost use Rattle.std.specs.Prelude.{◌≡◌, ◌≤◌, length, Ok, IsSome};
 ghost use Rattle.std.specs.FinMap as map;
 ghost use Rattle.cip_open.specs.Reading.{open_of};
 ghost use Rattle.cip_target.specs.Assemblies.{HasSize, config_in};

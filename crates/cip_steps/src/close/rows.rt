@@ -10,9 +10,8 @@ ghost use Rattle.cip_steps.specs.Code.Device.{state_of_device};
 
 use crate::device::Device;
 use cip_base::{Address, PortNumber};
-use cip_close::{CLOSE_FIXED_PART, CloseView};
+use cip_close::CloseView;
 use cip_hops::{Hop, HopDown, HopUp};
-use cip_message::DataFault;
 use cip_pending::{PendingTable, UpSide};
 use cip_routing::{CloseRefusal, wait_refusal};
 use cip_segment::{FirstHop, PathView, first_hop, rest};

@@ -1,5 +1,5 @@
 //! The close group: Forward_Close at a router, at an end and at its originator.
-ghost use Rattle.std.specs.Prelude.{◌≡◌, ◌≤◌, ◌∷◌, [], IfOk, OnErr, None};
+ghost use Rattle.std.specs.Prelude.{◌≡◌, ◌≤◌, ◌∷◌, [], IfOk, None};
 ghost use Rattle.cip_message.specs.Received.{IsReceived};
 ghost use Rattle.cip_close.specs.declared.request.TheConstants.{FORWARD_CLOSE};
 ghost use Rattle.cip_close.specs.Reading.{close_of};

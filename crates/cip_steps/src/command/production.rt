@@ -1,6 +1,6 @@
 //! What an end sends of an assembly: a datum by each connection that takes its data from it, in
 //! rising triad.
-ghost use Rattle.std.specs.Prelude.{◌≡◌, ◌≤◌, ◌++◌, ◌∷◌, [], length, IfOk, OnErr, OnOk};
+ghost use Rattle.std.specs.Prelude.{◌≡◌, ◌≤◌, ◌++◌, ◌∷◌, [], length, IfOk, OnOk};
 ghost use Rattle.std.specs.FinMap as map;
 ghost use Rattle.cip_steps.specs.Code.Does.{HandlesAs};
 ghost use Rattle.cip_steps.specs.Code.Device.{state_of_device};

@@ -1,5 +1,5 @@
 //! Which row of the command group a command meets.
-ghost use Rattle.std.specs.Prelude.{◌≡◌, ◌==◌, ◌≤◌, Some, length, slice_index, IfOk};
+ghost use Rattle.std.specs.Prelude.{◌≡◌, ◌==◌, ◌≤◌, Some, length, slice_index};
 ghost use Rattle.std.specs.FinMap as map;
 ghost use Rattle.cip_unconnected.specs.Unconnected.{unconnected_bytes};
 ghost use Rattle.cip_unconnected.specs.Reading.{unconnected_of};

@@ -1,6 +1,6 @@
 //! The open group: Forward_Open and Large_Forward_Open at a router, at an end and at its
 //! originator.
-ghost use Rattle.std.specs.Prelude.{◌≡◌, ◌≤◌, ◌<◌, ◌∷◌, [], length, IfOk, OnErr, None, Some, Ok};
+ghost use Rattle.std.specs.Prelude.{◌≡◌, ◌≤◌, ◌<◌, ◌∷◌, [], IfOk, None, Ok};
 ghost use Rattle.std.specs.Prelude.{true};
 ghost use Rattle.cip_message.specs.Received.{IsReceived};
 ghost use Rattle.cip_open.specs.Kinds.{open_service};
@@ -12,7 +12,7 @@ ghost use Rattle.cip_pending.specs.Pendings.{refusal};
 ghost use Rattle.cip_hops.specs.Hops as hops;
 ghost use Rattle.cip_hops.specs.Sides.{up_is_link};
 ghost use Rattle.cip_target.specs.Ends.{row_at};
-ghost use Rattle.cip_routing.specs.OpenRows.{open_row, opening_with, ids_if_forwarded, end_down};
+ghost use Rattle.cip_routing.specs.OpenRows.{open_row, opening_with, ids_if_forwarded};
 ghost use Rattle.cip_routing.specs.OpenRows.{Accepted};
 ghost use Rattle.cip_hops.specs.declared.opening.HopDown.TheVariants.{Link as DownLink};
 ghost use Rattle.cip_routing.specs.Effects.{Begins};
@@ -27,7 +27,7 @@ use crate::device::Device;
 use crate::making::{Making, Outgoing};
 use crate::open::rows::OpenDecision;
 use crate::reaction::{Edit, Reaction};
-use cip_base::{Address, Bytes, NoMemory, PortNumber, Timing};
+use cip_base::{Address, Bytes, NoMemory, PortNumber};
 use cip_event::{Body, Output};
 use cip_hops::{HopDown, HopUp, Opening};
 use cip_open::{
