@@ -73,7 +73,7 @@ impl OpenParams {
 
 /// What a module's own application asks for. `op` names what is asked, once for ever; `of` is the
 /// op of an Open or a LargeOpen.
-#[derive(Debug, Drop)]
+#[derive(Debug, Drop, PartialEq, Eq)]
 pub enum Command {
     /// Open a connection along a path (Volume 1, chapter 3, Forward_Open).
     Open {

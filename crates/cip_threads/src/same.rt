@@ -3,37 +3,12 @@ ghost use Rattle.std.specs.Prelude.{◌≡◌, IsTrue, Some, reverse};
 ghost use Rattle.cip_world.specs.Journals.{Flight, event_of, frame_at};
 
 use crate::views::TakenTurn;
-use cip_base::{Bytes, Timing};
-use cip_routing::{Body, Command, Event, LargeParams, OpenParams, Output};
-use cip_segment::Path;
+use cip_routing::{Body, Command, Event, Output};
 use cip_world::{Entry, FrameName, Input, Outputs, frame_at};
 
-fn is_same_bytes(left: &Bytes, right: &Bytes) -> bool
+/// Whether two commands are one.
+pub(crate) fn is_same_command(left: &Command, right: &Command) -> bool
     ensures { IsTrue result → left.now ≡ right.now }
-{
-    left == right
-}
-
-fn is_same_path(left: &Path, right: &Path) -> bool
-    ensures { IsTrue result → left.now ≡ right.now }
-{
-    left == right
-}
-
-fn is_same_timing(left: Timing, right: Timing) -> bool
-    ensures { IsTrue result → left ≡ right }
-{
-    left == right
-}
-
-fn is_same_params(left: OpenParams, right: OpenParams) -> bool
-    ensures { IsTrue result → left ≡ right }
-{
-    left == right
-}
-
-fn is_same_large_params(left: LargeParams, right: LargeParams) -> bool
-    ensures { IsTrue result → left ≡ right }
 {
     left == right
 }
@@ -48,100 +23,6 @@ fn is_same_output(left: &Output, right: &Output) -> bool
     ensures { IsTrue result → left.now ≡ right.now }
 {
     left == right
-}
-
-/// Whether two commands are one.
-pub(crate) fn is_same_command(left: &Command, right: &Command) -> bool
-    ensures { IsTrue result → left.now ≡ right.now }
-{
-    match (left, right) {
-        (
-            Command::Open {
-                op,
-                timing,
-                path,
-                params,
-            },
-            Command::Open {
-                op: other_op,
-                timing: other_timing,
-                path: other_path,
-                params: other_params,
-            },
-        ) => {
-            *op == *other_op
-                && is_same_timing(*timing, *other_timing)
-                && is_same_path(path, other_path)
-                && is_same_params(*params, *other_params)
-        }
-        (
-            Command::LargeOpen {
-                op,
-                timing,
-                path,
-                params,
-            },
-            Command::LargeOpen {
-                op: other_op,
-                timing: other_timing,
-                path: other_path,
-                params: other_params,
-            },
-        ) => {
-            *op == *other_op
-                && is_same_timing(*timing, *other_timing)
-                && is_same_path(path, other_path)
-                && is_same_large_params(*params, *other_params)
-        }
-        (
-            Command::Close { op, of, timing },
-            Command::Close {
-                op: other_op,
-                of: other_of,
-                timing: other_timing,
-            },
-        ) => *op == *other_op && *of == *other_of && is_same_timing(*timing, *other_timing),
-        (
-            Command::Send {
-                op,
-                timing,
-                path,
-                request,
-            },
-            Command::Send {
-                op: other_op,
-                timing: other_timing,
-                path: other_path,
-                request: other_request,
-            },
-        ) => {
-            *op == *other_op
-                && is_same_timing(*timing, *other_timing)
-                && is_same_path(path, other_path)
-                && is_same_bytes(request, other_request)
-        }
-        (
-            Command::Enter { of, bytes },
-            Command::Enter {
-                of: other_of,
-                bytes: other_bytes,
-            },
-        ) => *of == *other_of && is_same_bytes(bytes, other_bytes),
-        (
-            Command::Set { instance, bytes },
-            Command::Set {
-                instance: other_instance,
-                bytes: other_bytes,
-            },
-        ) => *instance == *other_instance && is_same_bytes(bytes, other_bytes),
-        (
-            Command::Produce { instance },
-            Command::Produce {
-                instance: other_instance,
-            },
-        ) => *instance == *other_instance,
-        _ => false,
-    }
 }
 
 fn are_same_outputs(left: &[Output], right: &[Output]) -> bool
