@@ -15,7 +15,7 @@ use std::collections::BTreeMap;
 
 /// A frame on its way: who sent it, where it goes, what it holds in short, and of a failure the
 /// module that made it.
-#[derive(Clone, Copy, Debug)]
+#[derive(Clone, Copy)]
 pub struct Sent {
     pub from: ModuleId,
     /// None where no module has the address.
@@ -29,7 +29,7 @@ pub struct Sent {
 }
 
 /// What is known of the datum of a connection.
-#[derive(Clone, Copy, Debug)]
+#[derive(Clone, Copy)]
 pub struct Known {
     pub triad: Option<Triad>,
     /// The transport class, bits 3 to 0 of the transport byte.

@@ -13,7 +13,7 @@ use cip_text::Draft;
 use std::fmt;
 
 /// What kind of frame it is.
-#[derive(Clone, Copy, Debug, PartialEq, Eq)]
+#[derive(Clone, Copy, PartialEq, Eq)]
 pub enum Kind {
     Request,
     Reply,
@@ -22,7 +22,7 @@ pub enum Kind {
 
 /// A frame in short: its kind, its number or connection id, and where it can be read its service
 /// and status.
-#[derive(Clone, Copy, Debug, PartialEq, Eq)]
+#[derive(Clone, Copy, PartialEq, Eq)]
 pub struct Label {
     pub kind: Kind,
     pub number: u32,

@@ -4,7 +4,7 @@ use std::fmt;
 
 /// A name, each character of it that controls a terminal as its number; quotation marks where it is
 /// empty.
-#[derive(Clone, Copy, Debug)]
+#[derive(Clone, Copy)]
 pub struct Escaped<'a>(pub &'a str);
 
 impl fmt::Display for Escaped<'_> {

@@ -6,7 +6,7 @@ use std::alloc::{AllocError, Global};
 use std::fmt;
 
 /// Lines, of which so many tell faults; the others are warnings.
-#[derive(Debug, Drop)]
+#[derive(Drop)]
 pub struct Report {
     lines: Vec<String>,
     faults: usize,

@@ -19,7 +19,7 @@ use cip_target::{ObjectPath, object_path};
 use cip_unconnected::{UNCONNECTED_SEND, UnconnectedFault, UnconnectedView, read_unconnected};
 
 /// What a request asks the Connection Manager for.
-#[derive(Clone, Copy, Debug, PartialEq, Eq)]
+#[derive(Clone, Copy, PartialEq, Eq)]
 pub enum Asked {
     UnconnectedSend,
     ForwardOpen,

@@ -12,7 +12,7 @@ use cip_world::{Entry, Input, World, frame_at};
 use std::fmt;
 
 /// How a module answered.
-#[derive(Clone, Copy, Debug, PartialEq, Eq)]
+#[derive(Clone, Copy, PartialEq, Eq)]
 pub enum How {
     Answered,
     Refused,
@@ -21,14 +21,14 @@ pub enum How {
 
 /// The sizes in bytes of the data of each direction, O→T and T→O: those that an end wants, and
 /// those that an open asks for.
-#[derive(Clone, Copy, Debug, PartialEq, Eq)]
+#[derive(Clone, Copy, PartialEq, Eq)]
 pub struct OpenSizes {
     pub wanted: (usize, usize),
     pub asked: (usize, usize),
 }
 
 /// Who answered, and how.
-#[derive(Debug, Drop)]
+#[derive(Drop)]
 pub enum Answer {
     /// There is no answer.
     Missing,

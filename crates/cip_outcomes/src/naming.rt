@@ -21,7 +21,7 @@ pub fn module_text(topology: &Topology, at: ModuleId) -> &str {
 }
 
 /// An op: its name, where it has one, its module and its number.
-#[derive(Debug, Drop)]
+#[derive(Drop)]
 pub struct OpName {
     name: Option<Excerpt>,
     module_: Excerpt,
@@ -65,7 +65,7 @@ impl OpName {
 }
 
 /// Where data come to: an op, or an assembly of a module.
-#[derive(Debug, Drop)]
+#[derive(Drop)]
 pub enum Place {
     Op(OpName),
     Assembly { instance: u32, module_: Excerpt },
@@ -81,7 +81,7 @@ impl fmt::Display for Place {
 }
 
 /// What a command is about.
-#[derive(Debug, Drop)]
+#[derive(Drop)]
 pub enum Subject {
     Op(OpName),
     Assembly(u32),
@@ -97,7 +97,7 @@ impl fmt::Display for Subject {
 }
 
 /// A command that was given to a module: its word, and what it is about.
-#[derive(Debug, Drop)]
+#[derive(Drop)]
 pub struct Order {
     pub word: &'static str,
     pub module_: Excerpt,

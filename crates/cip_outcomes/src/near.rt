@@ -12,7 +12,7 @@ const MOST: usize = 3;
 const LONGEST: usize = 32;
 
 /// The name that was meant, perhaps, where one is near.
-#[derive(Debug, Drop)]
+#[derive(Drop)]
 pub struct Near(Option<Excerpt>);
 
 impl fmt::Display for Near {

@@ -8,7 +8,7 @@ use cip_world::Entry;
 use std::fmt;
 
 /// A general status and an additional one, with their name.
-#[derive(Clone, Copy, Debug, PartialEq, Eq)]
+#[derive(Clone, Copy, PartialEq, Eq)]
 pub struct Code {
     pub general: u8,
     pub additional: Option<u16>,

@@ -10,14 +10,14 @@ use cip_world::{Entry, Input, Shown, World};
 use std::fmt;
 
 /// How many bytes were given, and how many are wanted.
-#[derive(Clone, Copy, Debug, PartialEq, Eq)]
+#[derive(Clone, Copy, PartialEq, Eq)]
 pub struct Sizes {
     pub given: usize,
     pub wanted: usize,
 }
 
 /// A command that was refused, and why.
-#[derive(Debug, Drop)]
+#[derive(Drop)]
 pub struct Refusal {
     order: Order,
     reason: Refused,

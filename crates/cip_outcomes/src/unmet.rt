@@ -28,7 +28,7 @@ impl fmt::Display for Lengths {
 }
 
 /// Bytes that came, and those that were wanted.
-#[derive(Debug, Drop)]
+#[derive(Drop)]
 pub struct Differing {
     pub found: Bytes,
     pub wanted: Bytes,
@@ -47,7 +47,7 @@ impl fmt::Display for Differing {
 }
 
 /// A reason for which a frame was dropped, or none.
-#[derive(Clone, Copy, Debug, PartialEq, Eq)]
+#[derive(Clone, Copy, PartialEq, Eq)]
 pub struct DropReason(pub Option<Dropped>);
 
 impl fmt::Display for DropReason {
@@ -60,7 +60,7 @@ impl fmt::Display for DropReason {
 }
 
 /// What came in place of what was expected.
-#[derive(Debug, Drop, Error)]
+#[derive(Drop, Error)]
 pub enum Unmet {
     #[error("{kind}: {op} is not done")]
     NotDone {
@@ -168,4 +168,10 @@ pub enum Unmet {
     },
     #[error("quiet: frames wait: {}", Frames(.0.as_slice()))]
     Waiting(Vec<FrameName>),
+}
+
+impl fmt::Debug for Unmet {
+    fn fmt<W: fmt::Write>(&self, f: &mut fmt::Formatter<W>) -> fmt::Result {
+        fmt::Display::fmt(self, f)
+    }
 }

@@ -11,7 +11,7 @@ use thiserror::Error;
 /// What the program is asked for: a topology file and a script, or the chassis and the standard
 /// input in their place; whether each module has a thread of its own; and how many steps these may
 /// take together.
-#[derive(Debug, Drop)]
+#[derive(Drop)]
 pub struct Options {
     pub topology: Option<String>,
     pub script: Option<String>,

@@ -5,10 +5,11 @@ ghost use Rattle.cip_read.specs.declared.fault.ReadFault.TheVariants.{NoMemory a
 
 use cip_base::{Excerpt, NoMemory};
 use std::alloc::AllocError;
+use std::fmt;
 use thiserror::Error;
 
 /// What is expected in the place of a word.
-#[derive(Clone, Copy, Debug, PartialEq, Eq, Error)]
+#[derive(Clone, Copy, PartialEq, Eq, Error)]
 pub enum Expected {
     #[error("a number of at most {0}")]
     Number(u64),
@@ -36,9 +37,15 @@ pub enum Expected {
     Output(usize),
 }
 
+impl fmt::Debug for Expected {
+    fn fmt<W: fmt::Write>(&self, f: &mut fmt::Formatter<W>) -> fmt::Result {
+        fmt::Display::fmt(self, f)
+    }
+}
+
 /// What is wrong with a line: the place of the first faulty word, from 0, and what is expected
 /// there; or a byte that is not ASCII.
-#[derive(Clone, Copy, Debug, PartialEq, Eq)]
+#[derive(Clone, Copy, PartialEq, Eq)]
 pub enum LineFault {
     Word(usize, Expected),
     NotText,
@@ -54,7 +61,7 @@ impl From<AllocError> for LineFault {
 }
 
 /// Why a transcript is refused: its first faulty line, from 1, and there the word, from 1.
-#[derive(Debug, Drop, Error)]
+#[derive(Drop, Error)]
 pub enum ReadFault {
     #[error("line {line}, word {word}: {found}: expected {expected}")]
     Word {
@@ -77,6 +84,12 @@ pub enum ReadFault {
     },
     #[error("out of memory")]
     NoMemory,
+}
+
+impl fmt::Debug for ReadFault {
+    fn fmt<W: fmt::Write>(&self, f: &mut fmt::Formatter<W>) -> fmt::Result {
+        fmt::Display::fmt(self, f)
+    }
 }
 
 impl From<NoMemory> for ReadFault {

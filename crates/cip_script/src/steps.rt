@@ -23,7 +23,7 @@ use std::alloc::{AllocError, Global};
 use thiserror::Error;
 
 /// One step of a script.
-#[derive(Debug, Drop)]
+#[derive(Drop)]
 pub enum Step {
     /// A command to a module.
     Feed { module_: ModuleId, command: Command },
@@ -45,14 +45,14 @@ pub enum Step {
 
 /// How a script is played: a step after the other, or by modules on threads of their own, which are
 /// given commands and ticks alone.
-#[derive(Clone, Copy, Debug, PartialEq, Eq)]
+#[derive(Clone, Copy, PartialEq, Eq)]
 pub enum Mode {
     InTurn,
     OnThreads,
 }
 
 /// A step, and the line that it stands in, from 1.
-#[derive(Debug, Drop)]
+#[derive(Drop)]
 pub struct Numbered {
     pub line: usize,
     pub step: Step,
@@ -109,7 +109,7 @@ impl From<AllocError> for StepFault {
 }
 
 /// Why a script gave no steps: its first faulty line, or out of memory.
-#[derive(Clone, Copy, Debug, PartialEq, Eq)]
+#[derive(Clone, Copy, PartialEq, Eq)]
 pub enum StepsFault {
     Script(usize, ScriptFault),
     NoMemory,

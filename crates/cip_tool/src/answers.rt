@@ -16,7 +16,7 @@ use std::alloc::{AllocError, Global};
 use std::fmt;
 
 /// Why there is no answer.
-#[derive(Debug, Drop)]
+#[derive(Drop)]
 pub enum AnswerFault {
     /// A word of a path in words, its place, and why it names nothing.
     Word(usize, String, WordFault),

@@ -5,6 +5,7 @@ ghost use Rattle.cip_tool.specs.declared.fault.RouteFault.TheVariants.{NoMemory 
 
 use cip_base::NoMemory;
 use std::alloc::{AllocError, AllocFailed};
+use std::fmt;
 use thiserror::Error;
 
 /// Why a word of a path in words is none that may stand there.
@@ -66,7 +67,7 @@ impl<T: Drop> From<AllocFailed<T>> for WordError {
 }
 
 /// Why a text names no path.
-#[derive(Clone, Copy, Debug, PartialEq, Eq, Error)]
+#[derive(Clone, Copy, PartialEq, Eq, Error)]
 pub enum RouteFault {
     /// The word of this number, from 1, is none that may stand there.
     #[error("word {0}: {1}")]
@@ -77,6 +78,12 @@ pub enum RouteFault {
     /// An allocation was refused.
     #[error("out of memory")]
     NoMemory,
+}
+
+impl fmt::Debug for RouteFault {
+    fn fmt<W: fmt::Write>(&self, f: &mut fmt::Formatter<W>) -> fmt::Result {
+        fmt::Display::fmt(self, f)
+    }
 }
 
 impl From<AllocError> for RouteFault {

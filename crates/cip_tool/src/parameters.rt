@@ -108,7 +108,7 @@ pub fn kind_name(kind: ConnectionKind) -> &'static str {
 
 /// The parts of network connection parameters, as the options of `ciptool params` that give them
 /// back.
-#[derive(Clone, Copy, Debug)]
+#[derive(Clone, Copy)]
 pub struct ParamsOptions {
     pub large: bool,
     pub params: Params,

@@ -3,7 +3,7 @@
 use std::fmt;
 
 /// The first 40 bytes of a word, each one that can't be printed as its number.
-#[derive(Clone, Copy, Debug)]
+#[derive(Clone, Copy)]
 pub struct Shown<'a>(pub &'a str);
 
 const MOST: usize = 40;

@@ -6,10 +6,11 @@ use cip_script::{Explained, Frames};
 use cip_tool::{AnswerFault, HexFault};
 use cip_world::FrameName;
 use std::alloc::{AllocError, AllocFailed, Global};
+use std::fmt;
 use thiserror::Error;
 
 /// Why a word is none that may stand there.
-#[derive(Debug, Drop, Error)]
+#[derive(Drop, Error)]
 pub enum WordFault {
     /// The modules that there are.
     #[error("no module of the topology; allowed: {0}{1}")]
@@ -46,8 +47,14 @@ pub enum WordFault {
     NoKind(Near),
 }
 
+impl fmt::Debug for WordFault {
+    fn fmt<W: fmt::Write>(&self, f: &mut fmt::Formatter<W>) -> fmt::Result {
+        fmt::Display::fmt(self, f)
+    }
+}
+
 /// What is wrong with a line of a wide script.
-#[derive(Debug, Drop, Error)]
+#[derive(Drop, Error)]
 pub enum LineFault {
     /// A line of the script's own words is faulty.
     #[error("{0}")]
@@ -95,8 +102,14 @@ pub enum LineFault {
     Unmet(Unmet),
 }
 
+impl fmt::Debug for LineFault {
+    fn fmt<W: fmt::Write>(&self, f: &mut fmt::Formatter<W>) -> fmt::Result {
+        fmt::Display::fmt(self, f)
+    }
+}
+
 /// Why there is no script: a line, from 1, and what is wrong with it; or an allocation was refused.
-#[derive(Debug, Drop)]
+#[derive(Drop)]
 pub enum WideFault {
     Line(usize, LineFault),
     NoMemory,

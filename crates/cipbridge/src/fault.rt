@@ -6,13 +6,14 @@ use cip_console::{ConsoleFault, Explained, OptionsFault, Usage};
 use cip_script::Frames;
 use cip_threads::RunFault;
 use cip_world::FrameName;
+use std::fmt;
 use thiserror::Error;
 
 // What stands behind a fault of the options.
 const WRONG: Usage = Usage::Wrong;
 
 /// Why the program ends before its work is done, with the file that it is about.
-#[derive(Debug, Drop, Error)]
+#[derive(Drop, Error)]
 pub enum Fault {
     #[error("{0}")]
     Options(OptionsFault),
@@ -52,6 +53,12 @@ pub enum Fault {
     Console(ConsoleFault),
     #[error("out of memory")]
     NoMemory,
+}
+
+impl fmt::Debug for Fault {
+    fn fmt<W: fmt::Write>(&self, f: &mut fmt::Formatter<W>) -> fmt::Result {
+        fmt::Display::fmt(self, f)
+    }
 }
 
 // The exit status of a run of modules on threads.

@@ -5,7 +5,7 @@ use cip_words::line_end;
 use std::fmt;
 
 /// What else is told of a faulty line.
-#[derive(Clone, Copy, Debug, PartialEq, Eq)]
+#[derive(Clone, Copy, PartialEq, Eq)]
 pub enum Hint {
     Nothing,
     /// Its first word is one of wide scripts alone.

@@ -7,6 +7,7 @@ use cip_console::ConsoleFault;
 use cip_script::Explained;
 use cip_tool::AnswerFault;
 use std::alloc::AllocError;
+use std::fmt;
 use thiserror::Error;
 
 // One fault, or several.
@@ -15,7 +16,7 @@ fn fault_word(count: &usize) -> &'static str {
 }
 
 /// Why the program ends before its work is done.
-#[derive(Debug, Drop, Error)]
+#[derive(Drop, Error)]
 pub enum Fault {
     /// What is wrong with the words of the command line.
     #[error("{0}\n{USAGE}")]
@@ -54,6 +55,12 @@ pub enum Fault {
     Unwanted,
     #[error("out of memory")]
     NoMemory,
+}
+
+impl fmt::Debug for Fault {
+    fn fmt<W: fmt::Write>(&self, f: &mut fmt::Formatter<W>) -> fmt::Result {
+        fmt::Display::fmt(self, f)
+    }
 }
 
 // The exit status of a fault of the console. (No wide script is played on threads.)

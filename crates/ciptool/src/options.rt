@@ -8,7 +8,7 @@ use clap::{Arg, ArgAction, ArgMatches, Command};
 use std::alloc::{AllocError, Global};
 
 /// What the program is asked for.
-#[derive(Debug, Drop)]
+#[derive(Drop)]
 pub enum Task {
     Help,
     Version,
@@ -49,7 +49,7 @@ pub enum Task {
 }
 
 /// Why there is no task.
-#[derive(Debug, Drop)]
+#[derive(Drop)]
 pub enum OptionsFault {
     /// What is wrong with the words.
     Wrong(String),

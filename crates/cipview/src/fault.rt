@@ -8,13 +8,14 @@ use cip_check::{Escaped, NotUtf8, Unread};
 use cip_read::ReadFault;
 use cip_topology::LoadFault;
 use std::alloc::AllocError;
+use std::fmt;
 use thiserror::Error;
 
 // What stands behind a fault of the options.
 const WRONG: Usage = Usage::Wrong;
 
 /// Why the program ends before its work is done, with the file that it is about.
-#[derive(Debug, Drop, Error)]
+#[derive(Drop, Error)]
 pub enum Fault {
     #[error("{0}")]
     Options(OptionsFault),
@@ -56,6 +57,12 @@ pub enum Fault {
     Unwanted,
     #[error("out of memory")]
     NoMemory,
+}
+
+impl fmt::Debug for Fault {
+    fn fmt<W: fmt::Write>(&self, f: &mut fmt::Formatter<W>) -> fmt::Result {
+        fmt::Display::fmt(self, f)
+    }
 }
 
 impl Fault {

@@ -6,7 +6,7 @@ use std::alloc::{AllocError, Global};
 use thiserror::Error;
 
 /// How the transcript is shown.
-#[derive(Clone, Copy, Debug, PartialEq, Eq)]
+#[derive(Clone, Copy, PartialEq, Eq)]
 pub enum Shape {
     Text,
     Json,

@@ -142,7 +142,7 @@ const ODD_SIZES: [AssemblyConfig; 4] = [
 ];
 
 /// Of which kind the scanner and the bridges are. The adapter is one whatever they are.
-#[derive(Clone, Copy, Debug)]
+#[derive(Clone, Copy)]
 pub enum Kinds {
     /// Each is plain.
     Plain,
