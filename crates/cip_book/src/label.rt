@@ -22,7 +22,7 @@ pub enum Kind {
 
 /// A frame in short: its kind, its number or connection id, and where it can be read its service
 /// and status.
-#[derive(Clone, Copy, PartialEq, Eq)]
+#[derive(Clone, Copy)]
 pub struct Label {
     pub kind: Kind,
     pub number: u32,

@@ -8,7 +8,7 @@ use cip_words::line_end;
 use std::alloc::Global;
 
 /// How a transcript ends.
-#[derive(Clone, Copy, PartialEq, Eq)]
+#[derive(Clone, Copy)]
 pub struct Ending {
     /// How many whole lines it has.
     pub lines: usize,

@@ -7,7 +7,7 @@ ghost use Rattle.cip_check.specs.Bytes.{IsWhy};
 use thiserror::Error;
 
 /// Why bytes are no text.
-#[derive(Clone, Copy, Debug, PartialEq, Eq, Error)]
+#[derive(Clone, Copy, Debug, Error)]
 pub enum NotUtf8 {
     /// They begin with a byte order mark of UTF-16.
     #[error("not UTF-8 but UTF-16: it begins with {0:02X} {1:02X}")]

@@ -7,7 +7,7 @@ use std::io::ErrorKind;
 use thiserror::Error;
 
 /// Why a file gives no bytes.
-#[derive(Clone, Copy, Debug, PartialEq, Eq, Error)]
+#[derive(Clone, Copy, Debug, Error)]
 pub enum Unread {
     #[error("an empty file name")]
     Nameless,

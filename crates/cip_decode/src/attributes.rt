@@ -16,7 +16,7 @@ use cip_target::{ObjectPath, is_product_name, object_path};
 use cip_unconnected::inner;
 
 /// What a request asks an object of a module for (Volume 1, chapter 5, Identity and Assembly).
-#[derive(Clone, Copy, PartialEq, Eq)]
+#[derive(Clone, Copy)]
 pub enum Attributes {
     /// Attributes 1 to 7 of the Identity, one after the other.
     Identity,

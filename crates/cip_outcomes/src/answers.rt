@@ -12,7 +12,7 @@ use cip_world::{Entry, Input, World, frame_at};
 use std::fmt;
 
 /// How a module answered.
-#[derive(Clone, Copy, PartialEq, Eq)]
+#[derive(Clone, Copy)]
 pub enum How {
     Answered,
     Refused,
@@ -21,7 +21,7 @@ pub enum How {
 
 /// The sizes in bytes of the data of each direction, O→T and T→O: those that an end wants, and
 /// those that an open asks for.
-#[derive(Clone, Copy, PartialEq, Eq)]
+#[derive(Clone, Copy)]
 pub struct OpenSizes {
     pub wanted: (usize, usize),
     pub asked: (usize, usize),

@@ -158,7 +158,7 @@ fn newest_mark(journal: &[Entry], at: ModuleId, triad: Triad) -> Option<Mark<'_>
 }
 
 /// How the count of a datum that came to its end stands to the one before it.
-#[derive(Clone, Copy, PartialEq, Eq)]
+#[derive(Clone, Copy)]
 pub enum Counted {
     /// It has none: it is not of class 1.
     Without,

@@ -10,7 +10,7 @@ use cip_world::{Entry, Input, Shown, World};
 use std::fmt;
 
 /// How many bytes were given, and how many are wanted.
-#[derive(Clone, Copy, PartialEq, Eq)]
+#[derive(Clone, Copy)]
 pub struct Sizes {
     pub given: usize,
     pub wanted: usize,

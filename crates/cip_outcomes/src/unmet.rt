@@ -47,7 +47,7 @@ impl fmt::Display for Differing {
 }
 
 /// A reason for which a frame was dropped, or none.
-#[derive(Clone, Copy, PartialEq, Eq)]
+#[derive(Clone, Copy)]
 pub struct DropReason(pub Option<Dropped>);
 
 impl fmt::Display for DropReason {

@@ -103,7 +103,7 @@ fn read_feeds(
 }
 
 // Why the text of a run was not written to its end.
-#[derive(Clone, Copy, PartialEq, Eq)]
+#[derive(Clone, Copy)]
 enum WritingFault {
     Write,
     NoMemory,

@@ -20,7 +20,7 @@ pub struct Options {
 }
 
 /// What words that ask for no run ask for.
-#[derive(Clone, Copy, Debug, PartialEq, Eq, Error)]
+#[derive(Clone, Copy, Debug, Error)]
 pub enum Usage {
     /// Nothing that the program has: a word is none of its options, or its value is no such value.
     #[error("usage: cipbridge [--topology FILE] [--script FILE] [--threads] [--turns N]; \
@@ -35,7 +35,7 @@ pub enum Usage {
 }
 
 /// Why there are no options.
-#[derive(Clone, Copy, Debug, PartialEq, Eq, Error)]
+#[derive(Clone, Copy, Debug, Error)]
 pub enum OptionsFault {
     /// The words ask for no run.
     #[error("{0}")]

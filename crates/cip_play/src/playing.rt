@@ -20,7 +20,7 @@ use cip_world::{Entry, FrameName, Shown, World, WorldFault};
 use std::alloc::Global;
 
 /// Why a step of a script was not played to its end.
-#[derive(Clone, Copy, PartialEq, Eq)]
+#[derive(Clone, Copy)]
 pub enum PlayFault {
     /// The run stops there: no such frame waits, or a clock is full.
     Stopped(ScriptFault),

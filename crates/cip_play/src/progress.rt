@@ -12,7 +12,7 @@ const FIRST: u64 = 1_000;
 const AGAIN: u64 = 100;
 
 /// What stands in the screen's one line, written over what stood there.
-#[derive(Clone, Copy, PartialEq, Eq)]
+#[derive(Clone, Copy, Debug, PartialEq, Eq)]
 pub enum Line {
     /// So many entries are done, and so many frames wait.
     Progress { done: usize, waiting: usize },

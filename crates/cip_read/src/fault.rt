@@ -9,7 +9,7 @@ use std::fmt;
 use thiserror::Error;
 
 /// What is expected in the place of a word.
-#[derive(Clone, Copy, PartialEq, Eq, Error)]
+#[derive(Clone, Copy, Error)]
 pub enum Expected {
     #[error("a number of at most {0}")]
     Number(u64),
@@ -45,7 +45,7 @@ impl fmt::Debug for Expected {
 
 /// What is wrong with a line: the place of the first faulty word, from 0, and what is expected
 /// there; or a byte that is not ASCII.
-#[derive(Clone, Copy, PartialEq, Eq)]
+#[derive(Clone, Copy)]
 pub enum LineFault {
     Word(usize, Expected),
     NotText,

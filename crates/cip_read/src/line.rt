@@ -3,7 +3,7 @@ use cip_base::ModuleId;
 use cip_event::{FrameName, Output};
 
 /// The word by which an entry's line names a command.
-#[derive(Clone, Copy, PartialEq, Eq)]
+#[derive(Clone, Copy)]
 pub enum CommandWord {
     Send,
     Open,
@@ -15,7 +15,7 @@ pub enum CommandWord {
 }
 
 /// What a module was given, as far as its line tells.
-#[derive(Clone, Copy, PartialEq, Eq)]
+#[derive(Clone, Copy)]
 pub enum Given {
     /// A command, with its op; the op of the open of an `enter`; the instance of a `set` or a
     /// `produce`.
@@ -27,7 +27,7 @@ pub enum Given {
 }
 
 /// What else a line may be.
-#[derive(Clone, Copy, PartialEq, Eq)]
+#[derive(Clone, Copy)]
 pub enum Note {
     /// No frame waits any more.
     Quiet,

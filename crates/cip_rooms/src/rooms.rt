@@ -21,7 +21,7 @@ use std::fmt;
 
 /// Why rooms can't be looked at: the first line of the script, from 1, that is faulty or stops the
 /// run; or an allocation was refused.
-#[derive(Clone, Copy, PartialEq, Eq)]
+#[derive(Clone, Copy)]
 pub enum RoomsFault {
     Script(usize, ScriptFault),
     NoMemory,

@@ -11,7 +11,7 @@ use std::fmt;
 use thiserror::Error;
 
 /// Why a word is none that may stand there.
-#[derive(Clone, Copy, Debug, PartialEq, Eq, Error)]
+#[derive(Clone, Copy, Error)]
 pub enum WordFault {
     #[error("no module of the topology")]
     NoModule,
@@ -37,6 +37,12 @@ pub enum WordFault {
     NoFrame,
     #[error("more than the clock of the module has left")]
     ClockFull,
+}
+
+impl fmt::Debug for WordFault {
+    fn fmt<W: fmt::Write>(&self, f: &mut fmt::Formatter<W>) -> fmt::Result {
+        fmt::Display::fmt(self, f)
+    }
 }
 
 /// What is wrong with a line.

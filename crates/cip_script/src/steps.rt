@@ -45,7 +45,7 @@ pub enum Step {
 
 /// How a script is played: a step after the other, or by modules on threads of their own, which are
 /// given commands and ticks alone.
-#[derive(Clone, Copy, PartialEq, Eq)]
+#[derive(Clone, Copy)]
 pub enum Mode {
     InTurn,
     OnThreads,
@@ -59,7 +59,7 @@ pub struct Numbered {
 }
 
 /// What is wrong with a line of a script.
-#[derive(Clone, Copy, Debug, PartialEq, Eq, Error)]
+#[derive(Clone, Copy, Debug, Error)]
 pub enum ScriptFault {
     /// The first word is none of the script's.
     #[error("unknown word")]
@@ -94,7 +94,7 @@ pub enum ScriptFault {
 }
 
 /// Why a line gave no step.
-#[derive(Clone, Copy, PartialEq, Eq)]
+#[derive(Clone, Copy)]
 pub(crate) enum StepFault {
     Fault(ScriptFault),
     NoMemory,
@@ -109,7 +109,7 @@ impl From<AllocError> for StepFault {
 }
 
 /// Why a script gave no steps: its first faulty line, or out of memory.
-#[derive(Clone, Copy, PartialEq, Eq)]
+#[derive(Clone, Copy)]
 pub enum StepsFault {
     Script(usize, ScriptFault),
     NoMemory,

@@ -8,7 +8,7 @@ use cip_script::{ScriptFault, Step};
 use cip_world::{End, Shown, World, WorldFault};
 
 /// Why a step was not played to its end.
-#[derive(Clone, Copy, PartialEq, Eq)]
+#[derive(Clone, Copy)]
 pub enum PlayFault {
     /// NoFrame: the frame that is named does not wait. ClockFull: the clock of a module is full, or
     /// there is no such module.

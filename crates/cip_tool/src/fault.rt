@@ -9,7 +9,7 @@ use std::fmt;
 use thiserror::Error;
 
 /// Why a word of a path in words is none that may stand there.
-#[derive(Clone, Copy, Debug, PartialEq, Eq, Error)]
+#[derive(Clone, Copy, Debug, Error)]
 pub enum WordFault {
     #[error("no port; allowed: 1 to 65535, backplane for 1, enet for 2")]
     Port,
@@ -44,7 +44,7 @@ pub enum WordFault {
 }
 
 /// Why a word gave nothing.
-#[derive(Clone, Copy, PartialEq, Eq)]
+#[derive(Clone, Copy)]
 pub(crate) enum WordError {
     Fault(WordFault),
     NoMemory,
@@ -67,7 +67,7 @@ impl<T: Drop> From<AllocFailed<T>> for WordError {
 }
 
 /// Why a text names no path.
-#[derive(Clone, Copy, PartialEq, Eq, Error)]
+#[derive(Clone, Copy, Error)]
 pub enum RouteFault {
     /// The word of this number, from 1, is none that may stand there.
     #[error("word {0}: {1}")]

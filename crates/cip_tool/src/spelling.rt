@@ -187,7 +187,7 @@ fn put_alone(text: &mut String, segment: &Segment) -> Result<(), NoMemory>
 }
 
 // The next segment stands behind a class, or behind a class and an instance, in one word.
-#[derive(Clone, Copy, PartialEq, Eq)]
+#[derive(Clone, Copy)]
 enum Behind {
     Class,
     Instance,

@@ -5,7 +5,7 @@ use cip_words::line_end;
 use std::fmt;
 
 /// What else is told of a faulty line.
-#[derive(Clone, Copy, PartialEq, Eq)]
+#[derive(Clone, Copy)]
 pub enum Hint {
     Nothing,
     /// Its first word is one of wide scripts alone.
@@ -79,13 +79,11 @@ fn has_words_of_paths(line: &[u8]) -> bool {
 
 // Of a faulty word.
 fn of_word(field: &[u8], found: &[u8], why: WordFault, line: &[u8]) -> Hint {
-    if why == WordFault::NoNumber && is_op(field) && is_op_name(found) {
-        return Hint::NamedOp;
+    match why {
+        WordFault::NoNumber if is_op(field) && is_op_name(found) => Hint::NamedOp,
+        _ if is_bytes(field) && has_parted_comma(line) => Hint::Spaces,
+        _ => Hint::Nothing,
     }
-    if is_bytes(field) && has_parted_comma(line) {
-        return Hint::Spaces;
-    }
-    Hint::Nothing
 }
 
 /// What else is told of a line that is so faulty.

@@ -29,7 +29,7 @@ pub struct Options {
 }
 
 /// What words that ask for no view ask for.
-#[derive(Clone, Copy, Debug, PartialEq, Eq, Error)]
+#[derive(Clone, Copy, Debug, Error)]
 pub enum Usage {
     /// Nothing that the program has: a word is none of its options, or its value is no such value.
     #[error("usage: cipview text|json|capture|chart [--topology FILE], and of a chart [--from N] \
@@ -44,7 +44,7 @@ pub enum Usage {
 }
 
 /// Why there are no options.
-#[derive(Clone, Copy, Debug, PartialEq, Eq, Error)]
+#[derive(Clone, Copy, Debug, Error)]
 pub enum OptionsFault {
     /// The words ask for no view.
     #[error("{0}")]

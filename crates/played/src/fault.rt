@@ -8,7 +8,7 @@ use step_times::TimesFault;
 use thiserror::Error;
 
 /// Why the program ends before its work is done.
-#[derive(Clone, Copy, Debug, PartialEq, Eq, Error)]
+#[derive(Clone, Copy, Debug, Error)]
 pub enum Fault {
     #[error("usage: played plain|indexed|mixed [FILE ..], \
         played topologies FILE .., played chassis FILE, \

@@ -10,7 +10,7 @@ use std::io;
 use thiserror::Error;
 
 /// Why the program ends before its work is done.
-#[derive(Clone, Copy, Debug, PartialEq, Eq, Error)]
+#[derive(Clone, Copy, Debug, Error)]
 pub enum Fault {
     #[error("usage: played_worlds WHAT [WHAT FILE ..], where WHAT is \
         plain|indexed|late|two|ports|counted|book TURNS|turn|read|live|live-read|progress")]
