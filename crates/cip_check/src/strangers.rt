@@ -48,14 +48,15 @@ fn told(
     home: Option<&'static str>,
     nearest: Option<&'static str>,
 ) -> Result<String, AllocError> {
-    let mut text = String::new(alloc);
-    write!(text, "{place}: unknown key {key:?}")?;
     match (home, nearest) {
-        (Some(home), _) => write!(text, ", which stands in {home}")?,
-        (None, Some(nearest)) => write!(text, "; the nearest is `{nearest}`")?,
-        (None, None) => {}
+        (Some(home), _) => {
+            format!(in alloc; "{place}: unknown key {key:?}, which stands in {home}")
+        }
+        (None, Some(nearest)) => {
+            format!(in alloc; "{place}: unknown key {key:?}; the nearest is `{nearest}`")
+        }
+        (None, None) => format!(in alloc; "{place}: unknown key {key:?}"),
     }
-    Ok(text)
 }
 
 fn is_known(known: &[&'static str], key: &str) -> bool {

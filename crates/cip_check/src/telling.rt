@@ -37,6 +37,22 @@ fn tell_stranger(
     }
 }
 
+fn put_told(
+    alloc: Global,
+    name: &str,
+    text: &str,
+    fault: &LoadFault,
+    told: &mut String,
+) -> Result<(), NoMemory> {
+    let name = Escaped(name);
+    let explained = explain_load(alloc, text, fault)?;
+    match fault_line(alloc, text, fault)? {
+        Some(line) => write!(told, "{name}:{line}: {explained}")?,
+        None => write!(told, "{name}: {explained}")?,
+    }
+    tell_stranger(alloc, text, fault, told)
+}
+
 /// What is told of a topology file of this name and text that has this fault: the name, the line of
 /// the fault (`fault_line`), the fault with what else the text says of it (`explain_load`), and the
 /// first key that means nothing, where the fault is about none that is missing. NoMemory where an
@@ -48,12 +64,6 @@ pub fn explain_file(
     fault: &LoadFault,
 ) -> Result<String, NoMemory> {
     let mut told = String::new(alloc);
-    write!(told, "{}", Escaped(name))?;
-    if let Some(line) = fault_line(alloc, text, fault)? {
-        write!(told, ":{line}")?;
-    }
-    let explained = explain_load(alloc, text, fault)?;
-    write!(told, ": {explained}")?;
-    tell_stranger(alloc, text, fault, &mut told)?;
+    put_told(alloc, name, text, fault, &mut told)?;
     Ok(told)
 }

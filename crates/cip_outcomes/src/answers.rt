@@ -42,32 +42,67 @@ pub enum Answer {
     },
 }
 
-impl fmt::Display for Answer {
+// What a module did with what was asked for.
+#[derive(Clone, Copy)]
+struct Deed<'a> {
+    by: &'a Excerpt,
+    how: How,
+}
+
+impl fmt::Display for Deed<'_> {
     fn fmt<W: fmt::Write>(&self, f: &mut fmt::Formatter<W>) -> fmt::Result {
-        let Answer::Of {
-            by,
-            how,
-            code,
-            sizes,
-        } = self
-        else {
-            return Ok(());
-        };
-        match how {
-            How::Answered => write!(f, "; {by} answered it")?,
-            How::Refused => write!(f, "; {by} refused it")?,
-            How::TimedOut => write!(f, "; it timed out at {by}")?,
+        let by = self.by;
+        match self.how {
+            How::Answered => write!(f, "{by} answered it"),
+            How::Refused => write!(f, "{by} refused it"),
+            How::TimedOut => write!(f, "it timed out at {by}"),
         }
-        if let Some(code) = code {
-            write!(f, " with {code}")?;
+    }
+}
+
+// The status behind a deed, where one is told.
+#[derive(Clone, Copy)]
+struct WithCode(Option<Code>);
+
+impl fmt::Display for WithCode {
+    fn fmt<W: fmt::Write>(&self, f: &mut fmt::Formatter<W>) -> fmt::Result {
+        match self.0 {
+            Some(code) => write!(f, " with {code}"),
+            None => Ok(()),
         }
-        match sizes {
+    }
+}
+
+// The sizes behind a status, where they are told.
+#[derive(Clone, Copy)]
+struct WithSizes(Option<OpenSizes>);
+
+impl fmt::Display for WithSizes {
+    fn fmt<W: fmt::Write>(&self, f: &mut fmt::Formatter<W>) -> fmt::Result {
+        match self.0 {
             Some(OpenSizes { wanted, asked }) => write!(
                 f,
                 ": sizes {} O to T and {} T to O are wanted, and {} and {} were asked for",
                 wanted.0, wanted.1, asked.0, asked.1
             ),
             None => Ok(()),
+        }
+    }
+}
+
+impl fmt::Display for Answer {
+    fn fmt<W: fmt::Write>(&self, f: &mut fmt::Formatter<W>) -> fmt::Result {
+        match self {
+            Answer::Missing => Ok(()),
+            Answer::Of {
+                by,
+                how,
+                code,
+                sizes,
+            } => {
+                let deed = Deed { by, how: *how };
+                write!(f, "; {deed}{}{}", WithCode(*code), WithSizes(*sizes))
+            }
         }
     }
 }

@@ -105,15 +105,29 @@ fn put_frame(
     topology: &Topology,
     flying: &Flying<'_>,
 ) -> Result<(), AllocError> {
-    match flying.body {
-        Body::Request { number, .. } => write!(text, "request {number}")?,
-        Body::Reply { number, .. } => write!(text, "reply {number}")?,
-        Body::Data { id, .. } => write!(text, "data {id}")?,
-    }
-    write!(text, " from {}", module_text(topology, flying.at))?;
+    let (word, number) = match flying.body {
+        Body::Request { number, .. } => ("request", *number),
+        Body::Reply { number, .. } => ("reply", *number),
+        Body::Data { id, .. } => ("data", *id),
+    };
+    let from = module_text(topology, flying.at);
+    write!(text, "{word} {number} from {from}")?;
     match topology.node_at(flying.at, flying.port, flying.to) {
         Some(to) => write!(text, " to {}", module_text(topology, to)),
         None => Ok(()),
+    }
+}
+
+// What is down, for whom, and since when.
+fn put_outage(text: &mut String, topology: &Topology, outage: Outage) -> Result<(), AllocError> {
+    let link = link_word(topology, outage.side.link);
+    let since = outage.since;
+    match outage.side.module_ {
+        Some(at) => {
+            let module_ = module_text(topology, at);
+            write!(text, "; {link} is down for {module_} since line {since}")
+        }
+        None => write!(text, "; {link} is down since line {since}"),
     }
 }
 
@@ -126,11 +140,7 @@ fn why_lost(
 ) -> Result<String, AllocError> {
     let mut text = String::from_str(alloc, "# lost: ")?;
     put_frame(&mut text, topology, flying)?;
-    write!(text, "; {} is down", link_word(topology, outage.side.link))?;
-    if let Some(at) = outage.side.module_ {
-        write!(text, " for {}", module_text(topology, at))?;
-    }
-    write!(text, " since line {}", outage.since)?;
+    put_outage(&mut text, topology, outage)?;
     Ok(text)
 }
 

@@ -14,16 +14,38 @@ pub struct Code {
     pub additional: Option<u16>,
 }
 
-impl fmt::Display for Code {
+// The additional status behind the general one, where there is one.
+#[derive(Clone, Copy)]
+struct Additional(Option<u16>);
+
+impl fmt::Display for Additional {
     fn fmt<W: fmt::Write>(&self, f: &mut fmt::Formatter<W>) -> fmt::Result {
-        write!(f, "{:02X}", self.general)?;
-        if let Some(additional) = self.additional {
-            write!(f, "/{additional:04X}")?;
+        match self.0 {
+            Some(word) => write!(f, "/{word:04X}"),
+            None => Ok(()),
         }
-        match status_name(self.general, self.additional) {
+    }
+}
+
+// A name behind what it names, where there is one.
+#[derive(Clone, Copy)]
+struct InBrackets(Option<&'static str>);
+
+impl fmt::Display for InBrackets {
+    fn fmt<W: fmt::Write>(&self, f: &mut fmt::Formatter<W>) -> fmt::Result {
+        match self.0 {
             Some(name) => write!(f, " ({name})"),
             None => Ok(()),
         }
+    }
+}
+
+impl fmt::Display for Code {
+    fn fmt<W: fmt::Write>(&self, f: &mut fmt::Formatter<W>) -> fmt::Result {
+        let general = self.general;
+        let additional = Additional(self.additional);
+        let name = InBrackets(status_name(general, self.additional));
+        write!(f, "{general:02X}{additional}{name}")
     }
 }
 

@@ -35,6 +35,24 @@ fn meaning(reason: Refused) -> &'static str {
     }
 }
 
+// What a reason means, or the sizes where those are told.
+#[derive(Clone, Copy)]
+struct Meaning {
+    reason: Refused,
+    sizes: Option<Sizes>,
+}
+
+impl fmt::Display for Meaning {
+    fn fmt<W: fmt::Write>(&self, f: &mut fmt::Formatter<W>) -> fmt::Result {
+        match self.sizes {
+            Some(Sizes { given, wanted }) => {
+                write!(f, "the size is {given}, and {wanted} is wanted")
+            }
+            None => f.write_str(meaning(self.reason)),
+        }
+    }
+}
+
 impl fmt::Display for Refusal {
     fn fmt<W: fmt::Write>(&self, f: &mut fmt::Formatter<W>) -> fmt::Result {
         let Order {
@@ -43,16 +61,14 @@ impl fmt::Display for Refusal {
             subject,
         } = &self.order;
         let reason = self.reason;
-        write!(f, "{word}: {module_} refuses {subject}: {reason:?}, ")?;
-        match self.sizes {
-            Some(Sizes { given, wanted }) => {
-                write!(f, "the size is {given}, and {wanted} is wanted")?
-            }
-            None => f.write_str(meaning(reason))?,
-        }
+        let meaning = Meaning {
+            reason,
+            sizes: self.sizes,
+        };
         write!(
             f,
-            "; `expect refused {reason:?}` directly behind it allows that"
+            "{word}: {module_} refuses {subject}: {reason:?}, {meaning}; \
+                `expect refused {reason:?}` directly behind it allows that"
         )
     }
 }

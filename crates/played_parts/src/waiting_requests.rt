@@ -6,30 +6,51 @@ use line_words::Words;
 use std::alloc::Global;
 use std::fmt;
 
+// Who asked.
+#[derive(Clone, Copy)]
+struct Asker<'a>(&'a UpSide);
+
+impl fmt::Display for Asker<'_> {
+    fn fmt<W: fmt::Write>(&self, f: &mut fmt::Formatter<W>) -> fmt::Result {
+        match self.0 {
+            UpSide::Link {
+                port,
+                address,
+                number,
+            } => write!(f, "{} {} {number}", port.get(), Pairs(address.as_slice())),
+            UpSide::Local { op } => write!(f, "op {op}"),
+        }
+    }
+}
+
+// What was asked.
+#[derive(Clone, Copy)]
+struct Asked(Kind);
+
+impl fmt::Display for Asked {
+    fn fmt<W: fmt::Write>(&self, f: &mut fmt::Formatter<W>) -> fmt::Result {
+        match self.0 {
+            Kind::Unconnected => f.write_str("unconnected"),
+            Kind::Opening(triad) => write!(f, "opening {}", Numbers(triad)),
+            Kind::OpeningLarge(triad) => write!(f, "large {}", Numbers(triad)),
+            Kind::Closing(triad) => write!(f, "closing {}", Numbers(triad)),
+        }
+    }
+}
+
 #[derive(Clone, Copy)]
 struct Shown<'a>(&'a Entry);
 
 impl fmt::Display for Shown<'_> {
     fn fmt<W: fmt::Write>(&self, f: &mut fmt::Formatter<W>) -> fmt::Result {
         let entry = self.0;
-        match &entry.up {
-            UpSide::Link {
-                port,
-                address,
-                number,
-            } => write!(f, "{} {} {number}", port.get(), Pairs(address.as_slice()))?,
-            UpSide::Local { op } => write!(f, "op {op}")?,
-        }
+        let asker = Asker(&entry.up);
         let port = entry.port.get();
         let address = Pairs(entry.address.as_slice());
-        write!(f, " to {port} {address} due {}", entry.deadline)?;
-        write!(f, " words {}", entry.words)?;
-        match entry.kind {
-            Kind::Unconnected => write!(f, " unconnected"),
-            Kind::Opening(triad) => write!(f, " opening {}", Numbers(triad)),
-            Kind::OpeningLarge(triad) => write!(f, " large {}", Numbers(triad)),
-            Kind::Closing(triad) => write!(f, " closing {}", Numbers(triad)),
-        }
+        let deadline = entry.deadline;
+        let words = entry.words;
+        let asked = Asked(entry.kind);
+        write!(f, "{asker} to {port} {address} due {deadline} words {words} {asked}")
     }
 }
 
