@@ -37,12 +37,12 @@ fn meaning(reason: Refused) -> &'static str {
 
 // What a reason means, or the sizes where those are told.
 #[derive(Clone, Copy)]
-struct Meaning {
+struct ReasonText {
     reason: Refused,
     sizes: Option<Sizes>,
 }
 
-impl fmt::Display for Meaning {
+impl fmt::Display for ReasonText {
     fn fmt<W: fmt::Write>(&self, f: &mut fmt::Formatter<W>) -> fmt::Result {
         match self.sizes {
             Some(Sizes { given, wanted }) => {
@@ -61,13 +61,13 @@ impl fmt::Display for Refusal {
             subject,
         } = &self.order;
         let reason = self.reason;
-        let meaning = Meaning {
+        let why = ReasonText {
             reason,
             sizes: self.sizes,
         };
         write!(
             f,
-            "{word}: {module_} refuses {subject}: {reason:?}, {meaning}; \
+            "{word}: {module_} refuses {subject}: {reason:?}, {why}; \
                 `expect refused {reason:?}` directly behind it allows that"
         )
     }
