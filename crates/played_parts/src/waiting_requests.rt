@@ -50,7 +50,10 @@ impl fmt::Display for Shown<'_> {
         let deadline = entry.deadline;
         let words = entry.words;
         let asked = Asked(entry.kind);
-        write!(f, "{asker} to {port} {address} due {deadline} words {words} {asked}")
+        write!(
+            f,
+            "{asker} to {port} {address} due {deadline} words {words} {asked}"
+        )
     }
 }
 
