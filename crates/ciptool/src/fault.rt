@@ -115,3 +115,9 @@ impl From<AllocError> for Fault {
         Fault::NoMemory
     }
 }
+
+impl From<AnswerFault> for Fault {
+    fn from(fault: AnswerFault) -> Fault {
+        Fault::Answer(fault)
+    }
+}

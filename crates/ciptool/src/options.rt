@@ -133,34 +133,18 @@ fn path_command<'a>(alloc: Global) -> Result<Command<'a>, AllocError> {
     Command::new(alloc, "path").arg(word(alloc, "PATH").required(true))
 }
 
-// What may be said of network connection parameters.
-const PARAMS: [&str; 10] = [
-    "NUMBER",
-    "large",
-    "size",
-    "priority",
-    "point-to-point",
-    "multicast",
-    "null",
-    "reserved",
-    "variable",
-    "redundant",
-];
-
-fn params_arg<'a>(alloc: Global, name: &'a str) -> Arg<'a> {
-    match name {
-        "NUMBER" => word(alloc, name),
-        "size" | "priority" => value(alloc, name),
-        _ => flag(alloc, name),
-    }
-}
-
 fn params_command<'a>(alloc: Global) -> Result<Command<'a>, AllocError> {
-    let mut command = Command::new(alloc, "params");
-    for name in PARAMS {
-        command = command.arg(params_arg(alloc, name))?;
-    }
-    Ok(command)
+    Command::new(alloc, "params")
+        .arg(word(alloc, "NUMBER"))?
+        .arg(flag(alloc, "large"))?
+        .arg(value(alloc, "size"))?
+        .arg(value(alloc, "priority"))?
+        .arg(flag(alloc, "point-to-point"))?
+        .arg(flag(alloc, "multicast"))?
+        .arg(flag(alloc, "null"))?
+        .arg(flag(alloc, "reserved"))?
+        .arg(flag(alloc, "variable"))?
+        .arg(flag(alloc, "redundant"))
 }
 
 fn status_command<'a>(alloc: Global) -> Result<Command<'a>, AllocError> {
@@ -186,28 +170,17 @@ fn wide_command<'a>(alloc: Global, name: &'a str) -> Result<Command<'a>, AllocEr
         .arg(word(alloc, "FILE"))
 }
 
-// What can be asked for.
-const COMMANDS: [&str; 6] = ["path", "params", "status", "check", "script", "play"];
-
-fn command_named<'a>(alloc: Global, name: &'a str) -> Result<Command<'a>, AllocError> {
-    match name {
-        "path" => path_command(alloc),
-        "params" => params_command(alloc),
-        "status" => status_command(alloc),
-        "check" => check_command(alloc),
-        _ => wide_command(alloc, name),
-    }
-}
-
 fn command<'a>(alloc: Global) -> Result<Command<'a>, AllocError> {
-    let mut command = Command::new(alloc, "ciptool")
+    Command::new(alloc, "ciptool")
         .version(VERSION)
         .no_binary_name(true)
-        .disable_help_subcommand(true);
-    for name in COMMANDS {
-        command = command.subcommand(command_named(alloc, name)?)?;
-    }
-    Ok(command)
+        .disable_help_subcommand(true)
+        .subcommand(path_command(alloc)?)?
+        .subcommand(params_command(alloc)?)?
+        .subcommand(status_command(alloc)?)?
+        .subcommand(check_command(alloc)?)?
+        .subcommand(wide_command(alloc, "script")?)?
+        .subcommand(wide_command(alloc, "play")?)
 }
 
 fn wrong(alloc: Global, text: &str) -> OptionsFault {

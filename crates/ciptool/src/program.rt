@@ -12,7 +12,7 @@ use cip_module::Module;
 use cip_open::Params;
 use cip_rooms::{RoomsFault, small_rooms};
 use cip_script::explain;
-use cip_tool::{AnswerFault, params_answer, params_of, path_answer, size_of, status_answer};
+use cip_tool::{params_answer, params_of, path_answer, size_of, status_answer};
 use cip_topology::{CHASSIS, LoadFault, Topology, load};
 use cip_wide::{LineFault, WideFault, narrow};
 use std::alloc::{AllocError, Global};
@@ -220,9 +220,9 @@ fn topology_at(rt: &HostRuntime, alloc: Global, name: &str) -> Result<Topology, 
 }
 
 // The same, or the chassis where none is named.
-fn topology_of(rt: &HostRuntime, alloc: Global, name: Option<&str>) -> Result<Topology, Fault> {
+fn topology_of(rt: &HostRuntime, alloc: Global, name: Option<String>) -> Result<Topology, Fault> {
     match name {
-        Some(name) => topology_at(rt, alloc, name),
+        Some(name) => topology_at(rt, alloc, name.as_str()),
         None => loaded(alloc, "the chassis", CHASSIS),
     }
 }
@@ -232,6 +232,14 @@ fn narrow_over(alloc: Global, topology: Topology, wide: &[u8]) -> Result<String,
     let made = new_modules(alloc, topology.configs())?;
     let modules = boxes!(alloc, made, WideFault::NoMemory);
     narrow(alloc, topology, modules, wide)
+}
+
+// The file of a wide script: the standard input where none is named.
+fn script_file(name: &Option<String>) -> &str {
+    match name {
+        Some(name) => name.as_str(),
+        None => "-",
+    }
 }
 
 // What is told of a line of a wide script.
@@ -262,10 +270,9 @@ fn narrowed(
     rt: &HostRuntime,
     alloc: Global,
     topology: Topology,
-    script: Option<&str>,
+    script: Option<String>,
 ) -> Result<String, Fault> {
-    // (the standard input where no file is named)
-    let name = script.unwrap_or("-");
+    let name = script_file(&script);
     let bytes = bytes_at(rt, alloc, name)?;
     match narrow_over(alloc, topology, bytes.as_slice()) {
         Ok(text) => Ok(text),
@@ -282,8 +289,8 @@ fn narrowed(
 fn narrow_file(
     rt: &HostRuntime,
     alloc: Global,
-    topology: Option<&str>,
-    script: Option<&str>,
+    topology: Option<String>,
+    script: Option<String>,
 ) -> Result<(), Fault> {
     let topology = topology_of(rt, alloc, topology)?;
     let text = narrowed(rt, alloc, topology, script)?;
@@ -345,8 +352,8 @@ fn stopped_by(stopped: Stopped) -> Fault {
 fn play_file(
     rt: &HostRuntime,
     alloc: Global,
-    topology: Option<&str>,
-    script: Option<&str>,
+    topology: Option<String>,
+    script: Option<String>,
 ) -> Result<(), Fault> {
     let topology = topology_of(rt, alloc, topology)?;
     let again = topology.copy(alloc)?;
@@ -357,36 +364,22 @@ fn play_file(
     }
 }
 
-// Says an answer, where there is one.
-fn say_answer(rt: &HostRuntime, answer: Result<String, AnswerFault>) -> Result<(), Fault> {
-    match answer {
-        Ok(text) => say(rt, text.as_str()),
-        Err(fault) => Err(Fault::Answer(fault)),
-    }
-}
-
-// A word that may not be given.
-fn given(word: &Option<String>) -> Option<&str> {
-    match word {
-        Some(word) => Some(word.as_str()),
-        None => None,
-    }
-}
-
-fn answer(rt: &HostRuntime, alloc: Global, task: &Task) -> Result<(), Fault> {
+fn answer(rt: &HostRuntime, alloc: Global, task: Task) -> Result<(), Fault> {
     match task {
         Task::Help => say(rt, HELP),
         Task::Version => say_version(rt),
         Task::Check { topology, scripts } => {
             check_file(rt, alloc, topology.as_str(), scripts.as_slice())
         }
-        Task::Script { topology, script } => {
-            narrow_file(rt, alloc, given(topology), given(script))
+        Task::Script { topology, script } => narrow_file(rt, alloc, topology, script),
+        Task::Play { topology, script } => play_file(rt, alloc, topology, script),
+        Task::Path(text) => {
+            let text = path_answer(alloc, text.as_str())?;
+            say(rt, text.as_str())
         }
-        Task::Play { topology, script } => play_file(rt, alloc, given(topology), given(script)),
-        Task::Path(text) => say_answer(rt, path_answer(alloc, text.as_str())),
         Task::ReadParams { large, word } => {
-            say_answer(rt, params_answer(alloc, *large, word.as_str()))
+            let text = params_answer(alloc, large, word.as_str())?;
+            say(rt, text.as_str())
         }
         Task::WriteParams {
             large,
@@ -395,22 +388,21 @@ fn answer(rt: &HostRuntime, alloc: Global, task: &Task) -> Result<(), Fault> {
             priority,
             kind,
             redundant,
-        } => match size_of(alloc, size.as_str()) {
-            Ok(size) => {
-                let params = Params {
-                    size,
-                    variable: *variable,
-                    priority: *priority,
-                    kind: *kind,
-                    redundant: *redundant,
-                };
-                say_answer(rt, params_of(alloc, *large, &params))
-            }
-            Err(fault) => Err(Fault::Answer(fault)),
-        },
+        } => {
+            let params = Params {
+                size: size_of(alloc, size.as_str())?,
+                variable,
+                priority,
+                kind,
+                redundant,
+            };
+            let text = params_of(alloc, large, &params)?;
+            say(rt, text.as_str())
+        }
         Task::Status(general, additional) => {
-            let answer = status_answer(alloc, general.as_str(), given(additional));
-            say_answer(rt, answer)
+            let additional = additional.as_ref().map(|text| text.as_str());
+            let text = status_answer(alloc, general.as_str(), additional)?;
+            say(rt, text.as_str())
         }
     }
 }
@@ -419,5 +411,5 @@ fn answer(rt: &HostRuntime, alloc: Global, task: &Task) -> Result<(), Fault> {
 pub fn run_program(rt: &HostRuntime) -> Result<(), Fault> {
     let alloc = rt.alloc();
     let task = task(rt, alloc)?;
-    answer(rt, alloc, &task)
+    answer(rt, alloc, task)
 }

@@ -120,27 +120,16 @@ fn number_arg<'a>(alloc: Global, name: &'a str) -> Arg<'a> {
     value_arg(alloc, name).value_parser(value_parser!(u64))
 }
 
-// The word and the options.
-const ARGS: [&str; 6] = ["shape", "topology", "from", "to", "module", "html"];
-
-fn arg_named<'a>(alloc: Global, name: &'a str) -> Arg<'a> {
-    match name {
-        "shape" => shape_arg(alloc),
-        "from" | "to" => number_arg(alloc, name),
-        "module" => module_arg(alloc),
-        "html" => html_arg(alloc),
-        _ => value_arg(alloc, name),
-    }
-}
-
 fn command<'a>(alloc: Global) -> Result<Command<'a>, AllocError> {
-    let mut command = Command::new(alloc, "cipview")
+    Command::new(alloc, "cipview")
         .version(VERSION)
-        .no_binary_name(true);
-    for name in ARGS {
-        command = command.arg(arg_named(alloc, name))?;
-    }
-    Ok(command)
+        .no_binary_name(true)
+        .arg(shape_arg(alloc))?
+        .arg(value_arg(alloc, "topology"))?
+        .arg(number_arg(alloc, "from"))?
+        .arg(number_arg(alloc, "to"))?
+        .arg(module_arg(alloc))?
+        .arg(html_arg(alloc))
 }
 
 fn text_at(
