@@ -26,33 +26,22 @@ impl fmt::Display for Key {
     }
 }
 
-// The word and the number of a segment that holds a number alone.
-fn numbered(segment: SegmentView<'_>) -> Option<(&'static str, u32)> {
-    match segment {
-        SegmentView::Class(class) => Some(("class", u32::from(class))),
-        SegmentView::Instance(instance) => Some(("instance", instance)),
-        SegmentView::Member(member) => Some(("member", u32::from(member))),
-        SegmentView::Point(point) => Some(("point", point)),
-        SegmentView::Attribute(attribute) => Some(("attribute", u32::from(attribute))),
-        SegmentView::Inhibit(time) => Some(("inhibit", u32::from(time))),
-        _ => None,
-    }
-}
-
 #[derive(Clone, Copy)]
 struct Shown<'a>(SegmentView<'a>);
 
 impl fmt::Display for Shown<'_> {
     fn fmt<W: fmt::Write>(&self, f: &mut fmt::Formatter<W>) -> fmt::Result {
-        if let Some((word, number)) = numbered(self.0) {
-            return write!(f, "{word} {number}");
-        }
         match self.0 {
             SegmentView::Port(port, address) => write!(f, "port {} {}", port.get(), Pairs(address)),
+            SegmentView::Class(class) => write!(f, "class {class}"),
+            SegmentView::Instance(instance) => write!(f, "instance {instance}"),
+            SegmentView::Member(member) => write!(f, "member {member}"),
+            SegmentView::Point(point) => write!(f, "point {point}"),
+            SegmentView::Attribute(attribute) => write!(f, "attribute {attribute}"),
             SegmentView::Key(key) => write!(f, "{}", Key(key)),
             SegmentView::Words(words) => write!(f, "words {}", Pairs(words)),
             SegmentView::Symbol(symbol) => write!(f, "symbol {}", Pairs(symbol)),
-            _ => Ok(()),
+            SegmentView::Inhibit(time) => write!(f, "inhibit {time}"),
         }
     }
 }
