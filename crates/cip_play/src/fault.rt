@@ -10,7 +10,7 @@ use std::alloc::AllocError;
 use thiserror::Error;
 
 /// Why a script was not run to its end.
-#[derive(Clone, Copy, Debug, Error)]
+#[derive(Clone, Copy, Debug, PartialEq, Eq, Error)]
 pub enum ConsoleFault {
     /// The first faulty line, from 1, and its fault. Nothing was written, but for NoFrame and
     /// ClockFull: these come in the run, after the transcript so far.

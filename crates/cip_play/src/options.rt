@@ -11,7 +11,7 @@ use thiserror::Error;
 /// What the program is asked for: a topology file and a script, or the chassis and the standard
 /// input in their place; whether each module has a thread of its own; and how many steps these may
 /// take together.
-#[derive(Drop)]
+#[derive(Debug, Drop)]
 pub struct Options {
     pub topology: Option<String>,
     pub script: Option<String>,
@@ -20,7 +20,7 @@ pub struct Options {
 }
 
 /// What words that ask for no run ask for.
-#[derive(Clone, Copy, Debug, Error)]
+#[derive(Clone, Copy, Debug, PartialEq, Eq, Error)]
 pub enum Usage {
     /// Nothing that the program has: a word is none of its options, or its value is no such value.
     #[error("usage: cipbridge [--topology FILE] [--script FILE] [--threads] [--turns N]; \
@@ -35,7 +35,7 @@ pub enum Usage {
 }
 
 /// Why there are no options.
-#[derive(Clone, Copy, Debug, Error)]
+#[derive(Clone, Copy, Debug, PartialEq, Eq, Error)]
 pub enum OptionsFault {
     /// The words ask for no run.
     #[error("{0}")]

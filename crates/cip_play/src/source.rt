@@ -83,7 +83,7 @@ impl Source for Script<'_> {
 }
 
 /// Why no script was read.
-#[derive(Clone, Copy)]
+#[derive(Clone, Copy, Debug, PartialEq, Eq)]
 pub enum ReadFault {
     Failed,
     TooLong,
@@ -180,7 +180,7 @@ impl<W: Write> Sink for Out<W> {
 }
 
 /// The writer failed, or took no byte.
-#[derive(Clone, Copy)]
+#[derive(Clone, Copy, Debug, PartialEq, Eq)]
 pub struct WriteFault;
 
 /// Writes all of a text. At an error the sink refused once, and got a prefix of it.

@@ -7,7 +7,7 @@ use cip_base::Status;
 use cip_target::EndRefusal;
 
 /// The rows of any request that answer with a failure.
-#[derive(Clone, Copy)]
+#[derive(Clone, Copy, Debug, PartialEq, Eq)]
 pub enum RequestRefusal {
     PathPastTheEnd,
     PathUnreadable,
@@ -17,7 +17,7 @@ pub enum RequestRefusal {
 }
 
 /// The rows on sending a message on by a link, which the groups below share.
-#[derive(Clone, Copy)]
+#[derive(Clone, Copy, Debug, PartialEq, Eq)]
 pub enum LinkRefusal {
     NoSuchPort,
     LinkAddressNotLegal,
@@ -27,7 +27,7 @@ pub enum LinkRefusal {
 
 /// The rows of an Unconnected_Send that answer with a failure. A key mismatch says which part of
 /// the key differs.
-#[derive(Clone, Copy)]
+#[derive(Clone, Copy, Debug, PartialEq, Eq)]
 pub enum UnconnectedRefusal {
     CutBeforeTheRouteSize,
     CutInTheRoute,
@@ -40,7 +40,7 @@ pub enum UnconnectedRefusal {
 }
 
 /// The rows of a Forward_Open that answer with a failure.
-#[derive(Clone, Copy)]
+#[derive(Clone, Copy, Debug, PartialEq, Eq)]
 pub enum OpenRefusal {
     CutInTheFixedPart,
     CutInThePath,
@@ -57,7 +57,7 @@ pub enum OpenRefusal {
 }
 
 /// The rows of a Forward_Close that answer with a failure.
-#[derive(Clone, Copy)]
+#[derive(Clone, Copy, Debug, PartialEq, Eq)]
 pub enum CloseRefusal {
     CutInTheFixedPart,
     CutInThePath,
@@ -69,7 +69,7 @@ pub enum CloseRefusal {
 }
 
 /// What of an electronic key differs from the module, in the order in which it is looked at.
-#[derive(Clone, Copy)]
+#[derive(Clone, Copy, Debug, PartialEq, Eq)]
 pub enum KeyPart {
     VendorOrProduct,
     DeviceType,

@@ -7,11 +7,10 @@ use cip_segment::{PathFault, view_path};
 use cip_tool::{HexFault, fault_place, hex_fault, number};
 use cip_words::{ascii, lines};
 use std::alloc::Global;
-use std::fmt;
 use thiserror::Error;
 
 /// Why a word is none that may stand there.
-#[derive(Clone, Copy, Error)]
+#[derive(Clone, Copy, Debug, PartialEq, Eq, Error)]
 pub enum WordFault {
     #[error("no module of the topology")]
     NoModule,
@@ -39,14 +38,8 @@ pub enum WordFault {
     ClockFull,
 }
 
-impl fmt::Debug for WordFault {
-    fn fmt<W: fmt::Write>(&self, f: &mut fmt::Formatter<W>) -> fmt::Result {
-        fmt::Display::fmt(self, f)
-    }
-}
-
 /// What is wrong with a line.
-#[derive(Drop, Error)]
+#[derive(Debug, Drop, Error)]
 pub enum Explained {
     #[error("not text: byte {place} of the line is {byte:02X}; allowed: 00 to 7F")]
     NotText {
@@ -86,12 +79,6 @@ pub enum Explained {
     /// The line is not the one that the fault is about.
     #[error("{0}")]
     Fault(ScriptFault),
-}
-
-impl fmt::Debug for Explained {
-    fn fmt<W: fmt::Write>(&self, f: &mut fmt::Formatter<W>) -> fmt::Result {
-        fmt::Display::fmt(self, f)
-    }
 }
 
 /// What stands behind the first word of a line: the names of its words, with spaces between them.

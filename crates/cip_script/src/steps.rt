@@ -23,7 +23,7 @@ use std::alloc::{AllocError, Global};
 use thiserror::Error;
 
 /// One step of a script.
-#[derive(Drop)]
+#[derive(Debug, Drop)]
 pub enum Step {
     /// A command to a module.
     Feed { module_: ModuleId, command: Command },
@@ -45,21 +45,21 @@ pub enum Step {
 
 /// How a script is played: a step after the other, or by modules on threads of their own, which are
 /// given commands and ticks alone.
-#[derive(Clone, Copy)]
+#[derive(Clone, Copy, Debug, PartialEq, Eq)]
 pub enum Mode {
     InTurn,
     OnThreads,
 }
 
 /// A step, and the line that it stands in, from 1.
-#[derive(Drop)]
+#[derive(Debug, Drop)]
 pub struct Numbered {
     pub line: usize,
     pub step: Step,
 }
 
 /// What is wrong with a line of a script.
-#[derive(Clone, Copy, Debug, Error)]
+#[derive(Clone, Copy, Debug, PartialEq, Eq, Error)]
 pub enum ScriptFault {
     /// The first word is none of the script's.
     #[error("unknown word")]
@@ -109,7 +109,7 @@ impl From<AllocError> for StepFault {
 }
 
 /// Why a script gave no steps: its first faulty line, or out of memory.
-#[derive(Clone, Copy)]
+#[derive(Clone, Copy, Debug, PartialEq, Eq)]
 pub enum StepsFault {
     Script(usize, ScriptFault),
     NoMemory,

@@ -13,7 +13,7 @@ use std::fmt;
 use thiserror::Error;
 
 /// Where a text is no TOML, and why. Lines are numbered from 1.
-#[derive(Clone, Copy)]
+#[derive(Clone, Copy, Debug)]
 pub struct Syntax {
     line: usize,
     error: toml::de::Error,
@@ -55,7 +55,7 @@ impl fmt::Display for Syntax {
 
 /// Why a text is no topology: the first rule that it breaks, in the order in which the rules are
 /// looked at, where it breaks it, and what it says there.
-#[derive(Drop, Error)]
+#[derive(Debug, Drop, Error)]
 pub enum LoadFault {
     /// The text is no TOML.
     #[error("not TOML, {0}")]
@@ -117,12 +117,6 @@ pub enum LoadFault {
     /// An allocation was refused.
     #[error("out of memory")]
     NoMemory,
-}
-
-impl fmt::Debug for LoadFault {
-    fn fmt<W: fmt::Write>(&self, f: &mut fmt::Formatter<W>) -> fmt::Result {
-        fmt::Display::fmt(self, f)
-    }
 }
 
 impl From<AllocError> for LoadFault {

@@ -8,7 +8,7 @@ use std::fmt;
 use toml::Value;
 
 /// The value that stands at a key, or how many tables do.
-#[derive(Drop)]
+#[derive(Debug, Drop)]
 pub enum Found {
     Integer(i64),
     /// The prefix of a text, and its length in bytes.

@@ -6,7 +6,7 @@ use crate::place::Place;
 use std::fmt;
 
 /// A key of a topology file.
-#[derive(Clone, Copy)]
+#[derive(Clone, Copy, Debug, PartialEq, Eq)]
 pub enum Key {
     Link,
     Module,

@@ -7,7 +7,7 @@ use std::fmt;
 
 /// A table of the file. Tables are numbered from 1, in the order of the file; a name is None where
 /// it can't be read.
-#[derive(Drop)]
+#[derive(Debug, Drop)]
 pub enum Place {
     /// The file itself.
     File,
