@@ -1,6 +1,8 @@
-//! The words of the lines that the drivers of the tests read.
+//! The words of the lines that the drivers of the tests read, and the texts of what they tell alike.
 #![tactic(auto)]
 
+mod texts;
 mod words;
 
+pub use texts::{Asked, Asker, Numbers, Pairs};
 pub use words::Words;

@@ -1,42 +1,10 @@
 //! A module's outputs and tables as text.
-use cip_base::Triad;
 use cip_hops::{HopDown, HopUp};
 use cip_module::{
     AssemblyRow, Body, Dropped, HopRow, Output, PendingRow, Refused, StepFault, Tables,
 };
-use cip_pending::{Kind, UpSide};
+use line_words::{Asked, Asker, Numbers, Pairs};
 use std::fmt;
-
-/// Bytes as upper-case pairs, a dash for none.
-#[derive(Clone, Copy)]
-struct Pairs<'a>(&'a [u8]);
-
-impl fmt::Display for Pairs<'_> {
-    fn fmt<W: fmt::Write>(&self, f: &mut fmt::Formatter<W>) -> fmt::Result {
-        if self.0.is_empty() {
-            return write!(f, "-");
-        }
-        for byte in self.0 {
-            write!(f, "{byte:02X}")?;
-        }
-        Ok(())
-    }
-}
-
-/// A triad as its three numbers.
-#[derive(Clone, Copy)]
-struct Numbers(Triad);
-
-impl fmt::Display for Numbers {
-    fn fmt<W: fmt::Write>(&self, f: &mut fmt::Formatter<W>) -> fmt::Result {
-        let Triad {
-            serial,
-            vendor,
-            originator,
-        } = self.0;
-        write!(f, "{serial} {vendor} {originator}")
-    }
-}
 
 /// What a frame holds.
 #[derive(Clone, Copy)]
@@ -112,38 +80,6 @@ pub fn fault_text(fault: &StepFault) -> &'static str {
     match fault {
         StepFault::NoMemory(_) => "no memory",
         StepFault::ClockFull(_) => "clock full",
-    }
-}
-
-/// Whom the reply to a request goes to.
-#[derive(Clone, Copy)]
-struct Asker<'a>(&'a UpSide);
-
-impl fmt::Display for Asker<'_> {
-    fn fmt<W: fmt::Write>(&self, f: &mut fmt::Formatter<W>) -> fmt::Result {
-        match self.0 {
-            UpSide::Link {
-                port,
-                address,
-                number,
-            } => write!(f, "{} {} {number}", port.get(), Pairs(address.as_slice())),
-            UpSide::Local { op } => write!(f, "op {op}"),
-        }
-    }
-}
-
-/// What was asked.
-#[derive(Clone, Copy)]
-struct Asked(Kind);
-
-impl fmt::Display for Asked {
-    fn fmt<W: fmt::Write>(&self, f: &mut fmt::Formatter<W>) -> fmt::Result {
-        match self.0 {
-            Kind::Unconnected => write!(f, "unconnected"),
-            Kind::Opening(triad) => write!(f, "opening {}", Numbers(triad)),
-            Kind::OpeningLarge(triad) => write!(f, "large {}", Numbers(triad)),
-            Kind::Closing(triad) => write!(f, "closing {}", Numbers(triad)),
-        }
     }
 }
 

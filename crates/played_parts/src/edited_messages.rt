@@ -10,7 +10,7 @@ ghost use Rattle.cip_open.specs.GoesOn.{IsOpenGoingOn, IsOpenSuccess};
 ghost use Rattle.cip_close.specs.Close.{Close};
 ghost use Rattle.cip_close.specs.GoesOn.{IsCloseGoingOn};
 
-use crate::texts::{Pairs, text};
+use crate::texts::{PairsOrCount, text};
 use cip_close::{FORWARD_CLOSE, read_close};
 use cip_message::{CONNECTION_MANAGER, read_reply, read_request};
 use cip_open::{open_reply_service, open_service, read_open_of, read_open_reply};
@@ -190,5 +190,5 @@ pub fn answer(name: &str, words: &mut Words) -> Option<String> {
         "send_on" => send_on(words),
         _ => None,
     };
-    text(words.alloc, Pairs(bytes?.as_slice()))
+    text(words.alloc, PairsOrCount(bytes?.as_slice()))
 }

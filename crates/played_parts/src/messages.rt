@@ -4,7 +4,7 @@ ghost use Rattle.cip_open.specs.Open.{FitWidth};
 ghost use Rattle.cip_message.specs.Failure.{HasTriadForWords};
 
 use crate::read_messages::{cut, over, read};
-use crate::texts::{Numbers, Pairs, text};
+use crate::texts::{PairsOrCount, text};
 use cip_base::{Bytes, NoMemory, Status, put_double, put_word};
 use cip_close::{CloseFields, CloseReply, write_close, write_close_failure, write_close_reply};
 use cip_message::{
@@ -17,7 +17,7 @@ use cip_open::{
 };
 use cip_segment::view_path;
 use cip_unconnected::write_unconnected;
-use line_words::Words;
+use line_words::{Numbers, Words};
 use std::alloc::Global;
 
 // The bytes of a message that a guarded call gave, or its fault.
@@ -25,7 +25,7 @@ fn written(words: &mut Words, written: Result<Bytes, WriteFault>) -> Option<Stri
     let alloc = words.alloc;
     words.close(matches!(written, Err(WriteFault::NoMemory)));
     match written {
-        Ok(bytes) => text(alloc, Pairs(bytes.as_slice())),
+        Ok(bytes) => text(alloc, PairsOrCount(bytes.as_slice())),
         Err(fault) => format!(in alloc; "{fault:?}: {fault}").ok(),
     }
 }
@@ -33,7 +33,7 @@ fn written(words: &mut Words, written: Result<Bytes, WriteFault>) -> Option<Stri
 // The same of a call that fails only where it is refused memory.
 fn made(words: &mut Words, made: Result<Bytes, NoMemory>) -> Option<String> {
     let bytes = words.had(made)?;
-    text(words.alloc, Pairs(bytes.as_slice()))
+    text(words.alloc, PairsOrCount(bytes.as_slice()))
 }
 
 // `SERVICE PATH DATA`
@@ -268,7 +268,7 @@ fn put(name: &str, words: &mut Words) -> Option<String> {
     if words.had(put).is_none() {
         words.same = Some(out.as_slice().get(..front.len()) == Some(front.as_slice()));
     }
-    text(alloc, Pairs(out.as_slice()))
+    text(alloc, PairsOrCount(out.as_slice()))
 }
 
 // `SERVICE TRIAD`: a header of the Connection Manager and a triad.
@@ -276,7 +276,7 @@ fn manager_front(words: &mut Words) -> Option<String> {
     let mut out = Vec::new(words.alloc);
     put_manager_header(&mut out, words.u8()?).ok()?;
     put_triad(&mut out, words.triad()?).ok()?;
-    text(words.alloc, Pairs(out.as_slice()))
+    text(words.alloc, PairsOrCount(out.as_slice()))
 }
 
 // `AT BYTES`: the triad that stands there.

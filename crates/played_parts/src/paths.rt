@@ -1,5 +1,5 @@
 //! Questions about paths: what they are read as, and how segments are written.
-use crate::texts::{Pairs, name as name_of, text};
+use crate::texts::{PairsOrCount, name as name_of, text};
 use cip_base::{Bytes, KeyFields};
 use cip_segment::{
     FirstHop, Path, PathFault, Segment, SegmentView, first_hop, read_path, rest, segment_ok,
@@ -32,15 +32,20 @@ struct Shown<'a>(SegmentView<'a>);
 impl fmt::Display for Shown<'_> {
     fn fmt<W: fmt::Write>(&self, f: &mut fmt::Formatter<W>) -> fmt::Result {
         match self.0 {
-            SegmentView::Port(port, address) => write!(f, "port {} {}", port.get(), Pairs(address)),
+            SegmentView::Port(port, address) => write!(
+                f,
+                "port {} {}",
+                port.get(),
+                PairsOrCount(address)
+            ),
             SegmentView::Class(class) => write!(f, "class {class}"),
             SegmentView::Instance(instance) => write!(f, "instance {instance}"),
             SegmentView::Member(member) => write!(f, "member {member}"),
             SegmentView::Point(point) => write!(f, "point {point}"),
             SegmentView::Attribute(attribute) => write!(f, "attribute {attribute}"),
             SegmentView::Key(key) => write!(f, "{}", Key(key)),
-            SegmentView::Words(words) => write!(f, "words {}", Pairs(words)),
-            SegmentView::Symbol(symbol) => write!(f, "symbol {}", Pairs(symbol)),
+            SegmentView::Words(words) => write!(f, "words {}", PairsOrCount(words)),
+            SegmentView::Symbol(symbol) => write!(f, "symbol {}", PairsOrCount(symbol)),
             SegmentView::Inhibit(time) => write!(f, "inhibit {time}"),
         }
     }
@@ -76,7 +81,7 @@ fn given(words: &mut Words, found: Result<Path, PathFault>) -> Option<String> {
     let alloc = words.alloc;
     words.close(matches!(found, Err(PathFault::NoMemory)));
     match found {
-        Ok(path) => text(alloc, Pairs(path.view().bytes())),
+        Ok(path) => text(alloc, PairsOrCount(path.view().bytes())),
         Err(fault) => name_of(alloc, fault),
     }
 }
@@ -163,8 +168,8 @@ fn hop(alloc: Global, bytes: &[u8]) -> Option<String> {
                 Some(key) => format!(in alloc; "{} ", Key(key)).ok()?,
                 None => String::new(alloc),
             };
-            let address = Pairs(address.as_slice());
-            let behind = Pairs(behind.bytes());
+            let address = PairsOrCount(address.as_slice());
+            let behind = PairsOrCount(behind.bytes());
             format!(in alloc;
                 "{words} words {before}port {} {address} rest {rest_words} {behind}",
                 port.get()
@@ -191,7 +196,7 @@ fn viewed(name: &str, words: &mut Words, bytes: &[u8]) -> Option<String> {
         // its first segment, and what follows it
         "first" => match split_first(view_path(bytes).ok()?) {
             Some((first, behind)) => {
-                format!(in alloc; "{} before {}", Shown(first), Pairs(behind.bytes())).ok()
+                format!(in alloc; "{} before {}", Shown(first), PairsOrCount(behind.bytes())).ok()
             }
             None => text(alloc, "none"),
         },
@@ -214,7 +219,7 @@ fn made(name: &str, words: &mut Words, bytes: &[u8]) -> Option<String> {
             let path = view_path(bytes).ok()?;
             words.open();
             let path = words.had(path.to_path(alloc))?;
-            text(alloc, Pairs(path.view().bytes()))
+            text(alloc, PairsOrCount(path.view().bytes()))
         }
         // its segments
         "segments" => {

@@ -1,5 +1,5 @@
 //! Questions about messages that are read.
-use crate::texts::{Numbers, Pairs, Perhaps, name as name_of, text};
+use crate::texts::{PairsOrCount, Perhaps, name as name_of, text};
 use cip_base::Status;
 use cip_close::{close_triad_at, close_words_at, read_close, read_close_failure, read_close_reply};
 use cip_message::{ConnectionFailure, DataFault, counted_path, read_reply, read_request};
@@ -8,7 +8,7 @@ use cip_open::{
     read_open_failure, read_open_reply, words_at,
 };
 use cip_unconnected::{inner, read_unconnected, route_words};
-use line_words::Words;
+use line_words::{Numbers, Words};
 use std::alloc::Global;
 use std::fmt;
 
@@ -38,7 +38,7 @@ fn open(alloc: Global, found: Result<OpenView<'_>, DataFault>) -> Option<String>
     match found {
         Ok(view) => {
             let fields = Asked(view.fields);
-            format!(in alloc; "{fields} {}", Pairs(view.path.bytes())).ok()
+            format!(in alloc; "{fields} {}", PairsOrCount(view.path.bytes())).ok()
         }
         Err(fault) => name_of(alloc, fault),
     }
@@ -72,7 +72,7 @@ fn of_connection(alloc: Global, name: &str, bytes: &[u8]) -> Option<String> {
                 let triad = Numbers(reply.triad);
                 let ot_api = reply.ot_api;
                 let to_api = reply.to_api;
-                let more = Pairs(reply.reply);
+                let more = PairsOrCount(reply.reply);
                 format!(in alloc; "{ot_id} {to_id} {triad} {ot_api} {to_api} {more}").ok()
             }
             Err(fault) => name_of(alloc, fault),
@@ -90,7 +90,11 @@ fn of_connection(alloc: Global, name: &str, bytes: &[u8]) -> Option<String> {
                 let tick = view.fields.timing.tick;
                 let ticks = view.fields.timing.ticks;
                 let triad = Numbers(view.fields.triad);
-                format!(in alloc; "{tick} {ticks} {triad} {}", Pairs(view.path.bytes())).ok()
+                format!(in alloc;
+                    "{tick} {ticks} {triad} {}",
+                    PairsOrCount(view.path.bytes())
+                )
+                .ok()
             }
             Err(fault) => name_of(alloc, fault),
         },
@@ -100,7 +104,7 @@ fn of_connection(alloc: Global, name: &str, bytes: &[u8]) -> Option<String> {
         "close_reply" => match read_close_reply(bytes) {
             Ok(reply) => {
                 let triad = Numbers(reply.triad);
-                format!(in alloc; "{triad} {}", Pairs(reply.reply)).ok()
+                format!(in alloc; "{triad} {}", PairsOrCount(reply.reply)).ok()
             }
             Err(fault) => name_of(alloc, fault),
         },
@@ -116,15 +120,15 @@ pub fn read(alloc: Global, name: &str, bytes: &[u8]) -> Option<String> {
         "request" => match read_request(bytes) {
             Ok(request) => {
                 let service = request.service();
-                let path = Pairs(request.path().bytes());
-                format!(in alloc; "{service} {path} {}", Pairs(request.data_())).ok()
+                let path = PairsOrCount(request.path().bytes());
+                format!(in alloc; "{service} {path} {}", PairsOrCount(request.data_())).ok()
             }
             Err(fault) => name_of(alloc, fault),
         },
         // a service and its path alone
         "request_head" => match read_request(bytes) {
             Ok(request) => {
-                let path = Pairs(request.path().bytes());
+                let path = PairsOrCount(request.path().bytes());
                 format!(in alloc; "{} {path}", request.service()).ok()
             }
             Err(fault) => name_of(alloc, fault),
@@ -135,12 +139,16 @@ pub fn read(alloc: Global, name: &str, bytes: &[u8]) -> Option<String> {
                 let service = reply.service();
                 let Status { general, extra } = reply.status();
                 let extra = Perhaps(extra);
-                format!(in alloc; "{service} {general} {extra} {}", Pairs(reply.data_())).ok()
+                format!(in alloc;
+                    "{service} {general} {extra} {}",
+                    PairsOrCount(reply.data_())
+                )
+                .ok()
             }
             Err(fault) => name_of(alloc, fault),
         },
         "counted_path" => match counted_path(bytes, 0, 1) {
-            Ok(path) => text(alloc, Pairs(path.bytes())),
+            Ok(path) => text(alloc, PairsOrCount(path.bytes())),
             Err(fault) => name_of(alloc, fault),
         },
         // tick, ticks, the embedded request and the route
@@ -148,8 +156,12 @@ pub fn read(alloc: Global, name: &str, bytes: &[u8]) -> Option<String> {
             Ok(view) => {
                 let tick = view.timing.tick;
                 let ticks = view.timing.ticks;
-                let request = Pairs(inner(&view));
-                format!(in alloc; "{tick} {ticks} {request} {}", Pairs(view.route.bytes())).ok()
+                let request = PairsOrCount(inner(&view));
+                format!(in alloc;
+                    "{tick} {ticks} {request} {}",
+                    PairsOrCount(view.route.bytes())
+                )
+                .ok()
             }
             Err(fault) => name_of(alloc, fault),
         },

@@ -1,5 +1,5 @@
 //! Questions about a target: what its objects answer, and which connections end there.
-use crate::texts::{Pairs, text};
+use crate::texts::{PairsOrCount, text};
 use cip_base::{Bytes, Timing, Triad};
 use cip_message::read_request;
 use cip_open::{OpenFields, OpenView};
@@ -56,7 +56,7 @@ fn identity_fields(alloc: Global, major: u8, name: &[u8]) -> Option<IdentityFiel
 }
 
 fn fields_shown(alloc: Global, fields: &IdentityFields) -> Option<String> {
-    let name = Pairs(fields.name.as_slice());
+    let name = PairsOrCount(fields.name.as_slice());
     let vendor = fields.vendor;
     let revision = (fields.major, fields.minor);
     let serial = fields.serial;
@@ -71,7 +71,7 @@ pub fn state(alloc: Global, target: &Target) -> Option<String> {
         let Some((instance, bytes)) = target.next_after(after) else {
             break;
         };
-        let line = format!(in alloc; " {instance} {}", Pairs(bytes)).ok()?;
+        let line = format!(in alloc; " {instance} {}", PairsOrCount(bytes)).ok()?;
         text.push_str(line.as_str()).ok()?;
         after = Some(instance);
     }
@@ -148,13 +148,13 @@ fn reply(target: &mut Target, words: &mut Words) -> Option<String> {
     words.open();
     let reply = target.answer(alloc, request);
     let reply = words.had(reply)?;
-    text(alloc, Pairs(reply.as_slice()))
+    text(alloc, PairsOrCount(reply.as_slice()))
 }
 
 // The assembly of the least instance above this one, or of all.
 fn next(alloc: Global, target: &Target, after: Option<u16>) -> Option<String> {
     match target.next_after(after) {
-        Some((instance, bytes)) => format!(in alloc; "{instance} {}", Pairs(bytes)).ok(),
+        Some((instance, bytes)) => format!(in alloc; "{instance} {}", PairsOrCount(bytes)).ok(),
         None => text(alloc, "none"),
     }
 }
@@ -195,7 +195,7 @@ fn consume(target: &mut Target, words: &mut Words) -> Option<String> {
 fn produce(target: &Target, words: &mut Words) -> Option<String> {
     let instance = words.u16()?;
     match target.assembly(u32::from(instance)) {
-        Some(_) => text(words.alloc, Pairs(target.produce(instance))),
+        Some(_) => text(words.alloc, PairsOrCount(target.produce(instance))),
         None => text(words.alloc, "none"),
     }
 }

@@ -1,5 +1,5 @@
 //! Answers as text.
-use cip_base::Triad;
+use line_words::Pairs;
 use std::alloc::Global;
 use std::fmt;
 
@@ -26,37 +26,16 @@ impl<T: fmt::Display> fmt::Display for Perhaps<T> {
     }
 }
 
-/// Bytes as upper-case pairs, a dash for none, and above 100 their count alone.
+/// Bytes as pairs, and above 100 their count alone.
 #[derive(Clone, Copy)]
-pub struct Pairs<'a>(pub &'a [u8]);
+pub struct PairsOrCount<'a>(pub &'a [u8]);
 
-impl fmt::Display for Pairs<'_> {
+impl fmt::Display for PairsOrCount<'_> {
     fn fmt<W: fmt::Write>(&self, f: &mut fmt::Formatter<W>) -> fmt::Result {
         let count = self.0.len();
-        if count == 0 {
-            return write!(f, "-");
-        }
         if count > 100 {
             return write!(f, "{count} bytes");
         }
-        for byte in self.0 {
-            write!(f, "{byte:02X}")?;
-        }
-        Ok(())
-    }
-}
-
-/// A triad as its three numbers.
-#[derive(Clone, Copy)]
-pub struct Numbers(pub Triad);
-
-impl fmt::Display for Numbers {
-    fn fmt<W: fmt::Write>(&self, f: &mut fmt::Formatter<W>) -> fmt::Result {
-        let Triad {
-            serial,
-            vendor,
-            originator,
-        } = self.0;
-        write!(f, "{serial} {vendor} {originator}")
+        write!(f, "{}", Pairs(self.0))
     }
 }

@@ -1,42 +1,10 @@
 //! Questions about the table of requests that wait.
-use crate::texts::{Numbers, Pairs, Perhaps, name as name_of, text};
+use crate::texts::{Perhaps, name as name_of, text};
 use cip_base::{Address, PortNumber, count_of};
 use cip_pending::{AddFault, Entry, Kind, PendingTable, UpSide};
-use line_words::Words;
+use line_words::{Asked, Asker, Pairs, Words};
 use std::alloc::Global;
 use std::fmt;
-
-// Who asked.
-#[derive(Clone, Copy)]
-struct Asker<'a>(&'a UpSide);
-
-impl fmt::Display for Asker<'_> {
-    fn fmt<W: fmt::Write>(&self, f: &mut fmt::Formatter<W>) -> fmt::Result {
-        match self.0 {
-            UpSide::Link {
-                port,
-                address,
-                number,
-            } => write!(f, "{} {} {number}", port.get(), Pairs(address.as_slice())),
-            UpSide::Local { op } => write!(f, "op {op}"),
-        }
-    }
-}
-
-// What was asked.
-#[derive(Clone, Copy)]
-struct Asked(Kind);
-
-impl fmt::Display for Asked {
-    fn fmt<W: fmt::Write>(&self, f: &mut fmt::Formatter<W>) -> fmt::Result {
-        match self.0 {
-            Kind::Unconnected => f.write_str("unconnected"),
-            Kind::Opening(triad) => write!(f, "opening {}", Numbers(triad)),
-            Kind::OpeningLarge(triad) => write!(f, "large {}", Numbers(triad)),
-            Kind::Closing(triad) => write!(f, "closing {}", Numbers(triad)),
-        }
-    }
-}
 
 #[derive(Clone, Copy)]
 struct Shown<'a>(&'a Entry);
