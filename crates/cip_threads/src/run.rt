@@ -265,6 +265,40 @@ fn report(
     Ok(report_of(finished, tables))
 }
 
+// The book of a run that begins.
+fn book_of(
+    alloc: Global,
+    topology: &Topology,
+    feeds: &[(ModuleId, Feed)],
+    turns: usize,
+) -> Result<Book, NoMemory>
+    requires { All (λ fed. fed.0.0 < length topology.now.modules) feeds.now }
+{
+    let own = topology.copy(alloc)?;
+    let given = copy_feeds(alloc, feeds)?;
+    Ok(Book::new(BookState::new(alloc, own, given, turns)?))
+}
+
+// What a run answers once its workers have ended.
+fn ended_with<R: Wait>(
+    rt: &R,
+    alloc: Global,
+    book: Book,
+    from: &Receiver<Message>,
+    topology: &Topology,
+    feeds: &[(ModuleId, Feed)],
+    turns: usize,
+) -> Result<Report, RunFault>
+    ensures ok { IfOk result (λ r. IsReport topology.now feeds.now turns
+        (reverse r.journal) r.tables r.waiting.feeds r.waiting.frames r.end) }
+    ensures fault { IfErr result (IsWorkerFault topology.now feeds.now) }
+{
+    let Ok(messages) = gather(rt, alloc, from, topology.configs().len()) else {
+        return Err(RunFault::NoMemory);
+    };
+    report(alloc, book.into_state(), messages, topology, feeds, turns)
+}
+
 // Runs modules that are fresh.
 fn run_fresh<R: Threads + Wait + Sync, G: Gate + Sync>(
     rt: &R,
@@ -280,16 +314,9 @@ fn run_fresh<R: Threads + Wait + Sync, G: Gate + Sync>(
         (reverse r.journal) r.tables r.waiting.feeds r.waiting.frames r.end) }
     ensures fault { IfErr result (IsWorkerFault topology.now feeds.now) }
 {
-    let Ok(own) = topology.copy(alloc) else {
+    let Ok(book) = book_of(alloc, topology, feeds, turns) else {
         return Err(RunFault::NoMemory);
     };
-    let Ok(given) = copy_feeds(alloc, feeds) else {
-        return Err(RunFault::NoMemory);
-    };
-    let Ok(state) = BookState::new(alloc, own, given, turns) else {
-        return Err(RunFault::NoMemory);
-    };
-    let book = Book::new(state);
     let Ok((to, from)) = unbounded(alloc) else {
         return Err(RunFault::NoMemory);
     };
@@ -299,13 +326,10 @@ fn run_fresh<R: Threads + Wait + Sync, G: Gate + Sync>(
         to: &to,
     };
     let ended = run_workers(rt, alloc, &shared, modules);
-    if let Some(fault) = fault_of(ended, topology, feeds) {
-        return Err(fault);
+    match fault_of(ended, topology, feeds) {
+        Some(fault) => Err(fault),
+        None => ended_with(rt, alloc, book, &from, topology, feeds, turns),
     }
-    let Ok(messages) = gather(rt, alloc, &from, topology.configs().len()) else {
-        return Err(RunFault::NoMemory);
-    };
-    report(alloc, book.into_state(), messages, topology, feeds, turns)
 }
 
 /// Runs each module on a thread of its own, until nothing waits or so many turns are taken; a turn

@@ -481,17 +481,19 @@ impl BookState {
         })
     }
 
-    /// What is left, where the book is that of this topology, these feeds and turns, nothing is in
-    /// hand, and nothing waits with turns left; else Differs of the module where it does not add
-    /// up. NoMemory where an allocation is refused.
-    pub(crate) fn finish(
-        self,
+    // How the book ends, where it is that of this topology, these feeds and turns, nothing is in
+    // hand, and nothing waits with turns left.
+    fn end_of(
+        &self,
         topology: &Topology,
         given: &[(ModuleId, Feed)],
         turns: usize,
-    ) -> Result<Finished, CompareFault>
-        ensures { IfOk result (λ f. IsFinished topology.now given.now turns
-            (reverse f.journal.items) f.feeds.items f.frames.items f.end) }
+    ) -> Result<End, CompareFault>
+        ensures topology { IfOk result (λ end. self.now.topology ≡ topology.now) }
+        ensures given { IfOk result (λ end. self.now.given ≡ given.now) }
+        ensures turns { IfOk result (λ end. self.now.turns ≡ turns) }
+        ensures idle { IfOk result (λ end. count_hands self.now.hands ≡ 0) }
+        ensures end { IfOk result (MayEnd self.now) }
     {
         if !self.topology.is(topology) {
             return Err(CompareFault::Differs(ModuleId(0)));
@@ -506,11 +508,29 @@ impl BookState {
             return Err(CompareFault::Differs(m));
         }
         if self.feed_count == 0 && self.frame_count == 0 {
-            return self.leave(End::Quiet);
+            return Ok(End::Quiet);
         }
         if self.taken < self.turns {
             return Err(CompareFault::Differs(self.first_with_work()));
         }
-        self.leave(End::Limit)
+        Ok(End::Limit)
+    }
+
+    /// What is left, where the book is that of this topology, these feeds and turns, nothing is in
+    /// hand, and nothing waits with turns left; else Differs of the module where it does not add
+    /// up. NoMemory where an allocation is refused.
+    pub(crate) fn finish(
+        self,
+        topology: &Topology,
+        given: &[(ModuleId, Feed)],
+        turns: usize,
+    ) -> Result<Finished, CompareFault>
+        ensures { IfOk result (λ f. IsFinished topology.now given.now turns
+            (reverse f.journal.items) f.feeds.items f.frames.items f.end) }
+    {
+        match self.end_of(topology, given, turns) {
+            Ok(end) => self.leave(end),
+            Err(fault) => Err(fault),
+        }
     }
 }
