@@ -5,7 +5,7 @@ use cip_segment::{PathFault, view_path};
 use std::fmt;
 
 /// Why a word is no pairs of hexadecimal digits.
-#[derive(Clone, Copy)]
+#[derive(Clone, Copy, Debug, PartialEq, Eq)]
 pub enum HexFault {
     /// It begins with 0x.
     Marked,
