@@ -57,7 +57,7 @@ fn show_path_fault<W: fmt::Write>(
             docs/FORMATS.md"
         ),
         PathFault::BadPad => write!(f, "byte {place} is a pad; allowed: 00"),
-        _ => write!(f, "{fault}"),
+        _ => fmt::Display::fmt(&fault, f),
     }
 }
 

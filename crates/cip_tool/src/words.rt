@@ -224,11 +224,16 @@ fn key_fields(
         (key_fields vendor.now device_type.now product.now major.now minor.now) }
     ensures writable { IfOk result IsWritable }
 {
-    let vendor = in_u16(WordFault::Key, vendor)?;
-    let device_type = in_u16(WordFault::Key, device_type)?;
-    let product = in_u16(WordFault::Key, product)?;
-    let major = in_u8(WordFault::Key, major)?;
-    let minor = in_u8(WordFault::Key, minor)?;
+    let words = (
+        number_u16(vendor),
+        number_u16(device_type),
+        number_u16(product),
+        number_u8(major),
+        number_u8(minor),
+    );
+    let (Some(vendor), Some(device_type), Some(product), Some(major), Some(minor)) = words else {
+        return Err(WordError::Fault(WordFault::Key));
+    };
     Ok(Segment::Key(KeyFields {
         vendor,
         device_type,
@@ -336,7 +341,6 @@ fn inhibit_of(text: &str) -> Result<Segment, WordError>
 }
 
 /// What NAME=VALUE names.
-#[tactic(auto, unfolding(crate::specs::Words::named_of))]
 pub(crate) fn named_of(alloc: Global, name: &str, text: &str) -> Result<Segment, WordError>
     ensures gives { Gives result (named_of name.now text.now) }
     ensures writable { IfOk result IsWritable }
