@@ -158,17 +158,22 @@ fn bytes_fault(field: &str, word: &str) -> Option<WordFault> {
     }
 }
 
+// Why bytes are no path.
+fn fault_of(bytes: &[u8]) -> Option<WordFault> {
+    let place = fault_place(bytes);
+    match view_path(bytes) {
+        Ok(_) => None,
+        Err(PathFault::Reserved(byte)) => Some(WordFault::Reserved(place, byte)),
+        Err(PathFault::BadPad) => Some(WordFault::BadPad(place)),
+        Err(fault) => Some(WordFault::NoPath(fault)),
+    }
+}
+
 // Why the bytes of a word are no path.
 fn path_fault(alloc: Global, word: &str) -> Result<Option<WordFault>, NoMemory> {
-    let Some(bytes) = text::bytes(alloc, word)? else {
-        return Ok(None);
-    };
-    let place = fault_place(bytes.as_slice());
-    match view_path(bytes.as_slice()) {
-        Ok(_) => Ok(None),
-        Err(PathFault::Reserved(byte)) => Ok(Some(WordFault::Reserved(place, byte))),
-        Err(PathFault::BadPad) => Ok(Some(WordFault::BadPad(place))),
-        Err(fault) => Ok(Some(WordFault::NoPath(fault))),
+    match text::bytes(alloc, word)? {
+        Some(bytes) => Ok(fault_of(bytes.as_slice())),
+        None => Ok(None),
     }
 }
 

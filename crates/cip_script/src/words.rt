@@ -69,11 +69,8 @@ pub(crate) fn module_of(names: &[Bytes], word: &str) -> Result<ModuleId, StepFau
 pub(crate) fn number_u8(word: &str) -> Result<u8, StepFault>
     ensures { Gives result (bounded (2 ^ 8) word.now) }
 {
-    match number(word) {
-        Some(n) => match u8::try_from(n) {
-            Ok(n) => Ok(n),
-            Err(_) => Err(StepFault::Fault(ScriptFault::BadNumber)),
-        },
+    match cip_tool::number_u8(word) {
+        Some(n) => Ok(n),
         None => Err(StepFault::Fault(ScriptFault::BadNumber)),
     }
 }
@@ -82,11 +79,8 @@ pub(crate) fn number_u8(word: &str) -> Result<u8, StepFault>
 pub(crate) fn number_u16(word: &str) -> Result<u16, StepFault>
     ensures { Gives result (bounded (2 ^ 16) word.now) }
 {
-    match number(word) {
-        Some(n) => match u16::try_from(n) {
-            Ok(n) => Ok(n),
-            Err(_) => Err(StepFault::Fault(ScriptFault::BadNumber)),
-        },
+    match cip_tool::number_u16(word) {
+        Some(n) => Ok(n),
         None => Err(StepFault::Fault(ScriptFault::BadNumber)),
     }
 }
@@ -95,11 +89,8 @@ pub(crate) fn number_u16(word: &str) -> Result<u16, StepFault>
 pub(crate) fn number_u32(word: &str) -> Result<u32, StepFault>
     ensures { Gives result (bounded (2 ^ 32) word.now) }
 {
-    match number(word) {
-        Some(n) => match u32::try_from(n) {
-            Ok(n) => Ok(n),
-            Err(_) => Err(StepFault::Fault(ScriptFault::BadNumber)),
-        },
+    match cip_tool::number_u32(word) {
+        Some(n) => Ok(n),
         None => Err(StepFault::Fault(ScriptFault::BadNumber)),
     }
 }
