@@ -475,7 +475,6 @@ fn step_of(
 }
 
 // The step of a line that is ASCII, if it is no comment and not blank.
-#[tactic(auto, using(crate::proofs::StepsLaws::step_laws))]
 fn text_step<'a>(
     alloc: Global,
     mode: Mode,
@@ -497,7 +496,6 @@ fn text_step<'a>(
 }
 
 // The step of a line, if it is no comment and not blank.
-#[tactic(auto, using(crate::proofs::StepsLaws::step_laws))]
 fn line_step<'a>(
     alloc: Global,
     mode: Mode,
