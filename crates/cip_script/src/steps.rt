@@ -13,8 +13,8 @@ ghost use Rattle.cip_script.specs.declared.steps.StepsFault.TheVariants.{NoMemor
 
 use crate::text;
 use crate::words::{
-    bytes_at, frame_of, is_word, module_of, ms_of, nth, number_u32, number_usize, path_of,
-    timing_of,
+    bytes_at, frame_of, is_word, module_of, ms_of, nth, number_u8, number_u16, number_u32,
+    number_usize, path_of, timing_of,
 };
 use cip_base::{Bytes, ModuleId, Ms};
 use cip_event::{Command, FrameName, LargeParams, OpenParams};
@@ -149,27 +149,13 @@ fn params_at(args: &[&str]) -> Result<OpenParams, StepFault>
     requires { length args.now ≡ 12 }
     ensures { Gives result (params_of (texts args.now)) }
 {
-    let words = (
-        cip_tool::number_u16(nth(args, 5)),
-        cip_tool::number_u8(nth(args, 6)),
-        cip_tool::number_u8(nth(args, 7)),
-        cip_tool::number_u32(nth(args, 8)),
-        cip_tool::number_u16(nth(args, 9)),
-        cip_tool::number_u32(nth(args, 10)),
-        cip_tool::number_u16(nth(args, 11)),
-    );
-    let (
-        Some(serial),
-        Some(multiplier),
-        Some(transport),
-        Some(ot_rpi),
-        Some(ot_params),
-        Some(to_rpi),
-        Some(to_params),
-    ) = words
-    else {
-        return Err(StepFault::Fault(ScriptFault::BadNumber));
-    };
+    let serial = number_u16(nth(args, 5))?;
+    let multiplier = number_u8(nth(args, 6))?;
+    let transport = number_u8(nth(args, 7))?;
+    let ot_rpi = number_u32(nth(args, 8))?;
+    let ot_params = number_u16(nth(args, 9))?;
+    let to_rpi = number_u32(nth(args, 10))?;
+    let to_params = number_u16(nth(args, 11))?;
     Ok(OpenParams {
         serial,
         multiplier,
@@ -207,27 +193,13 @@ fn large_params_at(args: &[&str]) -> Result<LargeParams, StepFault>
     requires { length args.now ≡ 12 }
     ensures { Gives result (large_params_of (texts args.now)) }
 {
-    let words = (
-        cip_tool::number_u16(nth(args, 5)),
-        cip_tool::number_u8(nth(args, 6)),
-        cip_tool::number_u8(nth(args, 7)),
-        cip_tool::number_u32(nth(args, 8)),
-        cip_tool::number_u32(nth(args, 9)),
-        cip_tool::number_u32(nth(args, 10)),
-        cip_tool::number_u32(nth(args, 11)),
-    );
-    let (
-        Some(serial),
-        Some(multiplier),
-        Some(transport),
-        Some(ot_rpi),
-        Some(ot_params),
-        Some(to_rpi),
-        Some(to_params),
-    ) = words
-    else {
-        return Err(StepFault::Fault(ScriptFault::BadNumber));
-    };
+    let serial = number_u16(nth(args, 5))?;
+    let multiplier = number_u8(nth(args, 6))?;
+    let transport = number_u8(nth(args, 7))?;
+    let ot_rpi = number_u32(nth(args, 8))?;
+    let ot_params = number_u32(nth(args, 9))?;
+    let to_rpi = number_u32(nth(args, 10))?;
+    let to_params = number_u32(nth(args, 11))?;
     Ok(LargeParams {
         serial,
         multiplier,

@@ -1,4 +1,4 @@
-use Rattle.std.proofs.Common.{arith, rules}
+use Rattle.std.proofs.Common.{arith}
 use Rattle.cip_script.proofs.StepsLaws.{step-of_other}
 use Rattle.cip_script.proofs.steps.line_step.Goals as goal
 
