@@ -117,15 +117,20 @@ fn play_rows(
     Some(None)
 }
 
+// Plays the rows of a part. Where one differs: what is told of it.
+fn play_part(rt: &HostRuntime, kind: &str, rows: &str, is_marked: bool) -> Option<Option<String>> {
+    let alloc = rt.alloc();
+    match Part::of(&mut Words::of(alloc, kind, None)) {
+        Some(mut part) => play_rows(rt, &mut part, rows, is_marked),
+        None => Some(Some(format!(in alloc; "there is no part {kind}").ok()?)),
+    }
+}
+
 // Plays a case, and writes its line. Whether it is as it tells.
 fn play_case(rt: &HostRuntime, group: &str, case: &str, is_marked: bool) -> Option<bool> {
     let (heading, rows) = case.split_once('\n')?;
     let (kind, name) = heading.split_once(": ")?;
-    let Some(mut part) = Part::of(&mut Words::of(rt.alloc(), kind, None)) else {
-        println!(rt; "{group}: {name}: there is no part {kind}").ok()?;
-        return Some(false);
-    };
-    match play_rows(rt, &mut part, rows, is_marked)? {
+    match play_part(rt, kind, rows, is_marked)? {
         Some(differs) => {
             println!(rt; "{group}: {name}: {differs}").ok()?;
             Some(false)

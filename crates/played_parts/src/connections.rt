@@ -4,7 +4,7 @@ ghost use Rattle.std.specs.FinMap as map;
 ghost use Rattle.cip_base.specs.Counts.{count_of};
 ghost use Rattle.cip_hops.specs.Sides.{op_of};
 
-use crate::texts::{Perhaps, name as name_of, text};
+use crate::texts::{Named, Perhaps, Then, name as name_of, text};
 use cip_base::{Address, PortNumber, Triad, count_of};
 use cip_hops::{
     BeginFault, BeginReason, Held, Hop, HopDown, HopTable, HopUp, Opening, OwnIds, Side,
@@ -12,6 +12,7 @@ use cip_hops::{
 use cip_segment::read_path;
 use line_words::Words;
 use std::alloc::Global;
+use std::fmt::Write;
 
 fn triad(serial: u16) -> Triad {
     Triad {
@@ -120,12 +121,11 @@ pub fn table_of_command(alloc: Global, op: u32) -> Option<HopTable> {
 /// serials from 1 to 4.
 pub fn state(alloc: Global, table: &HopTable) -> Option<String> {
     let free = table.can_begin(&triad(9), 2);
-    let mut text = format!(in alloc; "{free:?} last {}", table.last()).ok()?;
+    let mut shown = text(alloc, Then(Named(free), Then("last", table.last())))?;
     for serial in 1..=4u16 {
-        let line = format!(in alloc; " {:?}", table.held(&triad(serial))).ok()?;
-        text.push_str(line.as_str()).ok()?;
+        write!(shown, " {:?}", table.held(&triad(serial))).ok()?;
     }
-    Some(text)
+    Some(shown)
 }
 
 #[tactic(auto, using(cip_hops::proofs::Callers::no_op))]
@@ -140,19 +140,17 @@ fn begin(table: &mut HopTable, opening: Opening) -> Result<OwnIds, BeginFault>
 fn begun(table: &mut HopTable, words: &mut Words) -> Option<String> {
     let alloc = words.alloc;
     let opening = routed(alloc, words)?;
-    let before = format!(in alloc; "{opening:?}").ok()?;
+    let before = name_of(alloc, &opening)?;
     words.open();
     let given = begin(table, opening);
     words.close(false);
     let (reason, opening) = match given {
-        Ok(OwnIds { up, down }) => {
-            return format!(in alloc; "{} {}", Perhaps(down), Perhaps(up)).ok();
-        }
+        Ok(OwnIds { up, down }) => return text(alloc, Then(Perhaps(down), Perhaps(up))),
         Err(BeginFault::Duplicate(opening)) => (BeginReason::Duplicate, opening),
         Err(BeginFault::Full(opening)) => (BeginReason::Full, opening),
         Err(BeginFault::IdsSpent(opening)) => (BeginReason::IdsSpent, opening),
     };
-    let back = format!(in alloc; "{opening:?}").ok()?;
+    let back = name_of(alloc, &opening)?;
     words.same = Some(back.as_str() == before.as_str());
     name_of(alloc, reason)
 }
@@ -202,15 +200,6 @@ fn counted(table: &mut HopTable, words: &mut Words) -> Option<String> {
     text(words.alloc, Perhaps(table.by_triad(&triad)?.consumed))
 }
 
-// Begins the next incarnation where there is one: whether there was.
-fn reset(table: &mut HopTable, alloc: Global) -> Option<String> {
-    let is_left = table.can_reset();
-    if is_left {
-        table.reset();
-    }
-    text(alloc, is_left)
-}
-
 // A question that changes nothing.
 fn found(table: &HopTable, name: &str, words: &mut Words) -> Option<String> {
     let alloc = words.alloc;
@@ -255,7 +244,14 @@ pub fn answer(table: &mut HopTable, name: &str, words: &mut Words) -> Option<Str
             let hop = table.expire(words.u64()?);
             serial(alloc, hop.as_ref())
         }
-        "reset" => reset(table, alloc),
+        // begins the next incarnation where there is one: whether there was
+        "reset" => {
+            let is_left = table.can_reset();
+            if is_left {
+                table.reset();
+            }
+            text(alloc, is_left)
+        }
         _ => found(table, name, words),
     }
 }

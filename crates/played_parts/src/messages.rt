@@ -4,7 +4,7 @@ ghost use Rattle.cip_open.specs.Open.{FitWidth};
 ghost use Rattle.cip_message.specs.Failure.{HasTriadForWords};
 
 use crate::read_messages::{cut, over, read};
-use crate::texts::{PairsOrCount, text};
+use crate::texts::{Named, PairsOrCount, Then, explained, text};
 use cip_base::{Bytes, NoMemory, Status, put_double, put_word};
 use cip_close::{CloseFields, CloseReply, write_close, write_close_failure, write_close_reply};
 use cip_message::{
@@ -12,13 +12,13 @@ use cip_message::{
     write_failure, write_reply, write_request,
 };
 use cip_open::{
-    OpenFailure, OpenFields, OpenReply, Params, large_params, params, write_open,
-    write_open_failure, write_open_reply,
+    OpenFailure, OpenFields, OpenReply, large_params, params, write_open, write_open_failure,
+    write_open_reply,
 };
 use cip_segment::view_path;
 use cip_unconnected::write_unconnected;
 use line_words::{Numbers, Words};
-use std::alloc::Global;
+use std::alloc::AllocError;
 
 // The bytes of a message that a guarded call gave, or its fault.
 fn written(words: &mut Words, written: Result<Bytes, WriteFault>) -> Option<String> {
@@ -26,7 +26,7 @@ fn written(words: &mut Words, written: Result<Bytes, WriteFault>) -> Option<Stri
     words.close(matches!(written, Err(WriteFault::NoMemory)));
     match written {
         Ok(bytes) => text(alloc, PairsOrCount(bytes.as_slice())),
-        Err(fault) => format!(in alloc; "{fault:?}: {fault}").ok(),
+        Err(fault) => explained(alloc, fault),
     }
 }
 
@@ -174,26 +174,23 @@ fn new_failure(words: &mut Words) -> Option<String> {
     made(words, message)
 }
 
-// `GENERAL EXTRA`, and what a failed open, large or not, tells.
-fn new_open_failure(large: bool, words: &mut Words) -> Option<String> {
+// `GENERAL EXTRA`, and what a failed close, or a failed open, large or not, tells.
+fn new_manager_failure(name: &str, words: &mut Words) -> Option<String> {
     let status = status(words)?;
-    let ConnectionFailure { triad, words: left } = told(words)?;
-    let failure = OpenFailure {
+    let failure = told(words)?;
+    let large = name == "write_large_failure";
+    let ConnectionFailure { triad, words: left } = failure;
+    let open_failure = OpenFailure {
         triad,
         words: left,
         large,
     };
     words.open();
-    let message = write_open_failure(words.alloc, status, &failure);
-    made(words, message)
-}
-
-// `GENERAL EXTRA`, and what a failed close tells.
-fn new_close_failure(words: &mut Words) -> Option<String> {
-    let status = status(words)?;
-    let failure = told(words)?;
-    words.open();
-    let message = write_close_failure(words.alloc, status, &failure);
+    let message = if name == "write_close_failure" {
+        write_close_failure(words.alloc, status, &failure)
+    } else {
+        write_open_failure(words.alloc, status, &open_failure)
+    };
     made(words, message)
 }
 
@@ -226,45 +223,50 @@ fn new_close_reply(words: &mut Words) -> Option<String> {
     made(words, message)
 }
 
-// `BYTES`, and what is put behind them. A call that is refused may leave a part of it there.
-fn put(name: &str, words: &mut Words) -> Option<String> {
-    let alloc = words.alloc;
-    let front = words.bytes()?;
-    let mut out = Vec::from_slice(alloc, front.as_slice()).ok()?;
-    let put = match name {
+// What is put behind these bytes: whether there was the memory for it.
+fn put_behind(out: &mut Vec<u8>, name: &str, words: &mut Words) -> Option<Result<(), AllocError>> {
+    match name {
         "put_word" => {
             let number = words.u16()?;
             words.open();
-            put_word(&mut out, number)
+            Some(put_word(out, number))
         }
         "put_double" => {
             let number = words.u32()?;
             words.open();
-            put_double(&mut out, number)
+            Some(put_double(out, number))
         }
         "put_triad" => {
             let triad = words.triad()?;
             words.open();
-            put_triad(&mut out, triad)
+            Some(put_triad(out, triad))
         }
         "put_manager_header" => {
             let service = words.u8()?;
             words.open();
-            put_manager_header(&mut out, service)
+            Some(put_manager_header(out, service))
         }
         "put_reply_header" => {
             let service = words.u8()?;
             let status = status(words)?;
             words.open();
-            put_reply_header(&mut out, service, status)
+            Some(put_reply_header(out, service, status))
         }
         "put_failure" => {
             let failure = told(words)?;
             words.open();
-            put_failure(&mut out, &failure)
+            Some(put_failure(out, &failure))
         }
-        _ => return None,
-    };
+        _ => None,
+    }
+}
+
+// `BYTES`, and what is put behind them. A call that is refused may leave a part of it there.
+fn put(name: &str, words: &mut Words) -> Option<String> {
+    let alloc = words.alloc;
+    let front = words.bytes()?;
+    let mut out = Vec::from_slice(alloc, front.as_slice()).ok()?;
+    let put = put_behind(&mut out, name, words)?;
     if words.had(put).is_none() {
         words.same = Some(out.as_slice().get(..front.len()) == Some(front.as_slice()));
     }
@@ -292,16 +294,6 @@ fn triad_there(words: &mut Words) -> Option<String> {
     )
 }
 
-// The parts of network connection parameters.
-fn split_params(alloc: Global, found: Params) -> Option<String> {
-    let size = found.size;
-    let priority = found.priority;
-    let kind = found.kind;
-    let variable = found.variable;
-    let redundant = found.redundant;
-    format!(in alloc; "{size} {priority:?} {kind:?} {variable} {redundant}").ok()
-}
-
 /// The answer to a question of this name.
 pub fn answer(name: &str, words: &mut Words) -> Option<String> {
     let alloc = words.alloc;
@@ -318,13 +310,22 @@ pub fn answer(name: &str, words: &mut Words) -> Option<String> {
         "write_large_open" => new_open(true, words),
         "write_open_reply" => new_open_reply(false, words),
         "write_large_reply" => new_open_reply(true, words),
-        "write_open_failure" => new_open_failure(false, words),
-        "write_large_failure" => new_open_failure(true, words),
+        "write_open_failure" | "write_large_failure" | "write_close_failure" => {
+            new_manager_failure(name, words)
+        }
         "write_close" => new_close(words),
         "write_close_reply" => new_close_reply(words),
-        "write_close_failure" => new_close_failure(words),
-        "params" => split_params(alloc, params(words.u16()?)),
-        "large_params" => split_params(alloc, large_params(words.u32()?)),
+        // the parts of network connection parameters
+        "params" | "large_params" => {
+            let found = if name == "params" {
+                params(words.u16()?)
+            } else {
+                large_params(words.u32()?)
+            };
+            let kind = Then(Named(found.priority), Named(found.kind));
+            let more = Then(found.variable, found.redundant);
+            text(alloc, Then(found.size, Then(kind, more)))
+        }
         _ if name.starts_with("put_") => put(name, words),
         _ => read(alloc, name, words.bytes()?.as_slice()),
     }

@@ -1,5 +1,5 @@
 //! Questions about paths: what they are read as, and how segments are written.
-use crate::texts::{PairsOrCount, name as name_of, text};
+use crate::texts::{PairsOrCount, Then, name as name_of, text};
 use cip_base::{Bytes, KeyFields};
 use cip_segment::{
     FirstHop, Path, PathFault, Segment, SegmentView, first_hop, read_path, rest, segment_ok,
@@ -8,6 +8,7 @@ use cip_segment::{
 use line_words::Words;
 use std::alloc::Global;
 use std::fmt;
+use std::fmt::Write;
 
 /// A key as its five numbers.
 #[derive(Clone, Copy)]
@@ -22,7 +23,9 @@ impl fmt::Display for Key {
             major,
             minor,
         } = self.0;
-        write!(f, "key {vendor} {device_type} {product} {major} {minor}")
+        let revision = Then(major, minor);
+        let kind = Then(vendor, Then(device_type, product));
+        fmt::Display::fmt(&Then("key", Then(kind, revision)), f)
     }
 }
 
@@ -32,21 +35,22 @@ struct Shown<'a>(SegmentView<'a>);
 impl fmt::Display for Shown<'_> {
     fn fmt<W: fmt::Write>(&self, f: &mut fmt::Formatter<W>) -> fmt::Result {
         match self.0 {
-            SegmentView::Port(port, address) => write!(
+            SegmentView::Port(port, address) => {
+                let hop = Then(port.get(), PairsOrCount(address));
+                fmt::Display::fmt(&Then("port", hop), f)
+            }
+            SegmentView::Class(class) => fmt::Display::fmt(&Then("class", class), f),
+            SegmentView::Instance(instance) => fmt::Display::fmt(&Then("instance", instance), f),
+            SegmentView::Member(member) => fmt::Display::fmt(&Then("member", member), f),
+            SegmentView::Point(point) => fmt::Display::fmt(&Then("point", point), f),
+            SegmentView::Attribute(attribute) => fmt::Display::fmt(
+                &Then("attribute", attribute),
                 f,
-                "port {} {}",
-                port.get(),
-                PairsOrCount(address)
             ),
-            SegmentView::Class(class) => write!(f, "class {class}"),
-            SegmentView::Instance(instance) => write!(f, "instance {instance}"),
-            SegmentView::Member(member) => write!(f, "member {member}"),
-            SegmentView::Point(point) => write!(f, "point {point}"),
-            SegmentView::Attribute(attribute) => write!(f, "attribute {attribute}"),
-            SegmentView::Key(key) => write!(f, "{}", Key(key)),
-            SegmentView::Words(words) => write!(f, "words {}", PairsOrCount(words)),
-            SegmentView::Symbol(symbol) => write!(f, "symbol {}", PairsOrCount(symbol)),
-            SegmentView::Inhibit(time) => write!(f, "inhibit {time}"),
+            SegmentView::Key(key) => fmt::Display::fmt(&Key(key), f),
+            SegmentView::Words(words) => fmt::Display::fmt(&Then("words", PairsOrCount(words)), f),
+            SegmentView::Symbol(name) => fmt::Display::fmt(&Then("symbol", PairsOrCount(name)), f),
+            SegmentView::Inhibit(time) => fmt::Display::fmt(&Then("inhibit", time), f),
         }
     }
 }
@@ -70,8 +74,7 @@ fn seen(segment: &Segment) -> SegmentView<'_> {
 fn listed(alloc: Global, list: &[Segment]) -> Option<String> {
     let mut text = String::new(alloc);
     for segment in list {
-        let shown = format!(in alloc; "[{}]", Shown(seen(segment))).ok()?;
-        text.push_str(shown.as_str()).ok()?;
+        write!(text, "[{}]", Shown(seen(segment))).ok()?;
     }
     Some(text)
 }
@@ -87,7 +90,9 @@ fn given(words: &mut Words, found: Result<Path, PathFault>) -> Option<String> {
 }
 
 // The bytes of these segments, each of which can be written, or why they are not written.
-fn spelled(words: &mut Words, list: &[Segment]) -> Option<String> {
+fn spelled(words: &mut Words, list: Option<Vec<Segment>>) -> Option<String> {
+    let list = list?;
+    let list = list.as_slice();
     let alloc = words.alloc;
     let before = listed(alloc, list)?;
     if !list.iter().all(|segment| segment_ok(segment)) {
@@ -102,13 +107,21 @@ fn spelled(words: &mut Words, list: &[Segment]) -> Option<String> {
     Some(answer)
 }
 
-// `N`: so many segments of a class of one byte.
-fn classes(words: &mut Words) -> Option<String> {
-    let mut list = Vec::new(words.alloc);
-    for _ in 0..words.u16()? {
+// So many segments of a class of one byte.
+fn classes(alloc: Global, count: u16) -> Option<Vec<Segment>> {
+    let mut list = Vec::new(alloc);
+    for _ in 0..count {
         list.push(Segment::Class(1)).ok()?;
     }
-    spelled(words, list.as_slice())
+    Some(list)
+}
+
+// A segment of this data.
+fn of_data(alloc: Global, bytes: &[u8]) -> Option<Vec<Segment>> {
+    let data_ = Bytes::of(bytes.to_vec(alloc).ok()?);
+    let mut list = Vec::new(alloc);
+    list.push(Segment::Words(data_)).ok()?;
+    Some(list)
 }
 
 // Whether each front of the bytes ends within a segment.
@@ -145,8 +158,8 @@ fn copied(words: &mut Words, bytes: &[u8]) -> Option<String> {
                 words.same = Some(path.view().bytes() == bytes);
             }
             let copy = copy?;
-            let is_same = copy == path;
-            format!(in alloc; "{} words {is_same}", copy.view().words()).ok()
+            let is_same = Then("words", copy == path);
+            text(alloc, Then(copy.view().words(), is_same))
         }
         Err(fault) => name_of(alloc, fault),
     }
@@ -164,19 +177,15 @@ fn hop(alloc: Global, bytes: &[u8]) -> Option<String> {
             rest_words,
         } => {
             let behind = rest(path);
-            let before = match key {
-                Some(key) => format!(in alloc; "{} ", Key(key)).ok()?,
-                None => String::new(alloc),
-            };
-            let address = PairsOrCount(address.as_slice());
-            let behind = PairsOrCount(behind.bytes());
-            format!(in alloc;
-                "{words} words {before}port {} {address} rest {rest_words} {behind}",
-                port.get()
-            )
-            .ok()
+            let left = Then("rest", Then(rest_words, PairsOrCount(behind.bytes())));
+            let next = Then(port.get(), PairsOrCount(address.as_slice()));
+            let way = Then("port", Then(next, left));
+            match key {
+                Some(key) => text(alloc, Then(words, Then("words", Then(Key(key), way)))),
+                None => text(alloc, Then(words, Then("words", way))),
+            }
         }
-        FirstHop::End => format!(in alloc; "{words} words no hop").ok(),
+        FirstHop::End => text(alloc, Then(words, "words no hop")),
     }
 }
 
@@ -186,7 +195,7 @@ fn viewed(name: &str, words: &mut Words, bytes: &[u8]) -> Option<String> {
     match name {
         // its words, or its fault
         "view" => match view_path(bytes) {
-            Ok(path) => format!(in alloc; "{} words", path.words()).ok(),
+            Ok(path) => text(alloc, Then(path.words(), "words")),
             Err(fault) => name_of(alloc, fault),
         },
         // their fault, where their last byte is the one that cannot continue a path
@@ -228,24 +237,15 @@ fn made(name: &str, words: &mut Words, bytes: &[u8]) -> Option<String> {
             let list = words.had(segments(alloc, path))?;
             listed(alloc, list.as_slice())
         }
+        // the shortest spelling of one segment: each front of it ends within it
+        "spelled" if bytes.is_empty() || !is_truncated_where_cut(bytes) => None,
         // its shortest spelling
-        "written" => {
-            let list = segments(alloc, view_path(bytes).ok()?).ok()?;
-            spelled(words, list.as_slice())
-        }
-        // the shortest spelling of one segment, each front of which ends within it
-        "spelled" => {
-            let list = segments(alloc, view_path(bytes).ok()?).ok()?;
-            if list.len() != 1 || !is_truncated_where_cut(bytes) {
-                return None;
-            }
-            spelled(words, list.as_slice())
+        "written" | "spelled" => {
+            let path = view_path(bytes).ok()?;
+            spelled(words, segments(alloc, path).ok())
         }
         // a segment of this data
-        "data" => {
-            let data_ = Segment::Words(Bytes::of(bytes.to_vec(alloc).ok()?));
-            spelled(words, [data_].as_slice())
-        }
+        "data" => spelled(words, of_data(alloc, bytes)),
         _ => None,
     }
 }
@@ -254,8 +254,11 @@ fn made(name: &str, words: &mut Words, bytes: &[u8]) -> Option<String> {
 pub fn answer(name: &str, words: &mut Words) -> Option<String> {
     let alloc = words.alloc;
     match name {
-        "classes" => return classes(words),
-        "read_often" => return format!(in alloc; "{} words", read_often(words.u32()?)?).ok(),
+        "classes" => {
+            let list = classes(alloc, words.u16()?);
+            return spelled(words, list);
+        }
+        "read_often" => return text(alloc, Then(read_often(words.u32()?)?, "words")),
         _ => {}
     }
     let bytes = words.bytes()?;

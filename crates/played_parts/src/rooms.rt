@@ -1,4 +1,5 @@
 //! Questions about room that is reserved: tables and what they are made of.
+use crate::texts::{Then, text};
 use crate::{connections, waiting_requests};
 use cip_base::{NumberIndex, Row};
 use cip_clock::{Deadlines, NEVER};
@@ -10,12 +11,12 @@ pub fn answer(name: &str, words: &mut Words) -> Option<String> {
     let alloc = words.alloc;
     match name {
         "PendingTable::with_room" => {
-            let table = waiting_requests::of_room(words)?;
-            return format!(in alloc; "last {}", table.last()).ok();
+            let last = waiting_requests::of_room(words)?.last();
+            return text(alloc, Then("last", last));
         }
         "HopTable::with_room" => {
-            let table = connections::of_room(words)?;
-            return format!(in alloc; "last {}", table.last()).ok();
+            let last = connections::of_room(words)?.last();
+            return text(alloc, Then("last", last));
         }
         _ => {}
     }
@@ -24,15 +25,15 @@ pub fn answer(name: &str, words: &mut Words) -> Option<String> {
     match name {
         "Row::with_room" => {
             let row: Row<u8> = words.had(Row::with_room(alloc, room))?;
-            format!(in alloc; "holds {}", row.as_slice().len()).ok()
+            text(alloc, Then("holds", row.as_slice().len()))
         }
         "NumberIndex::with_room" => {
             let index = words.had(NumberIndex::with_room(alloc, room))?;
-            format!(in alloc; "holds {}", index.len()).ok()
+            text(alloc, Then("holds", index.len()))
         }
         "Deadlines::with_room" => {
             let deadlines = words.had(Deadlines::with_room(alloc, room))?;
-            format!(in alloc; "never {}", deadlines.least() == NEVER).ok()
+            text(alloc, Then("never", deadlines.least() == NEVER))
         }
         _ => None,
     }

@@ -1,5 +1,5 @@
 //! Questions about addresses, numbers from 1, triads and lists of bytes.
-use crate::texts::{PairsOrCount, Perhaps, name as name_of, text};
+use crate::texts::{PairsOrCount, Perhaps, Then, name as name_of, text};
 use cip_base::{Address, Bytes, Ms, PortNumber};
 use line_words::Words;
 use std::alloc::Global;
@@ -11,7 +11,7 @@ fn address(words: &mut Words) -> Option<String> {
         Ok(address) => {
             let copy = address.copy();
             let address = PairsOrCount(address.as_slice());
-            format!(in alloc; "{address} {}", PairsOrCount(copy.as_slice())).ok()
+            text(alloc, Then(address, PairsOrCount(copy.as_slice())))
         }
         Err(fault) => name_of(alloc, fault),
     }
@@ -26,7 +26,7 @@ fn changed(alloc: Global, mut bytes: Bytes, next: &[u8]) -> Option<String> {
     bytes.overwrite(next);
     let differs = bytes != same;
     let bytes = bytes.into_vec();
-    format!(in alloc; "{} {differs}", PairsOrCount(bytes.as_slice())).ok()
+    text(alloc, Then(PairsOrCount(bytes.as_slice()), differs))
 }
 
 // `BYTES BYTES`: the first written over by the second.

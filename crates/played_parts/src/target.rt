@@ -1,5 +1,5 @@
 //! Questions about a target: what its objects answer, and which connections end there.
-use crate::texts::{PairsOrCount, text};
+use crate::texts::{Digits, Named, PairsOrCount, Then, text};
 use cip_base::{Bytes, Timing, Triad};
 use cip_message::read_request;
 use cip_open::{OpenFields, OpenView};
@@ -7,6 +7,7 @@ use cip_segment::view_path;
 use cip_target::{AssemblyConfig, Identity, IdentityFields, Target};
 use line_words::Words;
 use std::alloc::Global;
+use std::fmt::Write;
 
 const ENDS: [AssemblyConfig; 4] = [
     AssemblyConfig {
@@ -42,8 +43,10 @@ const OBJECTS: [AssemblyConfig; 3] = [
     },
 ];
 
-fn identity_fields(alloc: Global, major: u8, name: &[u8]) -> Option<IdentityFields> {
-    Some(IdentityFields {
+// An identity of this major revision and name, if that is legal.
+fn identity(alloc: Global, major: u8, name: &[u8]) -> Option<Option<Identity>> {
+    let name = Bytes::of(Vec::from_slice(alloc, name).ok()?);
+    Some(Identity::new(IdentityFields {
         vendor: 0x0101,
         device_type: 12,
         product: 2,
@@ -51,38 +54,37 @@ fn identity_fields(alloc: Global, major: u8, name: &[u8]) -> Option<IdentityFiel
         minor: 3,
         status: 0,
         serial: 0x0B0B,
-        name: Bytes::of(Vec::from_slice(alloc, name).ok()?),
-    })
+        name,
+    }))
 }
 
 fn fields_shown(alloc: Global, fields: &IdentityFields) -> Option<String> {
-    let name = PairsOrCount(fields.name.as_slice());
-    let vendor = fields.vendor;
-    let revision = (fields.major, fields.minor);
-    let serial = fields.serial;
-    format!(in alloc; "vendor {vendor} revision {revision:?} serial {serial} name {name}").ok()
+    let name = Then("name", PairsOrCount(fields.name.as_slice()));
+    let serial = Then("serial", Then(fields.serial, name));
+    let revision = Then("revision", Named((fields.major, fields.minor)));
+    let more = Then(revision, serial);
+    text(alloc, Then("vendor", Then(fields.vendor, more)))
 }
 
 /// All that a target shows: its identity, and at most four of its assemblies.
 pub fn state(alloc: Global, target: &Target) -> Option<String> {
-    let mut text = fields_shown(alloc, target.identity())?;
+    let mut shown = fields_shown(alloc, target.identity())?;
     let mut after = None;
     for _ in 0..4 {
         let Some((instance, bytes)) = target.next_after(after) else {
             break;
         };
-        let line = format!(in alloc; " {instance} {}", PairsOrCount(bytes)).ok()?;
-        text.push_str(line.as_str()).ok()?;
+        write!(shown, " {}", Then(instance, PairsOrCount(bytes))).ok()?;
         after = Some(instance);
     }
-    Some(text)
+    Some(shown)
 }
 
 /// `ends` or `objects`: a target of the name BR, with these assemblies.
 pub fn made(words: &mut Words) -> Option<Target> {
     let alloc = words.alloc;
     let has_ends = words.word()? == "ends";
-    let identity = Identity::new(identity_fields(alloc, 1, b"BR")?)?;
+    let identity = identity(alloc, 1, b"BR")??;
     words.open();
     let made = if has_ends {
         Target::new(alloc, identity, &ENDS)
@@ -92,15 +94,8 @@ pub fn made(words: &mut Words) -> Option<Target> {
     words.had(made)
 }
 
-// `MAJOR NAME`: the copy of an identity of this major revision and name, if that is legal; and
-// whether it is the same.
-fn copied(words: &mut Words) -> Option<Option<(String, bool)>> {
+fn copied(identity: &Identity, words: &mut Words) -> Option<Identity> {
     let alloc = words.alloc;
-    let major = words.u8()?;
-    let name = words.bytes()?;
-    let Some(identity) = Identity::new(identity_fields(alloc, major, name.as_slice())?) else {
-        return Some(None);
-    };
     let before = fields_shown(alloc, identity.fields())?;
     words.open();
     let copy = words.had(identity.copy(alloc));
@@ -108,14 +103,47 @@ fn copied(words: &mut Words) -> Option<Option<(String, bool)>> {
         let after = fields_shown(alloc, identity.fields())?;
         words.same = Some(after.as_str() == before.as_str());
     }
-    let copy = copy?;
-    let is_same = copy.fields() == identity.fields();
-    Some(Some((fields_shown(alloc, copy.fields())?, is_same)))
+    copy
 }
 
-// `OT_PARAMS TO_PARAMS TRANSPORT`: what an open, large or not, asks.
-fn fields(large: bool, words: &mut Words) -> Option<OpenFields> {
-    Some(OpenFields {
+// `MAJOR NAME`: what the copy of such an identity shows, or whether one is legal, and then is its
+// own copy.
+fn copy(is_shown: bool, words: &mut Words) -> Option<String> {
+    let alloc = words.alloc;
+    let major = words.u8()?;
+    let name = words.bytes()?;
+    match identity(alloc, major, name.as_slice())? {
+        Some(identity) => {
+            let copy = copied(&identity, words)?;
+            if is_shown {
+                fields_shown(alloc, copy.fields())
+            } else {
+                text(alloc, copy.fields() == identity.fields())
+            }
+        }
+        None if is_shown => None,
+        None => text(alloc, false),
+    }
+}
+
+// `REQUEST`: whether it is a reset that is not refused, and the whole reply to what is not.
+fn reply(target: &mut Target, words: &mut Words) -> Option<String> {
+    let alloc = words.alloc;
+    let bytes = words.bytes()?;
+    let request = read_request(bytes.as_slice()).ok()?;
+    if target.reads_reset(request) {
+        return text(alloc, "for the device");
+    }
+    words.open();
+    let reply = target.answer(alloc, request);
+    let reply = words.had(reply)?;
+    text(alloc, PairsOrCount(reply.as_slice()))
+}
+
+// `OT_PARAMS TO_PARAMS TRANSPORT PATH`: the additional status of an open, which is taken where it
+// fits and is to be.
+fn open(target: &mut Target, large: bool, is_taken: bool, words: &mut Words) -> Option<String> {
+    let fields = OpenFields {
         timing: Timing {
             tick: 7,
             ticks: 247,
@@ -134,35 +162,7 @@ fn fields(large: bool, words: &mut Words) -> Option<OpenFields> {
         to_params: words.u32()?,
         transport: words.u8()?,
         large,
-    })
-}
-
-// `REQUEST`: whether it is a reset that is not refused, and the whole reply to what is not.
-fn reply(target: &mut Target, words: &mut Words) -> Option<String> {
-    let alloc = words.alloc;
-    let bytes = words.bytes()?;
-    let request = read_request(bytes.as_slice()).ok()?;
-    if target.reads_reset(request) {
-        return text(alloc, "for the device");
-    }
-    words.open();
-    let reply = target.answer(alloc, request);
-    let reply = words.had(reply)?;
-    text(alloc, PairsOrCount(reply.as_slice()))
-}
-
-// The assembly of the least instance above this one, or of all.
-fn next(alloc: Global, target: &Target, after: Option<u16>) -> Option<String> {
-    match target.next_after(after) {
-        Some((instance, bytes)) => format!(in alloc; "{instance} {}", PairsOrCount(bytes)).ok(),
-        None => text(alloc, "none"),
-    }
-}
-
-// `OT_PARAMS TO_PARAMS TRANSPORT PATH`: the additional status of an open, which is taken where it
-// fits and is to be.
-fn open(target: &mut Target, large: bool, is_taken: bool, words: &mut Words) -> Option<String> {
-    let fields = fields(large, words)?;
+    };
     let path = words.bytes()?;
     let path = view_path(path.as_slice()).ok()?;
     let asked = OpenView { fields, path };
@@ -173,7 +173,7 @@ fn open(target: &mut Target, large: bool, is_taken: bool, words: &mut Words) -> 
             }
             text(words.alloc, "fits")
         }
-        Err(status) => format!(in words.alloc; "{:#06X}", status.extra?).ok(),
+        Err(status) => text(words.alloc, Digits(u32::from(status.extra?))),
     }
 }
 
@@ -218,15 +218,8 @@ fn whole(target: &mut Target, name: &str, words: &mut Words) -> Option<String> {
             *target = made(words)?;
             state(alloc, target)
         }
-        "Identity::copy" => {
-            let (text, _) = copied(words)??;
-            Some(text)
-        }
-        // whether an identity is legal, and then is its own copy
-        "legal" => match copied(words)? {
-            Some((_, is_same)) => text(alloc, is_same),
-            None => text(alloc, false),
-        },
+        "Identity::copy" => copy(true, words),
+        "legal" => copy(false, words),
         "serial" => text(alloc, target.identity().serial),
         "reset" => {
             target.reset();
@@ -247,8 +240,18 @@ pub fn answer(target: &mut Target, name: &str, words: &mut Words) -> Option<Stri
     let alloc = words.alloc;
     match name {
         "answer" => reply(target, words),
-        "least" => next(alloc, target, None),
-        "after" => next(alloc, target, Some(words.u16()?)),
+        // the assembly of the least instance of all, or above the one that is given
+        "least" | "after" => {
+            let after = if name == "after" {
+                Some(words.u16()?)
+            } else {
+                None
+            };
+            match target.next_after(after) {
+                Some((instance, bytes)) => text(alloc, Then(instance, PairsOrCount(bytes))),
+                None => text(alloc, "none"),
+            }
+        }
         "status" => open(target, false, false, words),
         "large_status" => open(target, true, false, words),
         "open" => open(target, false, true, words),

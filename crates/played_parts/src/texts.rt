@@ -13,6 +13,41 @@ pub fn name<F: fmt::Debug + Drop>(alloc: Global, value: F) -> Option<String> {
     format!(in alloc; "{value:?}").ok()
 }
 
+/// A fault as its name and its text.
+pub fn explained<F: fmt::Debug + fmt::Display + Drop>(alloc: Global, fault: F) -> Option<String> {
+    format!(in alloc; "{fault:?}: {fault}").ok()
+}
+
+/// Two values with a space between them.
+#[derive(Clone, Copy)]
+pub struct Then<A, B>(pub A, pub B);
+
+impl<A: fmt::Display, B: fmt::Display> fmt::Display for Then<A, B> {
+    fn fmt<W: fmt::Write>(&self, f: &mut fmt::Formatter<W>) -> fmt::Result {
+        write!(f, "{} {}", self.0, self.1)
+    }
+}
+
+/// A value as its name.
+#[derive(Clone, Copy)]
+pub struct Named<F>(pub F);
+
+impl<F: fmt::Debug> fmt::Display for Named<F> {
+    fn fmt<W: fmt::Write>(&self, f: &mut fmt::Formatter<W>) -> fmt::Result {
+        write!(f, "{:?}", self.0)
+    }
+}
+
+/// A number as four hexadecimal digits or more.
+#[derive(Clone, Copy)]
+pub struct Digits(pub u32);
+
+impl fmt::Display for Digits {
+    fn fmt<W: fmt::Write>(&self, f: &mut fmt::Formatter<W>) -> fmt::Result {
+        write!(f, "{:#06X}", self.0)
+    }
+}
+
 /// A value that may be missing.
 #[derive(Clone, Copy)]
 pub struct Perhaps<T>(pub Option<T>);

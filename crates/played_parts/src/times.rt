@@ -1,5 +1,5 @@
 //! Questions about a clock, and the deadlines that are set by it.
-use crate::texts::text;
+use crate::texts::{explained, text};
 use cip_base::Ms;
 use cip_clock::{Clock, LAST};
 use line_words::Words;
@@ -35,7 +35,7 @@ pub fn answer(clock: &mut Clock, name: &str, words: &mut Words) -> Option<String
         }
         "advance" => match clock.advance(Ms::new(words.u16()?)?) {
             Ok(()) => text(alloc, clock.now()),
-            Err(fault) => format!(in alloc; "{fault:?}: {fault}").ok(),
+            Err(fault) => explained(alloc, fault),
         },
         _ => None,
     }

@@ -1,10 +1,11 @@
 //! Questions about the table of requests that wait.
-use crate::texts::{Perhaps, name as name_of, text};
+use crate::texts::{Named, Perhaps, Then, name as name_of, text};
 use cip_base::{Address, PortNumber, count_of};
 use cip_pending::{AddFault, Entry, Kind, PendingTable, UpSide};
 use line_words::{Asked, Asker, Pairs, Words};
 use std::alloc::Global;
 use std::fmt;
+use std::fmt::Write;
 
 #[derive(Clone, Copy)]
 struct Shown<'a>(&'a Entry);
@@ -12,32 +13,27 @@ struct Shown<'a>(&'a Entry);
 impl fmt::Display for Shown<'_> {
     fn fmt<W: fmt::Write>(&self, f: &mut fmt::Formatter<W>) -> fmt::Result {
         let entry = self.0;
-        let asker = Asker(&entry.up);
-        let port = entry.port.get();
-        let address = Pairs(entry.address.as_slice());
-        let deadline = entry.deadline;
-        let words = entry.words;
-        let asked = Asked(entry.kind);
-        write!(
-            f,
-            "{asker} to {port} {address} due {deadline} words {words} {asked}"
-        )
+        let hop = Then(entry.port.get(), Pairs(entry.address.as_slice()));
+        let way = Then(Asker(&entry.up), Then("to", hop));
+        let asked = Then("words", Then(entry.words, Asked(entry.kind)));
+        let more = Then("due", Then(entry.deadline, asked));
+        fmt::Display::fmt(&Then(way, more), f)
     }
 }
 
 /// All that a table shows: at most four of its entries.
 pub fn state(alloc: Global, table: &PendingTable) -> Option<String> {
-    let mut text = format!(in alloc; "{:?} last {}", table.can_add(), table.last()).ok()?;
+    let last = Then("last", table.last());
+    let mut shown = text(alloc, Then(Named(table.can_add()), last))?;
     let mut after = None;
     for _ in 0..4 {
         let Some((number, entry)) = table.next_after(after) else {
             break;
         };
-        let line = format!(in alloc; " {number} {entry:?}").ok()?;
-        text.push_str(line.as_str()).ok()?;
+        write!(shown, " {number} {entry:?}").ok()?;
         after = Some(number);
     }
-    Some(text)
+    Some(shown)
 }
 
 /// `ROOM FIRST`: an empty table.
@@ -84,9 +80,15 @@ fn of_link(words: &mut Words) -> Option<Entry> {
     })
 }
 
+// A number or a reason, and the request that goes with it.
+fn behind<T: fmt::Display + Drop>(alloc: Global, front: T, entry: &Entry) -> Option<String> {
+    format!(in alloc; "{front}: {}", Shown(entry)).ok()
+}
+
 // The number, or why there is none and the request that comes back.
-fn add(table: &mut PendingTable, words: &mut Words, entry: Entry) -> Option<String> {
+fn add(table: &mut PendingTable, words: &mut Words, entry: Option<Entry>) -> Option<String> {
     let alloc = words.alloc;
+    let entry = entry?;
     let before = entry.copy();
     words.open();
     let added = table.add(entry);
@@ -97,18 +99,9 @@ fn add(table: &mut PendingTable, words: &mut Words, entry: Entry) -> Option<Stri
             let why = format!(in alloc; "{fault}").ok()?;
             let (AddFault::Full(entry) | AddFault::NumbersSpent(entry)) = fault;
             words.same = Some(entry == before);
-            format!(in alloc; "{why}: {}", Shown(&entry)).ok()
+            behind(alloc, why.as_str(), &entry)
         }
     }
-}
-
-// The least number above this one, or of all.
-fn next(alloc: Global, table: &PendingTable, after: Option<u32>) -> Option<String> {
-    let number = match table.next_after(after) {
-        Some((number, _)) => Some(number),
-        None => None,
-    };
-    text(alloc, Perhaps(number))
 }
 
 // A question that changes the table.
@@ -116,11 +109,11 @@ fn changed(table: &mut PendingTable, name: &str, words: &mut Words) -> Option<St
     let alloc = words.alloc;
     match name {
         "add" => {
-            let entry = own(words)?;
+            let entry = own(words);
             add(table, words, entry)
         }
         "add_link" => {
-            let entry = of_link(words)?;
+            let entry = of_link(words);
             add(table, words, entry)
         }
         // `NUMBER PORT ADDRESS`
@@ -133,7 +126,7 @@ fn changed(table: &mut PendingTable, name: &str, words: &mut Words) -> Option<St
         }
         // `NOW`
         "expire" => match table.expire(words.u64()?) {
-            Some((number, entry)) => format!(in alloc; "{number}: {}", Shown(&entry)).ok(),
+            Some((number, entry)) => behind(alloc, number, &entry),
             None => text(alloc, "none"),
         },
         // begins the next incarnation where there is one: whether there was
@@ -166,15 +159,24 @@ pub fn answer(table: &mut PendingTable, name: &str, words: &mut Words) -> Option
                 Perhaps(table.look(number, port, &address).map(Shown)),
             )
         }
-        "least" => next(alloc, table, None),
-        "after" => next(alloc, table, Some(words.u32()?)),
+        // the least number of all, or above the one that is given
+        "least" | "after" => {
+            let after = if name == "after" {
+                Some(words.u32()?)
+            } else {
+                None
+            };
+            match table.next_after(after) {
+                Some((number, _)) => text(alloc, number),
+                None => text(alloc, "none"),
+            }
+        }
         "last" => text(alloc, table.last()),
         // a request of a link, and whether its copy is the same
         "copy" => {
             let entry = of_link(words)?;
             let copy = entry.copy();
-            let is_same = copy == entry;
-            format!(in alloc; "{} {is_same}", Shown(&copy)).ok()
+            text(alloc, Then(Shown(&copy), copy == entry))
         }
         _ => changed(table, name, words),
     }
