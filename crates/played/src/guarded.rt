@@ -18,6 +18,31 @@ fn noted(alloc: Global, harness: &Harness, place: usize, event: &Event) -> Resul
     Ok(Kept { tables, event })
 }
 
+// Takes an event again that was refused memory, and tells whether all was as before.
+fn taken_again(
+    harness: &mut Harness,
+    alloc: Global,
+    place: usize,
+    event: Event,
+    before: &Kept,
+) -> Result<(), Fault> {
+    let after = noted(alloc, harness, place, &event)?;
+    let lines = if after == *before {
+        "no memory\nsame"
+    } else {
+        "no memory\ndiffers"
+    };
+    harness.tell_line(lines).ok_or(Fault::NoMemory)?;
+    let stepped = harness.step(place, event).ok_or(Fault::Line)?;
+    harness.tell(&stepped).ok_or(Fault::NoMemory)
+}
+
+// The second mark, which stands with the first one on a line of its own.
+fn close(out: &mut Out, harness: &mut Harness) -> Result<(), Fault> {
+    out.mark("<")?;
+    harness.tell_line("").ok_or(Fault::NoMemory)
+}
+
 /// Takes an event between the marks `>` and `<`. Where memory is refused, the lines tell so, and
 /// whether the module's tables and the event that came back are the `same` as before; then that
 /// event is taken, without marks.
@@ -25,21 +50,14 @@ pub fn guarded(out: &mut Out, harness: &mut Harness, line: &str) -> Result<(), F
     let alloc = out.alloc();
     let (place, event) = harness.event(line).ok_or(Fault::Line)?;
     let before = noted(alloc, harness, place, &event)?;
-    out.flush()?;
-    out.mark(">")?;
+    out.open()?;
     let stepped = harness.step(place, event);
-    out.mark("<")?;
-    // the marks stand on a line of their own
-    harness.tell_line("").ok_or(Fault::NoMemory)?;
-    let stepped = match stepped.ok_or(Fault::Line)? {
-        Err(StepFault::NoMemory(event)) => {
-            let after = noted(alloc, harness, place, &event)?;
-            let word = if after == before { "same" } else { "differs" };
-            harness.tell_line("no memory").ok_or(Fault::NoMemory)?;
-            harness.tell_line(word).ok_or(Fault::NoMemory)?;
-            harness.step(place, event).ok_or(Fault::Line)?
+    close(out, harness)?;
+    match stepped {
+        Some(Err(StepFault::NoMemory(event))) => {
+            taken_again(harness, alloc, place, event, &before)
         }
-        stepped => stepped,
-    };
-    harness.tell(&stepped).ok_or(Fault::NoMemory)
+        Some(stepped) => harness.tell(&stepped).ok_or(Fault::NoMemory),
+        None => Err(Fault::Line),
+    }
 }

@@ -44,9 +44,13 @@ fn opened(alloc: Global, kinds: Kinds) -> Result<Harness, Fault> {
     Ok(harness)
 }
 
-// What comes of a line that makes no modules.
-fn obey(out: &mut Out, harness: &mut Harness, line: &str) -> Result<(), Fault> {
-    if let Some(line) = line.strip_prefix("! ") {
+// What comes of a line.
+fn obey(out: &mut Out, harness: &mut Harness, kinds: Kinds, line: &str) -> Result<(), Fault> {
+    if line == "fresh" {
+        *harness = fresh(out.alloc(), kinds)?;
+    } else if line == "opened" {
+        *harness = opened(out.alloc(), kinds)?;
+    } else if let Some(line) = line.strip_prefix("! ") {
         guarded(out, harness, line)?;
     } else if let Some(words) = line.strip_prefix("in ") {
         little_room::play(out.alloc(), harness, words).ok_or(Fault::Line)?;
@@ -64,18 +68,7 @@ pub fn play(rt: &HostRuntime, kinds: Kinds) -> Result<(), Fault> {
     let mut out = Out::new(rt);
     let mut harness = fresh(alloc, kinds)?;
     for line in BufReader::new(alloc, rt.reader())?.lines(alloc) {
-        let line = line?;
-        match line.as_str() {
-            "fresh" => {
-                harness = fresh(alloc, kinds)?;
-                out.put("")?;
-            }
-            "opened" => {
-                harness = opened(alloc, kinds)?;
-                out.put("")?;
-            }
-            line => obey(&mut out, &mut harness, line)?,
-        }
+        obey(&mut out, &mut harness, kinds, line?.as_str())?;
     }
     out.flush()
 }

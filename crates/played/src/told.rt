@@ -6,6 +6,16 @@ use cip_module::{
 use line_words::{Asked, Asker, Numbers, Pairs};
 use std::fmt;
 
+/// Two values with a space between them.
+#[derive(Clone, Copy)]
+pub struct Then<A, B>(pub A, pub B);
+
+impl<A: fmt::Display, B: fmt::Display> fmt::Display for Then<A, B> {
+    fn fmt<W: fmt::Write>(&self, f: &mut fmt::Formatter<W>) -> fmt::Result {
+        write!(f, "{} {}", self.0, self.1)
+    }
+}
+
 /// What a frame holds.
 #[derive(Clone, Copy)]
 struct Held<'a>(&'a Body);
@@ -17,8 +27,8 @@ impl fmt::Display for Held<'_> {
             Body::Reply { number, bytes } => ("reply", *number, bytes),
             Body::Data { id, bytes } => ("data", *id, bytes),
         };
-        let pairs = Pairs(bytes.as_slice());
-        write!(f, "{name} {number} {pairs}")
+        let held = Then(number, Pairs(bytes.as_slice()));
+        fmt::Display::fmt(&Then(name, held), f)
     }
 }
 
@@ -49,28 +59,30 @@ impl fmt::Display for Told<'_> {
     fn fmt<W: fmt::Write>(&self, f: &mut fmt::Formatter<W>) -> fmt::Result {
         match self.0 {
             Output::Send { port, to, body } => {
-                write!(
-                    f,
-                    "send {} {} {}",
-                    port.get(),
-                    Pairs(to.as_slice()),
-                    Held(body)
-                )
+                let hop = Then(port.get(), Pairs(to.as_slice()));
+                fmt::Display::fmt(&Then("send", Then(hop, Held(body))), f)
             }
-            Output::Done { op, reply } => write!(f, "done {op} {}", Pairs(reply.as_slice())),
-            Output::Refused(fault) => write!(f, "{}", refused_text(*fault)),
+            Output::Done { op, reply } => {
+                let came = Then(*op, Pairs(reply.as_slice()));
+                fmt::Display::fmt(&Then("done", came), f)
+            }
+            Output::Refused(fault) => f.write_str(refused_text(*fault)),
             Output::Consumed {
                 triad,
                 instance,
                 bytes,
             } => {
-                let triad = Numbers(*triad);
-                write!(f, "consumed {triad} {instance} {}", Pairs(bytes.as_slice()))
+                let end = Then(Numbers(*triad), *instance);
+                let came = Then(end, Pairs(bytes.as_slice()));
+                fmt::Display::fmt(&Then("consumed", came), f)
             }
-            Output::Arrived { op, bytes } => write!(f, "arrived {op} {}", Pairs(bytes.as_slice())),
-            Output::Expired { triad } => write!(f, "expired {}", Numbers(*triad)),
-            Output::Ended { op } => write!(f, "ended {op}"),
-            Output::Dropped(reason) => write!(f, "{}", dropped_text(*reason)),
+            Output::Arrived { op, bytes } => {
+                let came = Then(*op, Pairs(bytes.as_slice()));
+                fmt::Display::fmt(&Then("arrived", came), f)
+            }
+            Output::Expired { triad } => { fmt::Display::fmt(&Then("expired", Numbers(*triad)), f) }
+            Output::Ended { op } => fmt::Display::fmt(&Then("ended", *op), f),
+            Output::Dropped(reason) => f.write_str(dropped_text(*reason)),
         }
     }
 }
@@ -89,14 +101,13 @@ struct Waiting<'a>(&'a PendingRow);
 
 impl fmt::Display for Waiting<'_> {
     fn fmt<W: fmt::Write>(&self, f: &mut fmt::Formatter<W>) -> fmt::Result {
-        let number = self.0.number;
         let entry = &self.0.entry;
-        let up = Asker(&entry.up);
-        let port = entry.port.get();
-        let address = Pairs(entry.address.as_slice());
-        let kind = Asked(entry.kind);
-        write!(f, "pending {number} up {up} down {port} {address}")?;
-        write!(f, " due {} words {} {kind}", entry.deadline, entry.words)
+        let hop = Then(entry.port.get(), Pairs(entry.address.as_slice()));
+        let way = Then(Then("up", Asker(&entry.up)), Then("down", hop));
+        let due = Then("due", entry.deadline);
+        let asked = Then("words", Then(entry.words, Asked(entry.kind)));
+        let more = Then(way, Then(due, asked));
+        fmt::Display::fmt(&Then("pending", Then(self.0.number, more)), f)
     }
 }
 
@@ -129,15 +140,11 @@ impl fmt::Display for Up<'_> {
                 address,
                 their_id,
             } => {
-                let own = id(self.0.ids.up);
-                write!(
-                    f,
-                    "{} {} own {own} their {their_id}",
-                    port.get(),
-                    Pairs(address.as_slice())
-                )
+                let hop = Then(port.get(), Pairs(address.as_slice()));
+                let ids = Then(Then("own", id(self.0.ids.up)), Then("their", *their_id));
+                fmt::Display::fmt(&Then(hop, ids), f)
             }
-            HopUp::Local { op } => write!(f, "op {op}"),
+            HopUp::Local { op } => fmt::Display::fmt(&Then("op", *op), f),
         }
     }
 }
@@ -150,20 +157,19 @@ impl fmt::Display for Down<'_> {
     fn fmt<W: fmt::Write>(&self, f: &mut fmt::Formatter<W>) -> fmt::Result {
         match &self.0.down {
             HopDown::Link { port, address } => {
-                let their = id(self.0.their_id);
-                let own = id(self.0.ids.down);
-                write!(
-                    f,
-                    "{} {} their {their} own {own}",
-                    port.get(),
-                    Pairs(address.as_slice())
-                )
+                let hop = Then(port.get(), Pairs(address.as_slice()));
+                let own = Then("own", id(self.0.ids.down));
+                let ids = Then(Then("their", id(self.0.their_id)), own);
+                fmt::Display::fmt(&Then(hop, ids), f)
             }
             HopDown::End {
                 config,
                 consume,
                 produce,
-            } => write!(f, "end {config} {consume} {produce}"),
+            } => {
+                let end = Then(*config, Then(*consume, *produce));
+                fmt::Display::fmt(&Then("end", end), f)
+            }
         }
     }
 }
@@ -175,16 +181,13 @@ struct Open<'a>(&'a HopRow);
 impl fmt::Display for Open<'_> {
     fn fmt<W: fmt::Write>(&self, f: &mut fmt::Formatter<W>) -> fmt::Result {
         let row = self.0;
-        let triad = Numbers(row.triad);
-        let up = Perhaps(row.up_deadline);
-        let down = Perhaps(row.down_deadline);
-        write!(f, "hop {triad} up {} down {}", Up(row), Down(row))?;
-        write!(
-            f,
-            " watch {up} {down} path {}",
-            Pairs(row.path.view().bytes())
-        )?;
-        write!(f, " sizes {} {}", row.ot_size, row.to_size)
+        let sides = Then(Then("up", Up(row)), Then("down", Down(row)));
+        let deadlines = Then(Perhaps(row.up_deadline), Perhaps(row.down_deadline));
+        let path = Then("path", Pairs(row.path.view().bytes()));
+        let sizes = Then("sizes", Then(row.ot_size, row.to_size));
+        let more = Then(Then("watch", deadlines), Then(path, sizes));
+        let hop = Then(Numbers(row.triad), Then(sides, more));
+        fmt::Display::fmt(&Then("hop", hop), f)
     }
 }
 
@@ -194,13 +197,13 @@ struct Kept<'a>(&'a AssemblyRow);
 
 impl fmt::Display for Kept<'_> {
     fn fmt<W: fmt::Write>(&self, f: &mut fmt::Formatter<W>) -> fmt::Result {
-        write!(
-            f,
-            "assembly {} {}",
-            self.0.instance,
-            Pairs(self.0.bytes.as_slice())
-        )
+        let kept = Then(self.0.instance, Pairs(self.0.bytes.as_slice()));
+        fmt::Display::fmt(&Then("assembly", kept), f)
     }
+}
+
+fn put_line<T: fmt::Display, W: fmt::Write>(f: &mut fmt::Formatter<W>, row: &T) -> fmt::Result {
+    writeln!(f, "{row}")
 }
 
 /// The tables of a module, a line for each row.
@@ -210,23 +213,22 @@ pub struct Shown<'a>(pub &'a Tables);
 impl fmt::Display for Shown<'_> {
     fn fmt<W: fmt::Write>(&self, f: &mut fmt::Formatter<W>) -> fmt::Result {
         let tables = self.0;
-        let now = tables.now;
-        writeln!(
-            f,
-            "now {now} id {} number {}",
-            tables.last_id, tables.last_number
-        )?;
+        let last = Then(
+            Then("id", tables.last_id),
+            Then("number", tables.last_number),
+        );
+        put_line(f, &Then(Then("now", tables.now), last))?;
         for row in tables.pendings.as_slice() {
-            writeln!(f, "{}", Waiting(row))?;
+            put_line(f, &Waiting(row))?;
         }
         for row in tables.hops.as_slice() {
-            writeln!(f, "{}", Open(row))?;
+            put_line(f, &Open(row))?;
         }
         for row in tables.assemblies.as_slice() {
-            writeln!(f, "{}", Kept(row))?;
+            put_line(f, &Kept(row))?;
         }
         for op in tables.ops.as_slice() {
-            writeln!(f, "op {op}")?;
+            put_line(f, &Then("op", *op))?;
         }
         Ok(())
     }

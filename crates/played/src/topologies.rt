@@ -1,5 +1,6 @@
 //! Topology files: what loading each gives, and what a topology says.
 use crate::fault::Fault;
+use crate::told::Then;
 use cip_base::ModuleId;
 use cip_module::ModuleSettings;
 use cip_topology::{Link, Topology, load};
@@ -43,17 +44,18 @@ fn tell_module(
     let name = settings.name.as_slice();
     let place = topology.by_name(name).ok_or(Fault::Line)?.0;
     let told = topology.name_of(ModuleId(place)).ok_or(Fault::Line)?;
+    let first = Then(
+        Then("id", settings.first_id),
+        Then("number", settings.first_number),
+    );
+    let rooms = Then("rooms", Then(settings.pending_room, settings.hop_room));
+    let ports = Then("ports", settings.ports.as_slice().len());
+    let more = Then(
+        first,
+        Then(Then("clock", settings.clock), Then(rooms, ports)),
+    );
     print!(rt; "module {place} {} {:?}", text(told), settings.kind)?;
-    print!(rt;
-        " id {} number {}",
-        settings.first_id, settings.first_number
-    )?;
-    print!(rt; " clock {} rooms {}", settings.clock, settings.pending_room)?;
-    println!(rt;
-        " {} ports {}",
-        settings.hop_room,
-        settings.ports.as_slice().len()
-    )?;
+    println!(rt; " {more}")?;
     Ok(())
 }
 
