@@ -27,10 +27,10 @@ fn run_all(rt: &HostRuntime) -> Result<(), Fault> {
 }
 
 // Of which kind the bridge is.
-fn kinds_of(word: Option<&str>) -> Result<Kinds, Fault> {
+fn kinds_of(word: Option<String>) -> Result<Kinds, Fault> {
     match word {
         None => Ok(Kinds::Plain),
-        Some("indexed") => Ok(Kinds::Indexed),
+        Some(word) if word.as_str() == "indexed" => Ok(Kinds::Indexed),
         Some(_) => Err(Fault::Usage),
     }
 }
@@ -44,7 +44,6 @@ pub fn run(rt: &HostRuntime, words: &mut Args) -> Result<(), Fault> {
     let case = case_of(name.as_str()).ok_or(Fault::Usage)?;
     let times = words.next().ok_or(Fault::Usage)?;
     let times = times.parse::<u32>()?;
-    let word = words.next();
-    let kinds = kinds_of(word.as_ref().map(|word| word.as_str()))?;
+    let kinds = kinds_of(words.next())?;
     run_case(rt, case, kinds, times)
 }

@@ -1,8 +1,6 @@
 //! A module's outputs and tables as text.
 use cip_hops::{HopDown, HopUp};
-use cip_module::{
-    AssemblyRow, Body, Dropped, HopRow, Output, PendingRow, Refused, StepFault, Tables,
-};
+use cip_module::{Body, Dropped, HopRow, Output, PendingRow, Refused, StepFault, Tables};
 use line_words::{Asked, Asker, Numbers, Pairs};
 use std::fmt;
 
@@ -113,19 +111,15 @@ impl fmt::Display for Waiting<'_> {
 
 /// A number that may be missing.
 #[derive(Clone, Copy)]
-struct Perhaps(Option<u64>);
+struct Perhaps<T>(Option<T>);
 
-impl fmt::Display for Perhaps {
+impl<T: fmt::Display> fmt::Display for Perhaps<T> {
     fn fmt<W: fmt::Write>(&self, f: &mut fmt::Formatter<W>) -> fmt::Result {
-        match self.0 {
-            Some(number) => write!(f, "{number}"),
-            None => write!(f, "-"),
+        match &self.0 {
+            Some(number) => fmt::Display::fmt(number, f),
+            None => f.write_str("-"),
         }
     }
-}
-
-fn id(id: Option<u32>) -> Perhaps {
-    Perhaps(id.map(u64::from))
 }
 
 /// The side of a connection towards its originator.
@@ -141,7 +135,10 @@ impl fmt::Display for Up<'_> {
                 their_id,
             } => {
                 let hop = Then(port.get(), Pairs(address.as_slice()));
-                let ids = Then(Then("own", id(self.0.ids.up)), Then("their", *their_id));
+                let ids = Then(
+                    Then("own", Perhaps(self.0.ids.up)),
+                    Then("their", *their_id),
+                );
                 fmt::Display::fmt(&Then(hop, ids), f)
             }
             HopUp::Local { op } => fmt::Display::fmt(&Then("op", *op), f),
@@ -158,8 +155,8 @@ impl fmt::Display for Down<'_> {
         match &self.0.down {
             HopDown::Link { port, address } => {
                 let hop = Then(port.get(), Pairs(address.as_slice()));
-                let own = Then("own", id(self.0.ids.down));
-                let ids = Then(Then("their", id(self.0.their_id)), own);
+                let own = Then("own", Perhaps(self.0.ids.down));
+                let ids = Then(Then("their", Perhaps(self.0.their_id)), own);
                 fmt::Display::fmt(&Then(hop, ids), f)
             }
             HopDown::End {
@@ -191,17 +188,6 @@ impl fmt::Display for Open<'_> {
     }
 }
 
-/// An assembly.
-#[derive(Clone, Copy)]
-struct Kept<'a>(&'a AssemblyRow);
-
-impl fmt::Display for Kept<'_> {
-    fn fmt<W: fmt::Write>(&self, f: &mut fmt::Formatter<W>) -> fmt::Result {
-        let kept = Then(self.0.instance, Pairs(self.0.bytes.as_slice()));
-        fmt::Display::fmt(&Then("assembly", kept), f)
-    }
-}
-
 fn put_line<T: fmt::Display, W: fmt::Write>(f: &mut fmt::Formatter<W>, row: &T) -> fmt::Result {
     writeln!(f, "{row}")
 }
@@ -225,7 +211,8 @@ impl fmt::Display for Shown<'_> {
             put_line(f, &Open(row))?;
         }
         for row in tables.assemblies.as_slice() {
-            put_line(f, &Kept(row))?;
+            let kept = Then(row.instance, Pairs(row.bytes.as_slice()));
+            put_line(f, &Then("assembly", kept))?;
         }
         for op in tables.ops.as_slice() {
             put_line(f, &Then("op", *op))?;
