@@ -144,15 +144,6 @@ fn play_case(rt: &HostRuntime, group: &str, case: &str, is_marked: bool) -> Opti
     }
 }
 
-// The name of a file without its folders and `.txt`.
-fn group_of(path: &str) -> &str {
-    let name = match path.rsplit_once('/') {
-        Some((_, name)) => name,
-        None => path,
-    };
-    name.strip_suffix(".txt").unwrap_or(name)
-}
-
 /// Plays each case of a file. Whether all are as they tell. None where memory or the output is
 /// refused, or a heading cannot be read.
 pub fn play(rt: &HostRuntime, path: &str, is_marked: bool) -> Option<bool> {
@@ -160,12 +151,18 @@ pub fn play(rt: &HostRuntime, path: &str, is_marked: bool) -> Option<bool> {
         println!(rt; "{path}: this file cannot be read").ok()?;
         return Some(false);
     };
+    let name = match path.rsplit_once('/') {
+        Some((_, name)) => name,
+        None => path,
+    };
+    // without its folders and `.txt`
+    let group = name.strip_suffix(".txt").unwrap_or(name);
     let text = text.as_str().replace(rt.alloc(), "\\\n    ", "").ok()?;
     let mut cases = text.as_str().split("\n== ");
     let _comment = cases.next();
     let mut is_right = true;
     for case in cases {
-        is_right = play_case(rt, group_of(path), case, is_marked)? && is_right;
+        is_right = play_case(rt, group, case, is_marked)? && is_right;
     }
     Some(is_right)
 }

@@ -39,19 +39,6 @@ fn link_up() -> Option<HopUp>
     })
 }
 
-// `through` for a connection that goes on, `end` for one that ends here.
-fn down_side(words: &mut Words) -> Option<HopDown> {
-    match words.word()? {
-        "through" => link_down(),
-        "end" => Some(HopDown::End {
-            config: 100,
-            consume: 101,
-            produce: 102,
-        }),
-        _ => None,
-    }
-}
-
 // Over the path 01 03, then class 4, with the least watchdog.
 fn opening(alloc: Global, serial: u16, up: HopUp, down: HopDown) -> Option<Opening>
     ensures up { IfSome result (λ o. o.up ≡ up) }
@@ -73,13 +60,22 @@ fn opening(alloc: Global, serial: u16, up: HopUp, down: HopDown) -> Option<Openi
     })
 }
 
-// `SERIAL through|end`, from address 01 by port 2.
+// `SERIAL`, and `through` for a connection that goes on or `end` for one that ends here, from
+// address 01 by port 2.
 fn routed(alloc: Global, words: &mut Words) -> Option<Opening>
     ensures up { IfSome result (λ o. op_of o.up ≡ None) }
     ensures multiplier { IfSome result (λ o. o.multiplier ≡ 0) }
 {
     let serial = words.u16()?;
-    let down = down_side(words)?;
+    let down = match words.word()? {
+        "through" => link_down()?,
+        "end" => HopDown::End {
+            config: 100,
+            consume: 101,
+            produce: 102,
+        },
+        _ => return None,
+    };
     let up = link_up()?;
     let opening = opening(alloc, serial, up, down)?;
     Some(opening)
@@ -200,6 +196,11 @@ fn counted(table: &mut HopTable, words: &mut Words) -> Option<String> {
     text(words.alloc, Perhaps(table.by_triad(&triad)?.consumed))
 }
 
+// Whether something left the table.
+fn has_left<T: Drop>(alloc: Global, left: Option<T>) -> Option<String> {
+    text(alloc, left.is_some())
+}
+
 // A question that changes nothing.
 fn found(table: &HopTable, name: &str, words: &mut Words) -> Option<String> {
     let alloc = words.alloc;
@@ -235,8 +236,8 @@ pub fn answer(table: &mut HopTable, name: &str, words: &mut Words) -> Option<Str
     match name {
         "begin" => begun(table, words),
         "finish" => finished(table, words),
-        "abandon" => text(alloc, table.abandon(&triad(words.u16()?)).is_some()),
-        "remove" => text(alloc, table.remove(&triad(words.u16()?)).is_some()),
+        "abandon" => has_left(alloc, table.abandon(&triad(words.u16()?))),
+        "remove" => has_left(alloc, table.remove(&triad(words.u16()?))),
         "touch" => touched(table, words),
         "count" => counted(table, words),
         // `NOW`: the serial of the one that leaves

@@ -1,6 +1,6 @@
 //! Questions about addresses, numbers from 1, triads and lists of bytes.
-use crate::texts::{PairsOrCount, Perhaps, Then, name as name_of, text};
-use cip_base::{Address, Bytes, Ms, PortNumber};
+use crate::texts::{PairsOrCount, Then, name as name_of, text};
+use cip_base::{Address, Bytes, Ms};
 use line_words::Words;
 use std::alloc::Global;
 
@@ -43,8 +43,14 @@ pub fn answer(name: &str, words: &mut Words) -> Option<String> {
         "address" => address(words),
         "shown" => name_of(alloc, words.address()?),
         "same" => text(alloc, words.address()? == words.address()?),
-        "ms" => text(alloc, Perhaps(Ms::new(words.u16()?).map(Ms::get))),
-        "port" => text(alloc, Perhaps(words.port().map(PortNumber::get))),
+        "ms" => match Ms::new(words.u16()?) {
+            Some(ms) => text(alloc, ms.get()),
+            None => text(alloc, "none"),
+        },
+        "port" => match words.port() {
+            Some(port) => text(alloc, port.get()),
+            None => text(alloc, "none"),
+        },
         "less" => text(alloc, words.triad()? < words.triad()?),
         "overwritten" => overwritten(words),
         _ => None,

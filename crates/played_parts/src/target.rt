@@ -191,15 +191,6 @@ fn consume(target: &mut Target, words: &mut Words) -> Option<String> {
     text(words.alloc, is_taken)
 }
 
-// `INSTANCE`: the bytes of the assembly.
-fn produce(target: &Target, words: &mut Words) -> Option<String> {
-    let instance = words.u16()?;
-    match target.assembly(u32::from(instance)) {
-        Some(_) => text(words.alloc, PairsOrCount(target.produce(instance))),
-        None => text(words.alloc, "none"),
-    }
-}
-
 // `INSTANCE`: whether there is such an assembly, which then has no owner.
 fn release(target: &mut Target, words: &mut Words) -> Option<String> {
     let instance = words.u16()?;
@@ -256,7 +247,14 @@ pub fn answer(target: &mut Target, name: &str, words: &mut Words) -> Option<Stri
         "large_status" => open(target, true, false, words),
         "open" => open(target, false, true, words),
         "consume" => consume(target, words),
-        "produce" => produce(target, words),
+        // `INSTANCE`: the bytes of the assembly
+        "produce" => {
+            let instance = words.u16()?;
+            match target.assembly(u32::from(instance)) {
+                Some(_) => text(alloc, PairsOrCount(target.produce(instance))),
+                None => text(alloc, "none"),
+            }
+        }
         "release" => release(target, words),
         _ => whole(target, name, words),
     }

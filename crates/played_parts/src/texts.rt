@@ -34,7 +34,7 @@ pub struct Named<F>(pub F);
 
 impl<F: fmt::Debug> fmt::Display for Named<F> {
     fn fmt<W: fmt::Write>(&self, f: &mut fmt::Formatter<W>) -> fmt::Result {
-        write!(f, "{:?}", self.0)
+        fmt::Debug::fmt(&self.0, f)
     }
 }
 
@@ -55,8 +55,8 @@ pub struct Perhaps<T>(pub Option<T>);
 impl<T: fmt::Display> fmt::Display for Perhaps<T> {
     fn fmt<W: fmt::Write>(&self, f: &mut fmt::Formatter<W>) -> fmt::Result {
         match &self.0 {
-            Some(value) => write!(f, "{value}"),
-            None => write!(f, "none"),
+            Some(value) => fmt::Display::fmt(value, f),
+            None => f.write_str("none"),
         }
     }
 }
@@ -69,8 +69,9 @@ impl fmt::Display for PairsOrCount<'_> {
     fn fmt<W: fmt::Write>(&self, f: &mut fmt::Formatter<W>) -> fmt::Result {
         let count = self.0.len();
         if count > 100 {
-            return write!(f, "{count} bytes");
+            fmt::Display::fmt(&Then(count, "bytes"), f)
+        } else {
+            fmt::Display::fmt(&Pairs(self.0), f)
         }
-        write!(f, "{}", Pairs(self.0))
     }
 }

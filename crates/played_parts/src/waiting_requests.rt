@@ -1,5 +1,5 @@
 //! Questions about the table of requests that wait.
-use crate::texts::{Named, Perhaps, Then, name as name_of, text};
+use crate::texts::{Named, Then, name as name_of, text};
 use cip_base::{Address, PortNumber, count_of};
 use cip_pending::{AddFault, Entry, Kind, PendingTable, UpSide};
 use line_words::{Asked, Asker, Pairs, Words};
@@ -121,8 +121,10 @@ fn changed(table: &mut PendingTable, name: &str, words: &mut Words) -> Option<St
             let number = words.u32()?;
             let port = words.port()?;
             let address = words.address()?;
-            let taken = table.take(number, port, &address);
-            text(alloc, Perhaps(taken.as_ref().map(Shown)))
+            match table.take(number, port, &address) {
+                Some(entry) => text(alloc, Shown(&entry)),
+                None => text(alloc, "none"),
+            }
         }
         // `NOW`
         "expire" => match table.expire(words.u64()?) {
@@ -154,10 +156,10 @@ pub fn answer(table: &mut PendingTable, name: &str, words: &mut Words) -> Option
             let number = words.u32()?;
             let port = words.port()?;
             let address = words.address()?;
-            text(
-                alloc,
-                Perhaps(table.look(number, port, &address).map(Shown)),
-            )
+            match table.look(number, port, &address) {
+                Some(entry) => text(alloc, Shown(entry)),
+                None => text(alloc, "none"),
+            }
         }
         // the least number of all, or above the one that is given
         "least" | "after" => {
