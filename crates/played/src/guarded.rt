@@ -50,7 +50,8 @@ pub fn guarded(out: &mut Out, harness: &mut Harness, line: &str) -> Result<(), F
     let alloc = out.alloc();
     let (place, event) = harness.event(line).ok_or(Fault::Line)?;
     let before = noted(alloc, harness, place, &event)?;
-    out.open()?;
+    out.flush()?;
+    out.mark(">")?;
     let stepped = harness.step(place, event);
     close(out, harness)?;
     match stepped {

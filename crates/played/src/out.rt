@@ -43,12 +43,6 @@ impl Out<'_> {
         Ok(())
     }
 
-    /// All that was kept goes out, and then the first mark.
-    pub fn open(&mut self) -> Result<(), Fault> {
-        self.flush()?;
-        self.mark(">")
-    }
-
     /// A mark, which goes out at once.
     pub fn mark(&mut self, mark: &str) -> Result<(), Fault> {
         print!(self.rt; "{mark}")?;
