@@ -38,20 +38,47 @@ impl Found {
     }
 }
 
+// A text in quotation marks, as far as its prefix goes, and its length.
+#[derive(Clone, Copy)]
+struct Quoted<'a> {
+    front: &'a Excerpt,
+    length: usize,
+}
+
+impl fmt::Display for Quoted<'_> {
+    fn fmt<W: fmt::Write>(&self, f: &mut fmt::Formatter<W>) -> fmt::Result {
+        let behind = if self.length > 40 {
+            "..\", a text of "
+        } else {
+            "\", a text of "
+        };
+        write!(f, "\"{}{behind}{} bytes", self.front, self.length)
+    }
+}
+
+impl Found {
+    // The kind of what is told by its kind alone.
+    fn kind(&self) -> &'static str {
+        match self {
+            Found::Float => "a float",
+            Found::Boolean => "a boolean",
+            Found::Date => "a date or time",
+            Found::Array => "an array",
+            _ => "a table",
+        }
+    }
+}
+
 impl fmt::Display for Found {
     fn fmt<W: fmt::Write>(&self, f: &mut fmt::Formatter<W>) -> fmt::Result {
         match self {
             Found::Integer(number) => write!(f, "{number}"),
-            Found::Text(front, length) if *length > 40 => {
-                write!(f, "\"{front}..\", a text of {length} bytes")
+            Found::Text(front, length) => {
+                let length = *length;
+                write!(f, "{}", Quoted { front, length })
             }
-            Found::Text(front, length) => write!(f, "\"{front}\", a text of {length} bytes"),
-            Found::Float => f.write_str("a float"),
-            Found::Boolean => f.write_str("a boolean"),
-            Found::Date => f.write_str("a date or time"),
-            Found::Array => f.write_str("an array"),
-            Found::Table => f.write_str("a table"),
             Found::Count(count) => write!(f, "{count} tables"),
+            other => f.write_str(other.kind()),
         }
     }
 }

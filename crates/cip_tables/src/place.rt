@@ -105,16 +105,26 @@ impl Place {
     }
 }
 
+// A name in brackets, where there is one.
+#[derive(Clone, Copy)]
+struct Named<'a>(&'a Option<Name>);
+
+impl fmt::Display for Named<'_> {
+    fn fmt<W: fmt::Write>(&self, f: &mut fmt::Formatter<W>) -> fmt::Result {
+        match self.0 {
+            Some(name) => write!(f, " ({name})"),
+            None => Ok(()),
+        }
+    }
+}
+
 fn write_table<W: fmt::Write>(
     f: &mut fmt::Formatter<W>,
     table: &str,
     number: usize,
     name: &Option<Name>,
 ) -> fmt::Result {
-    match name {
-        Some(name) => write!(f, "[[{table}]] {number} ({name})"),
-        None => write!(f, "[[{table}]] {number}"),
-    }
+    write!(f, "[[{table}]] {number}{}", Named(name))
 }
 
 impl fmt::Display for Place {
