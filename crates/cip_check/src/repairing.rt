@@ -83,8 +83,10 @@ fn one_table(alloc: Global, text: &str) -> Result<Value, AllocError> {
 
 // The entry of this number, from 1, of the tables of a kind.
 fn entry_at<'a>(table: &'a mut Table, key: &str, number: usize) -> Option<&'a mut Value> {
-    let entries = table.get_mut(key)?.as_array_mut()?;
-    entries.get_mut(number.checked_sub(1)?)
+    match table.get_mut(key) {
+        Some(Value::Array(entries)) => entries.get_mut(number.checked_sub(1)?),
+        _ => None,
+    }
 }
 
 fn table_in<'a>(table: &'a mut Table, key: &str, number: usize) -> Option<&'a mut Table> {
