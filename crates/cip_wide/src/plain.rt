@@ -153,6 +153,55 @@ fn entered_op(ops: &Ops, at: ModuleId, args: &[&str]) -> Option<u32> {
     }
 }
 
+// Puts the op that the line asks for by this word, and keeps it.
+fn put_new_op(
+    alloc: Global,
+    ops: &Ops,
+    at: ModuleId,
+    word: &str,
+    found: &str,
+    plain: &mut Plain,
+) -> Result<(), LineError> {
+    plain.new = new_op(alloc, ops, at, word, found)?;
+    match &plain.new {
+        Some(op) => write!(plain.line, "{}", op.number)?,
+        None => plain.line.push_str(found)?,
+    }
+    Ok(())
+}
+
+// The first word of a line, the others, and the module that the line is for, if it is one.
+#[derive(Clone, Copy)]
+struct Words<'a> {
+    word: &'a str,
+    args: &'a [&'a str],
+    at: Option<ModuleId>,
+}
+
+// Puts a word of the line, which the usage calls so.
+fn put_word(
+    alloc: Global,
+    world: &World,
+    ops: &Ops,
+    words: Words<'_>,
+    field: &str,
+    found: &str,
+    plain: &mut Plain,
+) -> Result<(), LineError> {
+    let Words { word, args, at } = words;
+    match (field, at) {
+        ("OP", Some(at)) if asks(word) => put_new_op(alloc, ops, at, word, found, plain),
+        ("OP", Some(at)) => put_old_op(alloc, ops, at, word, "OP", found, &mut plain.line),
+        ("OF", Some(at)) => put_old_op(alloc, ops, at, word, "OF", found, &mut plain.line),
+        ("BYTES", Some(at)) if word == "enter" => {
+            let of = entered_op(ops, at, args);
+            put_datum(alloc, world.journal(), at, of, found, &mut plain.line)
+        }
+        ("PATH", _) => put_path(alloc, word, found, &mut plain.line),
+        _ => Ok(plain.line.push_str(found)?),
+    }
+}
+
 /// The line of these words, of which the names of the words behind the first one are the usage.
 pub(crate) fn plain_line(
     alloc: Global,
@@ -162,30 +211,17 @@ pub(crate) fn plain_line(
     usage: &'static str,
     args: &[&str],
 ) -> Result<Plain, LineError> {
-    let mut line = String::from_str(alloc, word)?;
-    let mut new = None;
-    let mut fields = usage.split(' ');
+    let mut plain = Plain {
+        line: String::from_str(alloc, word)?,
+        new: None,
+    };
     let at = module_of(world.topology(), args);
+    let words = Words { word, args, at };
+    let mut fields = usage.split(' ');
     for found in args {
         let field = fields.next().unwrap_or("");
-        line.push(' ')?;
-        match (field, at) {
-            ("OP", Some(at)) if asks(word) => {
-                new = new_op(alloc, ops, at, word, found)?;
-                match &new {
-                    Some(op) => write!(line, "{}", op.number)?,
-                    None => line.push_str(found)?,
-                }
-            }
-            ("OP", Some(at)) => put_old_op(alloc, ops, at, word, "OP", found, &mut line)?,
-            ("OF", Some(at)) => put_old_op(alloc, ops, at, word, "OF", found, &mut line)?,
-            ("BYTES", Some(at)) if word == "enter" => {
-                let of = entered_op(ops, at, args);
-                put_datum(alloc, world.journal(), at, of, found, &mut line)?
-            }
-            ("PATH", _) => put_path(alloc, word, found, &mut line)?,
-            _ => line.push_str(found)?,
-        }
+        plain.line.push(' ')?;
+        put_word(alloc, world, ops, words, field, found, &mut plain)?;
     }
-    Ok(Plain { line, new })
+    Ok(plain)
 }
