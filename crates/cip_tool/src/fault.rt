@@ -9,61 +9,39 @@ use std::fmt;
 use thiserror::Error;
 
 /// Why a word of a path in words is none that may stand there.
-#[derive(Clone, Copy, Debug)]
+#[derive(Clone, Copy, Debug, Error)]
 pub enum WordFault {
+    #[error("no port; allowed: 1 to 65535, backplane for 1, enet for 2")]
     Port,
+    #[error("a port with no address behind it; needed: PORT,ADDRESS")]
     NoAddress,
+    #[error("no address; allowed: 0 to 255, 2 to 16 characters, not digits alone, without @ and =, \
+        or 0x and 1 to 16 pairs of hexadecimal digits")]
     Address,
+    #[error("no object; allowed: @CLASS, @CLASS/INSTANCE, @CLASS/INSTANCE/ATTRIBUTE")]
     Object,
+    #[error("no class; allowed: 0 to 65535")]
     Class,
+    #[error("no instance; allowed: 0 to 4294967295")]
     Instance,
+    #[error("no attribute; allowed: 0 to 65535")]
     Attribute,
+    #[error("no member; allowed: 0 to 65535")]
     Member,
+    #[error("no connection point; allowed: 0 to 4294967295")]
     Point,
+    #[error("no production inhibit time; allowed: 0 to 255")]
     Inhibit,
+    #[error("no key; allowed: VENDOR/TYPE/PRODUCT/MAJOR/MINOR, three to 65535 and two to 255")]
     Key,
+    #[error("no data; allowed: groups of four hexadecimal digits, at most 255")]
     Data,
+    #[error("no symbol; allowed: at most 255 characters, or 0x and pairs of hexadecimal digits")]
     Symbol,
+    #[error("no name; allowed: instance=, attribute=, member=, point=, inhibit=, key=, data=, \
+        symbol=")]
     Name,
 }
-
-impl fmt::Display for WordFault {
-    fn fmt<W: fmt::Write>(&self, f: &mut fmt::Formatter<W>) -> fmt::Result {
-        let text = match self {
-            WordFault::Port => "no port; allowed: 1 to 65535, backplane for 1, enet for 2",
-            WordFault::NoAddress => "a port with no address behind it; needed: PORT,ADDRESS",
-            WordFault::Address => {
-                "no address; allowed: 0 to 255, 2 to 16 characters, not digits alone, \
-                without @ and =, or 0x and 1 to 16 pairs of hexadecimal digits"
-            }
-            WordFault::Object => {
-                "no object; allowed: @CLASS, @CLASS/INSTANCE, @CLASS/INSTANCE/ATTRIBUTE"
-            }
-            WordFault::Class => "no class; allowed: 0 to 65535",
-            WordFault::Instance => "no instance; allowed: 0 to 4294967295",
-            WordFault::Attribute => "no attribute; allowed: 0 to 65535",
-            WordFault::Member => "no member; allowed: 0 to 65535",
-            WordFault::Point => "no connection point; allowed: 0 to 4294967295",
-            WordFault::Inhibit => "no production inhibit time; allowed: 0 to 255",
-            WordFault::Key => {
-                "no key; allowed: VENDOR/TYPE/PRODUCT/MAJOR/MINOR, three to 65535 and two to 255"
-            }
-            WordFault::Data => {
-                "no data; allowed: groups of four hexadecimal digits, at most 255"
-            }
-            WordFault::Symbol => {
-                "no symbol; allowed: at most 255 characters, or 0x and pairs of hexadecimal digits"
-            }
-            WordFault::Name => {
-                "no name; allowed: instance=, attribute=, member=, point=, inhibit=, \
-                key=, data=, symbol="
-            }
-        };
-        f.write_str(text)
-    }
-}
-
-impl std::error::Error for WordFault {}
 
 /// Why a word gave nothing.
 #[derive(Clone, Copy)]
