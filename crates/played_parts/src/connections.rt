@@ -159,30 +159,6 @@ fn serial(alloc: Global, hop: Option<&Hop>) -> Option<String> {
     }
 }
 
-// `SERIAL`: whether it was opening, and is open from 1 ms on.
-fn finished(table: &mut HopTable, words: &mut Words) -> Option<String> {
-    let triad = triad(words.u16()?);
-    let is_opening = matches!(table.held(&triad), Some(Held::Opening(_, _)));
-    if is_opening {
-        table.finish(&triad, 0x32, 1_000);
-    }
-    text(words.alloc, is_opening)
-}
-
-// `SERIAL NOW`: whether its side towards the originator is watched anew.
-fn touched(table: &mut HopTable, words: &mut Words) -> Option<String> {
-    let triad = triad(words.u16()?);
-    let now = words.u64()?;
-    let is_touched = match table.by_triad(&triad) {
-        Some(hop) if hop.opening.up.is_link() && now < 1_000_000 => {
-            table.touch(&triad, Side::Up, now);
-            true
-        }
-        _ => false,
-    };
-    text(words.alloc, is_touched)
-}
-
 // `SERIAL COUNT`: the count that an end then has.
 fn counted(table: &mut HopTable, words: &mut Words) -> Option<String> {
     let triad = triad(words.u16()?);
@@ -235,10 +211,29 @@ pub fn answer(table: &mut HopTable, name: &str, words: &mut Words) -> Option<Str
     let alloc = words.alloc;
     match name {
         "begin" => begun(table, words),
-        "finish" => finished(table, words),
+        // `SERIAL`: whether it was opening, and is open from 1 ms on
+        "finish" => {
+            let triad = triad(words.u16()?);
+            let is_opening = matches!(table.held(&triad), Some(Held::Opening(_, _)));
+            if is_opening {
+                table.finish(&triad, 0x32, 1_000);
+            }
+            text(alloc, is_opening)
+        }
         "abandon" => has_left(alloc, table.abandon(&triad(words.u16()?))),
         "remove" => has_left(alloc, table.remove(&triad(words.u16()?))),
-        "touch" => touched(table, words),
+        // `SERIAL NOW`: whether its side towards the originator is watched anew
+        "touch" => {
+            let triad = triad(words.u16()?);
+            let now = words.u64()?;
+            match table.by_triad(&triad) {
+                Some(hop) if hop.opening.up.is_link() && now < 1_000_000 => {
+                    table.touch(&triad, Side::Up, now);
+                    text(alloc, true)
+                }
+                _ => text(alloc, false),
+            }
+        }
         "count" => counted(table, words),
         // `NOW`: the serial of the one that leaves
         "expire" => {

@@ -5,20 +5,21 @@ use cip_base::{NumberIndex, Row};
 use cip_clock::{Deadlines, NEVER};
 use line_words::Words;
 
+// The last number of an empty table.
+fn last(name: &str, words: &mut Words) -> Option<u32> {
+    if name == "PendingTable::with_room" {
+        Some(waiting_requests::of_room(words)?.last())
+    } else {
+        Some(connections::of_room(words)?.last())
+    }
+}
+
 /// The answer to a question that is named as the call that it makes: `CALL ROOM`, of a table
 /// `CALL ROOM FIRST`.
 pub fn answer(name: &str, words: &mut Words) -> Option<String> {
     let alloc = words.alloc;
-    match name {
-        "PendingTable::with_room" => {
-            let last = waiting_requests::of_room(words)?.last();
-            return text(alloc, Then("last", last));
-        }
-        "HopTable::with_room" => {
-            let last = connections::of_room(words)?.last();
-            return text(alloc, Then("last", last));
-        }
-        _ => {}
+    if matches!(name, "PendingTable::with_room" | "HopTable::with_room") {
+        return text(alloc, Then("last", last(name, words)?));
     }
     let room = usize::from(words.u16()?);
     words.open();

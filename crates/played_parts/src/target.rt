@@ -191,16 +191,6 @@ fn consume(target: &mut Target, words: &mut Words) -> Option<String> {
     text(words.alloc, is_taken)
 }
 
-// `INSTANCE`: whether there is such an assembly, which then has no owner.
-fn release(target: &mut Target, words: &mut Words) -> Option<String> {
-    let instance = words.u16()?;
-    let is_there = target.assembly(u32::from(instance)).is_some();
-    if is_there {
-        target.release(instance);
-    }
-    text(words.alloc, is_there)
-}
-
 // A question about identities, or about the target as a whole.
 fn whole(target: &mut Target, name: &str, words: &mut Words) -> Option<String> {
     let alloc = words.alloc;
@@ -255,7 +245,15 @@ pub fn answer(target: &mut Target, name: &str, words: &mut Words) -> Option<Stri
                 None => text(alloc, "none"),
             }
         }
-        "release" => release(target, words),
+        // `INSTANCE`: whether there is such an assembly, which then has no owner
+        "release" => {
+            let instance = words.u16()?;
+            let is_there = target.assembly(u32::from(instance)).is_some();
+            if is_there {
+                target.release(instance);
+            }
+            text(alloc, is_there)
+        }
         _ => whole(target, name, words),
     }
 }

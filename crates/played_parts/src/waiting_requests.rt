@@ -104,6 +104,25 @@ fn add(table: &mut PendingTable, words: &mut Words, entry: Option<Entry>) -> Opt
     }
 }
 
+// `NUMBER PORT ADDRESS`
+fn taken(table: &mut PendingTable, words: &mut Words) -> Option<String> {
+    let number = words.u32()?;
+    let port = words.port()?;
+    let address = words.address()?;
+    match table.take(number, port, &address) {
+        Some(entry) => text(words.alloc, Shown(&entry)),
+        None => text(words.alloc, "none"),
+    }
+}
+
+// `NOW`
+fn expired(table: &mut PendingTable, words: &mut Words) -> Option<String> {
+    match table.expire(words.u64()?) {
+        Some((number, entry)) => behind(words.alloc, number, &entry),
+        None => text(words.alloc, "none"),
+    }
+}
+
 // A question that changes the table.
 fn changed(table: &mut PendingTable, name: &str, words: &mut Words) -> Option<String> {
     let alloc = words.alloc;
@@ -116,21 +135,8 @@ fn changed(table: &mut PendingTable, name: &str, words: &mut Words) -> Option<St
             let entry = of_link(words);
             add(table, words, entry)
         }
-        // `NUMBER PORT ADDRESS`
-        "take" => {
-            let number = words.u32()?;
-            let port = words.port()?;
-            let address = words.address()?;
-            match table.take(number, port, &address) {
-                Some(entry) => text(alloc, Shown(&entry)),
-                None => text(alloc, "none"),
-            }
-        }
-        // `NOW`
-        "expire" => match table.expire(words.u64()?) {
-            Some((number, entry)) => behind(alloc, number, &entry),
-            None => text(alloc, "none"),
-        },
+        "take" => taken(table, words),
+        "expire" => expired(table, words),
         // begins the next incarnation where there is one: whether there was
         "reset" => {
             let is_left = table.can_reset();
