@@ -441,6 +441,23 @@ fn play_run(
     play_plain(alloc, world, narrow, Plain { line, new: None })
 }
 
+// A line of a wide script alone that stands for others.
+fn play_for(
+    alloc: Global,
+    world: &mut World,
+    narrow: &mut Kept,
+    words: &[&str],
+) -> Result<(), LineError>
+    requires stand { ⟦<World as Shown>⟧.stands world.old }
+    ensures stand { ⟦<World as Shown>⟧.stands world.new }
+    ensures short { string_len narrow.old.script ≤ 1_048_576
+        → IfOk result (λ _. string_len narrow.new.script ≤ 1_048_576) }
+{
+    let lines = lines_for(alloc, world, words)?;
+    put_comment(alloc, narrow, words, remark_of(words, lines.as_slice()))?;
+    play_lines(alloc, world, narrow, lines)
+}
+
 // A line that begins or ends no block.
 fn play_words(
     alloc: Global,
@@ -455,11 +472,7 @@ fn play_words(
         → IfOk result (λ _. string_len narrow.new.script ≤ 1_048_576) }
 {
     match words {
-        ["cut" | "pass" | "tickall", ..] => {
-            let lines = lines_for(alloc, world, words)?;
-            put_comment(alloc, narrow, words, remark_of(words, lines.as_slice()))?;
-            play_lines(alloc, world, narrow, lines)
-        }
+        ["cut" | "pass" | "tickall", ..] => play_for(alloc, world, narrow, words),
         ["down", args @ ..] => {
             begin_outage(alloc, world.topology(), &mut narrow.outages, number, args)?;
             put_comment(alloc, narrow, words, "")
