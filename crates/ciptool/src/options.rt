@@ -7,44 +7,50 @@ use clap::error::ErrorKind;
 use clap::{Arg, ArgAction, ArgMatches, Command};
 use std::alloc::{AllocError, Global};
 
-/// What the program is asked for.
-#[derive(Drop)]
-pub enum Task {
-    Help,
-    Version,
+/// What is asked for that needs no file.
+#[derive(Clone, Copy)]
+pub enum Question<'a> {
     /// A path, in words or in hexadecimal.
-    Path(String),
+    Path(&'a str),
     /// Network connection parameters, as a number.
     ReadParams {
         large: bool,
-        word: String,
+        word: &'a str,
     },
     /// Network connection parameters, by their parts.
     WriteParams {
         large: bool,
-        size: String,
+        size: &'a str,
         variable: bool,
         priority: Priority,
         kind: ConnectionKind,
         redundant: bool,
     },
     /// A general status, and perhaps an additional one.
-    Status(String, Option<String>),
+    Status(&'a str, Option<&'a str>),
+}
+
+/// What the program is asked for, in the words of its command line.
+#[derive(Drop)]
+pub enum Task<'a> {
+    Help,
+    Version,
+    Question(Question<'a>),
     /// A topology file, and scripts for it.
     Check {
-        topology: String,
-        scripts: Vec<String>,
+        topology: &'a str,
+        scripts: Vec<&'a str>,
     },
     /// A wide script, the standard input where no file is named, over the topology of a file: the
     /// script that it is.
     Script {
-        topology: Option<String>,
-        script: Option<String>,
+        topology: Option<&'a str>,
+        script: Option<&'a str>,
     },
     /// The same, and the transcript of that script.
     Play {
-        topology: Option<String>,
-        script: Option<String>,
+        topology: Option<&'a str>,
+        script: Option<&'a str>,
     },
 }
 
@@ -117,70 +123,81 @@ exit status: 0 done, 1 there is no answer or a line is faulty or not as expected
 options, 3 a faulty topology, 4 a file that can't be read or output that can't be written, 5 no
 memory, 141 nobody reads the output";
 
-fn flag<'a>(alloc: Global, name: &'a str) -> Arg<'a> {
-    Arg::new(alloc, name).long(name).action(ArgAction::SetTrue)
+// How a word of the command line is taken.
+#[derive(Clone, Copy)]
+enum Taken {
+    // an option without a value
+    Flag,
+    // an option with a value behind it
+    Value,
+    // a word by its place, which may be missing, or may not, or perhaps one of many
+    Word,
+    Needed,
+    Many,
 }
 
-fn value<'a>(alloc: Global, name: &'a str) -> Arg<'a> {
-    Arg::new(alloc, name).long(name).action(ArgAction::Set)
-}
+// A word that a command takes: its name, and how it is taken.
+type Taking = (&'static str, Taken);
 
-fn word<'a>(alloc: Global, name: &'a str) -> Arg<'a> {
-    Arg::new(alloc, name).action(ArgAction::Set)
-}
+static PATH: [Taking; 1] = [("PATH", Taken::Needed)];
 
-fn path_command<'a>(alloc: Global) -> Result<Command<'a>, AllocError> {
-    Command::new(alloc, "path").arg(word(alloc, "PATH").required(true))
-}
+static PARAMS: [Taking; 10] = [
+    ("NUMBER", Taken::Word),
+    ("large", Taken::Flag),
+    ("size", Taken::Value),
+    ("priority", Taken::Value),
+    ("point-to-point", Taken::Flag),
+    ("multicast", Taken::Flag),
+    ("null", Taken::Flag),
+    ("reserved", Taken::Flag),
+    ("variable", Taken::Flag),
+    ("redundant", Taken::Flag),
+];
 
-fn params_command<'a>(alloc: Global) -> Result<Command<'a>, AllocError> {
-    Command::new(alloc, "params")
-        .arg(word(alloc, "NUMBER"))?
-        .arg(flag(alloc, "large"))?
-        .arg(value(alloc, "size"))?
-        .arg(value(alloc, "priority"))?
-        .arg(flag(alloc, "point-to-point"))?
-        .arg(flag(alloc, "multicast"))?
-        .arg(flag(alloc, "null"))?
-        .arg(flag(alloc, "reserved"))?
-        .arg(flag(alloc, "variable"))?
-        .arg(flag(alloc, "redundant"))
-}
+static STATUS: [Taking; 2] = [("GENERAL", Taken::Needed), ("ADDITIONAL", Taken::Word)];
 
-fn status_command<'a>(alloc: Global) -> Result<Command<'a>, AllocError> {
-    Command::new(alloc, "status")
-        .arg(word(alloc, "GENERAL").required(true))?
-        .arg(word(alloc, "ADDITIONAL"))
-}
-
-fn check_command<'a>(alloc: Global) -> Result<Command<'a>, AllocError> {
-    Command::new(alloc, "check")
-        .arg(word(alloc, "FILE").required(true))?
-        .arg(
-            word(alloc, "SCRIPT")
-                .num_args(0..)
-                .action(ArgAction::Append),
-        )
-}
+static CHECK: [Taking; 2] = [("FILE", Taken::Needed), ("SCRIPT", Taken::Many)];
 
 // What takes a wide script.
-fn wide_command<'a>(alloc: Global, name: &'a str) -> Result<Command<'a>, AllocError> {
-    Command::new(alloc, name)
-        .arg(value(alloc, "topology"))?
-        .arg(word(alloc, "FILE"))
+static WIDE: [Taking; 2] = [("topology", Taken::Value), ("FILE", Taken::Word)];
+
+fn arg_of<'a>(alloc: Global, name: &'a str, taken: Taken) -> Arg<'a> {
+    let arg = Arg::new(alloc, name);
+    match taken {
+        Taken::Flag => arg.long(name).action(ArgAction::SetTrue),
+        Taken::Value => arg.long(name).action(ArgAction::Set),
+        Taken::Word => arg.action(ArgAction::Set),
+        Taken::Needed => arg.action(ArgAction::Set).required(true),
+        Taken::Many => arg.num_args(0..).action(ArgAction::Append),
+    }
+}
+
+// The command of a name, which takes these words.
+fn taking<'a>(alloc: Global, name: &'a str, words: &[Taking]) -> Result<Command<'a>, AllocError> {
+    let mut command = Command::new(alloc, name);
+    for (name, taken) in words {
+        command = command.arg(arg_of(alloc, name, *taken))?;
+    }
+    Ok(command)
 }
 
 fn command<'a>(alloc: Global) -> Result<Command<'a>, AllocError> {
-    Command::new(alloc, "ciptool")
+    let mut command = Command::new(alloc, "ciptool")
         .version(VERSION)
         .no_binary_name(true)
-        .disable_help_subcommand(true)
-        .subcommand(path_command(alloc)?)?
-        .subcommand(params_command(alloc)?)?
-        .subcommand(status_command(alloc)?)?
-        .subcommand(check_command(alloc)?)?
-        .subcommand(wide_command(alloc, "script")?)?
-        .subcommand(wide_command(alloc, "play")?)
+        .disable_help_subcommand(true);
+    for (name, words) in [
+        ("path", PATH.as_slice()),
+        ("params", PARAMS.as_slice()),
+        ("status", STATUS.as_slice()),
+        ("check", CHECK.as_slice()),
+        ("script", WIDE.as_slice()),
+        ("play", WIDE.as_slice()),
+    ] {
+        let own = taking(alloc, name, words)?;
+        command = command.subcommand(own)?;
+    }
+    Ok(command)
 }
 
 fn wrong(alloc: Global, text: &str) -> OptionsFault {
@@ -190,34 +207,12 @@ fn wrong(alloc: Global, text: &str) -> OptionsFault {
     }
 }
 
-fn text_at(
+fn needed_at<'a>(
     alloc: Global,
-    matches: &ArgMatches<'_>,
+    matches: &ArgMatches<'a>,
     id: &str,
-) -> Result<Option<String>, OptionsFault> {
+) -> Result<&'a str, OptionsFault> {
     match matches.get_str(id) {
-        Some(text) => Ok(Some(String::from_str(alloc, text)?)),
-        None => Ok(None),
-    }
-}
-
-fn texts_at(
-    alloc: Global,
-    matches: &ArgMatches<'_>,
-    id: &str,
-) -> Result<Vec<String>, OptionsFault> {
-    let mut texts = Vec::new(alloc);
-    for text in matches.get_raw(id).unwrap_or(&[]) {
-        let text = String::from_str(alloc, text)?;
-        if texts.push(text).is_err() {
-            return Err(OptionsFault::NoMemory);
-        }
-    }
-    Ok(texts)
-}
-
-fn needed_at(alloc: Global, matches: &ArgMatches<'_>, id: &str) -> Result<String, OptionsFault> {
-    match text_at(alloc, matches, id)? {
         Some(text) => Ok(text),
         None => Err(wrong(alloc, "a word is missing")),
     }
@@ -264,20 +259,31 @@ fn has_parts(matches: &ArgMatches<'_>) -> bool {
         || matches.get_flag("redundant")
 }
 
-fn params_task(alloc: Global, matches: &ArgMatches<'_>) -> Result<Task, OptionsFault> {
-    let large = matches.get_flag("large");
-    let word = text_at(alloc, matches, "NUMBER")?;
-    let size = text_at(alloc, matches, "size")?;
-    match (word, size) {
-        (Some(word), None) if !has_parts(matches) => Ok(Task::ReadParams { large, word }),
-        (None, Some(size)) => Ok(Task::WriteParams {
-            large,
-            size,
-            variable: matches.get_flag("variable"),
-            priority: priority_at(alloc, matches)?,
-            kind: kind_at(alloc, matches)?,
-            redundant: matches.get_flag("redundant"),
+fn parts_question<'a>(
+    alloc: Global,
+    matches: &ArgMatches<'a>,
+    size: &'a str,
+) -> Result<Question<'a>, OptionsFault> {
+    Ok(Question::WriteParams {
+        large: matches.get_flag("large"),
+        size,
+        variable: matches.get_flag("variable"),
+        priority: priority_at(alloc, matches)?,
+        kind: kind_at(alloc, matches)?,
+        redundant: matches.get_flag("redundant"),
+    })
+}
+
+fn params_question<'a>(
+    alloc: Global,
+    matches: &ArgMatches<'a>,
+) -> Result<Question<'a>, OptionsFault> {
+    match (matches.get_str("NUMBER"), matches.get_str("size")) {
+        (Some(word), None) if !has_parts(matches) => Ok(Question::ReadParams {
+            large: matches.get_flag("large"),
+            word,
         }),
+        (None, Some(size)) => parts_question(alloc, matches, size),
         _ => Err(wrong(alloc, "params: either NUMBER, or --size and a type")),
     }
 }
@@ -290,41 +296,59 @@ fn named_twice(alloc: Global) -> OptionsFault {
     )
 }
 
-fn check_task(alloc: Global, matches: &ArgMatches<'_>) -> Result<Task, OptionsFault> {
-    let topology = needed_at(alloc, matches, "FILE")?;
-    let scripts = texts_at(alloc, matches, "SCRIPT")?;
-    let mut is_read = is_input(topology.as_str());
-    for script in &scripts {
-        if is_input(script.as_str()) {
-            if is_read {
-                return Err(named_twice(alloc));
-            }
-            is_read = true;
-        }
+// How many of the files are the standard input.
+fn inputs(topology: &str, scripts: &[&str]) -> usize {
+    let mut count = usize::from(is_input(topology));
+    for script in scripts {
+        count = count.saturating_add(usize::from(is_input(script)));
     }
+    count
+}
+
+fn check_task<'a>(alloc: Global, matches: &ArgMatches<'a>) -> Result<Task<'a>, OptionsFault> {
+    let topology = needed_at(alloc, matches, "FILE")?;
+    let scripts = matches.get_raw("SCRIPT").unwrap_or(&[]);
+    if inputs(topology, scripts) > 1 {
+        return Err(named_twice(alloc));
+    }
+    let scripts = Vec::from_slice(alloc, scripts)?;
     Ok(Task::Check { topology, scripts })
 }
 
 // The topology and the file of a wide script.
-fn wide_files(
+fn wide_files<'a>(
     alloc: Global,
-    matches: &ArgMatches<'_>,
-) -> Result<(Option<String>, Option<String>), OptionsFault> {
+    matches: &ArgMatches<'a>,
+) -> Result<(Option<&'a str>, Option<&'a str>), OptionsFault> {
     let topology = matches.get_str("topology");
     let script = matches.get_str("FILE");
     if topology.is_some_and(is_input) && script.is_none_or(is_input) {
         return Err(named_twice(alloc));
     }
-    Ok((
-        text_at(alloc, matches, "topology")?,
-        text_at(alloc, matches, "FILE")?,
-    ))
+    Ok((topology, script))
 }
 
-fn task_of(alloc: Global, name: &str, matches: &ArgMatches<'_>) -> Result<Task, OptionsFault> {
+fn question_of<'a>(
+    alloc: Global,
+    name: &str,
+    matches: &ArgMatches<'a>,
+) -> Result<Question<'a>, OptionsFault> {
     match name {
-        "path" => Ok(Task::Path(needed_at(alloc, matches, "PATH")?)),
-        "params" => params_task(alloc, matches),
+        "path" => Ok(Question::Path(needed_at(alloc, matches, "PATH")?)),
+        "params" => params_question(alloc, matches),
+        _ => {
+            let general = needed_at(alloc, matches, "GENERAL")?;
+            Ok(Question::Status(general, matches.get_str("ADDITIONAL")))
+        }
+    }
+}
+
+fn task_of<'a>(
+    alloc: Global,
+    name: &str,
+    matches: &ArgMatches<'a>,
+) -> Result<Task<'a>, OptionsFault> {
+    match name {
         "check" => check_task(alloc, matches),
         "script" => {
             let (topology, script) = wide_files(alloc, matches)?;
@@ -334,10 +358,7 @@ fn task_of(alloc: Global, name: &str, matches: &ArgMatches<'_>) -> Result<Task, 
             let (topology, script) = wide_files(alloc, matches)?;
             Ok(Task::Play { topology, script })
         }
-        _ => Ok(Task::Status(
-            needed_at(alloc, matches, "GENERAL")?,
-            text_at(alloc, matches, "ADDITIONAL")?,
-        )),
+        _ => Ok(Task::Question(question_of(alloc, name, matches)?)),
     }
 }
 
@@ -359,7 +380,7 @@ fn said(alloc: Global, error: &clap::Error) -> Result<OptionsFault, AllocError> 
     Ok(wrong(alloc, said.strip_prefix("error: ").unwrap_or(said)))
 }
 
-fn task_for(alloc: Global, error: &clap::Error) -> Result<Task, OptionsFault> {
+fn task_for<'a>(alloc: Global, error: &clap::Error) -> Result<Task<'a>, OptionsFault> {
     match error.kind() {
         ErrorKind::OutOfMemory => Err(OptionsFault::NoMemory),
         ErrorKind::DisplayHelp => Ok(Task::Help),
@@ -370,7 +391,7 @@ fn task_for(alloc: Global, error: &clap::Error) -> Result<Task, OptionsFault> {
 
 /// Reads the words after the program's name. Wrong says what is wrong with them; NoMemory where an
 /// allocation is refused.
-pub fn read_task(alloc: Global, words: &[String]) -> Result<Task, OptionsFault> {
+pub fn read_task(alloc: Global, words: &[String]) -> Result<Task<'_>, OptionsFault> {
     match command(alloc)?.try_get_matches_from(words) {
         Ok(matches) => match matches.subcommand() {
             Some((name, matches)) => task_of(alloc, name, matches),

@@ -3,7 +3,7 @@
 use crate::fault::Fault;
 use crate::files::{bytes_at, told_name};
 use crate::noted::NotedOut;
-use crate::options::{HELP, OptionsFault, Task, VERSION, read_task};
+use crate::options::{HELP, OptionsFault, Question, Task, VERSION, read_task};
 use cip_base::NoMemory;
 use cip_check::{Escaped, Report, check, explain_load, text_of};
 use cip_console::{ConsoleFault, Script, run};
@@ -12,7 +12,7 @@ use cip_module::Module;
 use cip_open::Params;
 use cip_rooms::{RoomsFault, small_rooms};
 use cip_script::explain;
-use cip_tool::{params_answer, params_of, path_answer, size_of, status_answer};
+use cip_tool::{AnswerFault, params_answer, params_of, path_answer, size_of, status_answer};
 use cip_topology::{CHASSIS, LoadFault, Topology, load};
 use cip_wide::{LineFault, WideFault, narrow};
 use std::alloc::{AllocError, Global};
@@ -39,8 +39,8 @@ fn words_fault(rt: &HostRuntime, alloc: Global) -> Fault {
     Fault::NoMemory
 }
 
-// What the words after the program's name ask for.
-fn task(rt: &HostRuntime, alloc: Global) -> Result<Task, Fault> {
+// The words after the program's name.
+fn words(rt: &HostRuntime, alloc: Global) -> Result<Vec<String>, Fault> {
     let Ok(args) = env::args(rt) else {
         return Err(words_fault(rt, alloc));
     };
@@ -50,11 +50,7 @@ fn task(rt: &HostRuntime, alloc: Global) -> Result<Task, Fault> {
             return Err(Fault::NoMemory);
         }
     }
-    match read_task(alloc, words.as_slice()) {
-        Ok(task) => Ok(task),
-        Err(OptionsFault::Wrong(text)) => Err(Fault::Usage(text)),
-        Err(OptionsFault::NoMemory) => Err(Fault::NoMemory),
-    }
+    Ok(words)
 }
 
 // The standard output can't be written.
@@ -140,11 +136,11 @@ fn check_scripts(
     rt: &HostRuntime,
     alloc: Global,
     text: &str,
-    scripts: &[String],
+    scripts: &[&str],
 ) -> Result<usize, Fault> {
     let mut count = 0usize;
     for name in scripts {
-        count = count.saturating_add(check_script(rt, alloc, text, name.as_str())?);
+        count = count.saturating_add(check_script(rt, alloc, text, name)?);
     }
     Ok(count)
 }
@@ -156,7 +152,7 @@ fn check_text(
     alloc: Global,
     name: &str,
     text: &str,
-    scripts: &[String],
+    scripts: &[&str],
 ) -> Result<(), Fault> {
     let Ok(report) = check(alloc, text) else {
         return Err(Fault::NoMemory);
@@ -173,12 +169,7 @@ fn check_text(
 }
 
 // Checks a topology file, over scripts.
-fn check_file(
-    rt: &HostRuntime,
-    alloc: Global,
-    name: &str,
-    scripts: &[String],
-) -> Result<(), Fault> {
+fn check_file(rt: &HostRuntime, alloc: Global, name: &str, scripts: &[&str]) -> Result<(), Fault> {
     let bytes = bytes_at(rt, alloc, name)?;
     let name = told_name(name);
     match text_of(bytes.as_slice()) {
@@ -220,9 +211,9 @@ fn topology_at(rt: &HostRuntime, alloc: Global, name: &str) -> Result<Topology, 
 }
 
 // The same, or the chassis where none is named.
-fn topology_of(rt: &HostRuntime, alloc: Global, name: Option<String>) -> Result<Topology, Fault> {
+fn topology_of(rt: &HostRuntime, alloc: Global, name: Option<&str>) -> Result<Topology, Fault> {
     match name {
-        Some(name) => topology_at(rt, alloc, name.as_str()),
+        Some(name) => topology_at(rt, alloc, name),
         None => loaded(alloc, "the chassis", CHASSIS),
     }
 }
@@ -232,14 +223,6 @@ fn narrow_over(alloc: Global, topology: Topology, wide: &[u8]) -> Result<String,
     let made = new_modules(alloc, topology.configs())?;
     let modules = boxes!(alloc, made, WideFault::NoMemory);
     narrow(alloc, topology, modules, wide)
-}
-
-// The file of a wide script: the standard input where none is named.
-fn script_file(name: &Option<String>) -> &str {
-    match name {
-        Some(name) => name.as_str(),
-        None => "-",
-    }
 }
 
 // What is told of a line of a wide script.
@@ -270,9 +253,10 @@ fn narrowed(
     rt: &HostRuntime,
     alloc: Global,
     topology: Topology,
-    script: Option<String>,
+    script: Option<&str>,
 ) -> Result<String, Fault> {
-    let name = script_file(&script);
+    // (the standard input where none is named)
+    let name = script.unwrap_or("-");
     let bytes = bytes_at(rt, alloc, name)?;
     match narrow_over(alloc, topology, bytes.as_slice()) {
         Ok(text) => Ok(text),
@@ -289,8 +273,8 @@ fn narrowed(
 fn narrow_file(
     rt: &HostRuntime,
     alloc: Global,
-    topology: Option<String>,
-    script: Option<String>,
+    topology: Option<&str>,
+    script: Option<&str>,
 ) -> Result<(), Fault> {
     let topology = topology_of(rt, alloc, topology)?;
     let text = narrowed(rt, alloc, topology, script)?;
@@ -352,8 +336,8 @@ fn stopped_by(stopped: Stopped) -> Fault {
 fn play_file(
     rt: &HostRuntime,
     alloc: Global,
-    topology: Option<String>,
-    script: Option<String>,
+    topology: Option<&str>,
+    script: Option<&str>,
 ) -> Result<(), Fault> {
     let topology = topology_of(rt, alloc, topology)?;
     let again = topology.copy(alloc)?;
@@ -364,24 +348,12 @@ fn play_file(
     }
 }
 
-fn answer(rt: &HostRuntime, alloc: Global, task: Task) -> Result<(), Fault> {
-    match task {
-        Task::Help => say(rt, HELP),
-        Task::Version => say_version(rt),
-        Task::Check { topology, scripts } => {
-            check_file(rt, alloc, topology.as_str(), scripts.as_slice())
-        }
-        Task::Script { topology, script } => narrow_file(rt, alloc, topology, script),
-        Task::Play { topology, script } => play_file(rt, alloc, topology, script),
-        Task::Path(text) => {
-            let text = path_answer(alloc, text.as_str())?;
-            say(rt, text.as_str())
-        }
-        Task::ReadParams { large, word } => {
-            let text = params_answer(alloc, large, word.as_str())?;
-            say(rt, text.as_str())
-        }
-        Task::WriteParams {
+// The answer to what needs no file.
+fn answer_to(alloc: Global, question: Question<'_>) -> Result<String, AnswerFault> {
+    match question {
+        Question::Path(text) => path_answer(alloc, text),
+        Question::ReadParams { large, word } => params_answer(alloc, large, word),
+        Question::WriteParams {
             large,
             size,
             variable,
@@ -390,26 +362,46 @@ fn answer(rt: &HostRuntime, alloc: Global, task: Task) -> Result<(), Fault> {
             redundant,
         } => {
             let params = Params {
-                size: size_of(alloc, size.as_str())?,
+                size: size_of(alloc, size)?,
                 variable,
                 priority,
                 kind,
                 redundant,
             };
-            let text = params_of(alloc, large, &params)?;
-            say(rt, text.as_str())
+            params_of(alloc, large, &params)
         }
-        Task::Status(general, additional) => {
-            let additional = additional.as_ref().map(|text| text.as_str());
-            let text = status_answer(alloc, general.as_str(), additional)?;
-            say(rt, text.as_str())
-        }
+        Question::Status(general, additional) => status_answer(alloc, general, additional),
+    }
+}
+
+fn say_answer(rt: &HostRuntime, alloc: Global, question: Question<'_>) -> Result<(), Fault> {
+    let text = answer_to(alloc, question)?;
+    say(rt, text.as_str())
+}
+
+fn answer(rt: &HostRuntime, alloc: Global, task: &Task<'_>) -> Result<(), Fault> {
+    match task {
+        Task::Help => say(rt, HELP),
+        Task::Version => say_version(rt),
+        Task::Question(question) => say_answer(rt, alloc, *question),
+        Task::Check { topology, scripts } => check_file(rt, alloc, topology, scripts.as_slice()),
+        Task::Script { topology, script } => narrow_file(rt, alloc, *topology, *script),
+        Task::Play { topology, script } => play_file(rt, alloc, *topology, *script),
+    }
+}
+
+// The program, called with these words.
+fn run_words(rt: &HostRuntime, alloc: Global, words: &[String]) -> Result<(), Fault> {
+    match read_task(alloc, words) {
+        Ok(task) => answer(rt, alloc, &task),
+        Err(OptionsFault::Wrong(text)) => Err(Fault::Usage(text)),
+        Err(OptionsFault::NoMemory) => Err(Fault::NoMemory),
     }
 }
 
 /// The whole program, but for what it says of a fault and for its exit status.
 pub fn run_program(rt: &HostRuntime) -> Result<(), Fault> {
     let alloc = rt.alloc();
-    let task = task(rt, alloc)?;
-    answer(rt, alloc, task)
+    let words = words(rt, alloc)?;
+    run_words(rt, alloc, words.as_slice())
 }
