@@ -4,5 +4,5 @@
 mod texts;
 mod words;
 
-pub use texts::{Asked, Asker, Numbers, Pairs};
+pub use texts::{Asked, Asker, Numbers, Pairs, Then};
 pub use words::Words;

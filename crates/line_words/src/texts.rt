@@ -3,6 +3,16 @@ use cip_base::Triad;
 use cip_pending::{Kind, UpSide};
 use std::fmt;
 
+/// Two values with a space between them.
+#[derive(Clone, Copy)]
+pub struct Then<A, B>(pub A, pub B);
+
+impl<A: fmt::Display, B: fmt::Display> fmt::Display for Then<A, B> {
+    fn fmt<W: fmt::Write>(&self, f: &mut fmt::Formatter<W>) -> fmt::Result {
+        write!(f, "{} {}", self.0, self.1)
+    }
+}
+
 /// Bytes as upper-case pairs, a dash for none.
 #[derive(Clone, Copy)]
 pub struct Pairs<'a>(pub &'a [u8]);

@@ -1,18 +1,8 @@
 //! A module's outputs and tables as text.
 use cip_hops::{HopDown, HopUp};
 use cip_module::{Body, Dropped, HopRow, Output, PendingRow, Refused, StepFault, Tables};
-use line_words::{Asked, Asker, Numbers, Pairs};
+use line_words::{Asked, Asker, Numbers, Pairs, Then};
 use std::fmt;
-
-/// Two values with a space between them.
-#[derive(Clone, Copy)]
-pub struct Then<A, B>(pub A, pub B);
-
-impl<A: fmt::Display, B: fmt::Display> fmt::Display for Then<A, B> {
-    fn fmt<W: fmt::Write>(&self, f: &mut fmt::Formatter<W>) -> fmt::Result {
-        write!(f, "{} {}", self.0, self.1)
-    }
-}
 
 /// What a frame holds.
 #[derive(Clone, Copy)]

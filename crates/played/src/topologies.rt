@@ -1,9 +1,9 @@
 //! Topology files: what loading each gives, and what a topology says.
 use crate::fault::Fault;
-use crate::told::Then;
 use cip_base::ModuleId;
 use cip_module::ModuleSettings;
 use cip_topology::{Link, Topology, load};
+use line_words::Then;
 use std::env::Args;
 use std::fs;
 

@@ -4,13 +4,13 @@ ghost use Rattle.std.specs.FinMap as map;
 ghost use Rattle.cip_base.specs.Counts.{count_of};
 ghost use Rattle.cip_hops.specs.Sides.{op_of};
 
-use crate::texts::{Named, Perhaps, Then, name as name_of, text};
+use crate::texts::{Named, Perhaps, name as name_of, text};
 use cip_base::{Address, PortNumber, Triad, count_of};
 use cip_hops::{
     BeginFault, BeginReason, Held, Hop, HopDown, HopTable, HopUp, Opening, OwnIds, Side,
 };
 use cip_segment::read_path;
-use line_words::Words;
+use line_words::{Then, Words};
 use std::alloc::Global;
 use std::fmt::Write;
 

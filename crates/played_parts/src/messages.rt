@@ -4,7 +4,7 @@ ghost use Rattle.cip_open.specs.Open.{FitWidth};
 ghost use Rattle.cip_message.specs.Failure.{HasTriadForWords};
 
 use crate::read_messages::{cut, over, read};
-use crate::texts::{Named, PairsOrCount, Then, explained, text};
+use crate::texts::{Named, PairsOrCount, explained, text};
 use cip_base::{Bytes, NoMemory, Status, put_double, put_word};
 use cip_close::{CloseFields, CloseReply, write_close, write_close_failure, write_close_reply};
 use cip_message::{
@@ -17,7 +17,7 @@ use cip_open::{
 };
 use cip_segment::view_path;
 use cip_unconnected::write_unconnected;
-use line_words::{Numbers, Words};
+use line_words::{Numbers, Then, Words};
 use std::alloc::AllocError;
 
 // The bytes of a message that a guarded call gave, or its fault.

@@ -1,11 +1,11 @@
 //! Questions about paths: what they are read as, and how segments are written.
-use crate::texts::{PairsOrCount, Then, name as name_of, text};
+use crate::texts::{PairsOrCount, name as name_of, text};
 use cip_base::{Bytes, KeyFields};
 use cip_segment::{
     FirstHop, Path, PathFault, Segment, SegmentView, first_hop, read_path, rest, segment_ok,
     segments, split_first, view_path, write_path,
 };
-use line_words::Words;
+use line_words::{Then, Words};
 use std::alloc::Global;
 use std::fmt;
 use std::fmt::Write;

@@ -1,5 +1,5 @@
 //! Questions about messages that are read.
-use crate::texts::{Digits, PairsOrCount, Perhaps, Then, name as name_of, text};
+use crate::texts::{Digits, PairsOrCount, Perhaps, name as name_of, text};
 use cip_base::Status;
 use cip_close::{close_triad_at, close_words_at, read_close, read_close_failure, read_close_reply};
 use cip_message::{DataFault, counted_path, read_reply, read_request};
@@ -8,7 +8,7 @@ use cip_open::{
     words_at,
 };
 use cip_unconnected::{inner, read_unconnected, route_words};
-use line_words::{Numbers, Words};
+use line_words::{Numbers, Then, Words};
 use std::alloc::Global;
 
 // The fields and the path.

@@ -1,9 +1,9 @@
 //! Questions about room that is reserved: tables and what they are made of.
-use crate::texts::{Then, text};
+use crate::texts::text;
 use crate::{connections, waiting_requests};
 use cip_base::{NumberIndex, Row};
 use cip_clock::{Deadlines, NEVER};
-use line_words::Words;
+use line_words::{Then, Words};
 
 // The last number of an empty table.
 fn last(name: &str, words: &mut Words) -> Option<u32> {

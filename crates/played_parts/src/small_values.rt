@@ -1,7 +1,7 @@
 //! Questions about addresses, numbers from 1, triads and lists of bytes.
-use crate::texts::{PairsOrCount, Then, name as name_of, text};
+use crate::texts::{PairsOrCount, name as name_of, text};
 use cip_base::{Address, Bytes, Ms};
-use line_words::Words;
+use line_words::{Then, Words};
 use std::alloc::Global;
 
 // `BYTES`: the address, and once more as its copy.

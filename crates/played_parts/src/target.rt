@@ -1,11 +1,11 @@
 //! Questions about a target: what its objects answer, and which connections end there.
-use crate::texts::{Digits, Named, PairsOrCount, Then, text};
+use crate::texts::{Digits, Named, PairsOrCount, text};
 use cip_base::{Bytes, Timing, Triad};
 use cip_message::read_request;
 use cip_open::{OpenFields, OpenView};
 use cip_segment::view_path;
 use cip_target::{AssemblyConfig, Identity, IdentityFields, Target};
-use line_words::Words;
+use line_words::{Then, Words};
 use std::alloc::Global;
 use std::fmt::Write;
 

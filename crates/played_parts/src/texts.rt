@@ -1,5 +1,5 @@
 //! Answers as text.
-use line_words::Pairs;
+use line_words::{Pairs, Then};
 use std::alloc::Global;
 use std::fmt;
 
@@ -16,16 +16,6 @@ pub fn name<F: fmt::Debug + Drop>(alloc: Global, value: F) -> Option<String> {
 /// A fault as its name and its text.
 pub fn explained<F: fmt::Debug + fmt::Display + Drop>(alloc: Global, fault: F) -> Option<String> {
     format!(in alloc; "{fault:?}: {fault}").ok()
-}
-
-/// Two values with a space between them.
-#[derive(Clone, Copy)]
-pub struct Then<A, B>(pub A, pub B);
-
-impl<A: fmt::Display, B: fmt::Display> fmt::Display for Then<A, B> {
-    fn fmt<W: fmt::Write>(&self, f: &mut fmt::Formatter<W>) -> fmt::Result {
-        write!(f, "{} {}", self.0, self.1)
-    }
 }
 
 /// A value as its name.

@@ -1,8 +1,8 @@
 //! Questions about the table of requests that wait.
-use crate::texts::{Named, Then, name as name_of, text};
+use crate::texts::{Named, name as name_of, text};
 use cip_base::{Address, PortNumber, count_of};
 use cip_pending::{AddFault, Entry, Kind, PendingTable, UpSide};
-use line_words::{Asked, Asker, Pairs, Words};
+use line_words::{Asked, Asker, Pairs, Then, Words};
 use std::alloc::Global;
 use std::fmt;
 use std::fmt::Write;
