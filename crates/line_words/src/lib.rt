@@ -1,4 +1,4 @@
-//! The words of the lines that the drivers of the tests read, and the texts of what they tell alike.
+//! The words of the lines that the drivers of the tests read, and texts that both tell alike.
 #![tactic(auto)]
 
 mod texts;
