@@ -18,7 +18,7 @@ use cip_base::{Address, Bytes, NoMemory, PortNumber};
 use cip_hops::Side;
 use cip_module::{
     Body, Command, Device, Event, HopRow, Module, ModuleConfig, ModuleKind, Output, StepFault,
-    Tables,
+    Tables, react_to_enter, react_to_reply, react_to_request, step,
 };
 use std::alloc::Global;
 
@@ -112,10 +112,7 @@ impl IndexedModule {
             let body = Body::Request { number, bytes };
             return Err(StepFault::NoMemory(Event::Frame { port, from, body }));
         };
-        match self
-            .device
-            .react_to_request(port, &from, number, bytes.as_slice())
-        {
+        match react_to_request(&mut self.device, port, &from, number, bytes.as_slice()) {
             Ok(reaction) => Ok(put_out(outputs, reaction, bytes)),
             Err(_) => {
                 let body = Body::Request { number, bytes };
@@ -145,9 +142,7 @@ impl IndexedModule {
             let body = Body::Reply { number, bytes };
             return Err(StepFault::NoMemory(Event::Frame { port, from, body }));
         };
-        let reaction = self
-            .device
-            .react_to_reply(port, &from, number, bytes.as_slice());
+        let reaction = react_to_reply(&mut self.device, port, &from, number, bytes.as_slice());
         Ok(put_out(outputs, reaction, bytes))
     }
 
@@ -225,7 +220,7 @@ impl IndexedModule {
         let Ok(outputs) = Vec::with_capacity(self.alloc, 1) else {
             return Err(StepFault::NoMemory(Event::Command(Command::Enter { of, bytes })));
         };
-        let reaction = self.device.react_to_enter(of, bytes.as_slice());
+        let reaction = react_to_enter(&self.device, of, bytes.as_slice());
         Ok(put_out(outputs, reaction, bytes))
     }
 
@@ -240,7 +235,7 @@ impl IndexedModule {
     {
         match event {
             Event::Command(Command::Enter { of, bytes }) => self.enter(of, bytes),
-            other => self.device.step(other),
+            other => step(&mut self.device, other),
         }
     }
 }

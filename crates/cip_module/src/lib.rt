@@ -1,8 +1,9 @@
-//! The kinds of module, over the steps of a device.
+//! The step of a module of any kind, and the kinds that are no more than a device.
 #![tactic(auto)]
 
 mod adapter;
 mod plain;
+mod step;
 
 pub use adapter::AdapterModule;
 pub use cip_routing::{
@@ -11,5 +12,6 @@ pub use cip_routing::{
     ModuleSettings, OpenParams, OpenRefusal, Ops, Output, PendingRow, PendingRows, PortConfig,
     Ports, Refused, RequestRefusal, StepFault, Tables, UnconnectedRefusal, is_legal, is_name,
 };
-pub use cip_steps::{Device, Edit, Reaction};
+pub use cip_steps::{Device, Edit, Making, Reaction, TickFault};
 pub use plain::PlainModule;
+pub use step::{react_to_enter, react_to_reply, react_to_request, step};

@@ -8,6 +8,7 @@ ghost use Rattle.cip_config.specs.declared.config.ModuleKind.{ModuleKind as Kind
 ghost use Rattle.cip_routing.specs.State.{initial_state};
 ghost use Rattle.cip_module.specs.Kinds.{config_of_plain, state_of_plain};
 
+use crate::step::step;
 use cip_base::{Address, NoMemory, PortNumber};
 use cip_config::{ModuleConfig, ModuleKind};
 use cip_event::{Event, Output};
@@ -99,7 +100,7 @@ impl Module for PlainModule {
     }
 
     fn step(&mut self, event: Event) -> Result<Vec<Output>, StepFault> {
-        self.device.step(event)
+        step(&mut self.device, event)
     }
 
     fn tables(&self) -> Result<Tables, NoMemory> {

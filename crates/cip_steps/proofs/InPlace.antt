@@ -32,7 +32,6 @@ use Rattle.cip_hops.specs.declared.opening.HopUp.TheVariants.{Link as UpLink}
 use Rattle.cip_hops.specs.declared.hop.Held.{Held}
 use Rattle.cip_hops.specs.Hops.{finished, opening_of, ids_of}
 use Rattle.cip_config.specs.declared.config.ModuleSettings.{ModuleSettings}
-use Rattle.cip_event.specs.declared.event.Event.{Event}
 use Rattle.cip_event.specs.declared.event.Output.{Output}
 use Rattle.cip_steps.specs.declared.making.Making.{Making}
 use Rattle.cip_steps.specs.declared.making.Making.TheVariants.{Anew, Edited}
@@ -52,15 +51,14 @@ use Rattle.cip_routing.specs.UnconnectedRows.{UnconnectedRow, unconnected_row}
 use Rattle.cip_routing.specs.RequestRows.{is_malformed}
 use Rattle.cip_routing.specs.ReplyRows.{ReplyRow, UnknownPortOrTooLong, OpenSucceeded, PassedUp, read_row, waiting_row, reply_row}
 use Rattle.cip_event.specs.Filled.{filled}
-use Rattle.cip_steps.specs.Reactions.{Becomes, PutsOut}
-use Rattle.cip_routing.specs.Steps.{IsStep}
+use Rattle.cip_steps.specs.Reactions.{Becomes}
 use Rattle.cip_routing.specs.State.{State}
 use Rattle.cip_routing.specs.Table.{up_side_of, send_below, open_below, close_below, unconnected_effects, open_effects, close_effects, reply_effects}
-use Rattle.cip_routing.specs.Table.{with_spending, decide, after_effects, Stepped}
+use Rattle.cip_routing.specs.Table.{with_spending}
 use Rattle.cip_routing.specs.Links.{LeadsOn}
 use Rattle.cip_steps.specs.declared.device.Device.{Device}
 use Rattle.cip_steps.specs.Code.Device.{state_of_device}
-use Rattle.cip_steps.specs.Code.Does.{Does, HasDone}
+use Rattle.cip_steps.specs.Code.Does.{HasDone}
 use Rattle.cip_steps.specs.Code.Reacts.{with_bytes, send_edit, outgoing_of, IsMade, reaction_of, SendCame, OpenCame, CloseCame, Reacted, Reacts, ReactsWhole}
 use Rattle.cip_steps.proofs.CameIn.{SaysSuccess, success_came}
 use Rattle.cip_routing.proofs.Waiting.{waits_at}
@@ -116,9 +114,6 @@ close_becomes came d s sender c port address rest received is e =
     (c, leads.0, record { data_ = d; request = received; is = is; leads = leads.1 }, (let t = leads.3 in omega (arith, t)), ap (close_on c) leads.2)
 
 -- ---- a request that lacks its bytes goes on as it would with them
-
-abbrev stepped : State → List Output → Option Stepped
-stepped t outs = Some (record { state = t; outputs = outs })
 
 module _ (config : ModuleSettings) (s : State) (after : ModuleSettings) (new : State) (o : Output) (b : List ℕ) where
   filled_done : (lacking es : List Effect) → applied config s es ≡ applied config s lacking
@@ -273,34 +268,6 @@ success_made m large held x port address their_id up_id came s (Ok made) stands 
       becomes = λ b e. (large, s, e.1, is);
     }
 success_made m large held x port address their_id up_id came s (Err fault) stands above own so = tt
-
--- ---- a step of the routing table, whose bytes stay where they are
-
-pub is_step : (config : ModuleSettings) (s new : State) (event : Event) (es : List Effect) (outs : List Output) → decide config s event ≡ Some es
-    → Does config s es new outs → IsStep config s event new outs
-is_step config s new event es outs decides does =
-    ap (after_effects config s) decides
-    ∙ ap (λ (t : State). stepped t (outputs_of config s es)) does.state
-    ∙ ap (stepped new) does.out
-
-module _ {E : Type 0} (old new : Device) (came : List ℕ) (es : List Effect) (event : Event)
-    (decides : decide old.config (state_of_device old) event ≡ Some es) where
-  pub stepped_on : (r : Result Reaction E) → Reacts Edited (λ b. b ≡ came) old new es r
-      → IfOk r (λ reaction. PutsOut came reaction (λ outputs. IsStep old.config (state_of_device old) event (state_of_device new) outputs))
-  stepped_on (Ok (reactions.Whole o)) reacts =
-      is_step old.config (state_of_device old) (state_of_device new) event es (o ∷ []) decides reacts.does
-  stepped_on (Ok (reactions.Edited o edit)) reacts =
-      let g = reacts.1 came refl in
-      (g.0, g.1, is_step old.config (state_of_device old) (state_of_device new) event es (filled o g.0 ∷ []) decides g.2.does)
-  stepped_on (Ok (reactions.Several all)) reacts =
-      is_step old.config (state_of_device old) (state_of_device new) event es all.items decides reacts.does
-  stepped_on (Err fault) reacts = tt
-
-  pub kept_on : (r : Result Reaction E) → Reacts Edited (λ b. b ≡ came) old new es r → new.config ≡ old.config
-  kept_on (Ok (reactions.Whole o)) reacts = reacts.same_config
-  kept_on (Ok (reactions.Edited o edit)) reacts = (reacts.1 came refl).2.same_config
-  kept_on (Ok (reactions.Several all)) reacts = reacts.same_config
-  kept_on (Err fault) reacts = reacts.same_config
 
 -- ---- a reply
 

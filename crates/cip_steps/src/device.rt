@@ -98,6 +98,11 @@ impl Device {
         &self.config
     }
 
+    /// The allocator of what it makes.
+    pub fn alloc(&self) -> Global {
+        self.alloc
+    }
+
     /// Its time, in microseconds.
     pub fn now(&self) -> u64
         ensures { result ≡ (state_of_device self.now).now }

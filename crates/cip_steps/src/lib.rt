@@ -12,10 +12,11 @@ mod reaction;
 mod reply;
 mod request;
 mod show;
-mod step;
 mod target;
 mod tick;
 mod unconnected_send;
 
 pub use device::Device;
+pub use making::Making;
 pub use reaction::{Edit, Reaction};
+pub use tick::steps::TickFault;

@@ -8,9 +8,9 @@ use cip_base::Bytes;
 use cip_event::Output;
 use std::alloc::Global;
 
-/// How they are made.
+/// How the bytes are made that go on of a message, or go up.
 #[derive(Clone, Copy)]
-pub(crate) enum Making {
+pub enum Making {
     /// They are written anew, before anything changes.
     Anew,
     /// Those that came are edited later, where they stand.

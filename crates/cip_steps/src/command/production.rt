@@ -112,8 +112,9 @@ impl Device {
         }
     }
 
-    /// A Produce of an assembly.
-    pub(crate) fn produce(&mut self, instance: u32) -> Result<Vec<Output>, NoMemory>
+    /// A Produce of an assembly: a datum for each connection that produces it, in rising triad.
+    /// NoMemory where an allocation is refused: then nothing has changed.
+    pub fn produce(&mut self, instance: u32) -> Result<Vec<Output>, NoMemory>
         ensures { HandlesAs (λ v. v.items) self.old self.new
             (produce_effects (state_of_device self.old) instance
             (map.get self.old.target.objects.assemblies instance)) result }

@@ -5,6 +5,7 @@ ghost use Rattle.cip_open.specs.Open.{FitWidth};
 ghost use Rattle.cip_unconnected.specs.Unconnected.{Fits};
 ghost use Rattle.cip_unconnected.specs.Reading.{unconnected_of};
 ghost use Rattle.cip_pending.specs.declared.entry.UpSide.TheVariants.{Local};
+ghost use Rattle.cip_event.specs.Params.{widened};
 ghost use Rattle.cip_hops.specs.Hops.{hop_by_op};
 ghost use Rattle.cip_steps.specs.Code.Commands.{IsNew};
 ghost use Rattle.cip_routing.specs.CommandRows.{send_row};
@@ -21,7 +22,7 @@ use crate::making::Making;
 use crate::reaction::Reaction;
 use cip_base::{Bytes, NoMemory, Timing, Triad};
 use cip_close::{CloseFields, CloseView};
-use cip_event::{LargeParams, Output, Refused};
+use cip_event::{LargeParams, OpenParams, Output, Refused};
 use cip_open::{OpenFields, OpenView};
 use cip_pending::UpSide;
 use cip_routing::{datum_down, fitted, no_bytes};
@@ -44,8 +45,9 @@ impl Device {
         Ok(reaction)
     }
 
-    /// A Send: handled as the Unconnected_Send that it spells, with its op as the up side.
-    pub(crate) fn send(&mut self, op: u32, view: UnconnectedView<'_>) -> Result<Reaction, NoMemory>
+    /// A Send: handled as the Unconnected_Send that it spells, with its op as the up side. NoMemory
+    /// where an allocation is refused: then nothing has changed.
+    pub fn send(&mut self, op: u32, view: UnconnectedView<'_>) -> Result<Reaction, NoMemory>
         ensures { ReactsWhole self.old self.new
             (send_effects self.old.config (state_of_device self.old) op
             (unconnected_of view.entry) (send_row (state_of_device self.old) op
@@ -110,9 +112,8 @@ impl Device {
         self.open(Making::Anew, UpSide::Local { op }, &view)
     }
 
-    /// An Open, or a LargeOpen: handled as the request that it spells, with its op as the up side.
-    /// The network connection parameters of an Open are below 65,536.
-    pub(crate) fn open_command(
+    // An open, large or not: handled as the request that it spells, with its op as the up side.
+    fn open_spelled(
         &mut self,
         op: u32,
         large: bool,
@@ -132,14 +133,41 @@ impl Device {
         }
     }
 
-    /// A Close of the connection that the op `of` opened: handled as the Forward_Close that it
-    /// spells.
-    pub(crate) fn close_command(
+    /// An Open: handled as the Forward_Open that it spells, with its op as the up side. NoMemory
+    /// where an allocation is refused: then nothing has changed.
+    pub fn open_command(
         &mut self,
         op: u32,
-        of: u32,
         timing: Timing,
+        path: &Path,
+        params: &OpenParams,
     ) -> Result<Reaction, NoMemory>
+        ensures { ReactsWhole self.old self.new
+            (open_command_effects self.old.config (state_of_device self.old)
+            op (open_of self.old.config.identity false timing path.now (widened params.now)))
+            result }
+    {
+        self.open_spelled(op, false, timing, path, &params.widened())
+    }
+
+    /// A LargeOpen: handled as the Large_Forward_Open that it spells, in the same way.
+    pub fn large_open_command(
+        &mut self,
+        op: u32,
+        timing: Timing,
+        path: &Path,
+        params: &LargeParams,
+    ) -> Result<Reaction, NoMemory>
+        ensures { ReactsWhole self.old self.new
+            (open_command_effects self.old.config (state_of_device self.old)
+            op (open_of self.old.config.identity true timing path.now params.now)) result }
+    {
+        self.open_spelled(op, true, timing, path, params)
+    }
+
+    /// A Close of the connection that the op `of` opened: handled as the Forward_Close that it
+    /// spells. NoMemory as before.
+    pub fn close_command(&mut self, op: u32, of: u32, timing: Timing) -> Result<Reaction, NoMemory>
         ensures { ReactsWhole self.old self.new
             (close_command_effects (state_of_device self.old) op of timing)
             result }
@@ -164,7 +192,7 @@ impl Device {
 
     /// What an Enter puts out, a datum by the connection that the op opened, which lacks its bytes;
     /// or why it is refused.
-    pub(crate) fn entered(&self, of: u32, bytes: &[u8]) -> Result<Output, Refused>
+    pub fn entered(&self, of: u32, bytes: &[u8]) -> Result<Output, Refused>
         ensures { Handled self.now self.now (enter_effects bytes.now (hop_by_op self.now.hops of))
             (entered_output bytes.now result ∷ []) }
     {
@@ -175,7 +203,7 @@ impl Device {
 
     /// An Enter, whose bytes go on as they are, but for a buffer with far more room than bytes.
     /// They come back where memory is refused.
-    pub(crate) fn enter(&self, of: u32, bytes: Bytes) -> Result<Output, Bytes>
+    pub fn enter(&self, of: u32, bytes: Bytes) -> Result<Output, Bytes>
         ensures done { Handles self.now self.now (enter_effects bytes (hop_by_op self.now.hops of))
             result }
         ensures back { IfErr result (λ back. back ≡ bytes) }
@@ -187,7 +215,7 @@ impl Device {
     }
 
     /// A Set of an assembly, which has no output where it is taken.
-    pub(crate) fn set(&mut self, instance: u32, bytes: &Bytes) -> Option<Output>
+    pub fn set(&mut self, instance: u32, bytes: &Bytes) -> Option<Output>
         ensures { Handled self.old self.new
             (set_effects (state_of_device self.old) instance bytes.now)
             (option_to_list result) }

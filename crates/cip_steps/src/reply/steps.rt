@@ -89,10 +89,10 @@ impl Device {
     }
 
     /// A reply that came in by a port from an address. It takes no memory where its bytes are
-    /// edited.
+    /// edited; else NoMemory where an allocation is refused: then nothing has changed.
     #[tactic(auto, unfolding(cip_routing::specs::ReplyRows::reply_row))]
     #[inline(always)]
-    pub(crate) fn reply(
+    pub fn reply(
         &mut self,
         making: Making,
         port: PortNumber,

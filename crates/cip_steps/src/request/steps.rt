@@ -16,9 +16,10 @@ use cip_pending::UpSide;
 use cip_routing::{RequestDecision, failure, reply_to, request_row};
 
 impl Device {
-    /// A request that came in by a port.
+    /// A request that came in by a port. NoMemory where an allocation is refused: then nothing has
+    /// changed.
     #[inline(always)]
-    pub(crate) fn request(
+    pub fn request(
         &mut self,
         making: Making,
         port: PortNumber,

@@ -12,10 +12,12 @@ use crate::tick::rows::timed_out_all;
 use cip_base::Ms;
 use cip_event::Output;
 
-/// Why a tick does not happen.
+/// Why a tick does not happen: nothing has changed.
 #[derive(Clone, Copy, PartialEq, Eq)]
-pub(crate) enum TickFault {
+pub enum TickFault {
+    /// An allocation was refused.
     OutOfMemory,
+    /// The time would pass its last value.
     Full,
 }
 
@@ -36,9 +38,10 @@ impl Device {
         self.pendings.is_quiet(now) && self.hops.is_quiet(now)
     }
 
-    // So many milliseconds go by: what is due goes up, in rising number, then what was silent is
-    // gone, in rising triad.
-    pub(crate) fn tick(&mut self, by: Ms) -> Result<Vec<Output>, TickFault>
+    /// So many milliseconds go by: what is due goes up, in rising number, then what was silent is
+    /// gone, in rising triad. Full where the time would pass its last value, looked at first, and
+    /// OutOfMemory where an allocation is refused: then nothing has changed.
+    pub fn tick(&mut self, by: Ms) -> Result<Vec<Output>, TickFault>
         ensures gives { TickGives (λ v. v.items) self.old.config (state_of_device self.old)
             (state_of_device self.new) by result }
         ensures config { self.new.config ≡ self.old.config }

@@ -13,7 +13,7 @@ pub returns-in-Ok-react_to_request-clause-ok : goal.returns-in-Ok-react_to_reque
 returns-in-Ok-react_to_request-clause-ok c =
     let m = c.args.self.now in
     let Stepped : List ℕ → List Output → Type 0 = λ bytes outputs. IsStep (config_of_indexed m) (state_of_indexed m)
-    (events.Frame c.args.port c.args.from (bodies.Request c.args.number bytes)) (state_of_device c.react_to_request.new.self) outputs in
+    (events.Frame c.args.port c.args.from (bodies.Request c.args.number bytes)) (state_of_device c.react_to_request.new.device) outputs in
     put c.args.bytes c.in-Ok-react_to_request.reaction (Stepped c.args.bytes) c.put_out.result.items
     (subst (λ (bytes : List ℕ). PutsOut bytes c.in-Ok-react_to_request.reaction (λ outs. Stepped bytes outs)) c.as_slice.ensures
     c.in-Ok-react_to_request.ensures.done)

@@ -6,12 +6,12 @@ use Rattle.cip_steps.specs.declared.reaction.Reaction.{Reaction}
 use Rattle.cip_routing.specs.ReplyRows.{reply_row}
 use Rattle.cip_steps.specs.Code.Device.{state_of_device}
 use Rattle.cip_routing.specs.Table.{reply_effects}
-use Rattle.cip_steps.proofs.InPlace.{stepped_on, kept_on}
-use Rattle.cip_steps.proofs.device.Device.react_to_reply.Goals as goal
+use Rattle.cip_module.proofs.Stepped.{stepped_on, kept_on}
+use Rattle.cip_module.proofs.step.react_to_reply.Goals as goal
 
 pub returns-clause-done : goal.returns-clause-done
 returns-clause-done c =
-    let m = c.args.self.now in
+    let m = c.args.device.now in
     let b = c.args.bytes.now in
     let r : Result Reaction NoMemory = Ok c.in-Ok.reaction in
     stepped_on m c.reply.new.self b (reply_effects c.args.number b (reply_row m.config (state_of_device m) c.args.port c.args.from.now c.args.number b))
@@ -19,7 +19,7 @@ returns-clause-done c =
 
 pub returns-clause-config : goal.returns-clause-config
 returns-clause-config c =
-    let m = c.args.self.now in
+    let m = c.args.device.now in
     let b = c.args.bytes.now in
     let r : Result Reaction NoMemory = Ok c.in-Ok.reaction in
     kept_on m c.reply.new.self b (reply_effects c.args.number b (reply_row m.config (state_of_device m) c.args.port c.args.from.now c.args.number b))
