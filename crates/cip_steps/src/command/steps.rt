@@ -1,5 +1,5 @@
 //! The command group: what a module's own application asks for.
-ghost use Rattle.std.specs.Prelude.{◌≡◌, ◌∷◌, [], ℕ, ◌≤◌, ◌<◌, ◌^◌, false, List, IfErr};
+ghost use Rattle.std.specs.Prelude.{◌≡◌, ◌∷◌, [], ℕ, ◌≤◌, ◌<◌, ◌^◌, true, false, List, IfErr};
 ghost use Rattle.std.specs.Option.{option_to_list};
 ghost use Rattle.cip_open.specs.Open.{FitWidth};
 ghost use Rattle.cip_unconnected.specs.Unconnected.{Fits};
