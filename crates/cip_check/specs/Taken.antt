@@ -1,7 +1,7 @@
 -- What a report says of the text of a topology file.
 use Rattle.std.specs.Prelude.{ℕ, ◌≤◌, List, Option, Some, None, IsSomeAnd, IsOk}
 use Rattle.toml.specs.Parse.{parse_document}
-use Rattle.cip_tables.specs.declared.fault.LoadFault.{LoadFault}
+use Rattle.cip_topology.specs.declared.fault.LoadFault.{LoadFault}
 use Rattle.cip_topology.specs.Files.{topology_of}
 
 -- the text is TOML, and the document breaks no rule

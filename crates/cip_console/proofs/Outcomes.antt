@@ -3,13 +3,13 @@ use Rattle.std.proofs.Common.{ℕ, List, Option, Ok, Err}
 use Rattle.std.proofs.KnownBytes.{Keeps-refl}
 use Rattle.cip_chassis.specs.Plan.{Plan}
 use Rattle.cip_script.specs.declared.steps.Mode.TheVariants.{InTurn}
-use Rattle.cip_play.specs.declared.fault.ConsoleFault.TheVariants.{Read, NoMemory}
-use Rattle.cip_play.specs.Outcome.{Steps, Front, WroteOf}
+use Rattle.cip_console.specs.declared.fault.ConsoleFault.TheVariants.{Read, NoMemory}
+use Rattle.cip_console.specs.Outcome.{Steps, Front, WroteOf}
 use Rattle.cip_script.specs.Steps.{steps}
-use Rattle.cip_play.specs.Transcript.{transcript}
+use Rattle.cip_console.specs.Transcript.{transcript}
 use Rattle.cip_transcript.specs.Show.{names_of}
-use Rattle.cip_play.proofs.Left.{left_of, is_left}
-use Rattle.cip_play.proofs.Prints.{front_nothing}
+use Rattle.cip_console.proofs.Left.{left_of, is_left}
+use Rattle.cip_console.proofs.Prints.{front_nothing}
 
 -- where nothing was written, a prefix was
 pub nothing_written : (t : Plan) (old : Option (List ℕ)) (script : Steps) → Front t old old script

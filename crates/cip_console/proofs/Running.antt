@@ -2,16 +2,16 @@
 use Rattle.std.proofs.Common.{◌≡◌, ℕ, suc, length, drop, arith, List, [], ◌∷◌, ◌++◌, Option, Some, None, Result, Ok, Err, refl, sym, ap, ◌∙◌, subst}
 use Rattle.std.proofs.Common.{append_assoc, append-nil}
 use Rattle.std.specs.Io.KnownBytes.{Appends}
-use Rattle.cip_play.specs.declared.playing.PlayFault.{PlayFault}
+use Rattle.cip_console.specs.declared.playing.PlayFault.{PlayFault}
 use Rattle.cip_script.specs.declared.steps.Step.{Step}
 use Rattle.cip_script.specs.declared.steps.ScriptFault.{ScriptFault}
 use Rattle.cip_script.specs.declared.steps.Numbered.{Numbered}
-use Rattle.cip_play.specs.Known.{AppendsFront}
-use Rattle.cip_play.specs.Playing.{Prints, Played, Plays}
+use Rattle.cip_console.specs.Known.{AppendsFront}
+use Rattle.cip_console.specs.Playing.{Prints, Played, Plays}
 use Rattle.cip_chassis.specs.Plan.{Plan}
 use Rattle.cip_world.specs.Journals.{Journal}
-use Rattle.cip_play.specs.Transcript.{Part, printed, continued, played, played_all, transcript, stop_after, stop_from, stop_of}
-use Rattle.cip_play.proofs.Prints.{prints_nothing, prints_then, front_more, front_then, prints_all}
+use Rattle.cip_console.specs.Transcript.{Part, printed, continued, played, played_all, transcript, stop_after, stop_from, stop_of}
+use Rattle.cip_console.proofs.Prints.{prints_nothing, prints_then, front_more, front_then, prints_all}
 
 -- what was printed so far, and what the steps that are left print
 pub record Running (t : Plan) (all : List Numbered) (old new : Option (List ℕ)) (gathered : List ℕ) (j : Journal) (left : List Numbered) : Type 0 where

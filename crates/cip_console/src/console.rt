@@ -2,18 +2,17 @@
 ghost use Rattle.std.specs.Prelude.{◌≡◌, ◌≢◌, ◌⊎◌, ◌+◌, ◌<◌, ◌≤◌, [], length, map, IfSome};
 ghost use Rattle.cip_threads.specs.Reports.{IsTellable};
 ghost use Rattle.cip_world.specs.Fresh.{IsNewFault};
-ghost use Rattle.cip_play.specs.Outcome.{Wrote, WroteOf};
+ghost use Rattle.cip_console.specs.Outcome.{Wrote, WroteOf};
 ghost use Rattle.cip_script.specs.Steps.{steps};
 ghost use Rattle.cip_transcript.specs.Show.{names_of};
 
-use crate::playing::play;
+use crate::fault::ConsoleFault;
+use crate::playing::{PlayFault, flush, tell_waiting};
+use crate::source::{ReadFault, SCRIPT_LIMIT, Sink, Source, WriteFault, read_script};
+use crate::steps::play;
 use cip_base::Bytes;
 use cip_chain::TrailIndex;
 use cip_chassis::Topology;
-use cip_play::{
-    ConsoleFault, PlayFault, ReadFault, SCRIPT_LIMIT, Sink, Source, WriteFault, flush, read_script,
-    tell_waiting,
-};
 use cip_routing::Module;
 use cip_script::{Mode, Numbered, StepsFault, read_steps};
 use cip_transcript::names_of;

@@ -1,1 +1,12 @@
+pub mod Entries
+pub mod Rules
+pub mod LinksKept
+pub mod PortsKept
+pub mod ModulesKept
+pub mod Indexed
+pub mod TopologyKept
+pub mod Written
+pub mod LinksWritten
+pub mod PortsWritten
+pub mod ModulesWritten
 pub mod Loaded

@@ -3,20 +3,20 @@ use Rattle.std.proofs.Common.{◌≡◌, ℕ, ◌≤◌, false, eqb, List, [], l
 use Rattle.std.proofs.Common.{refl, sym, subst, arith, nat_lt}
 use Rattle.std.proofs.lemmas.Bool.Decides.{nat_tests}
 use Rattle.toml.specs.Data.{Members, array}
-use Rattle.cip_tables.specs.declared.key.Key.{Key}
-use Rattle.cip_tables.specs.declared.key.Key.TheVariants as key
-use Rattle.cip_tables.specs.declared.place.Place.TheVariants.{File}
+use Rattle.cip_topology.specs.declared.key.Key.{Key}
+use Rattle.cip_topology.specs.declared.key.Key.TheVariants as key
+use Rattle.cip_topology.specs.declared.place.Place.TheVariants.{File}
 use Rattle.cip_chassis.specs.Plan.{Plan, IsTopology}
-use Rattle.cip_tables.specs.Documents.{HasTables, HasTypes, Writes, WritesLink, WritesModule}
-use Rattle.cip_tables.specs.Keys.{◌>>=◌, value_at, array_of, item_count}
-use Rattle.cip_tables.specs.LinkTables.{links_after}
-use Rattle.cip_tables.specs.PortTables.{at_most}
-use Rattle.cip_tables.specs.ModuleTables.{modules_after}
-use Rattle.cip_tables.proofs.LinksWritten.{links_are}
-use Rattle.cip_tables.proofs.PortsWritten.{as_many}
-use Rattle.cip_tables.proofs.Written.{then_ok, if_false, value_is}
+use Rattle.cip_topology.specs.Documents.{HasTables, HasTypes, Writes, WritesLink, WritesModule}
+use Rattle.cip_topology.specs.Keys.{◌>>=◌, value_at, array_of, item_count}
+use Rattle.cip_topology.specs.LinkTables.{links_after}
+use Rattle.cip_topology.specs.PortTables.{at_most}
+use Rattle.cip_topology.specs.ModuleTables.{modules_after}
+use Rattle.cip_topology.proofs.LinksWritten.{links_are}
+use Rattle.cip_topology.proofs.PortsWritten.{as_many}
+use Rattle.cip_topology.proofs.Written.{then_ok, if_false, value_is}
 use Rattle.cip_topology.specs.Files.{tables_at, some_items, plan_with, topology_of}
-use Rattle.cip_tables.proofs.ModulesWritten.{modules_are}
+use Rattle.cip_topology.proofs.ModulesWritten.{modules_are}
 
 some_are : (n : ℕ) → 1 ≤ n → eqb n 0 ≡ false
 some_are n h = grind (arith, nat_tests)

@@ -1,16 +1,16 @@
 -- The rules of a topology file, in the order in which they are looked at.
 use Rattle.std.specs.Prelude.{◌==◌, if◌then◌else◌, [], Result, Ok, Err}
 use Rattle.toml.specs.Data.{Items, Members}
-use Rattle.cip_tables.specs.declared.key.Key.{Key}
-use Rattle.cip_tables.specs.declared.key.Key.TheVariants as key
-use Rattle.cip_tables.specs.declared.place.Place.TheVariants.{File}
-use Rattle.cip_tables.specs.declared.fault.LoadFault.{LoadFault}
-use Rattle.cip_tables.specs.declared.fault.LoadFault.TheVariants.{NotToml, Missing, NoMemory}
+use Rattle.cip_topology.specs.declared.key.Key.{Key}
+use Rattle.cip_topology.specs.declared.key.Key.TheVariants as key
+use Rattle.cip_topology.specs.declared.place.Place.TheVariants.{File}
+use Rattle.cip_topology.specs.declared.fault.LoadFault.{LoadFault}
+use Rattle.cip_topology.specs.declared.fault.LoadFault.TheVariants.{NotToml, Missing, NoMemory}
 use Rattle.cip_chassis.specs.Plan.{Plan}
-use Rattle.cip_tables.specs.Keys.{Read, ◌>>=◌, value_at, array_of, item_count}
-use Rattle.cip_tables.specs.LinkTables.{links_after}
-use Rattle.cip_tables.specs.PortTables.{at_most}
-use Rattle.cip_tables.specs.ModuleTables.{modules_after}
+use Rattle.cip_topology.specs.Keys.{Read, ◌>>=◌, value_at, array_of, item_count}
+use Rattle.cip_topology.specs.LinkTables.{links_after}
+use Rattle.cip_topology.specs.PortTables.{at_most}
+use Rattle.cip_topology.specs.ModuleTables.{modules_after}
 
 abbrev pub some_items : Key → Items → Read Items
 some_items k items = if item_count items == 0 then Err (Missing k File) else Ok items

@@ -2,7 +2,7 @@
 ghost use Rattle.std.specs.Prelude.{◌≡◌, Ok};
 ghost use Rattle.toml.specs.Data.{Members};
 ghost use Rattle.cip_chassis.specs.Plan.{Plan, IsTopology};
-ghost use Rattle.cip_tables.specs.Documents.{HasTypes, Writes};
+ghost use Rattle.cip_topology.specs.Documents.{HasTypes, Writes};
 ghost use Rattle.cip_topology.specs.Files.{topology_of};
 
 /// A document that writes out a topology, key by key, is loaded as that topology.

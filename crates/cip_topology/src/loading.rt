@@ -2,17 +2,23 @@
 ghost use Rattle.std.specs.Prelude.{◌≡◌, ◌≤◌, length, None, IfOk, IfSome, []};
 ghost use Rattle.toml.specs.Parse.{parse_document};
 ghost use Rattle.toml.specs.View.{view, items_view, table_view};
-ghost use Rattle.cip_tables.specs.declared.place.Place.TheVariants.{File as TheFile};
-ghost use Rattle.cip_tables.specs.Calls.{Gives};
+ghost use Rattle.cip_topology.specs.declared.place.Place.TheVariants.{File as TheFile};
+ghost use Rattle.cip_topology.specs.Calls.{Gives};
 ghost use Rattle.cip_topology.specs.Files.{some_items, tables_at, plan_with, topology_of};
 ghost use Rattle.cip_topology.specs.Files.{IsRefusal};
 
+use crate::fault::{LoadFault, Syntax};
+use crate::key::Key;
+use crate::link_tables::links;
+use crate::module_tables::modules;
+use crate::place::Place;
+use crate::port_tables::at_most;
+use crate::values::{array_of, value};
 use cip_chassis::{MAX_LINKS, MAX_MODULES, Topology};
-use cip_tables::{Key, LoadFault, Place, Syntax, array_of, at_most, links, modules, value};
 use std::alloc::Global;
 use toml::{Table, Value};
 
-#[tactic(auto, using(cip_tables::proofs::Entries::counts))]
+#[tactic(auto, using(cip_topology::proofs::Entries::counts))]
 fn some_items<'a>(key: Key, entries: &'a [Value]) -> Result<&'a [Value], LoadFault>
     ensures is { Gives (λ s. items_view s.now) result
         (some_items key (items_view entries.now)) }

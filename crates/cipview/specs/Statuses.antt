@@ -2,8 +2,8 @@
 use Rattle.std.specs.Prelude.{ℕ}
 use Rattle.cip_read.specs.declared.fault.ReadFault.{ReadFault}
 use Rattle.cip_read.specs.declared.fault.ReadFault.TheVariants as reads
-use Rattle.cip_tables.specs.declared.fault.LoadFault.{LoadFault}
-use Rattle.cip_tables.specs.declared.fault.LoadFault.TheVariants as loads
+use Rattle.cip_topology.specs.declared.fault.LoadFault.{LoadFault}
+use Rattle.cip_topology.specs.declared.fault.LoadFault.TheVariants as loads
 use Rattle.cipview.specs.declared.options.Usage.{Usage}
 use Rattle.cipview.specs.declared.options.Usage.TheVariants as usages
 use Rattle.cipview.specs.declared.options.OptionsFault.{OptionsFault}

@@ -1,4 +1,4 @@
-use Rattle.cip_play.proofs.Left.{all_lent}
+use Rattle.cip_console.proofs.Left.{all_lent}
 use Rattle.cip_console.proofs.Outcomes.{none_read, no_memory_to_read}
 use Rattle.cip_console.proofs.console.run.Goals as goal
 

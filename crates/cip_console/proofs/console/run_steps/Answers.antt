@@ -1,11 +1,11 @@
 use Rattle.std.proofs.Common.{◌≡◌, ◌∙◌, [], sym, subst, refl, Ok, Err}
 use Rattle.cip_chassis.specs.Plan.{Plan}
-use Rattle.cip_play.specs.declared.playing.PlayFault.{PlayFault}
-use Rattle.cip_play.specs.declared.playing.PlayFault.TheVariants.{Stopped, Write, NoMemory}
-use Rattle.cip_play.specs.Playing.{Prints, Plays}
-use Rattle.cip_play.specs.Transcript.{played}
+use Rattle.cip_console.specs.declared.playing.PlayFault.{PlayFault}
+use Rattle.cip_console.specs.declared.playing.PlayFault.TheVariants.{Stopped, Write, NoMemory}
+use Rattle.cip_console.specs.Playing.{Prints, Plays}
+use Rattle.cip_console.specs.Transcript.{played}
 use Rattle.cip_chain.proofs.Indexes.{index_later}
-use Rattle.cip_play.proofs.Grows.{played_grows}
+use Rattle.cip_console.proofs.Grows.{played_grows}
 use Rattle.cip_console.proofs.Running.{running_on, running_step, running_ends, running_stops, running_front, running_unwritten, stop_unwritten, none_popped}
 use Rattle.cip_console.proofs.console.run_steps.Goals as goal
 

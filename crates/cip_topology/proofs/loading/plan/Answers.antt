@@ -2,9 +2,9 @@ use Rattle.std.proofs.Common.{◌≡◌, List, [], Ok, sym, subst, arith}
 use Rattle.toml.specs.View.{items_view}
 use Rattle.cip_chassis.specs.declared.links.Link.{Link}
 use Rattle.cip_chassis.specs.Plan.{AreLinks}
-use Rattle.cip_tables.specs.ModuleTables.{modules_after}
-use Rattle.cip_tables.proofs.Entries.{item_count-items_view}
-use Rattle.cip_tables.proofs.TopologyKept.{are_links, is_topology}
+use Rattle.cip_topology.specs.ModuleTables.{modules_after}
+use Rattle.cip_topology.proofs.Entries.{item_count-items_view}
+use Rattle.cip_topology.proofs.TopologyKept.{are_links, is_topology}
 use Rattle.cip_topology.proofs.loading.plan.Goals as goal
 
 pub modules-requires : goal.modules-requires

@@ -1,8 +1,0 @@
-use Rattle.std.proofs.Common.{◌≡◌, [], drop, vec_items}
-use Rattle.toml.specs.View.{items_view}
-use Rattle.cip_tables.specs.PortTables.{assemblies_after}
-use Rattle.cip_tables.proofs.port_tables.assemblies_of.Given as goal
-
-abbrev pub invariant-loop-entry : goal.invariant-loop-entry
-invariant-loop-entry l =
-    assemblies_after l.place (vec_items l.assemblies) (items_view (drop l.entry-index l.entries)) ≡ assemblies_after l.place [] (items_view l.entries)
