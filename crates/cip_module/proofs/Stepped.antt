@@ -1,30 +1,17 @@
 -- A reaction to a message is a step of the routing table, once the bytes that stay where they are stand in its output.
-use Rattle.std.proofs.Common.{◌≡◌, List, [], ◌∷◌, refl, ap, ◌∙◌, Option, Some, Result, Ok, Err, IfOk}
-use Rattle.cip_config.specs.declared.config.ModuleSettings.{ModuleSettings}
+use Rattle.std.proofs.Common.{◌≡◌, ℕ, List, [], ◌∷◌, refl, Some, Result, Ok, Err, IfOk}
 use Rattle.cip_event.specs.declared.event.Event.{Event}
-use Rattle.cip_event.specs.declared.event.Output.{Output}
 use Rattle.cip_event.specs.Filled.{filled}
-use Rattle.cip_routing.specs.Effects.{Effect, outputs_of}
-use Rattle.cip_routing.specs.State.{State}
+use Rattle.cip_routing.specs.Effects.{Effect}
 use Rattle.cip_routing.specs.Steps.{IsStep}
-use Rattle.cip_routing.specs.Table.{decide, after_effects, Stepped}
+use Rattle.cip_routing.specs.Table.{decide}
+use Rattle.cip_steps.proofs.InPlace.{is_step}
 use Rattle.cip_steps.specs.Code.Device.{state_of_device}
-use Rattle.cip_steps.specs.Code.Does.{Does}
 use Rattle.cip_steps.specs.Code.Reacts.{Reacts}
 use Rattle.cip_steps.specs.Reactions.{PutsOut}
 use Rattle.cip_steps.specs.declared.device.Device.{Device}
 use Rattle.cip_steps.specs.declared.making.Making.TheVariants.{Edited}
 use Rattle.cip_steps.specs.declared.reaction.Reaction.TheVariants as reactions
-
-abbrev stepped : State → List Output → Option Stepped
-stepped t outs = Some (record { state = t; outputs = outs })
-
-pub is_step : (config : ModuleSettings) (s new : State) (event : Event) (es : List Effect) (outs : List Output) → decide config s event ≡ Some es
-    → Does config s es new outs → IsStep config s event new outs
-is_step config s new event es outs decides does =
-    ap (after_effects config s) decides
-    ∙ ap (λ (t : State). stepped t (outputs_of config s es)) does.state
-    ∙ ap (stepped new) does.out
 
 module _ {E : Type 0} (old new : Device) (came : List ℕ) (es : List Effect) (event : Event)
     (decides : decide old.config (state_of_device old) event ≡ Some es) where

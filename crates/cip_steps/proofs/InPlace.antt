@@ -32,6 +32,7 @@ use Rattle.cip_hops.specs.declared.opening.HopUp.TheVariants.{Link as UpLink}
 use Rattle.cip_hops.specs.declared.hop.Held.{Held}
 use Rattle.cip_hops.specs.Hops.{finished, opening_of, ids_of}
 use Rattle.cip_config.specs.declared.config.ModuleSettings.{ModuleSettings}
+use Rattle.cip_event.specs.declared.event.Event.{Event}
 use Rattle.cip_event.specs.declared.event.Output.{Output}
 use Rattle.cip_steps.specs.declared.making.Making.{Making}
 use Rattle.cip_steps.specs.declared.making.Making.TheVariants.{Anew, Edited}
@@ -54,11 +55,12 @@ use Rattle.cip_event.specs.Filled.{filled}
 use Rattle.cip_steps.specs.Reactions.{Becomes}
 use Rattle.cip_routing.specs.State.{State}
 use Rattle.cip_routing.specs.Table.{up_side_of, send_below, open_below, close_below, unconnected_effects, open_effects, close_effects, reply_effects}
-use Rattle.cip_routing.specs.Table.{with_spending}
+use Rattle.cip_routing.specs.Steps.{IsStep}
+use Rattle.cip_routing.specs.Table.{with_spending, decide, after_effects, Stepped}
 use Rattle.cip_routing.specs.Links.{LeadsOn}
 use Rattle.cip_steps.specs.declared.device.Device.{Device}
 use Rattle.cip_steps.specs.Code.Device.{state_of_device}
-use Rattle.cip_steps.specs.Code.Does.{HasDone}
+use Rattle.cip_steps.specs.Code.Does.{Does, HasDone}
 use Rattle.cip_steps.specs.Code.Reacts.{with_bytes, send_edit, outgoing_of, IsMade, reaction_of, SendCame, OpenCame, CloseCame, Reacted, Reacts, ReactsWhole}
 use Rattle.cip_steps.proofs.CameIn.{SaysSuccess, success_came}
 use Rattle.cip_routing.proofs.Waiting.{waits_at}
@@ -268,6 +270,18 @@ success_made m large held x port address their_id up_id came s (Ok made) stands 
       becomes = λ b e. (large, s, e.1, is);
     }
 success_made m large held x port address their_id up_id came s (Err fault) stands above own so = tt
+
+-- ---- a step of the routing table
+
+abbrev stepped : State → List Output → Option Stepped
+stepped t outs = Some (record { state = t; outputs = outs })
+
+pub is_step : (config : ModuleSettings) (s new : State) (event : Event) (es : List Effect) (outs : List Output) → decide config s event ≡ Some es
+    → Does config s es new outs → IsStep config s event new outs
+is_step config s new event es outs decides does =
+    ap (after_effects config s) decides
+    ∙ ap (λ (t : State). stepped t (outputs_of config s es)) does.state
+    ∙ ap (stepped new) does.out
 
 -- ---- a reply
 
