@@ -2,8 +2,8 @@
 #![tactic(auto)]
 
 mod adapter;
+mod dispatch;
 mod plain;
-mod step;
 
 pub use adapter::AdapterModule;
 pub use cip_routing::{
@@ -13,5 +13,5 @@ pub use cip_routing::{
     Ports, Refused, RequestRefusal, StepFault, Tables, UnconnectedRefusal, is_legal, is_name,
 };
 pub use cip_steps::{Device, Edit, Making, Reaction, TickFault};
+pub use dispatch::{react_to_enter, react_to_reply, react_to_request, step};
 pub use plain::PlainModule;
-pub use step::{react_to_enter, react_to_reply, react_to_request, step};

@@ -8,7 +8,7 @@ ghost use Rattle.cip_config.specs.declared.config.ModuleKind.{ModuleKind as Kind
 ghost use Rattle.cip_routing.specs.State.{initial_state};
 ghost use Rattle.cip_module.specs.Kinds.{config_of_plain, state_of_plain};
 
-use crate::step::step;
+use crate::dispatch::step;
 use cip_base::{Address, NoMemory, PortNumber};
 use cip_config::{ModuleConfig, ModuleKind};
 use cip_event::{Event, Output};

@@ -3,7 +3,7 @@ use Rattle.cip_event.specs.declared.event.Command.{Command}
 use Rattle.cip_steps.specs.Code.Device.{state_of_device}
 use Rattle.cip_steps.specs.Code.Reacts.{ReactsWhole}
 use Rattle.cip_routing.specs.Table.{command_effects}
-use Rattle.cip_module.proofs.step.command_step.Goals as goal
+use Rattle.cip_module.proofs.dispatch.command_step.Goals as goal
 
 pub returns-in-Close : goal.returns-in-Close
 returns-in-Close c =

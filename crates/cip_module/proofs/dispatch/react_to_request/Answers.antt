@@ -6,7 +6,7 @@ use Rattle.cip_routing.specs.RequestRows.{request_row}
 use Rattle.cip_steps.specs.Code.Device.{state_of_device}
 use Rattle.cip_routing.specs.Table.{request_effects}
 use Rattle.cip_module.proofs.Stepped.{stepped_on, kept_on}
-use Rattle.cip_module.proofs.step.react_to_request.Goals as goal
+use Rattle.cip_module.proofs.dispatch.react_to_request.Goals as goal
 
 pub returns-clause-done : goal.returns-clause-done
 returns-clause-done c =

@@ -7,7 +7,7 @@ use Rattle.cip_routing.specs.ReplyRows.{reply_row}
 use Rattle.cip_steps.specs.Code.Device.{state_of_device}
 use Rattle.cip_routing.specs.Table.{reply_effects}
 use Rattle.cip_module.proofs.Stepped.{stepped_on, kept_on}
-use Rattle.cip_module.proofs.step.react_to_reply.Goals as goal
+use Rattle.cip_module.proofs.dispatch.react_to_reply.Goals as goal
 
 pub returns-clause-done : goal.returns-clause-done
 returns-clause-done c =
