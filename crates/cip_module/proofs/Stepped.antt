@@ -11,6 +11,7 @@ use Rattle.cip_steps.specs.Code.Reacts.{Reacts}
 use Rattle.cip_steps.specs.Reactions.{PutsOut}
 use Rattle.cip_steps.specs.declared.device.Device.{Device}
 use Rattle.cip_steps.specs.declared.making.Making.TheVariants.{Edited}
+use Rattle.cip_steps.specs.declared.reaction.Reaction.{Reaction}
 use Rattle.cip_steps.specs.declared.reaction.Reaction.TheVariants as reactions
 
 module _ {E : Type 0} (old new : Device) (came : List ℕ) (es : List Effect) (event : Event)
