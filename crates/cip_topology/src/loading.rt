@@ -18,7 +18,7 @@ use cip_chassis::{MAX_LINKS, MAX_MODULES, Topology};
 use std::alloc::Global;
 use toml::{Table, Value};
 
-#[tactic(auto, using(cip_topology::proofs::Entries::counts))]
+#[tactic(auto, using(crate::proofs::Entries::counts))]
 fn some_items<'a>(key: Key, entries: &'a [Value]) -> Result<&'a [Value], LoadFault>
     ensures is { Gives (λ s. items_view s.now) result
         (some_items key (items_view entries.now)) }
