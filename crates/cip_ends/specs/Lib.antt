@@ -1,2 +1,3 @@
 pub mod Ends
 pub mod Names
+pub mod Silent

@@ -13,14 +13,13 @@ use crate::links::{frames_at, side_of};
 use crate::plain::{NewOp, Plain, plain_line};
 use cip_base::{Bytes, NoMemory};
 use cip_chassis::Topology;
-use cip_ends::Ends;
+use cip_ends::{Ends, PlayFault, play_step};
 use cip_outcomes::{
     Loss, Ops, Outage, Outages, is_refused, listed, losses_since, module_names, module_text,
     nearest, refusal_of,
 };
 use cip_routing::Module;
 use cip_script::{Mode, ScriptFault, Step, StepsFault, explain, read_steps, usage_of};
-use cip_silent::{PlayFault, play_step};
 use cip_transcript::names_of;
 use cip_world::{FrameName, Shown, World};
 use std::alloc::{AllocError, Global};

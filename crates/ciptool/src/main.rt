@@ -6,6 +6,7 @@ mod files;
 mod noted;
 mod options;
 mod program;
+mod rooms;
 
 use std::process::ExitCode;
 

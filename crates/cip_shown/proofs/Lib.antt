@@ -1,5 +1,0 @@
-pub mod Words
-pub mod Outputs
-pub mod Heads
-pub mod Entries
-pub mod Notes

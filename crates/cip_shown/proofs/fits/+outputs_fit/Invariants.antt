@@ -1,5 +1,0 @@
-use Rattle.std.proofs.Common.{length}
-use Rattle.cip_shown.proofs.fits.+outputs_fit.Given as goal
-
-abbrev pub decreases-outputs_fit : goal.decreases-outputs_fit
-decreases-outputs_fit l = length l.outputs.now

@@ -1,5 +1,0 @@
-use Rattle.cip_shown.proofs.Entries.{entry_read}
-use Rattle.cip_shown.proofs.laws.shown_entries_are_read.Goals as goal
-
-pub returns : goal.returns
-returns c = entry_read

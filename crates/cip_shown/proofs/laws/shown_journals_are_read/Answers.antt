@@ -1,5 +1,0 @@
-use Rattle.cip_shown.proofs.Entries.{entries_read}
-use Rattle.cip_shown.proofs.laws.shown_journals_are_read.Goals as goal
-
-pub returns : goal.returns
-returns c = entries_read

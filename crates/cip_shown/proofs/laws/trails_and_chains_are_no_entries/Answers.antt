@@ -1,8 +1,0 @@
-use Rattle.cip_shown.proofs.Notes.{trail_none, chain_none}
-use Rattle.cip_shown.proofs.laws.trails_and_chains_are_no_entries.Goals as goal
-
-pub returns-clause-trail : goal.returns-clause-trail
-returns-clause-trail c = trail_none
-
-pub returns-clause-chain : goal.returns-clause-chain
-returns-clause-chain c = chain_none
