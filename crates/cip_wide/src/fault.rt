@@ -170,9 +170,9 @@ impl From<NoMemory> for LineError {
 impl LineError {
     /// Of this fault.
     pub(crate) fn of(alloc: Global, fault: LineFault) -> LineError {
-        match Box::new(alloc, fault) {
-            Ok(fault) => LineError::Fault(Wrong { fault: Some(fault) }),
-            Err(_) => LineError::NoMemory,
+        match Box::new(alloc, fault).ok() {
+            None => LineError::NoMemory,
+            fault => LineError::Fault(Wrong { fault }),
         }
     }
 
