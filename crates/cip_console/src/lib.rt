@@ -1,5 +1,6 @@
-//! The console: where a script comes from and where its transcript goes to, each kind of step played
-//! over a world, a script played in turn or by modules on threads, and the program's options.
+//! The console: where a script comes from and where its transcript goes to, each kind of step
+//! played over a world, a script played in turn or by modules on threads, and the program's
+//! options.
 #![tactic(auto)]
 
 mod console;

@@ -6,8 +6,8 @@ ghost use Rattle.cip_world.specs.declared.journal.Entry.{Entry};
 ghost use Rattle.cip_transcript.specs.Show.{entry_text, names_of};
 ghost use Rattle.cip_transcript.specs.Back.{read_text, lines_shown};
 ghost use Rattle.cip_transcript.specs.Fits.{FitsBody, FitsTriad, FitsPort, FitsAddress, FitsOutput};
-ghost use Rattle.cip_transcript.specs.Fits.{FitsOutputs, FitsName, FitsCommand, FitsInput, FitsEntry};
-ghost use Rattle.cip_transcript.specs.Fits.{IsAmong};
+ghost use Rattle.cip_transcript.specs.Fits.{FitsOutputs, FitsName, FitsCommand, FitsInput};
+ghost use Rattle.cip_transcript.specs.Fits.{FitsEntry, IsAmong};
 
 use crate::laws::shown_entries_are_read;
 use cip_base::{Address, Bytes, Ms, PortNumber, Triad};

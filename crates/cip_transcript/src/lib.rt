@@ -1,5 +1,5 @@
-//! The text of a run: its entries, and the tables, trails and chains that a script asks for; and the
-//! laws that what is shown of an entry is read back.
+//! The text of a run: its entries, and the tables, trails and chains that a script asks for; and
+//! the laws that what is shown of an entry is read back.
 #![tactic(auto)]
 
 mod chains;
