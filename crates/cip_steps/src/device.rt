@@ -99,6 +99,7 @@ impl Device {
     }
 
     /// The allocator of what it makes.
+    #[inline(always)]
     pub fn alloc(&self) -> Global {
         self.alloc
     }
