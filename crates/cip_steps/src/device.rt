@@ -99,7 +99,6 @@ impl Device {
     }
 
     /// The allocator of what it makes.
-    #[inline(always)]
     pub fn alloc(&self) -> Global {
         self.alloc
     }
